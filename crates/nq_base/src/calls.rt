@@ -1,0 +1,75 @@
+//! What users call, and the events of a schedule.
+
+use crate::blocks::Block;
+use crate::names::Name;
+use crate::numbers::{BlockNo, FileId, Host};
+
+/// A call of a user at a client.
+#[derive(Clone, Copy)]
+pub enum Call {
+    /// Makes a file of so many blocks of zeros.
+    Create {
+        name: Name,
+        blocks: u32,
+    },
+    /// Asks for the id of a name.
+    Lookup {
+        name: Name,
+    },
+    /// Asks for the length of a file.
+    Attr {
+        file: FileId,
+    },
+    /// Reads a block under a reading lease.
+    Read {
+        file: FileId,
+        block: BlockNo,
+    },
+    /// Reads a block from the server, under no lease.
+    Fetch {
+        file: FileId,
+        block: BlockNo,
+    },
+    /// Writes a block, and is answered before the write is stored where a writing lease is held.
+    Write {
+        file: FileId,
+        block: BlockNo,
+        body: Block,
+    },
+    /// Writes a block, and is answered once the write is stored.
+    WriteSync {
+        file: FileId,
+        block: BlockNo,
+        body: Block,
+    },
+    /// Stores all delayed writes of a file.
+    Sync {
+        file: FileId,
+    },
+    /// Gives a file another length in blocks.
+    Resize {
+        file: FileId,
+        blocks: u32,
+    },
+    /// Takes a file away.
+    Remove {
+        file: FileId,
+    },
+}
+
+/// One atomic step at one host.
+#[derive(Clone, Copy)]
+pub enum Event {
+    /// A user at a host calls.
+    Call { host: Host, call: Call },
+    /// The receiver of this packet takes it in. Packets are numbered from 0, as they are sent.
+    Deliver(u64),
+    /// The server's clock ticks.
+    ServerTick,
+    /// A host's clock ticks.
+    ClientTick(Host),
+    /// A host starts again, as the next incarnation.
+    Restart(Host),
+    /// The server stops and boots; its longest term in ticks is from then on `longest`.
+    Crash { longest: u32 },
+}

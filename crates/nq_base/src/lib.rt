@@ -1,0 +1,25 @@
+//! The plain types of the leased file sharing protocol: what hosts, files, leases, calls, requests and
+//! entries of a journal are made of.
+#![tactic(auto)]
+
+mod answers;
+mod blocks;
+mod calls;
+mod entries;
+mod kept;
+mod lists;
+mod names;
+mod numbers;
+mod requests;
+mod tags;
+
+pub use answers::{Answer, Value};
+pub use blocks::Block;
+pub use calls::{Call, Event};
+pub use entries::{Entry, Said, Told};
+pub use kept::{FileRow, HostRow, Row, RowKey, Verdict};
+pub use lists::{FileList, Loss, Losses, NoMemory, Span, Spans};
+pub use names::Name;
+pub use numbers::{BlockNo, FileId, Host, Inc, Number, Rev, Seq, Ticks};
+pub use requests::{PushBase, Refusal, Reply, Request};
+pub use tags::{Grant, Mode, Party, Tag, Want, Who};

@@ -1,0 +1,242 @@
+//! Lists of files, of losses and of spans.
+
+ghost use Rattle.std.specs.Prelude.{◌≡◌, ◌≤◌, ◌+◌, [], ◌∷◌, ◌++◌, length, slice_get, IsOk, IfOk, OnOk, OnErr, IfSome, IsNone, IsTrue, ◌↔◌};
+
+use crate::names::Name;
+use crate::numbers::{BlockNo, FileId, Number};
+use std::alloc::Global;
+use std::marker::Model;
+
+/// Memory was wanting; nothing changed.
+#[derive(Clone, Copy, PartialEq, Eq)]
+pub enum NoMemory {
+    /// The one reason.
+    Memory,
+}
+
+/// Delayed writes of a block that were lost: those of the client with numbers from `first` to `last`.
+#[derive(Clone, Copy, PartialEq, Eq)]
+pub struct Loss {
+    /// The file.
+    pub file: FileId,
+    /// The block.
+    pub block: BlockNo,
+    /// The number of the first write.
+    pub first: Number,
+    /// The number of the last write.
+    pub last: Number,
+}
+
+/// A loss as a journal names it: the file is that of the call.
+#[derive(Clone, Copy, PartialEq, Eq)]
+pub struct Span {
+    /// The block.
+    pub block: BlockNo,
+    /// The number of the first write.
+    pub first: Number,
+    /// The number of the last write.
+    pub last: Number,
+}
+
+/// A list of losses. Clauses see the items and `spare`, the number of items for which room is reserved.
+#[derive(Drop)]
+pub struct Losses {
+    items: Vec<Loss>,
+}
+
+impl Model for Losses {
+    ghost use Rattle.std.specs.Prelude.{◌-◌, vec_len, vec_capacity};
+    ghost use Rattle.nq_base.specs.Lists.{LossList};
+
+    ghost Value = { LossList };
+
+    ghost view = { λ l. record { items = l.items.items; spare = vec_capacity l.items - vec_len l.items } };
+}
+
+impl Losses {
+    /// The empty list.
+    pub fn new(alloc: Global) -> Result<Losses, NoMemory>
+        ensures { IfOk result (λ l. l.items ≡ []) }
+    {
+        Ok(Losses {
+            items: Vec::new(alloc),
+        })
+    }
+
+    /// Makes room for `more` items.
+    pub fn reserve(&mut self, more: usize) -> Result<(), NoMemory>
+        ensures room { OnOk result (more ≤ self.new.spare) }
+        ensures items { self.new.items ≡ self.old.items }
+    {
+        match self.items.try_reserve(more) {
+            Ok(()) => Ok(()),
+            Err(_) => Err(NoMemory::Memory),
+        }
+    }
+
+    /// Adds one at the end, without memory where room is reserved.
+    pub fn push(&mut self, item: Loss) -> Result<(), NoMemory>
+        ensures ok { OnOk result (self.new.items ≡ self.old.items ++ item ∷ []) }
+        ensures err { OnErr result (self.new.items ≡ self.old.items) }
+        ensures succeeds { 1 ≤ self.old.spare → IsOk result }
+        ensures spare { self.old.spare ≤ self.new.spare + 1 }
+    {
+        match self.items.push(item) {
+            Ok(()) => Ok(()),
+            Err(_) => Err(NoMemory::Memory),
+        }
+    }
+
+    /// How many there are.
+    pub fn len(&self) -> usize
+        ensures { result ≡ length self.now.items }
+    {
+        self.items.len()
+    }
+
+    /// Whether there are none.
+    pub fn is_empty(&self) -> bool
+        ensures { IsTrue result ↔ (self.now.items ≡ []) }
+    {
+        self.items.is_empty()
+    }
+
+    /// The one at a place; None where the place is not below the length.
+    pub fn get(&self, place: usize) -> Option<Loss>
+        ensures { result ≡ slice_get self.now.items place }
+    {
+        self.items.get(place).copied()
+    }
+}
+
+/// A list of spans. Clauses see the items and `spare`, the number of items for which room is reserved.
+#[derive(Drop)]
+pub struct Spans {
+    items: Vec<Span>,
+}
+
+impl Model for Spans {
+    ghost use Rattle.std.specs.Prelude.{◌-◌, vec_len, vec_capacity};
+    ghost use Rattle.nq_base.specs.Lists.{SpanList};
+
+    ghost Value = { SpanList };
+
+    ghost view = { λ l. record { items = l.items.items; spare = vec_capacity l.items - vec_len l.items } };
+}
+
+impl Spans {
+    /// The empty list.
+    pub fn new(alloc: Global) -> Result<Spans, NoMemory>
+        ensures { IfOk result (λ l. l.items ≡ []) }
+    {
+        Ok(Spans {
+            items: Vec::new(alloc),
+        })
+    }
+
+    /// Makes room for `more` items.
+    pub fn reserve(&mut self, more: usize) -> Result<(), NoMemory>
+        ensures room { OnOk result (more ≤ self.new.spare) }
+        ensures items { self.new.items ≡ self.old.items }
+    {
+        match self.items.try_reserve(more) {
+            Ok(()) => Ok(()),
+            Err(_) => Err(NoMemory::Memory),
+        }
+    }
+
+    /// Adds one at the end, without memory where room is reserved.
+    pub fn push(&mut self, item: Span) -> Result<(), NoMemory>
+        ensures ok { OnOk result (self.new.items ≡ self.old.items ++ item ∷ []) }
+        ensures err { OnErr result (self.new.items ≡ self.old.items) }
+        ensures succeeds { 1 ≤ self.old.spare → IsOk result }
+        ensures spare { self.old.spare ≤ self.new.spare + 1 }
+    {
+        match self.items.push(item) {
+            Ok(()) => Ok(()),
+            Err(_) => Err(NoMemory::Memory),
+        }
+    }
+
+    /// How many there are.
+    pub fn len(&self) -> usize
+        ensures { result ≡ length self.now.items }
+    {
+        self.items.len()
+    }
+
+    /// Whether there are none.
+    pub fn is_empty(&self) -> bool
+        ensures { IsTrue result ↔ (self.now.items ≡ []) }
+    {
+        self.items.is_empty()
+    }
+
+    /// The one at a place; None where the place is not below the length.
+    pub fn get(&self, place: usize) -> Option<Span>
+        ensures { result ≡ slice_get self.now.items place }
+    {
+        self.items.get(place).copied()
+    }
+}
+
+/// Names with their lengths in blocks. Clauses see the list of pairs.
+#[derive(Drop)]
+pub struct FileList {
+    files: Vec<(Name, u32)>,
+}
+
+impl Model for FileList {
+    ghost use Rattle.std.specs.Prelude.{List, ℕ};
+
+    ghost Value = { List (List ℕ × ℕ) };
+
+    ghost view = { λ l. l.files.items };
+}
+
+impl FileList {
+    /// The empty list.
+    pub fn new(alloc: Global) -> Result<FileList, NoMemory>
+        ensures { IfOk result (λ l. l ≡ []) }
+    {
+        Ok(FileList {
+            files: Vec::new(alloc),
+        })
+    }
+
+    /// Adds a name with its length at the end.
+    pub fn push(&mut self, name: Name, blocks: u32) -> Result<(), NoMemory>
+        ensures ok { OnOk result (self.new ≡ self.old ++ (name, blocks) ∷ []) }
+        ensures err { OnErr result (self.new ≡ self.old) }
+    {
+        match self.files.push((name, blocks)) {
+            Ok(()) => Ok(()),
+            Err(_) => Err(NoMemory::Memory),
+        }
+    }
+
+    /// How many there are.
+    pub fn len(&self) -> usize
+        ensures { result ≡ length self.now }
+    {
+        self.files.len()
+    }
+
+    /// Whether there are none.
+    pub fn is_empty(&self) -> bool
+        ensures { IsTrue result ↔ (self.now ≡ []) }
+    {
+        self.files.is_empty()
+    }
+
+    /// The one at a place; None where the place is not below the length.
+    pub fn get(&self, place: usize) -> Option<(&Name, u32)>
+        ensures none { IsNone result ↔ (length self.now ≤ place) }
+        ensures some { IfSome result (λ f. slice_get self.now place ≡ Some (f.0.now, f.1)) }
+    {
+        match self.files.get(place) {
+            Some((name, blocks)) => Some((name, *blocks)),
+            None => None,
+        }
+    }
+}
