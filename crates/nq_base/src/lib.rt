@@ -3,6 +3,7 @@
 #![tactic(auto)]
 
 mod answers;
+mod asks;
 mod blocks;
 mod calls;
 mod entries;
@@ -14,6 +15,7 @@ mod requests;
 mod tags;
 
 pub use answers::{Answer, Value};
+pub use asks::{Access, Asked, Clash, Push};
 pub use blocks::Block;
 pub use calls::{Call, Event};
 pub use entries::{Entry, Said, Told};
