@@ -1,0 +1,15 @@
+pub mod Ask
+pub mod Client
+pub mod ClientStep
+pub mod Decide
+pub mod Hear
+pub mod Kept
+pub mod Message
+pub mod Profile
+pub mod Send
+pub mod Server
+pub mod ServerStep
+pub mod Settle
+pub mod Skew
+pub mod Table
+pub mod World

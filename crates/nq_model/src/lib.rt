@@ -1,0 +1,2 @@
+//! The protocol as definitions that compute. They stand in `specs/`.
+#![tactic(auto)]
