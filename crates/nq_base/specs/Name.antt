@@ -24,3 +24,7 @@ stored-used bytes used h = let size = h.size in let fits = h.fits in omega (arit
 -- the bytes that are stored are the name and zeros
 pub stored-bytes : (bytes : List ℕ) (used : ℕ) → IsStored bytes used → take used bytes ++ replicate (64 - length (take used bytes)) 0 ≡ bytes
 stored-bytes bytes used h = rw (stored-used bytes used h, ← h.rest) (take-append-drop used bytes)
+
+-- what is made of two equal parts is equal
+pub both : {A : Type 0} {x y : List ℕ} {m n : ℕ} (f : List ℕ → ℕ → A) → x ≡ y → m ≡ n → f x m ≡ f y n
+both f same_list same_number = cc

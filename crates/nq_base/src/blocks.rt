@@ -25,23 +25,6 @@ impl Block {
     /// The number of bytes of a block.
     pub const SIZE: usize = 4096;
 
-    /// The block that repeats the four bytes of `value`, the highest first, 1024 times.
-    pub fn fill(value: u32) -> Block
-        ensures { result ≡ filled value }
-    {
-        let word = [
-            (value >> 24) as u8,
-            (value >> 16 & 0xff) as u8,
-            (value >> 8 & 0xff) as u8,
-            (value & 0xff) as u8,
-        ];
-        let mut bytes = [0; Block::SIZE];
-        for (i, byte) in bytes.iter_mut().enumerate() {
-            *byte = word[i % 4];
-        }
-        Block { bytes }
-    }
-
     /// The number in the first four bytes, the highest first.
     pub fn value(&self) -> u32
         ensures { result ≡ value_of self.now }

@@ -15,7 +15,7 @@ pub struct Name {
 
 impl Model for Name {
     ghost use Rattle.std.specs.Prelude.{◌-◌, ◌++◌, List, ℕ, length, take, replicate};
-    ghost use Rattle.nq_base.specs.Name.{IsStored, stored-bytes, stored-used};
+    ghost use Rattle.nq_base.specs.Name.{IsStored, both, stored-bytes, stored-used};
 
     ghost Value = { List ℕ };
 
@@ -25,31 +25,12 @@ impl Model for Name {
 
     ghost inverse = { λ bytes. record { bytes = bytes ++ replicate (64 - length bytes) 0; used = length bytes } };
 
-    ghost inverse_ok = { λ a h. Prim.cc (stored-bytes a.bytes a.used h, stored-used a.bytes a.used h) };
+    ghost inverse_ok = { λ a h. both (λ bytes used. record { bytes = bytes; used = used }) (stored-bytes a.bytes a.used h) (stored-used a.bytes a.used h) };
 }
 
 impl Name {
     /// The most bytes that a name has.
     pub const LONGEST: usize = 64;
-
-    /// The name of these bytes; None where they are not a name's.
-    pub fn new(bytes: &[u8]) -> Option<Name>
-        ensures name { IsSome result ↔ IsName bytes.now }
-        ensures bytes { IfSome result (λ n. n ≡ bytes.now) }
-    {
-        if bytes.is_empty()
-            || bytes.len() > Name::LONGEST
-            || !bytes.iter().all(|b| is_name_byte(*b))
-        {
-            return None;
-        }
-        let mut copy = [0; Name::LONGEST];
-        copy[..bytes.len()].copy_from_slice(bytes);
-        Some(Name {
-            bytes: copy,
-            used: bytes.len(),
-        })
-    }
 
     /// The bytes.
     pub fn as_bytes(&self) -> &[u8]
@@ -67,6 +48,7 @@ impl Name {
     }
 }
 
+#[cfg(test)]
 fn is_name_byte(byte: u8) -> bool
     ensures { IsTrue result ↔ IsNameByte byte }
 {

@@ -4,6 +4,7 @@ pub mod ClientStep
 pub mod Decide
 pub mod Hear
 pub mod Kept
+pub mod Lines
 pub mod Message
 pub mod Profile
 pub mod Send
