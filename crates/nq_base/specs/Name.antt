@@ -1,5 +1,5 @@
-use Rattle.std.specs.Prelude.{◌≡◌, ◌≢◌, ◌<◌, ◌≤◌, ◌-◌, ◌++◌, ℕ, List, length, take, drop, replicate, All, refl}
-use Rattle.std.proofs.Common.{arith, ◌∙◌, ap, length-take}
+use Rattle.std.specs.Prelude.{◌≡◌, ◌≢◌, ◌≤◌, ◌-◌, ◌++◌, ℕ, List, length, take, drop, replicate, All}
+use Rattle.std.proofs.Common.{arith, length-take}
 use Rattle.std.proofs.lemmas.List.{take-append-drop}
 
 -- a byte that a name may have: printable ASCII but the blank and the slash
@@ -24,7 +24,3 @@ stored-used bytes used h = let size = h.size in let fits = h.fits in omega (arit
 -- the bytes that are stored are the name and zeros
 pub stored-bytes : (bytes : List ℕ) (used : ℕ) → IsStored bytes used → take used bytes ++ replicate (64 - length (take used bytes)) 0 ≡ bytes
 stored-bytes bytes used h = rw (stored-used bytes used h, ← h.rest) (take-append-drop used bytes)
-
--- what is made of two equal parts is equal
-pub both : {A : Type 0} {x y : List ℕ} {m n : ℕ} (f : List ℕ → ℕ → A) → x ≡ y → m ≡ n → f x m ≡ f y n
-both f same_list same_number = cc

@@ -1,7 +1,7 @@
 //! A block of a file.
 
 ghost use Rattle.std.specs.Prelude.{◌≡◌, ◌↔◌, length, IsSome, IfSome};
-ghost use Rattle.nq_base.specs.Block.{value_of, filled};
+ghost use Rattle.nq_base.specs.Block.{word, value_of, filled};
 
 use std::marker::Model;
 
@@ -24,6 +24,20 @@ impl Model for Block {
 impl Block {
     /// The number of bytes of a block.
     pub const SIZE: usize = 4096;
+
+    /// The block that repeats the four bytes of `value`, the highest first, 1024 times.
+    pub fn fill(value: u32) -> Block
+        ensures bytes { result ≡ filled value }
+        ensures size { length result ≡ 4096 }
+        ensures value { value_of result ≡ value }
+    {
+        let word = word_of(value);
+        let mut bytes = [0; Block::SIZE];
+        for (i, byte) in bytes.iter_mut().enumerate() {
+            *byte = word[i % 4];
+        }
+        Block { bytes }
+    }
 
     /// The number in the first four bytes, the highest first.
     pub fn value(&self) -> u32
@@ -61,4 +75,16 @@ impl Block {
         copy.copy_from_slice(bytes);
         Some(Block { bytes: copy })
     }
+}
+
+/// The four bytes of a number, the highest first (RFC 1014 section 3.2).
+fn word_of(value: u32) -> [u8; 4]
+    ensures { result ≡ word value }
+{
+    [
+        (value / 0x0100_0000) as u8,
+        (value / 0x0001_0000 % 0x0100) as u8,
+        (value / 0x0100 % 0x0100) as u8,
+        (value % 0x0100) as u8,
+    ]
 }

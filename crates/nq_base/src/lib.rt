@@ -25,3 +25,6 @@ pub use names::Name;
 pub use numbers::{BlockNo, FileId, Host, Inc, Number, Rev, Seq, Ticks};
 pub use requests::{PushBase, Refusal, Reply, Request};
 pub use tags::{Grant, Mode, Party, Tag, Want, Who};
+
+#[cfg(test)]
+mod tests;

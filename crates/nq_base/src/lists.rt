@@ -8,7 +8,7 @@ use std::alloc::Global;
 use std::marker::Model;
 
 /// Memory was wanting; nothing changed.
-#[derive(Clone, Copy, PartialEq, Eq)]
+#[derive(Clone, Copy, Debug, PartialEq, Eq)]
 pub enum NoMemory {
     /// The one reason.
     Memory,
@@ -41,7 +41,7 @@ pub struct Span {
 /// A list of losses. Clauses see the items and `spare`, the number of items for which room is reserved.
 #[derive(Drop)]
 pub struct Losses {
-    items: Vec<Loss>,
+    losses: Vec<Loss>,
 }
 
 impl Model for Losses {
@@ -50,7 +50,7 @@ impl Model for Losses {
 
     ghost Value = { LossList };
 
-    ghost view = { λ l. record { items = l.items.items; spare = vec_capacity l.items - vec_len l.items } };
+    ghost view = { λ l. record { items = l.losses.items; spare = vec_capacity l.losses - vec_len l.losses } };
 }
 
 impl Losses {
@@ -59,7 +59,7 @@ impl Losses {
         ensures { IfOk result (λ l. l.items ≡ []) }
     {
         Ok(Losses {
-            items: Vec::new(alloc),
+            losses: Vec::new(alloc),
         })
     }
 
@@ -68,20 +68,20 @@ impl Losses {
         ensures room { OnOk result (more ≤ self.new.spare) }
         ensures items { self.new.items ≡ self.old.items }
     {
-        match self.items.try_reserve(more) {
+        match self.losses.try_reserve(more) {
             Ok(()) => Ok(()),
             Err(_) => Err(NoMemory::Memory),
         }
     }
 
     /// Adds one at the end, without memory where room is reserved.
-    pub fn push(&mut self, item: Loss) -> Result<(), NoMemory>
-        ensures ok { OnOk result (self.new.items ≡ self.old.items ++ item ∷ []) }
+    pub fn push(&mut self, loss: Loss) -> Result<(), NoMemory>
+        ensures ok { OnOk result (self.new.items ≡ self.old.items ++ loss ∷ []) }
         ensures err { OnErr result (self.new.items ≡ self.old.items) }
         ensures succeeds { 1 ≤ self.old.spare → IsOk result }
         ensures spare { self.old.spare ≤ self.new.spare + 1 }
     {
-        match self.items.push(item) {
+        match self.losses.push(loss) {
             Ok(()) => Ok(()),
             Err(_) => Err(NoMemory::Memory),
         }
@@ -91,28 +91,28 @@ impl Losses {
     pub fn len(&self) -> usize
         ensures { result ≡ length self.now.items }
     {
-        self.items.len()
+        self.losses.len()
     }
 
     /// Whether there are none.
     pub fn is_empty(&self) -> bool
         ensures { IsTrue result ↔ (self.now.items ≡ []) }
     {
-        self.items.is_empty()
+        self.losses.is_empty()
     }
 
     /// The one at a place; None where the place is not below the length.
     pub fn get(&self, place: usize) -> Option<Loss>
         ensures { result ≡ slice_get self.now.items place }
     {
-        self.items.get(place).copied()
+        self.losses.get(place).copied()
     }
 }
 
 /// A list of spans. Clauses see the items and `spare`, the number of items for which room is reserved.
 #[derive(Drop)]
 pub struct Spans {
-    items: Vec<Span>,
+    spans: Vec<Span>,
 }
 
 impl Model for Spans {
@@ -121,7 +121,7 @@ impl Model for Spans {
 
     ghost Value = { SpanList };
 
-    ghost view = { λ l. record { items = l.items.items; spare = vec_capacity l.items - vec_len l.items } };
+    ghost view = { λ l. record { items = l.spans.items; spare = vec_capacity l.spans - vec_len l.spans } };
 }
 
 impl Spans {
@@ -130,7 +130,7 @@ impl Spans {
         ensures { IfOk result (λ l. l.items ≡ []) }
     {
         Ok(Spans {
-            items: Vec::new(alloc),
+            spans: Vec::new(alloc),
         })
     }
 
@@ -139,20 +139,20 @@ impl Spans {
         ensures room { OnOk result (more ≤ self.new.spare) }
         ensures items { self.new.items ≡ self.old.items }
     {
-        match self.items.try_reserve(more) {
+        match self.spans.try_reserve(more) {
             Ok(()) => Ok(()),
             Err(_) => Err(NoMemory::Memory),
         }
     }
 
     /// Adds one at the end, without memory where room is reserved.
-    pub fn push(&mut self, item: Span) -> Result<(), NoMemory>
-        ensures ok { OnOk result (self.new.items ≡ self.old.items ++ item ∷ []) }
+    pub fn push(&mut self, span: Span) -> Result<(), NoMemory>
+        ensures ok { OnOk result (self.new.items ≡ self.old.items ++ span ∷ []) }
         ensures err { OnErr result (self.new.items ≡ self.old.items) }
         ensures succeeds { 1 ≤ self.old.spare → IsOk result }
         ensures spare { self.old.spare ≤ self.new.spare + 1 }
     {
-        match self.items.push(item) {
+        match self.spans.push(span) {
             Ok(()) => Ok(()),
             Err(_) => Err(NoMemory::Memory),
         }
@@ -162,21 +162,21 @@ impl Spans {
     pub fn len(&self) -> usize
         ensures { result ≡ length self.now.items }
     {
-        self.items.len()
+        self.spans.len()
     }
 
     /// Whether there are none.
     pub fn is_empty(&self) -> bool
         ensures { IsTrue result ↔ (self.now.items ≡ []) }
     {
-        self.items.is_empty()
+        self.spans.is_empty()
     }
 
     /// The one at a place; None where the place is not below the length.
     pub fn get(&self, place: usize) -> Option<Span>
         ensures { result ≡ slice_get self.now.items place }
     {
-        self.items.get(place).copied()
+        self.spans.get(place).copied()
     }
 }
 

@@ -1,6 +1,6 @@
 //! The name of a file.
 
-ghost use Rattle.std.specs.Prelude.{◌≡◌, ◌↔◌, IsSome, IfSome, IsTrue};
+ghost use Rattle.std.specs.Prelude.{◌≡◌, ◌≤◌, ◌-◌, ◌++◌, ◌↔◌, length, replicate, IsSome, IfSome, IsTrue};
 ghost use Rattle.nq_base.specs.Name.{IsName, IsNameByte};
 
 use std::marker::Model;
@@ -15,7 +15,7 @@ pub struct Name {
 
 impl Model for Name {
     ghost use Rattle.std.specs.Prelude.{◌-◌, ◌++◌, List, ℕ, length, take, replicate};
-    ghost use Rattle.nq_base.specs.Name.{IsStored, both, stored-bytes, stored-used};
+    ghost use Rattle.nq_base.specs.Name.{IsStored, stored-bytes, stored-used};
 
     ghost Value = { List ℕ };
 
@@ -25,12 +25,26 @@ impl Model for Name {
 
     ghost inverse = { λ bytes. record { bytes = bytes ++ replicate (64 - length bytes) 0; used = length bytes } };
 
-    ghost inverse_ok = { λ a h. both (λ bytes used. record { bytes = bytes; used = used }) (stored-bytes a.bytes a.used h) (stored-used a.bytes a.used h) };
+    ghost inverse_ok = { λ a h i. record { bytes = stored-bytes a.bytes a.used h i; used = stored-used a.bytes a.used h i } };
 }
 
 impl Name {
     /// The most bytes that a name has.
     pub const LONGEST: usize = 64;
+
+    /// The name of these bytes; None where they are not a name's.
+    pub fn new(bytes: &[u8]) -> Option<Name>
+        ensures name { IsSome result ↔ IsName bytes.now }
+        ensures bytes { IfSome result (λ n. n ≡ bytes.now) }
+    {
+        if !is_name(bytes) {
+            return None;
+        }
+        Some(Name {
+            bytes: padded(bytes),
+            used: bytes.len(),
+        })
+    }
 
     /// The bytes.
     pub fn as_bytes(&self) -> &[u8]
@@ -48,9 +62,28 @@ impl Name {
     }
 }
 
-#[cfg(test)]
+fn is_name(bytes: &[u8]) -> bool
+    ensures { IsTrue result ↔ IsName bytes.now }
+{
+    !bytes.is_empty()
+        && bytes.len() <= Name::LONGEST
+        && bytes.iter().all(|byte| is_name_byte(*byte))
+}
+
 fn is_name_byte(byte: u8) -> bool
     ensures { IsTrue result ↔ IsNameByte byte }
 {
     (33..=126).contains(&byte) && byte != b'/'
+}
+
+/// The bytes with zeros behind them.
+fn padded(bytes: &[u8]) -> [u8; Name::LONGEST]
+    requires { length bytes.now ≤ 64 }
+    ensures { result ≡ bytes.now ++ replicate (64 - length bytes.now) 0 }
+{
+    let mut all = [0; Name::LONGEST];
+    for (i, byte) in bytes.iter().enumerate() {
+        all[i] = *byte;
+    }
+    all
 }

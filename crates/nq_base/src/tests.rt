@@ -1,0 +1,122 @@
+use super::*;
+
+#[test]
+fn blocks_repeat_their_number(rt: HostRuntime) {
+    let block = Block::fill(0x0102_0304);
+    assert_eq!(rt; block.as_bytes().len(), 4096);
+    assert_eq!(rt; &block.as_bytes()[..6], [1, 2, 3, 4, 1, 2].as_slice());
+    assert_eq!(rt; &block.as_bytes()[4092..], [1, 2, 3, 4].as_slice());
+    for value in [0, 7, 0x0102_0304, u32::MAX] {
+        assert_eq!(rt; Block::fill(value).value(), value);
+    }
+}
+
+#[test]
+fn blocks_have_4096_bytes(rt: HostRuntime) {
+    let bytes = [9; 4097];
+    assert!(rt; Block::from_bytes(&bytes).is_none());
+    assert!(rt; Block::from_bytes(&bytes[..4095]).is_none());
+    match Block::from_bytes(&bytes[..4096]) {
+        Some(block) => assert_eq!(rt; block.value(), 0x0909_0909),
+        None => assert!(rt; false),
+    }
+}
+
+#[test]
+fn names_are_printable(rt: HostRuntime) {
+    for bytes in [b"a".as_slice(), b"x.Y-9~!", &[b'n'; 64]] {
+        match Name::new(bytes) {
+            Some(name) => assert_eq!(rt; name.as_bytes(), bytes),
+            None => assert!(rt; false),
+        }
+    }
+    for bytes in [
+        b"".as_slice(),
+        b"a b",
+        b"a/b",
+        b"tab\t",
+        &[0x80],
+        &[b'n'; 65],
+    ] {
+        assert!(rt; Name::new(bytes).is_none());
+    }
+}
+
+#[test]
+fn names_differ_by_their_bytes(rt: HostRuntime) {
+    if let (Some(a), Some(b)) = (Name::new(b"a"), Name::new(b"ab")) {
+        assert!(rt; a.is(&a));
+        assert!(rt; !a.is(&b));
+    }
+}
+
+#[test]
+fn losses_keep_their_order(rt: HostRuntime) -> Result<(), NoMemory> {
+    let loss = Loss {
+        file: FileId(1),
+        block: BlockNo(0),
+        first: Number(2),
+        last: Number(3),
+    };
+    let mut losses = Losses::new(rt.alloc())?;
+    assert!(rt; losses.is_empty());
+    losses.reserve(1)?;
+    losses.push(loss)?;
+    assert_eq!(rt; losses.len(), 1);
+    match losses.get(0) {
+        Some(kept) => assert!(rt; kept == loss),
+        None => assert!(rt; false),
+    }
+    assert!(rt; losses.get(1).is_none());
+    Ok(())
+}
+
+#[test]
+fn spans_keep_their_order(rt: HostRuntime) -> Result<(), NoMemory> {
+    let span = Span {
+        block: BlockNo(0),
+        first: Number(1),
+        last: Number(1),
+    };
+    let mut spans = Spans::new(rt.alloc())?;
+    assert!(rt; spans.is_empty());
+    spans.reserve(1)?;
+    spans.push(span)?;
+    assert_eq!(rt; spans.len(), 1);
+    match spans.get(0) {
+        Some(kept) => assert!(rt; kept == span),
+        None => assert!(rt; false),
+    }
+    assert!(rt; spans.get(1).is_none());
+    Ok(())
+}
+
+#[test]
+fn files_keep_their_order(rt: HostRuntime) -> Result<(), NoMemory> {
+    let mut files = FileList::new(rt.alloc())?;
+    assert!(rt; files.is_empty());
+    for (bytes, blocks) in [(b"a".as_slice(), 1), (b"big", 1024)] {
+        if let Some(name) = Name::new(bytes) {
+            files.push(name, blocks)?;
+        }
+    }
+    assert_eq!(rt; files.len(), 2);
+    match files.get(1) {
+        Some((name, blocks)) => {
+            assert_eq!(rt; name.as_bytes(), b"big".as_slice());
+            assert_eq!(rt; blocks, 1024);
+        }
+        None => assert!(rt; false),
+    }
+    assert!(rt; files.get(2).is_none());
+    Ok(())
+}
+
+#[test]
+fn order_is_the_usual_one(rt: HostRuntime) {
+    let tag = |boot, number| Tag { boot, number };
+    assert!(rt; tag(1, 9) < tag(2, 1));
+    assert!(rt; tag(2, 1) < tag(2, 2));
+    assert!(rt; Mode::NonCaching < Mode::Reading && Mode::Reading < Mode::Writing);
+    assert!(rt; Ticks(3) < Ticks(4) && Host(0) < Host(1));
+}
