@@ -1,0 +1,22 @@
+//! Where the bytes of a run come from and where they go: two traits, `Source` and `Sink`, with an object in memory
+//! and an adapter of std for each.
+#![tactic(auto)]
+
+mod calls;
+mod mem_sink;
+mod mem_source;
+mod no_memory;
+mod sink;
+mod source;
+mod std_sink;
+mod std_source;
+mod whole;
+
+pub use mem_sink::MemSink;
+pub use mem_source::MemSource;
+pub use no_memory::NoMemory;
+pub use sink::{Put, Sink};
+pub use source::{Got, Source};
+pub use std_sink::StdSink;
+pub use std_source::StdSource;
+pub use whole::{Whole, read_all};

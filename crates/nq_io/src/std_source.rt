@@ -1,0 +1,54 @@
+// A std reader as a source.
+ghost use Rattle.std.specs.Prelude.{◌≡◌, ◌<◌, None, length};
+ghost use Rattle.nq_io.specs.Source.{Reads, CountsRead, faults_after};
+
+use crate::{Got, Source};
+use std::io::Read;
+use std::marker::Model;
+
+/// A std reader as a source, which tells nothing of its bytes. Each error of the reader is a fault. A contract sees it
+/// as the count of its faults, which stands still at `u64::MAX`.
+#[derive(Drop)]
+pub struct StdSource<R> {
+    reader: R,
+    faults: u64,
+}
+
+impl<R> Model for StdSource<R> {
+    ghost use Rattle.std.specs.Prelude.{ℕ};
+
+    ghost Value = { ℕ };
+
+    ghost view = { λ s. s.faults };
+}
+
+impl<R: Read> StdSource<R> {
+    /// A source of what the reader gives.
+    pub fn new(reader: R) -> StdSource<R>
+        ensures { result ≡ 0 }
+    {
+        StdSource { reader, faults: 0 }
+    }
+}
+
+impl<R: Read> Source for StdSource<R> {
+    ghost left = { λ _. None };
+
+    ghost faults = { λ source. source };
+
+    fn read(&mut self, out: &mut [u8]) -> Got
+        requires { 0 < length out.old }
+        ensures reads { Reads result out.old out.new None None }
+        ensures cause { CountsRead result self.old self.new }
+        ensures faults { self.new ≡ faults_after result self.old }
+    {
+        match self.reader.read(out) {
+            Ok(0) => Got::End,
+            Ok(count) => Got::Bytes(count),
+            Err(_) => {
+                self.faults = self.faults.saturating_add(1);
+                Got::Failed
+            }
+        }
+    }
+}
