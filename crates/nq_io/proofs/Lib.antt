@@ -1,2 +1,3 @@
 mod Reading
-pub mod ToldLemmas
+pub mod Told
+mod Writing

@@ -4,5 +4,7 @@ pub mod MemSink
 pub mod MemSource
 pub mod Sink
 pub mod Source
+pub mod StdSink
+pub mod StdSource
 pub mod Told
 pub mod Whole

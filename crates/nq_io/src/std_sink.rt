@@ -2,13 +2,14 @@
 ghost use Rattle.std.specs.Prelude.{◌≡◌, None};
 ghost use Rattle.nq_io.specs.Faults.{Rose, count_up};
 ghost use Rattle.nq_io.specs.Sink.{Puts, CountsPut, faults_after};
+ghost use Rattle.nq_io.specs.StdSink.{Writes};
 
 use crate::{Put, Sink};
 use std::io::Write;
 use std::marker::Model;
 
-/// A std writer as a sink, which tells nothing of its bytes. Each error of the writer, and a write that takes no byte,
-/// is a fault. A contract sees it as the count of its faults, which stands still at `u64::MAX`.
+/// A std writer as a sink, which tells nothing of its bytes. Each error of the writer is a fault, and so is a write that
+/// takes no byte. The count of faults stands still at `u64::MAX`.
 #[derive(Drop)]
 pub struct StdSink<W> {
     writer: W,
@@ -16,17 +17,17 @@ pub struct StdSink<W> {
 }
 
 impl<W> Model for StdSink<W> {
-    ghost use Rattle.std.specs.Prelude.{ℕ};
+    ghost use Rattle.nq_io.specs.StdSink.{CountedWriter};
 
-    ghost Value = { ℕ };
+    ghost Value = { CountedWriter W };
 
-    ghost view = { λ s. s.faults };
+    ghost view = { λ s. record { writer = s.writer; faults = s.faults } };
 }
 
 impl<W: Write> StdSink<W> {
     /// A sink to the writer.
     pub fn new(writer: W) -> StdSink<W>
-        ensures { result ≡ 0 }
+        ensures { result ≡ record { writer = writer; faults = 0 } }
     {
         StdSink { writer, faults: 0 }
     }
@@ -34,8 +35,8 @@ impl<W: Write> StdSink<W> {
     // Counts a fault.
     fn fail(&mut self) -> Put
         ensures answer { result ≡ Put.Failed }
-        ensures counted { self.new ≡ count_up self.old }
-        ensures rose { Rose self.old self.new }
+        ensures counted { self.new ≡ record self.old { faults = count_up self.old.faults } }
+        ensures rose { Rose self.old.faults self.new.faults }
     {
         self.faults = self.faults.saturating_add(1);
         Put::Failed
@@ -45,18 +46,23 @@ impl<W: Write> StdSink<W> {
 impl<W: Write> Sink for StdSink<W> {
     ghost held = { λ _. None };
 
-    ghost faults = { λ sink. sink };
+    ghost faults = { λ sink. sink.faults };
 
+    /// Writes these bytes and flushes the writer, so that an error that a buffer holds back is counted here.
     fn put(&mut self, bytes: &[u8]) -> Put
+        // As of any sink.
         ensures puts { Puts result bytes.now None None }
-        ensures cause { CountsPut result self.old self.new }
-        ensures faults { self.new ≡ faults_after result self.old }
+        ensures cause { CountsPut result self.old.faults self.new.faults }
+
+        // Of this one.
+        ensures faults { self.new.faults ≡ faults_after result self.old.faults }
+        ensures bytes { Writes result bytes.now (W.contents self.old.writer) (W.contents self.new.writer) }
     {
-        let mut rest = bytes;
-        while !rest.is_empty() {
-            match self.writer.write(rest) {
+        let mut written = 0;
+        while written < bytes.len() {
+            match self.writer.write(&bytes[written..]) {
                 Ok(0) | Err(_) => return self.fail(),
-                Ok(count) => rest = &rest[count..],
+                Ok(count) => written += count,
             }
         }
         match self.writer.flush() {
