@@ -1,11 +1,11 @@
 -- The ask table: what a host that is about to read or change a file is told. The first case that fits decides.
-use Rattle.std.specs.Prelude.{ℕ, ◌+◌, ◌-◌, ◌==◌, Bool, true, false, not, ◌&&◌, ◌||◌, List, Option, Some, None, find, filter, map, length, max, nat_lt, is_some, if◌then◌else◌}
+use Rattle.std.specs.Prelude.{ℕ, ◌+◌, ◌-◌, ◌==◌, Bool, true, false, not, ◌&&◌, ◌||◌, List, Option, Some, None, find, map, length, max, nat_lt, if◌then◌else◌}
 use Rattle.std.specs.List.{list_any}
 use Rattle.nq_base.specs.declared.Access.{Access}
 use Rattle.nq_base.specs.declared.Asked.{Asked}
 use Rattle.nq_base.specs.declared.Grant.{Grant}
 use Rattle.nq_base.specs.declared.Mode.{Mode}
-use Rattle.nq_base.specs.declared.Mode.TheVariants.{NonCaching, Reading, Writing}
+use Rattle.nq_base.specs.declared.Mode.TheVariants.{NonCaching}
 use Rattle.nq_base.specs.declared.Row.{Row}
 use Rattle.nq_base.specs.declared.Want.{Want}
 use Rattle.nq_base.specs.declared.Who.{Who}

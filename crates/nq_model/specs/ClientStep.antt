@@ -1,5 +1,5 @@
 -- The client's step: a call, a tick, a start.
-use Rattle.std.specs.Prelude.{ℕ, ◌+◌, ◌==◌, Bool, true, false, not, ◌&&◌, ◌||◌, List, [], ◌∷◌, ◌++◌, Option, Some, None, length, nat_lt, nat_le, is_some, if◌then◌else◌}
+use Rattle.std.specs.Prelude.{ℕ, ◌+◌, true, false, not, ◌||◌, List, [], ◌∷◌, ◌++◌, Option, Some, None, nat_le, is_some, if◌then◌else◌}
 use Rattle.nq_base.specs.Block.{value_of}
 use Rattle.nq_base.specs.declared.Answer.{Answer}
 use Rattle.nq_base.specs.declared.Call.{Call}
@@ -10,12 +10,11 @@ use Rattle.nq_base.specs.declared.Request.{Request}
 use Rattle.nq_base.specs.declared.Said.{Said}
 use Rattle.nq_base.specs.declared.Told.{Told}
 use Rattle.nq_base.specs.declared.Who.{Who}
-use Rattle.nq_model.specs.Client.{UnderWay, Ticket, attaching, Client, ClientStep, begun, in_state, noting, losses_of}
-use Rattle.nq_model.specs.Hear.{goes_on}
+use Rattle.nq_model.specs.Client.{Ticket, attaching, Client, ClientStep, begun, in_state, noting, losses_of}
 use Rattle.nq_model.specs.Message.{call}
 use Rattle.nq_model.specs.Profile.{patience}
 use Rattle.nq_model.specs.Send.{send_next}
-use Rattle.nq_model.specs.Settle.{answers, names_losses, settle}
+use Rattle.nq_model.specs.Settle.{names_losses, settle}
 
 -- a call as a journal tells it
 abbrev pub told : Call → Told

@@ -1,6 +1,6 @@
 -- Requests that are decided once: CREATE, WRITE, RESIZE and REMOVE. The verdict is kept with its effect in one
 -- change, so a copy of the request that comes later is answered and not executed again.
-use Rattle.std.specs.Prelude.{ℕ, ◌+◌, ◌-◌, ◌%◌, ◌==◌, Bool, true, false, ◌&&◌, ◌||◌, List, [], ◌∷◌, ◌++◌, Option, Some, None, filter, length, max, nat_lt, nat_le, is_some, slice_get, if◌then◌else◌}
+use Rattle.std.specs.Prelude.{ℕ, ◌+◌, ◌-◌, ◌%◌, ◌==◌, Bool, true, ◌&&◌, ◌||◌, List, [], ◌∷◌, ◌++◌, Option, Some, None, filter, length, max, nat_lt, nat_le, is_some, if◌then◌else◌}
 use Rattle.nq_base.specs.Block.{value_of}
 use Rattle.nq_base.specs.declared.Access.{Access}
 use Rattle.nq_base.specs.declared.Asked.{Asked}
@@ -10,16 +10,16 @@ use Rattle.nq_base.specs.declared.PushBase.{PushBase}
 use Rattle.nq_base.specs.declared.Refusal.{Refusal}
 use Rattle.nq_base.specs.declared.Reply.{Reply as Answer}
 use Rattle.nq_base.specs.declared.Request.{Request}
-use Rattle.nq_base.specs.declared.Request.TheVariants.{Null, Attach, Lookup, Create, GetAttr, Read, Write, GetLease, Vacated, Evicted, Resize, Remove}
+use Rattle.nq_base.specs.declared.Request.TheVariants.{Create, Write, Resize, Remove}
 use Rattle.nq_base.specs.declared.Row.{Row}
 use Rattle.nq_base.specs.declared.Verdict.{Verdict}
 use Rattle.nq_base.specs.declared.Verdict.TheVariants.{Done, Fenced, Exist, NoSpace, Invalid, Stale, TryLater}
 use Rattle.nq_base.specs.declared.Who.{Who}
 use Rattle.nq_model.specs.Ask.{Question, Reply, ask, conflicts}
-use Rattle.nq_model.specs.Kept.{File, Kept, blocks_of, blocks_in_all, find_file, find_name, replace_file, drop_file, written_file, resized_file, with_files, with_new_file, with_row, host_row}
+use Rattle.nq_model.specs.Kept.{File, blocks_of, blocks_in_all, find_file, find_name, replace_file, drop_file, written_file, resized_file, with_files, with_new_file, with_row}
 use Rattle.nq_model.specs.Message.{Packet, reply}
 use Rattle.nq_model.specs.Profile.{write_slack, most_files, most_blocks, most_blocks_of_file, most_ids}
-use Rattle.nq_model.specs.Server.{Phase, serving, recovering, Server, ServerStep, taken, to_host, refuses, replies, notices, after_notices, keeping, keeping_with, with_table}
+use Rattle.nq_model.specs.Server.{Phase, serving, recovering, Server, ServerStep, taken, to_host, refuses, replies, notices, after_notices, keeping, keeping_with}
 use Rattle.nq_model.specs.Table.{Table, is_writing, find_row, put_row, drop_rows_of, with_rows}
 
 -- a decision: the server with the effect but without the host's row, the notices that it sends, its entries, and what

@@ -1,8 +1,8 @@
 -- What a client makes of a datagram: the reply to its request, or a notice.
-use Rattle.std.specs.Prelude.{◌≡◌, ℕ, ◌+◌, ◌-◌, ◌==◌, Bool, true, false, not, ◌&&◌, ◌||◌, List, [], ◌∷◌, ◌++◌, Option, Some, None, map, filter, length, reverse, nat_lt, nat_le, is_some, if◌then◌else◌}
+use Rattle.std.specs.Prelude.{ℕ, ◌+◌, ◌==◌, Bool, true, false, not, ◌&&◌, List, [], ◌∷◌, ◌++◌, Option, Some, None, map, filter, reverse, is_some, if◌then◌else◌}
 use Rattle.nq_base.specs.declared.Answer.{Answer}
 use Rattle.nq_base.specs.declared.Call.{Call}
-use Rattle.nq_base.specs.declared.Call.TheVariants.{Create, Lookup, Attr, Read, Fetch, Write, WriteSync, Sync, Resize, Remove}
+use Rattle.nq_base.specs.declared.Call.TheVariants.{WriteSync, Sync, Resize, Remove}
 use Rattle.nq_base.specs.declared.Entry.{Entry}
 use Rattle.nq_base.specs.declared.Grant.{Grant}
 use Rattle.nq_base.specs.declared.Loss.{Loss}
@@ -14,7 +14,7 @@ use Rattle.nq_base.specs.declared.Tag.{Tag}
 use Rattle.nq_base.specs.declared.Value.{Value}
 use Rattle.nq_base.specs.declared.Want.{Want}
 use Rattle.nq_base.specs.declared.Who.{Who}
-use Rattle.nq_model.specs.Client.{Lease, Notice, UnderWay, Job, attaching, for_call, renewing, pushing, Ticket, Client, ClientStep, begun, in_state, noting, lease_on, drop_lease, put_lease, notice_on, drop_notice, is_push_of, is_push_at, dirty_at, push_passes, is_clean, other_dirty, put_clean, purge, revision_of, put_revision, is_revision, is_revision_before}
+use Rattle.nq_model.specs.Client.{Lease, Notice, UnderWay, Job, attaching, for_call, renewing, pushing, Ticket, Client, ClientStep, begun, in_state, lease_on, drop_lease, put_lease, notice_on, drop_notice, is_push_of, dirty_at, is_clean, other_dirty, put_clean, purge, revision_of, put_revision, is_revision, is_revision_before}
 use Rattle.nq_model.specs.Message.{Message, call, reply, error}
 use Rattle.nq_model.specs.Profile.{patience}
 use Rattle.nq_model.specs.Send.{send_next}

@@ -1,5 +1,5 @@
 -- What the server keeps over its boots: files, one row for each host, and the numbers of its boots.
-use Rattle.std.specs.Prelude.{ℕ, ◌+◌, ◌==◌, Bool, not, List, [], ◌∷◌, ◌++◌, Option, Some, None, find, filter, map, sum_by, length, take, replicate, slice_get, slice_set, unwrap_or, if◌then◌else◌}
+use Rattle.std.specs.Prelude.{ℕ, ◌+◌, ◌==◌, not, List, [], ◌∷◌, ◌++◌, Option, find, filter, map, sum_by, length, take, replicate, slice_get, slice_set, unwrap_or, if◌then◌else◌}
 use Rattle.nq_base.specs.Block.{zeros}
 use Rattle.nq_base.specs.declared.HostRow.{HostRow}
 use Rattle.nq_base.specs.declared.Verdict.{Verdict}

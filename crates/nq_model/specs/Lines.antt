@@ -1,6 +1,5 @@
 -- The lines of a schedule's text, and the events for which they stand.
 use Rattle.std.specs.Prelude.{ℕ, ◌+◌, ◌-◌, ◌==◌, not, List, [], ◌∷◌, ◌++◌, length, filter, zero, suc}
-use Rattle.nq_base.specs.declared.Entry.{Entry}
 use Rattle.nq_base.specs.declared.Event.{Event}
 use Rattle.nq_model.specs.World.{Head, World, start, step}
 

@@ -1,5 +1,5 @@
 -- The numbers of the protocol. Times are in ticks; one tick is one second.
-use Rattle.std.specs.Prelude.{ℕ, ◌-◌, Bool, List, [], ◌∷◌, nat_le, ◌==◌, ◌&&◌, if◌then◌else◌, false, true, min, max}
+use Rattle.std.specs.Prelude.{ℕ, ◌-◌, Bool, List, [], ◌∷◌, ◌==◌, ◌&&◌, if◌then◌else◌, false, true, min, max}
 
 -- how much faster the server's clock may run than a client's within one term (Macklem 1994)
 abbrev pub skew : ℕ

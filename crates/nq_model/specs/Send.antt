@@ -1,5 +1,5 @@
 -- The next request: what a client sends where none is under way.
-use Rattle.std.specs.Prelude.{◌≡◌, ℕ, ◌+◌, ◌-◌, ◌==◌, Bool, true, false, not, ◌&&◌, ◌||◌, List, [], ◌∷◌, ◌++◌, Option, Some, None, map, filter, find, fold, length, nat_lt, nat_le, is_some, if◌then◌else◌}
+use Rattle.std.specs.Prelude.{ℕ, ◌+◌, Bool, true, false, not, ◌&&◌, ◌||◌, List, [], ◌∷◌, ◌++◌, Option, Some, None, map, filter, nat_lt, nat_le, is_some, if◌then◌else◌}
 use Rattle.nq_base.specs.declared.Call.{Call}
 use Rattle.nq_base.specs.declared.Call.TheVariants.{Create, Lookup, Attr, Read, Fetch, Write, WriteSync, Sync, Resize, Remove}
 use Rattle.nq_base.specs.declared.Mode.{Mode}
@@ -7,8 +7,8 @@ use Rattle.nq_base.specs.declared.Push.{Push}
 use Rattle.nq_base.specs.declared.PushBase.{PushBase}
 use Rattle.nq_base.specs.declared.Request.{Request}
 use Rattle.nq_base.specs.declared.Want.{Want}
-use Rattle.nq_model.specs.Client.{Lease, Notice, UnderWay, Job, attaching, for_call, renewing, pushing, Ticket, Client, ClientStep, in_state, lease_on, drop_lease, notice_on, first_dirty, drop_dirty, is_clean, purge, revision_of, revision_or_zero, is_live, lets_read, renew_due}
-use Rattle.nq_model.specs.Message.{Message, call}
+use Rattle.nq_model.specs.Client.{Lease, Notice, UnderWay, Job, for_call, renewing, pushing, Client, ClientStep, in_state, lease_on, drop_lease, notice_on, first_dirty, drop_dirty, is_clean, purge, revision_of, revision_or_zero, is_live, renew_due}
+use Rattle.nq_model.specs.Message.{call}
 use Rattle.nq_model.specs.Profile.{renewal}
 use Rattle.nq_model.specs.Table.{caches, is_writing}
 

@@ -1,5 +1,5 @@
 -- The server's step: a datagram, a tick, a crash (Macklem 1994).
-use Rattle.std.specs.Prelude.{ℕ, ◌+◌, ◌==◌, Bool, true, false, not, ◌&&◌, ◌||◌, List, [], ◌∷◌, ◌++◌, Option, Some, None, filter, find, length, max, nat_lt, nat_le, slice_get, unwrap_or, if◌then◌else◌}
+use Rattle.std.specs.Prelude.{ℕ, ◌+◌, ◌==◌, Bool, true, false, not, ◌&&◌, List, [], ◌∷◌, ◌++◌, Option, Some, None, filter, find, length, max, nat_lt, nat_le, slice_get, if◌then◌else◌}
 use Rattle.nq_base.specs.Block.{value_of}
 use Rattle.nq_base.specs.declared.Access.{Access}
 use Rattle.nq_base.specs.declared.Asked.{Asked}
@@ -18,10 +18,10 @@ use Rattle.nq_base.specs.declared.Who.{Who}
 use Rattle.nq_model.specs.Ask.{Question, Reply, ask}
 use Rattle.nq_model.specs.Decide.{decided_once, in_the_way}
 use Rattle.nq_model.specs.Kept.{File, Kept, blocks_of, find_file, find_name, replace_file, fenced_file, with_files, with_row, host_row}
-use Rattle.nq_model.specs.Message.{Message, Packet, call, reply, error, Datagram, too_long, no_message, no_call, other_rpc, other_program, other_version, unknown_procedure, garbage_vacated, garbage, request, rpc_mismatch, program_unavailable, program_mismatch, procedure_unavailable, garbage_arguments, was_too_long, was_no_message, was_no_call, wrong_host, old_incarnation, no_reply_owed, asker}
+use Rattle.nq_model.specs.Message.{reply, error, Datagram, too_long, no_message, no_call, other_rpc, other_program, other_version, unknown_procedure, garbage_vacated, garbage, request, rpc_mismatch, program_unavailable, program_mismatch, procedure_unavailable, garbage_arguments, was_too_long, was_no_message, was_no_call, wrong_host, old_incarnation, no_reply_owed, asker}
 use Rattle.nq_model.specs.Profile.{skew, write_slack, most_hosts}
-use Rattle.nq_model.specs.Server.{Phase, serving, recovering, Server, ServerStep, taken, to_host, quiet, drops, says, replies, refuses, notices, after_notices, keeping, keeping_with, with_table, standing}
-use Rattle.nq_model.specs.Table.{Table, caches, is_writing, same_who, same_tag, is_row_of, find_row, drop_row, drop_host, with_rows, empty_table}
+use Rattle.nq_model.specs.Server.{Phase, serving, recovering, Server, ServerStep, taken, to_host, quiet, drops, says, replies, refuses, notices, after_notices, keeping_with, with_table, standing}
+use Rattle.nq_model.specs.Table.{Table, is_writing, same_tag, find_row, drop_row, drop_host, with_rows, empty_table}
 
 -- ATTACH of a later incarnation: the host's row begins anew, and its leases are gone
 unfoldable pub attaches : Server → Who → (xid : ℕ) → ServerStep

@@ -1,16 +1,15 @@
 -- What a call under way needs no packet for: cached reads, delayed writes, and syncs of clean files.
-use Rattle.std.specs.Prelude.{◌≡◌, ℕ, ◌+◌, ◌-◌, ◌==◌, Bool, true, false, not, ◌&&◌, ◌||◌, List, [], ◌∷◌, ◌++◌, Option, Some, None, map, length, nat_lt, nat_le, is_some, if◌then◌else◌}
+use Rattle.std.specs.Prelude.{ℕ, ◌+◌, Bool, true, false, not, ◌&&◌, List, [], ◌∷◌, ◌++◌, Option, Some, None, map, length, nat_le, is_some, if◌then◌else◌}
 use Rattle.nq_base.specs.Block.{value_of}
 use Rattle.nq_base.specs.Lists.{LossList}
 use Rattle.nq_base.specs.declared.Answer.{Answer}
 use Rattle.nq_base.specs.declared.Call.{Call}
-use Rattle.nq_base.specs.declared.Call.TheVariants.{Create, Lookup, Attr, Read, Fetch, Write, WriteSync, Sync, Resize, Remove}
+use Rattle.nq_base.specs.declared.Call.TheVariants.{Read, Fetch, Write, WriteSync, Sync}
 use Rattle.nq_base.specs.declared.Entry.{Entry}
-use Rattle.nq_base.specs.declared.Loss.{Loss}
 use Rattle.nq_base.specs.declared.Push.{Push}
 use Rattle.nq_base.specs.declared.Said.{Said}
 use Rattle.nq_base.specs.declared.Value.{Value}
-use Rattle.nq_model.specs.Client.{Lease, Clean, UnderWay, Job, attaching, for_call, renewing, pushing, Ticket, Client, ClientStep, in_state, noting, lease_on, notice_on, losses_of, other_losses, is_push_at, dirty_at, push_passes, is_clean, clean_at, drop_clean, put_clean, lets_read, lets_write, used_lease, loss_list, span_list}
+use Rattle.nq_model.specs.Client.{Lease, Clean, UnderWay, Job, attaching, for_call, renewing, pushing, Ticket, Client, ClientStep, in_state, noting, lease_on, notice_on, losses_of, other_losses, is_push_at, dirty_at, push_passes, is_clean, clean_at, drop_clean, lets_read, lets_write, used_lease, loss_list, span_list}
 use Rattle.nq_model.specs.Profile.{most_dirty}
 
 -- how a journal tells what an answer brings; a read that the server served names its packet

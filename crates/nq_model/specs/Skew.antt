@@ -1,5 +1,5 @@
 -- Within skew: no clock of a client falls behind the server's by more than the skew within one longest term.
-use Rattle.std.specs.Prelude.{◌≡◌, ℕ, ◌+◌, ◌<◌, ◌≤◌, ◌==◌, Bool, true, false, ◌&&◌, ◌||◌, List, [], ◌∷◌, ◌++◌, nat_le, not, zero, suc, if◌then◌else◌}
+use Rattle.std.specs.Prelude.{◌≡◌, ℕ, ◌+◌, ◌<◌, ◌≤◌, ◌==◌, Bool, true, ◌&&◌, ◌||◌, List, [], ◌∷◌, ◌++◌, nat_le, not, zero, suc, if◌then◌else◌}
 use Rattle.nq_base.specs.declared.Event.{Event}
 use Rattle.nq_model.specs.Profile.{skew}
 
@@ -53,3 +53,10 @@ host_within host longest (e ∷ events) = parts_within host longest 0 0 (e ∷ e
 abbrev pub is_within_skew : (hosts longest : ℕ) → List Event → Bool
 is_within_skew zero longest events = true
 is_within_skew (suc host) longest events = host_within host longest events && is_within_skew host longest events
+
+-- what passes the test is within skew
+abbrev pub SkewTestIsSound : Type 0
+SkewTestIsSound =
+    (hosts longest : ℕ) (events : List Event)
+    → is_within_skew hosts longest events ≡ true
+    → IsWithinSkew hosts longest events

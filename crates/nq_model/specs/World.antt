@@ -1,12 +1,10 @@
 -- The run: one server, its clients, all packets ever sent, and the journal. Each event changes one host.
-use Rattle.std.specs.Prelude.{ℕ, ◌+◌, ◌-◌, ◌==◌, Bool, true, false, List, [], ◌∷◌, ◌++◌, Option, Some, None, map, length, slice_get, slice_set, replicate, zero, suc, if◌then◌else◌}
-use Rattle.nq_base.specs.declared.Call.{Call}
+use Rattle.std.specs.Prelude.{ℕ, ◌+◌, ◌-◌, List, [], ◌∷◌, ◌++◌, Option, Some, None, map, length, slice_get, slice_set, replicate, zero, suc}
 use Rattle.nq_base.specs.declared.Entry.{Entry}
 use Rattle.nq_base.specs.declared.Event.{Event}
 use Rattle.nq_base.specs.declared.HostRow.{HostRow}
 use Rattle.nq_base.specs.declared.Party.{Party}
 use Rattle.nq_base.specs.declared.Verdict.{Verdict}
-use Rattle.nq_base.specs.declared.Who.{Who}
 use Rattle.nq_model.specs.Client.{Client, ClientStep}
 use Rattle.nq_model.specs.ClientStep.{client_call, client_tick, attached_client, restart}
 use Rattle.nq_model.specs.Hear.{hear}

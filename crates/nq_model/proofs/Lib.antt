@@ -1,0 +1,2 @@
+pub mod CachedReads
+pub mod SkewTest

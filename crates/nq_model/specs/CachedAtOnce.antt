@@ -1,0 +1,47 @@
+-- Cached at once: a read that the client has under a lease that runs is answered in its own step, without a packet.
+use Rattle.std.specs.Prelude.{◌≡◌, ◌<◌, ℕ, ◌+◌, true, false, List, [], ◌∷◌, Some, None}
+use Rattle.nq_base.specs.Block.{value_of}
+use Rattle.nq_base.specs.declared.Answer.{Answer}
+use Rattle.nq_base.specs.declared.Call.{Call}
+use Rattle.nq_base.specs.declared.Entry.{Entry}
+use Rattle.nq_base.specs.declared.Said.{Said}
+use Rattle.nq_base.specs.declared.Value.{Value}
+use Rattle.nq_model.specs.Client.{Lease, Client, ClientStep, lease_on, lets_read}
+use Rattle.nq_model.specs.ClientStep.{client_call, told}
+use Rattle.nq_model.specs.Settle.{cached_body, ticket_is_for_call, after_read}
+
+-- a client is attached and idle, holds a caching lease that runs by its own clock, and has the block: delayed, under way
+-- or clean
+pub record HasCached (c : Client) (file block : ℕ) (lease : Lease) (body : List ℕ) : Type 0 where
+  pub attached : c.attached ≡ true
+  pub free : c.call ≡ None
+  pub idle : ticket_is_for_call c.ticket ≡ false
+  pub held : lease_on file c.leases ≡ Some lease
+  pub runs : lets_read c.now lease ≡ true
+  pub within : block < lease.blocks
+  pub there : cached_body c file block ≡ Some body
+
+-- the client after a call that was answered at once from what it has: the call was counted, the lease was used, and the
+-- block was moved to the front of the cache if it was clean
+abbrev pub after_cached : Client → (file block : ℕ) → Client
+after_cached c file block = record (after_read (record c { calls = c.calls + 1 }) file block) { call = None }
+
+-- the step makes the call, the cached read and its answer, sends nothing, and changes nothing else
+pub record AnswersAtOnce (c : Client) (op : Call) (file block : ℕ) (body : List ℕ) (t : ClientStep) : Type 0 where
+  pub silent : t.sends ≡ []
+  pub entries :
+      t.entries
+      ≡ Entry.A c.who (c.calls + 1) (Said.OkValue (value_of body))
+      ∷ Entry.R c.who (c.calls + 1) file block (value_of body) None
+      ∷ Entry.C c.who (c.calls + 1) (told op)
+      ∷ []
+  pub answered : t.answer ≡ Some (Answer.Ok (Value.Body body))
+  pub client : t.client ≡ after_cached c file block
+
+-- a cached read under a live lease is answered at once (Macklem 1994)
+abbrev pub CachedAtOnce : Type 0
+CachedAtOnce =
+    (c : Client) (file block : ℕ) (lease : Lease) (body : List ℕ)
+    → HasCached c file block lease body
+    → AnswersAtOnce c (Call.Read file block) file block body (client_call c (Call.Read file block))
+    × AnswersAtOnce c (Call.Fetch file block) file block body (client_call c (Call.Fetch file block))
