@@ -1,3 +1,2 @@
-mod Reading
 pub mod Told
 mod Writing

@@ -38,6 +38,19 @@ impl MemSource {
             calls: Calls::new(failing),
         }
     }
+
+    // Moves as many bytes as there are and fit, and says how many.
+    fn move_front(&mut self, out: &mut [u8]) -> usize
+        ensures count { result ≡ min (length self.old.left) (length out.old) }
+        ensures copied { out.new ≡ take result self.old.left ++ drop result out.old }
+        ensures moved { self.new ≡ record self.old { left = drop result self.old.left } }
+    {
+        let left = &self.bytes[self.place..];
+        let count = left.len().min(out.len());
+        out[..count].copy_from_slice(&left[..count]);
+        self.place += count;
+        count
+    }
 }
 
 impl Source for MemSource {
@@ -62,22 +75,9 @@ impl Source for MemSource {
             return Got::Failed;
         }
         self.calls.count_call();
-        let left = &self.bytes[self.place..];
-        if left.is_empty() {
-            return Got::End;
+        match self.move_front(out) {
+            0 => Got::End,
+            count => Got::Bytes(count),
         }
-        let count = copy_front(left, out);
-        self.place += count;
-        Got::Bytes(count)
     }
-}
-
-// Copies as many bytes as there are and fit, and says how many.
-fn copy_front(from: &[u8], to: &mut [u8]) -> usize
-    ensures count { result ≡ min (length from.now) (length to.old) }
-    ensures copied { to.new ≡ take result from.now ++ drop result to.old }
-{
-    let count = from.len().min(to.len());
-    to[..count].copy_from_slice(&from[..count]);
-    count
 }

@@ -49,6 +49,7 @@ impl<W: Write> Sink for StdSink<W> {
     ghost faults = { λ sink. sink.faults };
 
     /// Writes these bytes and flushes the writer, so that an error that a buffer holds back is counted here.
+    #[tactic(auto, using(crate::proofs::Writing::appends_more))]
     fn put(&mut self, bytes: &[u8]) -> Put
         // As of any sink.
         ensures puts { Puts result bytes.now None None }
