@@ -5,7 +5,7 @@ use Rattle.nq_io.specs.declared.source.Got.TheVariants.{Bytes, End, Failed}
 use Rattle.nq_io.specs.Faults.{Rose, count_up}
 use Rattle.nq_io.specs.Told.{with_front}
 
--- The read moves the first n of the bytes left, at least one, to the front of the buffer, and the rest of the buffer stays where the bytes are told.
+-- The read moves the first n of the bytes left, at least one, to the front of the buffer. Where the bytes are told, the rest of the buffer stays.
 pub record GivesBytes (n : ℕ) (buffer filled : List ℕ) (left rest : Option (List ℕ)) : Type 0 where
   pub some : 0 < n
   pub fits : n ≤ length buffer

@@ -16,7 +16,7 @@ pub trait Sink {
     /// The bytes that it holds, where the sink tells them.
     ghost held: { Self → Option (List ℕ) };
 
-    /// How many faults it has met.
+    /// How many faults it has met: a count that never falls, and may stand still at the end of its type.
     ghost faults: { Self → ℕ };
 
     /// Appends these bytes.

@@ -18,10 +18,11 @@ pub trait Source {
     /// The bytes left to be read, where the source tells them.
     ghost left: { Self → Option (List ℕ) };
 
-    /// How many faults it has met.
+    /// How many faults it has met: a count that never falls, and may stand still at the end of its type.
     ghost faults: { Self → ℕ };
 
-    /// Moves bytes from the source to the front of the buffer.
+    /// Moves bytes from the source to the front of the buffer. Each answer but `End` and `Failed` moves at least one,
+    /// so a loop that reads to the end takes no more reads than there are bytes.
     fn read(&mut self, out: &mut [u8]) -> Got
         requires { 0 < length out.old }
         ensures reads { Reads result out.old out.new (left self.old) (left self.new) }

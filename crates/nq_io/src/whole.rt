@@ -21,8 +21,8 @@ pub enum Whole {
     Memory,
 }
 
-/// Reads to the end of the source, but no further than one byte past the limit. The memory for all that may be read
-/// is taken before the first read.
+/// Reads to the end of the source, but no further than one byte past the limit. The memory for all that may be read, one
+/// byte more than the limit, is taken before the first read, so that want of memory leaves the source as it was.
 pub fn read_all<S: Source>(alloc: Global, source: &mut S, limit: usize) -> Whole
     ensures reads { ReadsWhole result limit (S.left source.old) (S.left source.new) }
     ensures cause { CountsWhole result (S.faults source.old) (S.faults source.new) }
