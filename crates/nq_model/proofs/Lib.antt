@@ -1,2 +1,9 @@
 pub mod CachedReads
+pub mod JournalTests
+pub mod LegalTest
+pub mod LossTests
+pub mod OrderedTest
 pub mod SkewTest
+pub mod SoundTest
+pub mod SynchronizedTest
+pub mod Telling

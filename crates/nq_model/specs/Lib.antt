@@ -16,3 +16,14 @@ pub mod Skew
 pub mod Lines
 pub mod CachedAtOnce
 pub mod LeaseInterval
+pub mod Journal
+pub mod Stands
+pub mod Legal
+pub mod Ordered
+pub mod OfTheirCall
+pub mod Fate
+pub mod CutOff
+pub mod Reported
+pub mod Synchronized
+pub mod Sound
+pub mod Tests

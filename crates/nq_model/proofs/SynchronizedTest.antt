@@ -1,0 +1,67 @@
+-- The tests of synchronized journals and of reads of their call are right.
+use Rattle.std.proofs.Common.{◌≡◌, ℕ, Bool, true, false, not, ◌&&◌, ◌||◌, List, [], ◌∷◌, refl}
+use Rattle.std.specs.Prelude.{Option, Some, None, ◌==◌, ◌⊎◌, ⊤}
+use Rattle.nq_base.specs.declared.Entry.{Entry}
+use Rattle.nq_base.specs.declared.Entry.TheVariants.{C, W, R, S, L, G, F, O, B, X, Z, A}
+use Rattle.nq_base.specs.declared.Said.TheVariants.{Ok, OkValue, OkBy}
+use Rattle.nq_base.specs.declared.Told.{Told}
+use Rattle.nq_base.specs.declared.Told.TheVariants.{Read, Fetch, WriteSync, Sync, Resize, Remove}
+use Rattle.nq_base.specs.declared.Who.{Who}
+use Rattle.nq_model.specs.Journal.{Each, Exists, call_of}
+use Rattle.nq_model.specs.OfTheirCall.{Reads, reads, IsOfItsCall, is_of_its_call, AreOfTheirCall, are_of_their_call}
+use Rattle.nq_model.specs.Synchronized.{IsPutKept, is_put_kept, IsNamedLoss, is_named_loss, IsSettled, is_settled, IsSettledResize, is_settled_resize, IsKept, is_kept, IsKeptAt, is_kept_at, IsSynchronized, is_synchronized}
+use Rattle.nq_model.specs.Tests.{Tells, TellsLaw}
+use Rattle.nq_model.proofs.Telling.{yes, no, tells_and, tells_3, tells_or, tells_implies, tells_same}
+use Rattle.nq_model.proofs.JournalTests.{tells_each, tells_exists, tells_throughout, tells_somewhere, tells_who, tells_open, tells_through, tells_stored, tells_loses, tells_counted}
+use Rattle.nq_model.proofs.LossTests.{tells_names}
+
+-- ---- synchronized
+
+tells_put_kept : (answered : List Entry) (who : Who) (q : ℕ) (entry : Entry) (before : List Entry) → Tells (is_put_kept answered who q entry before) (IsPutKept answered who q entry before)
+tells_put_kept answered who q (W by file block number value through) before =
+    tells_3 tells_who (tells_open before who q) (tells_or (tells_through (W by file block number value through)) (tells_stored answered (W by file block number value through)))
+tells_put_kept answered who q other before = no
+
+tells_named_loss : (whole answers : List Entry) (write entry : Entry) → Tells (is_named_loss whole answers write entry) (IsNamedLoss whole answers write entry)
+tells_named_loss whole answers write (L who file block first last) =
+    tells_and (tells_loses (L who file block first last) write) (tells_exists (tells_names whole who (record { file = file; block = block; first = first; last = last })) answers)
+tells_named_loss whole answers write other = no
+
+tells_settled : (whole stores answers : List Entry) (who : Who) (file : ℕ) (entry : Entry) → Tells (is_settled whole stores answers who file entry) (IsSettled whole stores answers who file entry)
+tells_settled whole stores answers who file (W by f block number value false) =
+    tells_implies tells_who (tells_implies tells_same (tells_or (tells_stored stores (W by f block number value false)) (tells_exists (tells_named_loss whole answers (W by f block number value false)) whole)))
+tells_settled whole stores answers who file other = yes
+
+tells_settled_resize : (whole answered : List Entry) (who : Who) (q file : ℕ) (entry : Entry) (before : List Entry) → Tells (is_settled_resize whole answered who q file entry before) (IsSettledResize whole answered who q file entry before)
+tells_settled_resize whole answered who q file (Z by n f from to) before = tells_3 tells_who tells_same (tells_each (tells_settled whole before answered who file) answered)
+tells_settled_resize whole answered who q file other before = no
+
+tells_kept : (whole before : List Entry) (who : Who) (q : ℕ) (call : Option Told) → Tells (is_kept whole before who q call) (IsKept whole before who q call)
+tells_kept whole before who q (Some (WriteSync file block value)) = tells_somewhere (tells_put_kept before who q) before
+tells_kept whole before who q (Some (Sync file)) = tells_each (tells_settled whole whole before who file) before
+tells_kept whole before who q (Some (Resize file blocks)) = tells_somewhere (tells_settled_resize whole before who q file) before
+tells_kept whole before who q (Some (Remove file)) = tells_somewhere (tells_settled_resize whole before who q file) before
+tells_kept whole before who q other = yes
+
+tells_kept_at : (whole : List Entry) (entry : Entry) (before : List Entry) → Tells (is_kept_at whole entry before) (IsKeptAt whole entry before)
+tells_kept_at whole (A who q Ok) before = tells_kept whole before who q (call_of whole who q)
+tells_kept_at whole (A who q (OkValue value)) before = tells_kept whole before who q (call_of whole who q)
+tells_kept_at whole (A who q (OkBy value packet)) before = tells_kept whole before who q (call_of whole who q)
+tells_kept_at whole other before = yes
+
+pub tells_synchronized : TellsLaw is_synchronized IsSynchronized
+tells_synchronized journal = tells_throughout (tells_kept_at journal) journal
+
+-- ---- reads of their call
+
+tells_reads : (file block : ℕ) (call : Option Told) → Tells (reads file block call) (Reads file block call)
+tells_reads file block (Some (Read f b)) = tells_and tells_same tells_same
+tells_reads file block (Some (Fetch f b)) = tells_and tells_same tells_same
+tells_reads file block other = no
+
+tells_of_its_call : (whole : List Entry) (entry : Entry) → Tells (is_of_its_call whole entry) (IsOfItsCall whole entry)
+tells_of_its_call whole (R who q file block value served) = tells_implies (tells_counted whole (R who q file block value served)) (tells_reads file block (call_of whole who q))
+tells_of_its_call whole other = yes
+
+pub tells_of_their_call : TellsLaw are_of_their_call AreOfTheirCall
+tells_of_their_call journal = tells_each (tells_of_its_call journal) journal

@@ -1,0 +1,110 @@
+-- Delayed writes are lost only by a client that was cut off beyond write slack (Macklem 1994, write slack and recovery).
+use Rattle.std.specs.Prelude.{◌≡◌, ◌≤◌, ◌+◌, ◌⊎◌, ℕ, List, [], ◌∷◌, Option, Some, None, IsSomeAnd, Bool, true, false, not, ◌&&◌, ◌||◌, ◌==◌, nat_le, if◌then◌else◌, ⊤}
+use Rattle.nq_base.specs.declared.Entry.{Entry}
+use Rattle.nq_base.specs.declared.Entry.TheVariants.{S, L, G, F, O, X}
+use Rattle.nq_base.specs.declared.Who.{Who}
+use Rattle.nq_model.specs.Profile.{skew, write_slack}
+use Rattle.nq_model.specs.Journal.{Each, each, Exists, exists, AtEachPlace, at_each_place, same_who, Loses, loses}
+
+-- ---- times, in ticks of the server's clock
+
+-- when a grant was made, and its term
+pub record Given : Type 0 where
+  pub time : ℕ
+  pub term : ℕ
+
+-- the last grant to an incarnation on a file
+abbrev pub last_grant : List Entry → Who → ℕ → Option Given
+last_grant [] who file = None
+last_grant (G by f mode tag term now ∷ before) who file =
+    if same_who by who && (f == file) then Some (record { time = now; term = term }) else last_grant before who file
+last_grant (other ∷ before) who file = last_grant before who file
+
+-- where the entry is an S of the incarnation on the file, write slack has passed since
+abbrev pub IsStoreOver : Who → ℕ → ℕ → Entry → Type 0
+IsStoreOver who file now (S by f block first last time) = by ≡ who → f ≡ file → time + write_slack ≤ now
+IsStoreOver who file now other = ⊤
+
+abbrev pub is_store_over : Who → ℕ → ℕ → Entry → Bool
+is_store_over who file now (S by f block first last time) = not (same_who by who) || (not (f == file) || nat_le (time + write_slack) now)
+is_store_over who file now other = true
+
+-- ---- silence
+
+-- an F of the incarnation on the file comes late enough: write slack after the lease's end and after the last write that
+-- was heard or stored, and skew and slack after the term of the last grant
+pub record IsLateEnd (before : List Entry) (who : Who) (file until heard now : ℕ) : Type 0 where
+  pub heard_over : heard + write_slack ≤ now
+  pub until_over : until + write_slack ≤ now
+  pub grant_over : IsSomeAnd (last_grant before who file) (λ grant. grant.time + grant.term + skew + write_slack ≤ now)
+  pub stores_over : Each (IsStoreOver who file now) before
+
+abbrev pub has_passed : ℕ → Option Given → Bool
+has_passed now None = false
+has_passed now (Some grant) = nat_le (grant.time + grant.term + skew + write_slack) now
+
+abbrev pub is_late_end : List Entry → Who → ℕ → ℕ → ℕ → ℕ → Bool
+is_late_end before who file until heard now =
+    nat_le (heard + write_slack) now && nat_le (until + write_slack) now && has_passed now (last_grant before who file) && each (is_store_over who file now) before
+
+-- ---- recovery
+
+-- the entry is the X of a boot, whose longest term is at least this term, and that term, skew and slack have passed since
+abbrev pub IsLongWait : ℕ → ℕ → Option Given → Entry → Type 0
+IsLongWait boot now (Some grant) (X b time longest) = (b ≡ boot) × (grant.term ≤ longest) × (time + longest + skew + write_slack ≤ now)
+IsLongWait boot now grant other = ⊥
+
+abbrev pub is_long_wait : ℕ → ℕ → Option Given → Entry → Bool
+is_long_wait boot now (Some grant) (X b time longest) = (b == boot) && nat_le grant.term longest && nat_le (time + longest + skew + write_slack) now
+is_long_wait boot now grant other = false
+
+-- an O comes late enough for an incarnation on a file: its boot began longer ago than the longest term of the boot before,
+-- skew and slack, the last grant had no longer term, and write slack has passed since the last store
+pub record IsLateOpening (before : List Entry) (who : Who) (file boot now : ℕ) : Type 0 where
+  pub waited : Exists (IsLongWait boot now (last_grant before who file)) before
+  pub stores_over : Each (IsStoreOver who file now) before
+
+abbrev pub is_late_opening : List Entry → Who → ℕ → ℕ → ℕ → Bool
+is_late_opening before who file boot now =
+    exists (is_long_wait boot now (last_grant before who file)) before && each (is_store_over who file now) before
+
+-- ---- the law
+
+-- an entry ends the writing lease of an incarnation on a file: an F for it, or an O, late enough
+abbrev pub Ends : Who → ℕ → Entry → List Entry → Type 0
+Ends who file (F by f until heard now) before = (by ≡ who) × (f ≡ file) × IsLateEnd before who file until heard now
+Ends who file (O boot until heard now) before = IsLateOpening before who file boot now
+Ends who file other before = ⊥
+
+abbrev pub ends : Who → ℕ → Entry → List Entry → Bool
+ends who file (F by f until heard now) before = same_who by who && (f == file) && is_late_end before who file until heard now
+ends who file (O boot until heard now) before = is_late_opening before who file boot now
+ends who file other before = false
+
+-- going back from an L, an entry that ends its client's lease on the file comes before any write that the L covers
+abbrev pub EndsFirst : Entry → Who → ℕ → List Entry → Type 0
+EndsFirst loss who file [] = ⊥
+EndsFirst loss who file (entry ∷ before) = Ends who file entry before ⊎ ¬ Loses loss entry × EndsFirst loss who file before
+
+abbrev pub ends_first : Entry → Who → ℕ → List Entry → Bool
+ends_first loss who file [] = false
+ends_first loss who file (entry ∷ before) = ends who file entry before || not (loses loss entry) && ends_first loss who file before
+
+-- an L is cut off: an entry that ends its client's lease on the file stands after every write that the L covers and before
+-- the L
+abbrev pub IsCutOff : List Entry → Entry → List Entry → Type 0
+IsCutOff after (L who file block first last) before =
+    EndsFirst (L who file block first last) who file before × ¬ Exists (Loses (L who file block first last)) after
+IsCutOff after other before = ⊤
+
+abbrev pub is_cut_off : List Entry → Entry → List Entry → Bool
+is_cut_off after (L who file block first last) before =
+    ends_first (L who file block first last) who file before && not (exists (loses (L who file block first last)) after)
+is_cut_off after other before = true
+
+-- the losses of a journal are excused: each L is cut off
+abbrev pub IsExcused : List Entry → Type 0
+IsExcused journal = AtEachPlace IsCutOff [] journal
+
+abbrev pub is_excused : List Entry → Bool
+is_excused journal = at_each_place is_cut_off [] journal

@@ -1,0 +1,195 @@
+#!/usr/bin/env python3
+"""Turns the texts of schedules and journals into terms of the definitions in nq_model.
+
+    terms.py journal FILE      the journal as a term of type List Entry, the newest entry first
+    terms.py schedule FILE     the schedule's head (type Head) and its lines (type List Line)
+
+A text is one of versions 1 and 2. What is not of its grammar ends the script with a message.
+"""
+
+import sys
+
+# The longest term that a version 1 text means.
+VERSION_1_LONGEST = 60
+
+
+def ends_of(text, kind):
+    """The version of a text and the lines between its first line and its `end`."""
+    if not text.endswith("end\n"):
+        raise ValueError("the text does not end with the line `end`")
+    lines = text.split("\n")[:-2]
+    for version in (1, 2):
+        if lines and lines[0] == f"nqnfs-{kind} {version}":
+            return version, lines[1:]
+    raise ValueError(f"line 1 is not that of a {kind}")
+
+
+def listed(terms):
+    """The list of these terms."""
+    return "".join(term + " ∷ " for term in terms) + "[]"
+
+
+def name(word):
+    """A name: the list of its bytes."""
+    return "(" + listed(str(byte) for byte in word.encode()) + ")"
+
+
+def who(host, inc):
+    return f"(record {{ host = {host}; inc = {inc} }})"
+
+
+def told(words):
+    """What a C tells of its call."""
+    kind, rest = words[0], words[1:]
+    if kind in ("create", "lookup"):
+        rest = [name(rest[0])] + rest[1:]
+    constructor = {
+        "create": "Create",
+        "lookup": "Lookup",
+        "attr": "Attr",
+        "read": "Read",
+        "fetch": "Fetch",
+        "write": "Write",
+        "put": "WriteSync",
+        "sync": "Sync",
+        "resize": "Resize",
+        "remove": "Remove",
+    }[kind]
+    return "(" + " ".join(["Told." + constructor] + rest) + ")"
+
+
+def span(word):
+    """A loss as an A names it: `B:FIRST-LAST`."""
+    block, numbers = word.split(":")
+    first, last = numbers.split("-")
+    return f"record {{ block = {block}; first = {first}; last = {last} }}"
+
+
+def said(words):
+    """What an A says."""
+    kind, rest = words[0], words[1:]
+    if kind == "ok" and not rest:
+        return "Said.Ok"
+    if kind == "ok" and len(rest) == 1:
+        return f"(Said.OkValue {rest[0]})"
+    if kind == "ok":
+        value, by, packet = rest
+        if by != "by":
+            raise ValueError("an answer is not of the grammar")
+        return f"(Said.OkBy {value} {packet})"
+    if kind == "lost":
+        return f"(Said.Lost (record {{ items = {listed(map(span, rest))}; spare = 0 }}))"
+    if rest:
+        raise ValueError("an answer is not of the grammar")
+    return {
+        "busy": "Said.Busy",
+        "stale": "Said.Stale",
+        "noentry": "Said.NoEntry",
+        "exists": "Said.Exists",
+        "nospace": "Said.NoSpace",
+        "range": "Said.Range",
+        "dirtyfull": "Said.DirtyFull",
+    }[kind]
+
+
+def entry(line, version):
+    """The entry that a line of a journal tells."""
+    kind, *words = line.split(" ")
+    constructor = "Entry." + kind
+    if kind in ("O", "X"):
+        if kind == "X" and version == 1:
+            words = words + [str(VERSION_1_LONGEST)]
+        return " ".join([constructor] + words)
+    incarnation, rest = who(words[0], words[1]), words[2:]
+    if kind == "C":
+        rest = [rest[0], told(rest[1:])]
+    elif kind == "W":
+        rest = rest[:4] + [{"through": "true", "delayed": "false"}[rest[4]]]
+    elif kind == "R":
+        rest = rest[:4] + ["None" if rest[4] == "cached" else f"(Some {rest[5]})"]
+    elif kind == "G":
+        mode = {"noncaching": "NonCaching", "reading": "Reading", "writing": "Writing"}[rest[1]]
+        tag = f"(record {{ boot = {rest[2]}; number = {rest[3]} }})"
+        rest = [rest[0], "Mode." + mode, tag] + rest[4:]
+    elif kind == "A":
+        rest = [rest[0], said(rest[1:])]
+    elif kind not in ("S", "L", "F", "B", "Z"):
+        raise ValueError("an entry is not of the grammar")
+    return " ".join([constructor, incarnation] + rest)
+
+
+def journal(text):
+    """A journal as a list of entries, the newest first."""
+    version, lines = ends_of(text, "journal")
+    return listed(reversed([entry(line, version) for line in lines]))
+
+
+def call(words):
+    """A call of a user; a value stands for the block that is filled with it."""
+    kind, rest = words[0], words[1:]
+    if kind in ("write", "put"):
+        constructor = "Write" if kind == "write" else "WriteSync"
+        return f"(Call.{constructor} {rest[0]} {rest[1]} (filled {rest[2]}))"
+    return told(words).replace("Told.", "Call.")
+
+
+def clock_tick(party):
+    return "Event.ServerTick" if party == "s" else f"(Event.ClientTick {party})"
+
+
+def line_of(line, version):
+    """A line of a schedule between `begin` and `end`."""
+    kind, *words = line.split(" ")
+    if kind == "call":
+        return f"one (Event.Call {words[0]} {call(words[1:])})"
+    if kind == "deliver":
+        return f"one (Event.Deliver {words[0]})"
+    if kind == "tick":
+        return f"times {words[1]} {clock_tick(words[0])}"
+    if kind == "round":
+        return f"round {words[0]}"
+    if kind == "flow":
+        return "flow"
+    if kind == "restart":
+        return f"one (Event.Restart {words[0]})"
+    if kind == "crash":
+        longest = VERSION_1_LONGEST if version == 1 else words[0]
+        return f"one (Event.Crash {longest})"
+    raise ValueError("a line is not of the grammar")
+
+
+def schedule(text):
+    """A schedule's head and its lines, in their order."""
+    version, lines = ends_of(text, "schedule")
+    begin = lines.index("begin")
+    facts = [line.split(" ") for line in lines[:begin]]
+    longest = VERSION_1_LONGEST
+    files = []
+    for words in facts:
+        if words[0] == "longest":
+            longest = words[1]
+        elif words[0] == "file":
+            files.append(f"({name(words[1])}, {words[2]})")
+    numbers = {words[0]: words[1] for words in facts if words[0] in ("hosts", "term")}
+    head = (
+        f"record {{ hosts = {numbers['hosts']}; term = {numbers['term']}; "
+        f"longest = {longest}; files = {listed(files)} }}"
+    )
+    return head, listed(line_of(line, version) for line in lines[begin + 1 :])
+
+
+def main():
+    kind, path = sys.argv[1:]
+    with open(path, encoding="ascii") as source:
+        text = source.read()
+    if kind == "journal":
+        print(journal(text))
+    elif kind == "schedule":
+        for term in schedule(text):
+            print(term)
+    else:
+        sys.exit(__doc__)
+
+
+if __name__ == "__main__":
+    main()
