@@ -1,12 +1,16 @@
 #!/usr/bin/env python3
 """Turns the texts of schedules and journals into terms of the definitions in nq_model.
 
-    terms.py journal FILE      the journal as a term of type List Entry, the newest entry first
-    terms.py schedule FILE     the schedule's head (type Head) and its lines (type List Line)
+    terms.py journal FILE           the journal as a term of type List Entry, the newest entry first
+    terms.py schedule FILE          the schedule's head (type Head) and its lines (type List Line)
+    terms.py journals NAME FILE..   a module that defines each journal by the name of its file, and NAME, the list of all
+    terms.py schedules NAME FILE..  a module that defines each schedule's head and lines by the name of its file, and NAME,
+                                    the list of all as pairs
 
 A text is one of versions 1 and 2. What is not of its grammar ends the script with a message.
 """
 
+import os
 import sys
 
 # The longest term that a version 1 text means.
@@ -24,9 +28,9 @@ def ends_of(text, kind):
     raise ValueError(f"line 1 is not that of a {kind}")
 
 
-def listed(terms):
-    """The list of these terms."""
-    return "".join(term + " ∷ " for term in terms) + "[]"
+def listed(terms, between=" "):
+    """The list of these terms, with this before each `∷`."""
+    return "".join(term + between + "∷ " for term in terms) + "[]"
 
 
 def name(word):
@@ -121,7 +125,7 @@ def entry(line, version):
 def journal(text):
     """A journal as a list of entries, the newest first."""
     version, lines = ends_of(text, "journal")
-    return listed(reversed([entry(line, version) for line in lines]))
+    return listed(reversed([entry(line, version) for line in lines]), "\n    ")
 
 
 def call(words):
@@ -175,18 +179,93 @@ def schedule(text):
         f"record {{ hosts = {numbers['hosts']}; term = {numbers['term']}; "
         f"longest = {longest}; files = {listed(files)} }}"
     )
-    return head, listed(line_of(line, version) for line in lines[begin + 1 :])
+    return head, listed([line_of(line, version) for line in lines[begin + 1 :]], "\n    ")
+
+
+PRELUDE = {
+    "ℕ": "ℕ",
+    "List": "List",
+    "[]": "[]",
+    "◌∷◌": "∷",
+    "Some": "Some",
+    "None": "None",
+    "true": "true",
+    "false": "false",
+}
+TYPES = ("Call", "Entry", "Event", "Mode", "Said", "Told")
+
+
+def words_of(body):
+    text = "\n".join(line for line in body.split("\n") if not line.startswith("--"))
+    return set(text.replace("(", " ").replace(")", " ").replace(";", " ").replace(",", " ").split())
+
+
+def imports(body):
+    """The `use` lines that a module of this body needs."""
+    words = words_of(body)
+    names = [name for name, word in PRELUDE.items() if word in words]
+    lines = [f"use Rattle.std.specs.Prelude.{{{', '.join(names)}}}"]
+    if "filled" in words:
+        lines.append("use Rattle.nq_base.specs.Block.{filled}")
+    for kind in TYPES:
+        if kind in words or any(word.startswith(kind + ".") for word in words):
+            lines.append(f"use Rattle.nq_base.specs.declared.{kind}.{{{kind}}}")
+    constructors = [word for word in ("Line", "one", "times", "round", "flow") if word in words]
+    if constructors:
+        lines.append(f"use Rattle.nq_model.specs.Lines.{{{', '.join(constructors)}}}")
+    if "Head" in words:
+        lines.append("use Rattle.nq_model.specs.World.{Head}")
+    return "\n".join(lines) + "\n"
+
+
+def stem(path):
+    """What a file's name says, in words."""
+    return os.path.splitext(os.path.basename(path))[0].replace("-", " ")
+
+
+def identifier(path):
+    words = stem(path)
+    return ("example " + words if words[0].isdigit() else words).replace(" ", "_")
+
+
+def read(path):
+    with open(path, encoding="ascii") as source:
+        return source.read()
+
+
+def definition(comment, name_of_it, kind, term):
+    return f"\n-- {comment}\nabbrev pub {name_of_it} : {kind}\n{name_of_it} =\n    {term}\n"
+
+
+def journals(list_name, paths):
+    """A module of journals."""
+    parts = [definition(stem(path), identifier(path), "List Entry", journal(read(path))) for path in paths]
+    names = listed(identifier(path) for path in paths)
+    parts.append(definition("all of these", list_name, "List (List Entry)", names))
+    return "".join(parts)
+
+
+def schedules(list_name, paths):
+    """A module of schedules."""
+    parts = []
+    for path in paths:
+        head, lines = schedule(read(path))
+        parts.append(definition(stem(path) + ": the head", identifier(path) + "_head", "Head", head))
+        parts.append(definition(stem(path) + ": the lines", identifier(path) + "_lines", "List Line", lines))
+    pairs = listed(f"({identifier(path)}_head, {identifier(path)}_lines)" for path in paths)
+    parts.append(definition("all of these", list_name, "List (Head × List Line)", pairs))
+    return "".join(parts)
 
 
 def main():
-    kind, path = sys.argv[1:]
-    with open(path, encoding="ascii") as source:
-        text = source.read()
-    if kind == "journal":
-        print(journal(text))
-    elif kind == "schedule":
-        for term in schedule(text):
-            print(term)
+    if len(sys.argv) == 3 and sys.argv[1] == "journal":
+        print(journal(read(sys.argv[2])))
+    elif len(sys.argv) == 3 and sys.argv[1] == "schedule":
+        print("\n".join(schedule(read(sys.argv[2]))))
+    elif len(sys.argv) > 3 and sys.argv[1] in ("journals", "schedules"):
+        module = journals if sys.argv[1] == "journals" else schedules
+        body = module(sys.argv[2], sys.argv[3:])
+        print(imports(body) + body, end="")
     else:
         sys.exit(__doc__)
 

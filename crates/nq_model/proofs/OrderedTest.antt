@@ -110,7 +110,7 @@ found_at before who by n told entries rest true here there = record {
 found_at before who by n told entries rest false here there = record {
   finds = there.finds;
   misses = λ q e. elim [
-      inl call ↦ λ is_open. not_told here refl (call.0, subst (λ (m : ℕ). IsOpen before who m) (sym call.1) is_open)
+    | inl call ↦ λ is_open. not_told here refl (call.0, subst (λ (m : ℕ). IsOpen before who m) (sym call.1) is_open)
     | inr call ↦ there.misses q e call
   ];
 }
@@ -138,7 +138,7 @@ tells_writes_once before who file block number value q =
 
 write_sound : (before : List Entry) (who : Who) (file block number value : ℕ) (found : Option ℕ) → Finds before who before found → IsTrue (is_write_of before who file block number value found) → IsWriteInOrder before who file block number value
 write_sound before who file block number value None finds e = absurd (cc)
-write_sound before who file block number value (Some q) finds e = 
+write_sound before who file block number value (Some q) finds e =
     let h = (tells_writes_once before who file block number value q).sound e in
     (q, record { is_open = finds.finds q refl; only = h.0; call = h.1; first = h.2; fresh = h.3 })
 

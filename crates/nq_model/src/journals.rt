@@ -13,47 +13,39 @@ ghost use Rattle.nq_model.specs.Tests.{TellsLaw};
 /// The test of legal journals tells them.
 pub fn legal_test_is_exact()
     ensures { TellsLaw is_legal IsLegal }
-{
-}
+{}
 
 /// The test of ordered journals tells them.
 pub fn ordered_test_is_exact()
     ensures { TellsLaw is_ordered IsOrdered }
-{
-}
+{}
 
 /// The test of journals whose counted reads are of their call tells them.
 pub fn of_their_call_test_is_exact()
     ensures { TellsLaw are_of_their_call AreOfTheirCall }
-{
-}
+{}
 
 /// The test of journals that account for their delayed writes tells them.
 pub fn accounted_test_is_exact()
     ensures { TellsLaw is_accounted IsAccounted }
-{
-}
+{}
 
 /// The test of journals whose losses are excused tells them.
 pub fn excused_test_is_exact()
     ensures { TellsLaw is_excused IsExcused }
-{
-}
+{}
 
 /// The test of journals whose losses are reported tells them.
 pub fn reported_test_is_exact()
     ensures { TellsLaw is_reported IsReported }
-{
-}
+{}
 
 /// The test of synchronized journals tells them.
 pub fn synchronized_test_is_exact()
     ensures { TellsLaw is_synchronized IsSynchronized }
-{
-}
+{}
 
 /// The test of sound journals tells them.
 pub fn sound_test_is_exact()
     ensures { TellsLaw is_sound IsSound }
-{
-}
+{}
