@@ -1,20 +1,25 @@
 #!/usr/bin/env python3
 """Turns the texts of schedules and journals into terms of the definitions in nq_model.
 
-    terms.py journal FILE           the journal as a term of type List Entry, the newest entry first
-    terms.py schedule FILE          the schedule's head (type Head) and its lines (type List Line)
-    terms.py journals NAME FILE..   a module that defines each journal by the name of its file, and NAME, the list of all
-    terms.py schedules NAME FILE..  a module that defines each schedule's head and lines by the name of its file, and NAME,
-                                    the list of all as pairs
+    terms.py journal FILE          the journal as a term of type List Entry, the newest entry first
+    terms.py schedule FILE         the schedule's head (type Head) and its lines (type List Line)
+    terms.py journals NAME FILE..  a module of nq_examples that defines each journal by the name of its file, and NAME,
+                                   the list of them all
+    terms.py examples NAME FILE..  the same of schedules, each with the journal beside it in a file of the same name
 
 A text is one of versions 1 and 2. What is not of its grammar ends the script with a message.
 """
 
 import os
+import re
 import sys
 
 # The longest term that a version 1 text means.
 VERSION_1_LONGEST = 60
+
+# How wide a line of a module is, behind its indentation.
+WIDTH = 116
+INDENT = "    "
 
 
 def ends_of(text, kind):
@@ -28,9 +33,20 @@ def ends_of(text, kind):
     raise ValueError(f"line 1 is not that of a {kind}")
 
 
-def listed(terms, between=" "):
-    """The list of these terms, with this before each `∷`."""
-    return "".join(term + between + "∷ " for term in terms) + "[]"
+def listed(terms):
+    """The list of these terms, on one line."""
+    return "".join(term + " ∷ " for term in terms) + "[]"
+
+
+def wrapped(terms):
+    """The same over several lines, with each but the first indented."""
+    lines, line = [], ""
+    for term in [term + " ∷" for term in terms] + ["[]"]:
+        if line and len(line) + 1 + len(term) > WIDTH:
+            lines.append(line)
+            line = ""
+        line = f"{line} {term}".strip()
+    return ("\n" + INDENT).join(lines + [line])
 
 
 def name(word):
@@ -125,7 +141,7 @@ def entry(line, version):
 def journal(text):
     """A journal as a list of entries, the newest first."""
     version, lines = ends_of(text, "journal")
-    return listed(reversed([entry(line, version) for line in lines]), "\n    ")
+    return wrapped(reversed([entry(line, version) for line in lines]))
 
 
 def call(words):
@@ -179,7 +195,7 @@ def schedule(text):
         f"record {{ hosts = {numbers['hosts']}; term = {numbers['term']}; "
         f"longest = {longest}; files = {listed(files)} }}"
     )
-    return head, listed([line_of(line, version) for line in lines[begin + 1 :]], "\n    ")
+    return head, wrapped([line_of(line, version) for line in lines[begin + 1 :]])
 
 
 PRELUDE = {
@@ -196,8 +212,9 @@ TYPES = ("Call", "Entry", "Event", "Mode", "Said", "Told")
 
 
 def words_of(body):
-    text = "\n".join(line for line in body.split("\n") if not line.startswith("--"))
-    return set(text.replace("(", " ").replace(")", " ").replace(";", " ").replace(",", " ").split())
+    """The words of a module, without its comments."""
+    lines = [line for line in body.split("\n") if not line.startswith("--")]
+    return set(re.split(r"[\s();,]+", "\n".join(lines)))
 
 
 def imports(body):
@@ -208,24 +225,23 @@ def imports(body):
     if "filled" in words:
         lines.append("use Rattle.nq_base.specs.Block.{filled}")
     for kind in TYPES:
-        if kind in words or any(word.startswith(kind + ".") for word in words):
+        if any(word == kind or word.startswith(kind + ".") for word in words):
             lines.append(f"use Rattle.nq_base.specs.declared.{kind}.{{{kind}}}")
-    constructors = [word for word in ("Line", "one", "times", "round", "flow") if word in words]
-    if constructors:
-        lines.append(f"use Rattle.nq_model.specs.Lines.{{{', '.join(constructors)}}}")
-    if "Head" in words:
-        lines.append("use Rattle.nq_model.specs.World.{Head}")
+    if "Example" in words:
+        lines.append("use Rattle.nq_examples.specs.Example.{Example}")
+        constructors = [word for word in ("one", "times", "round", "flow") if word in words]
+        if constructors:
+            lines.append(f"use Rattle.nq_model.specs.Lines.{{{', '.join(constructors)}}}")
     return "\n".join(lines) + "\n"
 
 
-def stem(path):
+def words_in(path):
     """What a file's name says, in words."""
     return os.path.splitext(os.path.basename(path))[0].replace("-", " ")
 
 
 def identifier(path):
-    words = stem(path)
-    return ("example " + words if words[0].isdigit() else words).replace(" ", "_")
+    return words_in(path).replace(" ", "_")
 
 
 def read(path):
@@ -233,28 +249,34 @@ def read(path):
         return source.read()
 
 
-def definition(comment, name_of_it, kind, term):
-    return f"\n-- {comment}\nabbrev pub {name_of_it} : {kind}\n{name_of_it} =\n    {term}\n"
+def definition(path, kind, term):
+    name_of_it = identifier(path)
+    return f"\n-- {words_in(path)}\nabbrev pub {name_of_it} : {kind}\n{name_of_it} ={term}\n"
+
+
+def list_of_all(name_of_it, kind, paths):
+    names = wrapped([identifier(path) for path in paths])
+    return f"\n-- all of these\nabbrev pub {name_of_it} : List {kind}\n{name_of_it} =\n{INDENT}{names}\n"
 
 
 def journals(list_name, paths):
     """A module of journals."""
-    parts = [definition(stem(path), identifier(path), "List Entry", journal(read(path))) for path in paths]
-    names = listed(identifier(path) for path in paths)
-    parts.append(definition("all of these", list_name, "List (List Entry)", names))
-    return "".join(parts)
+    parts = [definition(path, "List Entry", f"\n{INDENT}{journal(read(path))}") for path in paths]
+    return "".join(parts) + list_of_all(list_name, "(List Entry)", paths)
 
 
-def schedules(list_name, paths):
-    """A module of schedules."""
-    parts = []
-    for path in paths:
-        head, lines = schedule(read(path))
-        parts.append(definition(stem(path) + ": the head", identifier(path) + "_head", "Head", head))
-        parts.append(definition(stem(path) + ": the lines", identifier(path) + "_lines", "List Line", lines))
-    pairs = listed(f"({identifier(path)}_head, {identifier(path)}_lines)" for path in paths)
-    parts.append(definition("all of these", list_name, "List (Head × List Line)", pairs))
-    return "".join(parts)
+def example(path):
+    """A schedule with its journal."""
+    head, lines = schedule(read(path))
+    entries = journal(read(os.path.splitext(path)[0] + ".journal"))
+    fields = [f"head = {head}", f"lines =\n{INDENT}{lines}", f"journal =\n{INDENT}{entries}"]
+    return " record {\n" + "".join(f"  {field};\n" for field in fields) + "}"
+
+
+def examples(list_name, paths):
+    """A module of schedules with their journals."""
+    parts = [definition(path, "Example", example(path)) for path in paths]
+    return "".join(parts) + list_of_all(list_name, "Example", paths)
 
 
 def main():
@@ -262,8 +284,8 @@ def main():
         print(journal(read(sys.argv[2])))
     elif len(sys.argv) == 3 and sys.argv[1] == "schedule":
         print("\n".join(schedule(read(sys.argv[2]))))
-    elif len(sys.argv) > 3 and sys.argv[1] in ("journals", "schedules"):
-        module = journals if sys.argv[1] == "journals" else schedules
+    elif len(sys.argv) > 3 and sys.argv[1] in ("journals", "examples"):
+        module = journals if sys.argv[1] == "journals" else examples
         body = module(sys.argv[2], sys.argv[3:])
         print(imports(body) + body, end="")
     else:

@@ -1,0 +1,13 @@
+pub mod Example
+pub mod Laws
+pub mod Worked
+pub mod MixedOne
+pub mod MixedTwo
+pub mod MixedThree
+pub mod NotLegal
+pub mod NotOrdered
+pub mod NotOfTheirCall
+pub mod NotAccounted
+pub mod NotExcused
+pub mod NotReported
+pub mod NotSynchronized

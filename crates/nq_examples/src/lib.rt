@@ -1,0 +1,10 @@
+//! Schedules with their journals, evaluated. The texts stand in `examples/`; `tools/terms.py` makes the terms of them.
+#![tactic(auto)]
+
+mod laws;
+
+pub use laws::{
+    mixed_journals_break_no_law, unaccounted_journals, unexcused_journals, unlawful_reads,
+    unordered_journals, unreported_journals, unsynchronized_journals, worked_journals_break_no_law,
+    wrong_calls_of_reads,
+};
