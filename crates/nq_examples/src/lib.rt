@@ -2,9 +2,14 @@
 #![tactic(auto)]
 
 mod laws;
+mod runs;
 
 pub use laws::{
     mixed_journals_break_no_law, unaccounted_journals, unexcused_journals, unlawful_reads,
     unordered_journals, unreported_journals, unsynchronized_journals, worked_journals_break_no_law,
     wrong_calls_of_reads,
+};
+pub use runs::{
+    mixed_schedules_run_as_given, resizing_schedules_run_as_given,
+    worked_schedules_are_within_skew, worked_schedules_run_as_given,
 };
