@@ -8,7 +8,7 @@ use Rattle.nq_base.specs.declared.Said.TheVariants.{OkBy}
 use Rattle.nq_base.specs.declared.Told.{Told}
 use Rattle.nq_base.specs.declared.Told.TheVariants.{Read, Fetch, Write, WriteSync, Attr, Sync, Resize, Remove}
 use Rattle.nq_base.specs.declared.Who.{Who}
-use Rattle.nq_model.specs.Journal.{Each, each, Exists, exists, AtMostOne, number_of, at_most_one, Throughout, throughout, Somewhere, somewhere, AtEachPlace, at_each_place, same_who, IsCall, is_call, IsAnswer, is_answer, IsOpen, is_open, call_of, IsOn, is_on, IsReadBy, is_read_by, IsAnswerBy, is_answer_by, IsCounted, is_counted, IsWriteOn, is_write_on, IsWriteBy, is_write_by, IsThrough, is_through, value_of, IsWithin, is_within, Covers, covers, Stores, stores, Loses, loses, IsStored, is_stored, IsLost, is_lost, IsLastValue, last_value}
+use Rattle.nq_model.specs.Journal.{Each, each, Exists, exists, AtMostOne, number_of, at_most_one, Throughout, throughout, Somewhere, somewhere, AtEachPlace, at_each_place, same_who, IsCall, is_call, IsAnswer, is_answer, IsOpen, is_open, call_of, SpeaksOf, speaks_of, IsReadBy, is_read_by, IsAnswerBy, is_answer_by, IsCounted, is_counted, IsWriteOn, is_write_on, IsWriteBy, is_write_by, IsThrough, is_through, value_written, IsWithin, is_within, Covers, covers, Stores, stores, Loses, loses, IsStored, is_stored, IsLost, is_lost, IsLastValue, last_value}
 use mathlib.Core.Logic.{inl, inr}
 use Rattle.nq_model.specs.Tests.{Tells}
 use Rattle.nq_model.proofs.Telling.{yes, no, tells_alike, tells_and, tells_3, tells_4, tells_5, tells_or, tells_not, tells_implies, tells_same, tells_le, not_told, not_so}
@@ -54,16 +54,16 @@ tells_answer who q other = no
 pub tells_open : (before : List Entry) (who : Who) (q : ℕ) → Tells (is_open before who q) (IsOpen before who q)
 tells_open before who q = tells_and (tells_exists (tells_call who q) before) (tells_not (tells_exists (tells_answer who q) before))
 
-pub tells_on : (file : ℕ) (call : Option Told) → Tells (is_on file call) (IsOn file call)
-tells_on file (Some (Attr f)) = tells_same
-tells_on file (Some (Read f block)) = tells_same
-tells_on file (Some (Fetch f block)) = tells_same
-tells_on file (Some (Write f block value)) = tells_same
-tells_on file (Some (WriteSync f block value)) = tells_same
-tells_on file (Some (Sync f)) = tells_same
-tells_on file (Some (Resize f blocks)) = tells_same
-tells_on file (Some (Remove f)) = tells_same
-tells_on file other = no
+pub tells_speaks_of : (file : ℕ) (call : Option Told) → Tells (speaks_of file call) (SpeaksOf file call)
+tells_speaks_of file (Some (Attr f)) = tells_same
+tells_speaks_of file (Some (Read f block)) = tells_same
+tells_speaks_of file (Some (Fetch f block)) = tells_same
+tells_speaks_of file (Some (Write f block value)) = tells_same
+tells_speaks_of file (Some (WriteSync f block value)) = tells_same
+tells_speaks_of file (Some (Sync f)) = tells_same
+tells_speaks_of file (Some (Resize f blocks)) = tells_same
+tells_speaks_of file (Some (Remove f)) = tells_same
+tells_speaks_of file other = no
 
 -- ---- reads
 
@@ -168,4 +168,4 @@ last_at false value here further p q = record {
 pub tells_last_value : {test : Entry → Bool} {Fact : Entry → Type 0} → ((entry : Entry) → Tells (test entry) (Fact entry)) → (entries : List Entry) (value : ℕ) → Tells (value == last_value test entries) (IsLastValue Fact entries value)
 tells_last_value tells [] value = tells_same
 tells_last_value {test = test} tells (entry ∷ before) value =
-    last_at (test entry) value (value_of entry) (last_value test before) (tells entry) (tells_last_value tells before value)
+    last_at (test entry) value (value_written entry) (last_value test before) (tells entry) (tells_last_value tells before value)

@@ -10,7 +10,7 @@ use Rattle.nq_base.specs.declared.Told.TheVariants.{Read, Fetch}
 use Rattle.nq_base.specs.declared.Who.{Who}
 use Rattle.nq_model.specs.Journal.{call_of, since_cut}
 use Rattle.nq_model.specs.Stands.{Stands, stands, IsStandingValue, standing_value}
-use Rattle.nq_model.specs.Legal.{IsReading, is_reading, GivesValue, gives_value, IsAnswerOf, is_answer_of, IsCountedBy, is_counted_by, IsCountedOf, is_counted_of, IsLegalRead, is_legal_read, IsLegalAnswer, is_legal_answer, IsLegalAt, is_legal_at, IsLegal, is_legal}
+use Rattle.nq_model.specs.Legal.{IsReading, is_reading, GivesValue, gives_value, IsAnswerWith, is_answer_with, IsCountedBy, is_counted_by, IsCountedWith, is_counted_with, IsLegalRead, is_legal_read, IsLegalAnswer, is_legal_answer, IsLegalAt, is_legal_at, IsLegal, is_legal}
 use Rattle.nq_model.specs.Tests.{Tells, TellsLaw}
 use Rattle.nq_model.proofs.Telling.{yes, no, tells_alike, tells_and, tells_3, tells_or, tells_not, tells_implies, tells_same}
 use Rattle.nq_model.proofs.JournalTests.{tells_exists, tells_at_most_one, tells_throughout, tells_who, tells_read_by, tells_counted, tells_write_on, tells_write_by, tells_through, tells_stored, tells_lost, tells_last_value}
@@ -32,30 +32,30 @@ tells_gives value (OkValue v) = tells_same
 tells_gives value (OkBy v packet) = tells_same
 tells_gives value other = no
 
-tells_answer_of : (who : Who) (q value : ℕ) (entry : Entry) → Tells (is_answer_of who q value entry) (IsAnswerOf who q value entry)
-tells_answer_of who q value (A by n said) = tells_3 tells_who tells_same (tells_gives value said)
-tells_answer_of who q value other = no
+tells_answer_with : (who : Who) (q value : ℕ) (entry : Entry) → Tells (is_answer_with who q value entry) (IsAnswerWith who q value entry)
+tells_answer_with who q value (A by n said) = tells_3 tells_who tells_same (tells_gives value said)
+tells_answer_with who q value other = no
 
 pub tells_counted_by : (whole : List Entry) (who : Who) (q : ℕ) (entry : Entry) → Tells (is_counted_by whole who q entry) (IsCountedBy whole who q entry)
 tells_counted_by whole who q entry = tells_and (tells_read_by who q entry) (tells_counted whole entry)
 
-tells_counted_of : (whole : List Entry) (who : Who) (q value : ℕ) (entry : Entry) → Tells (is_counted_of whole who q value entry) (IsCountedOf whole who q value entry)
-tells_counted_of whole who q value (R by n file block v served) = tells_and tells_same (tells_counted_by whole who q (R by n file block v served))
-tells_counted_of whole who q value other = no
+tells_counted_with : (whole : List Entry) (who : Who) (q value : ℕ) (entry : Entry) → Tells (is_counted_with whole who q value entry) (IsCountedWith whole who q value entry)
+tells_counted_with whole who q value (R by n file block v served) = tells_and tells_same (tells_counted_by whole who q (R by n file block v served))
+tells_counted_with whole who q value other = no
 
 tells_legal_read : (whole before : List Entry) (who : Who) (q file block value : ℕ) → Tells (is_legal_read whole before who q file block value) (IsLegalRead whole before who q file block value)
 tells_legal_read whole before who q file block value =
     tells_alike
     (λ h. record { standing = h.0; call = h.1; answer = h.2 })
     (λ h. (h.standing, h.call, h.answer))
-    (tells_3 (tells_standing whole before who file block value) (tells_reading (call_of whole who q)) (tells_exists (tells_answer_of who q value) whole))
+    (tells_3 (tells_standing whole before who file block value) (tells_reading (call_of whole who q)) (tells_exists (tells_answer_with who q value) whole))
 
 tells_legal_answer : (whole : List Entry) (who : Who) (q value : ℕ) → Tells (is_legal_answer whole who q value) (IsLegalAnswer whole who q value)
 tells_legal_answer whole who q value =
     tells_alike
     (λ h. record { read = h.0; only = h.1 })
     (λ h. (h.read, h.only))
-    (tells_and (tells_exists (tells_counted_of whole who q value) whole) (tells_at_most_one (tells_counted_by whole who q) whole))
+    (tells_and (tells_exists (tells_counted_with whole who q value) whole) (tells_at_most_one (tells_counted_by whole who q) whole))
 
 pub tells_legal_at : (whole : List Entry) (entry : Entry) (before : List Entry) → Tells (is_legal_at whole entry before) (IsLegalAt whole entry before)
 tells_legal_at whole (R who q file block value served) before = tells_implies (tells_counted whole (R who q file block value served)) (tells_legal_read whole before who q file block value)

@@ -1,3 +1,4 @@
+pub mod Accounts
 pub mod CachedReads
 pub mod JournalTests
 pub mod LegalTest

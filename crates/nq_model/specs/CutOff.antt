@@ -14,97 +14,100 @@ pub record Given : Type 0 where
   pub term : ℕ
 
 -- the last grant to an incarnation on a file
-abbrev pub last_grant : List Entry → Who → ℕ → Option Given
+abbrev pub last_grant : List Entry → (who : Who) (file : ℕ) → Option Given
 last_grant [] who file = None
 last_grant (G by f mode tag term now ∷ before) who file =
     if same_who by who && (f == file) then Some (record { time = now; term = term }) else last_grant before who file
 last_grant (other ∷ before) who file = last_grant before who file
 
 -- where the entry is an S of the incarnation on the file, write slack has passed since
-abbrev pub IsStoreOver : Who → ℕ → ℕ → Entry → Type 0
+abbrev pub IsStoreOver : (who : Who) (file now : ℕ) → Entry → Type 0
 IsStoreOver who file now (S by f block first last time) = by ≡ who → f ≡ file → time + write_slack ≤ now
 IsStoreOver who file now other = ⊤
 
-abbrev pub is_store_over : Who → ℕ → ℕ → Entry → Bool
-is_store_over who file now (S by f block first last time) = not (same_who by who) || (not (f == file) || nat_le (time + write_slack) now)
-is_store_over who file now other = true
-
 -- ---- silence
 
--- an F of the incarnation on the file comes late enough: write slack after the lease's end and after the last write that
--- was heard or stored, and skew and slack after the term of the last grant
+-- an F comes late enough for an incarnation on a file: write slack after the lease's end, after the last write that was
+-- heard and after each store, and skew and slack after the term of the last grant
 pub record IsLateEnd (before : List Entry) (who : Who) (file until heard now : ℕ) : Type 0 where
   pub heard_over : heard + write_slack ≤ now
   pub until_over : until + write_slack ≤ now
   pub grant_over : IsSomeAnd (last_grant before who file) (λ grant. grant.time + grant.term + skew + write_slack ≤ now)
   pub stores_over : Each (IsStoreOver who file now) before
 
-abbrev pub has_passed : ℕ → Option Given → Bool
-has_passed now None = false
-has_passed now (Some grant) = nat_le (grant.time + grant.term + skew + write_slack) now
-
-abbrev pub is_late_end : List Entry → Who → ℕ → ℕ → ℕ → ℕ → Bool
-is_late_end before who file until heard now =
-    nat_le (heard + write_slack) now && nat_le (until + write_slack) now && has_passed now (last_grant before who file) && each (is_store_over who file now) before
-
 -- ---- recovery
 
--- the entry is the X of a boot, whose longest term is at least this term, and that term, skew and slack have passed since
-abbrev pub IsLongWait : ℕ → ℕ → Option Given → Entry → Type 0
+-- the entry is the X of a boot, the longest term that it tells is no less than the grant's, and that longest term, skew and
+-- slack have passed since
+abbrev pub IsLongWait : (boot now : ℕ) → Option Given → Entry → Type 0
 IsLongWait boot now (Some grant) (X b time longest) = (b ≡ boot) × (grant.term ≤ longest) × (time + longest + skew + write_slack ≤ now)
 IsLongWait boot now grant other = ⊥
 
-abbrev pub is_long_wait : ℕ → ℕ → Option Given → Entry → Bool
-is_long_wait boot now (Some grant) (X b time longest) = (b == boot) && nat_le grant.term longest && nat_le (time + longest + skew + write_slack) now
-is_long_wait boot now grant other = false
-
--- an O comes late enough for an incarnation on a file: its boot began longer ago than the longest term of the boot before,
--- skew and slack, the last grant had no longer term, and write slack has passed since the last store
+-- an O comes late enough for an incarnation on a file: since its boot the longest term, skew and slack have passed, the last
+-- grant had no longer term, and since each store write slack has passed
 pub record IsLateOpening (before : List Entry) (who : Who) (file boot now : ℕ) : Type 0 where
   pub waited : Exists (IsLongWait boot now (last_grant before who file)) before
   pub stores_over : Each (IsStoreOver who file now) before
 
-abbrev pub is_late_opening : List Entry → Who → ℕ → ℕ → ℕ → Bool
-is_late_opening before who file boot now =
-    exists (is_long_wait boot now (last_grant before who file)) before && each (is_store_over who file now) before
-
 -- ---- the law
 
--- an entry ends the writing lease of an incarnation on a file: an F for it, or an O, late enough
-abbrev pub Ends : Who → ℕ → Entry → List Entry → Type 0
+-- the entry ends the writing lease of an incarnation on a file: it is an F of both or an O, and comes late enough
+abbrev pub Ends : (who : Who) (file : ℕ) → Entry → (before : List Entry) → Type 0
 Ends who file (F by f until heard now) before = (by ≡ who) × (f ≡ file) × IsLateEnd before who file until heard now
 Ends who file (O boot until heard now) before = IsLateOpening before who file boot now
 Ends who file other before = ⊥
 
-abbrev pub ends : Who → ℕ → Entry → List Entry → Bool
-ends who file (F by f until heard now) before = same_who by who && (f == file) && is_late_end before who file until heard now
-ends who file (O boot until heard now) before = is_late_opening before who file boot now
-ends who file other before = false
-
--- going back from an L, an entry that ends its client's lease on the file comes before any write that the L covers
-abbrev pub EndsFirst : Entry → Who → ℕ → List Entry → Type 0
+-- going back from an L, an entry that ends its client's lease on the file comes before the first write that the L covers
+abbrev pub EndsFirst : (loss : Entry) (who : Who) (file : ℕ) → List Entry → Type 0
 EndsFirst loss who file [] = ⊥
 EndsFirst loss who file (entry ∷ before) = Ends who file entry before ⊎ ¬ Loses loss entry × EndsFirst loss who file before
 
-abbrev pub ends_first : Entry → Who → ℕ → List Entry → Bool
-ends_first loss who file [] = false
-ends_first loss who file (entry ∷ before) = ends who file entry before || not (loses loss entry) && ends_first loss who file before
-
 -- an L is cut off: an entry that ends its client's lease on the file stands after every write that the L covers and before
 -- the L
-abbrev pub IsCutOff : List Entry → Entry → List Entry → Type 0
+abbrev pub IsCutOff : (after : List Entry) → Entry → (before : List Entry) → Type 0
 IsCutOff after (L who file block first last) before =
     EndsFirst (L who file block first last) who file before × ¬ Exists (Loses (L who file block first last)) after
 IsCutOff after other before = ⊤
 
-abbrev pub is_cut_off : List Entry → Entry → List Entry → Bool
+-- the losses of a journal are excused: each L is cut off
+abbrev pub IsExcused : (journal : List Entry) → Type 0
+IsExcused journal = AtEachPlace IsCutOff [] journal
+
+-- ---- the facts as tests
+
+abbrev pub is_store_over : (who : Who) (file now : ℕ) → Entry → Bool
+is_store_over who file now (S by f block first last time) = not (same_who by who) || (not (f == file) || nat_le (time + write_slack) now)
+is_store_over who file now other = true
+
+abbrev pub has_passed : (now : ℕ) → Option Given → Bool
+has_passed now None = false
+has_passed now (Some grant) = nat_le (grant.time + grant.term + skew + write_slack) now
+
+abbrev pub is_late_end : (before : List Entry) (who : Who) (file until heard now : ℕ) → Bool
+is_late_end before who file until heard now =
+    nat_le (heard + write_slack) now && nat_le (until + write_slack) now && has_passed now (last_grant before who file) && each (is_store_over who file now) before
+
+abbrev pub is_long_wait : (boot now : ℕ) → Option Given → Entry → Bool
+is_long_wait boot now (Some grant) (X b time longest) = (b == boot) && nat_le grant.term longest && nat_le (time + longest + skew + write_slack) now
+is_long_wait boot now grant other = false
+
+abbrev pub is_late_opening : (before : List Entry) (who : Who) (file boot now : ℕ) → Bool
+is_late_opening before who file boot now =
+    exists (is_long_wait boot now (last_grant before who file)) before && each (is_store_over who file now) before
+
+abbrev pub ends : (who : Who) (file : ℕ) → Entry → (before : List Entry) → Bool
+ends who file (F by f until heard now) before = same_who by who && (f == file) && is_late_end before who file until heard now
+ends who file (O boot until heard now) before = is_late_opening before who file boot now
+ends who file other before = false
+
+abbrev pub ends_first : (loss : Entry) (who : Who) (file : ℕ) → List Entry → Bool
+ends_first loss who file [] = false
+ends_first loss who file (entry ∷ before) = ends who file entry before || not (loses loss entry) && ends_first loss who file before
+
+abbrev pub is_cut_off : (after : List Entry) → Entry → (before : List Entry) → Bool
 is_cut_off after (L who file block first last) before =
     ends_first (L who file block first last) who file before && not (exists (loses (L who file block first last)) after)
 is_cut_off after other before = true
 
--- the losses of a journal are excused: each L is cut off
-abbrev pub IsExcused : List Entry → Type 0
-IsExcused journal = AtEachPlace IsCutOff [] journal
-
-abbrev pub is_excused : List Entry → Bool
+abbrev pub is_excused : (journal : List Entry) → Bool
 is_excused journal = at_each_place is_cut_off [] journal

@@ -4,7 +4,7 @@
 use Rattle.std.specs.Prelude.{◌≡◌, ◌⊎◌, List, Bool, true, not, ◌&&◌, ◌||◌, ⊤}
 use Rattle.nq_base.specs.declared.Entry.{Entry}
 use Rattle.nq_base.specs.declared.Entry.TheVariants.{W, S, L, B}
-use Rattle.nq_model.specs.Journal.{Each, each, Exists, exists, Throughout, throughout, Covers, covers, IsLost}
+use Rattle.nq_model.specs.Journal.{Each, each, Exists, exists, AtMostOne, Throughout, throughout, Covers, covers, IsStored, IsLost}
 
 -- the entry is a B of the host of a write
 abbrev pub Restarts : Entry → Entry → Type 0
@@ -29,33 +29,42 @@ pub record IsWaiting (whole after : List Entry) (write : Entry) : Type 0 where
   pub running : ¬ Exists (λ entry. Restarts entry write) after
 
 -- a delayed write is missing where it is lost or ended
-abbrev pub IsMissing : List Entry → List Entry → Entry → Type 0
+abbrev pub IsMissing : (whole after : List Entry) (write : Entry) → Type 0
 IsMissing whole after write = IsLost whole write ⊎ IsEnded whole after write
 
 -- where the entry covers a write, no entry before it does
-abbrev pub IsFirstToCover : List Entry → Entry → Entry → Type 0
+abbrev pub IsFirstToCover : (before : List Entry) (entry write : Entry) → Type 0
 IsFirstToCover before entry write = Covers entry write → ¬ Exists (λ other. Covers other write) before
 
-abbrev pub is_first_to_cover : List Entry → Entry → Entry → Bool
-is_first_to_cover before entry write = not (covers entry write) || not (exists (λ other. covers other write) before)
-
 -- no delayed write is covered by two entries, and each L covers one at least
-abbrev pub IsAccountedAt : List Entry → Entry → List Entry → Type 0
+abbrev pub IsAccountedAt : (whole : List Entry) → Entry → (before : List Entry) → Type 0
 IsAccountedAt whole (S who file block first last now) before = Each (IsFirstToCover before (S who file block first last now)) whole
 IsAccountedAt whole (L who file block first last) before =
     Each (IsFirstToCover before (L who file block first last)) whole × Exists (Covers (L who file block first last)) whole
 IsAccountedAt whole other before = ⊤
 
-abbrev pub is_accounted_at : List Entry → Entry → List Entry → Bool
+-- a journal accounts for its delayed writes: none is covered by two entries, and no L is of nothing
+abbrev pub IsAccounted : (journal : List Entry) → Type 0
+IsAccounted journal = Throughout (IsAccountedAt journal) journal
+
+-- what follows: a journal that accounts for its delayed writes has one entry at most that covers a write
+abbrev pub CoversOnce : Type 0
+CoversOnce = (journal : List Entry) → IsAccounted journal → Each (λ write. AtMostOne (λ entry. Covers entry write) journal) journal
+
+-- and has no write that is both stored and lost
+abbrev pub StoredOrLost : Type 0
+StoredOrLost = (journal : List Entry) → IsAccounted journal → Each (λ write. IsStored journal write → ¬ IsLost journal write) journal
+
+-- ---- the facts as tests
+
+abbrev pub is_first_to_cover : (before : List Entry) (entry write : Entry) → Bool
+is_first_to_cover before entry write = not (covers entry write) || not (exists (λ other. covers other write) before)
+
+abbrev pub is_accounted_at : (whole : List Entry) → Entry → (before : List Entry) → Bool
 is_accounted_at whole (S who file block first last now) before = each (is_first_to_cover before (S who file block first last now)) whole
 is_accounted_at whole (L who file block first last) before =
     each (is_first_to_cover before (L who file block first last)) whole && exists (covers (L who file block first last)) whole
 is_accounted_at whole other before = true
 
--- a journal accounts for its delayed writes: none is covered by two entries, so none is both stored and lost, and no L
--- is of nothing
-abbrev pub IsAccounted : List Entry → Type 0
-IsAccounted journal = Throughout (IsAccountedAt journal) journal
-
-abbrev pub is_accounted : List Entry → Bool
+abbrev pub is_accounted : (journal : List Entry) → Bool
 is_accounted journal = throughout (is_accounted_at journal) journal

@@ -16,82 +16,84 @@ IsReading (Some (Read file block)) = ⊤
 IsReading (Some (Fetch file block)) = ⊤
 IsReading other = ⊥
 
-abbrev pub is_reading : Option Told → Bool
-is_reading (Some (Read file block)) = true
-is_reading (Some (Fetch file block)) = true
-is_reading other = false
-
 -- the answer is ok with a value
-abbrev pub GivesValue : ℕ → Said → Type 0
+abbrev pub GivesValue : (value : ℕ) → Said → Type 0
 GivesValue value (OkValue v) = v ≡ value
 GivesValue value (OkBy v packet) = v ≡ value
 GivesValue value other = ⊥
 
-abbrev pub gives_value : ℕ → Said → Bool
-gives_value value (OkValue v) = v == value
-gives_value value (OkBy v packet) = v == value
-gives_value value other = false
-
 -- the entry is an A of call q that says ok with a value
-abbrev pub IsAnswerOf : Who → ℕ → ℕ → Entry → Type 0
-IsAnswerOf who q value (A by n said) = (by ≡ who) × (n ≡ q) × GivesValue value said
-IsAnswerOf who q value other = ⊥
-
-abbrev pub is_answer_of : Who → ℕ → ℕ → Entry → Bool
-is_answer_of who q value (A by n said) = same_who by who && (n == q) && gives_value value said
-is_answer_of who q value other = false
+abbrev pub IsAnswerWith : (who : Who) (q value : ℕ) → Entry → Type 0
+IsAnswerWith who q value (A by n said) = (by ≡ who) × (n ≡ q) × GivesValue value said
+IsAnswerWith who q value other = ⊥
 
 -- the entry is a counted read by call q
-abbrev pub IsCountedBy : List Entry → Who → ℕ → Entry → Type 0
+abbrev pub IsCountedBy : (whole : List Entry) (who : Who) (q : ℕ) (entry : Entry) → Type 0
 IsCountedBy whole who q entry = IsReadBy who q entry × IsCounted whole entry
 
-abbrev pub is_counted_by : List Entry → Who → ℕ → Entry → Bool
-is_counted_by whole who q entry = is_read_by who q entry && is_counted whole entry
-
 -- the entry is a counted read by call q, of a value
-abbrev pub IsCountedOf : List Entry → Who → ℕ → ℕ → Entry → Type 0
-IsCountedOf whole who q value (R by n file block v served) = (v ≡ value) × IsCountedBy whole who q (R by n file block v served)
-IsCountedOf whole who q value other = ⊥
-
-abbrev pub is_counted_of : List Entry → Who → ℕ → ℕ → Entry → Bool
-is_counted_of whole who q value (R by n file block v served) = (v == value) && is_counted_by whole who q (R by n file block v served)
-is_counted_of whole who q value other = false
+abbrev pub IsCountedWith : (whole : List Entry) (who : Who) (q value : ℕ) → Entry → Type 0
+IsCountedWith whole who q value (R by n file block v served) = (v ≡ value) × IsCountedBy whole who q (R by n file block v served)
+IsCountedWith whole who q value other = ⊥
 
 -- a counted read gives the value that stands for it, and an A of its call, a `read` or `fetch`, says ok with that value
 pub record IsLegalRead (whole before : List Entry) (who : Who) (q file block value : ℕ) : Type 0 where
   pub standing : IsStandingValue whole before who file block value
   pub call : IsReading (call_of whole who q)
-  pub answer : Exists (IsAnswerOf who q value) whole
-
-abbrev pub is_legal_read : List Entry → List Entry → Who → ℕ → ℕ → ℕ → ℕ → Bool
-is_legal_read whole before who q file block value =
-    (value == standing_value whole before who file block) && is_reading (call_of whole who q) && exists (is_answer_of who q value) whole
+  pub answer : Exists (IsAnswerWith who q value) whole
 
 -- an A that says ok with a value to a `read` or `fetch` has exactly one counted read of that call, with that value
 pub record IsLegalAnswer (whole : List Entry) (who : Who) (q value : ℕ) : Type 0 where
-  pub read : Exists (IsCountedOf whole who q value) whole
+  pub read : Exists (IsCountedWith whole who q value) whole
   pub only : AtMostOne (IsCountedBy whole who q) whole
 
-abbrev pub is_legal_answer : List Entry → Who → ℕ → ℕ → Bool
-is_legal_answer whole who q value = exists (is_counted_of whole who q value) whole && at_most_one (is_counted_by whole who q) whole
-
 -- what is asked of reads and of answers to them, at their place in a journal
-abbrev pub IsLegalAt : List Entry → Entry → List Entry → Type 0
+abbrev pub IsLegalAt : (whole : List Entry) → Entry → (before : List Entry) → Type 0
 IsLegalAt whole (R who q file block value served) before = IsCounted whole (R who q file block value served) → IsLegalRead whole before who q file block value
 IsLegalAt whole (A who q (OkValue value)) before = IsReading (call_of whole who q) → IsLegalAnswer whole who q value
 IsLegalAt whole (A who q (OkBy value packet)) before = IsReading (call_of whole who q) → IsLegalAnswer whole who q value
 IsLegalAt whole other before = ⊤
 
-abbrev pub is_legal_at : List Entry → Entry → List Entry → Bool
+-- a journal is legal: each counted read gives the value of the last write before it that stands for it, and reads and
+-- the answers that say ok to them are one for one
+abbrev pub IsLegal : (journal : List Entry) → Type 0
+IsLegal journal = Throughout (IsLegalAt journal) journal
+
+-- ---- the facts as tests
+
+abbrev pub is_reading : Option Told → Bool
+is_reading (Some (Read file block)) = true
+is_reading (Some (Fetch file block)) = true
+is_reading other = false
+
+abbrev pub gives_value : (value : ℕ) → Said → Bool
+gives_value value (OkValue v) = v == value
+gives_value value (OkBy v packet) = v == value
+gives_value value other = false
+
+abbrev pub is_answer_with : (who : Who) (q value : ℕ) → Entry → Bool
+is_answer_with who q value (A by n said) = same_who by who && (n == q) && gives_value value said
+is_answer_with who q value other = false
+
+abbrev pub is_counted_by : (whole : List Entry) (who : Who) (q : ℕ) (entry : Entry) → Bool
+is_counted_by whole who q entry = is_read_by who q entry && is_counted whole entry
+
+abbrev pub is_counted_with : (whole : List Entry) (who : Who) (q value : ℕ) → Entry → Bool
+is_counted_with whole who q value (R by n file block v served) = (v == value) && is_counted_by whole who q (R by n file block v served)
+is_counted_with whole who q value other = false
+
+abbrev pub is_legal_read : (whole before : List Entry) (who : Who) (q file block value : ℕ) → Bool
+is_legal_read whole before who q file block value =
+    (value == standing_value whole before who file block) && is_reading (call_of whole who q) && exists (is_answer_with who q value) whole
+
+abbrev pub is_legal_answer : (whole : List Entry) (who : Who) (q value : ℕ) → Bool
+is_legal_answer whole who q value = exists (is_counted_with whole who q value) whole && at_most_one (is_counted_by whole who q) whole
+
+abbrev pub is_legal_at : (whole : List Entry) → Entry → (before : List Entry) → Bool
 is_legal_at whole (R who q file block value served) before = not (is_counted whole (R who q file block value served)) || is_legal_read whole before who q file block value
 is_legal_at whole (A who q (OkValue value)) before = not (is_reading (call_of whole who q)) || is_legal_answer whole who q value
 is_legal_at whole (A who q (OkBy value packet)) before = not (is_reading (call_of whole who q)) || is_legal_answer whole who q value
 is_legal_at whole other before = true
 
--- a journal is legal: each counted read gives the value of the last write before it that stands for it, and reads and
--- the answers that say ok to them are one for one
-abbrev pub IsLegal : List Entry → Type 0
-IsLegal journal = Throughout (IsLegalAt journal) journal
-
-abbrev pub is_legal : List Entry → Bool
+abbrev pub is_legal : (journal : List Entry) → Bool
 is_legal journal = throughout (is_legal_at journal) journal

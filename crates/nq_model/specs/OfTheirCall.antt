@@ -7,28 +7,30 @@ use Rattle.nq_base.specs.declared.Told.TheVariants.{Read, Fetch}
 use Rattle.nq_model.specs.Journal.{Each, each, IsCounted, is_counted, call_of}
 
 -- the call is a `read` or `fetch` of this block
-abbrev pub Reads : ℕ → ℕ → Option Told → Type 0
+abbrev pub Reads : (file block : ℕ) → Option Told → Type 0
 Reads file block (Some (Read f b)) = (f ≡ file) × (b ≡ block)
 Reads file block (Some (Fetch f b)) = (f ≡ file) × (b ≡ block)
 Reads file block other = ⊥
 
-abbrev pub reads : ℕ → ℕ → Option Told → Bool
+-- a counted read is of the file and block of its call
+abbrev pub IsOfItsCall : (whole : List Entry) → Entry → Type 0
+IsOfItsCall whole (R who q file block value served) = IsCounted whole (R who q file block value served) → Reads file block (call_of whole who q)
+IsOfItsCall whole other = ⊤
+
+-- the counted reads of a journal are of their calls
+abbrev pub AreOfTheirCall : (journal : List Entry) → Type 0
+AreOfTheirCall journal = Each (IsOfItsCall journal) journal
+
+-- ---- the facts as tests
+
+abbrev pub reads : (file block : ℕ) → Option Told → Bool
 reads file block (Some (Read f b)) = (f == file) && (b == block)
 reads file block (Some (Fetch f b)) = (f == file) && (b == block)
 reads file block other = false
 
--- a counted read is of the file and block of its call
-abbrev pub IsOfItsCall : List Entry → Entry → Type 0
-IsOfItsCall whole (R who q file block value served) = IsCounted whole (R who q file block value served) → Reads file block (call_of whole who q)
-IsOfItsCall whole other = ⊤
-
-abbrev pub is_of_its_call : List Entry → Entry → Bool
+abbrev pub is_of_its_call : (whole : List Entry) → Entry → Bool
 is_of_its_call whole (R who q file block value served) = not (is_counted whole (R who q file block value served)) || reads file block (call_of whole who q)
 is_of_its_call whole other = true
 
--- the counted reads of a journal are of their calls
-abbrev pub AreOfTheirCall : List Entry → Type 0
-AreOfTheirCall journal = Each (IsOfItsCall journal) journal
-
-abbrev pub are_of_their_call : List Entry → Bool
+abbrev pub are_of_their_call : (journal : List Entry) → Bool
 are_of_their_call journal = each (is_of_its_call journal) journal

@@ -8,30 +8,23 @@ use Rattle.nq_base.specs.declared.Span.{Span}
 use Rattle.nq_base.specs.declared.Told.{Told}
 use Rattle.nq_base.specs.declared.Told.TheVariants.{Write, WriteSync, Sync, Resize, Remove}
 use Rattle.nq_base.specs.declared.Who.{Who}
-use Rattle.nq_model.specs.Journal.{Exists, exists, AtEachPlace, at_each_place, same_who, IsAnswer, is_answer, call_of, IsOn, is_on}
+use Rattle.nq_model.specs.Journal.{Exists, exists, AtEachPlace, at_each_place, same_who, IsAnswer, is_answer, call_of, SpeaksOf, speaks_of}
 
 -- ---- names
 
 -- the span names a loss, on the loss's file
-abbrev pub IsNameOf : Loss → Span → Type 0
+abbrev pub IsNameOf : (loss : Loss) (span : Span) → Type 0
 IsNameOf loss span = (span.block ≡ loss.block) × (span.first ≡ loss.first) × (span.last ≡ loss.last)
 
-abbrev pub is_name_of : Loss → Span → Bool
-is_name_of loss span = (span.block == loss.block) && (span.first == loss.first) && (span.last == loss.last)
-
 -- the entry is an A `lost` of an incarnation on the file of a loss, and names the loss
-abbrev pub Names : List Entry → Who → Loss → Entry → Type 0
-Names whole who loss (A by q (Lost spans)) = (by ≡ who) × IsOn loss.file (call_of whole by q) × Exists (IsNameOf loss) spans.items
+abbrev pub Names : (whole : List Entry) (who : Who) (loss : Loss) → Entry → Type 0
+Names whole who loss (A by q (Lost spans)) = (by ≡ who) × SpeaksOf loss.file (call_of whole by q) × Exists (IsNameOf loss) spans.items
 Names whole who loss other = ⊥
-
-abbrev pub names : List Entry → Who → Loss → Entry → Bool
-names whole who loss (A by q (Lost spans)) = same_who by who && is_on loss.file (call_of whole by q) && exists (is_name_of loss) spans.items
-names whole who loss other = false
 
 -- ---- each loss is reported
 
 -- the call is a `write`, `put`, `sync`, `resize` or `remove` of a file
-abbrev pub IsReporting : ℕ → Told → Type 0
+abbrev pub IsReporting : (file : ℕ) → Told → Type 0
 IsReporting file (Write f block value) = f ≡ file
 IsReporting file (WriteSync f block value) = f ≡ file
 IsReporting file (Sync f) = f ≡ file
@@ -39,7 +32,68 @@ IsReporting file (Resize f blocks) = f ≡ file
 IsReporting file (Remove f) = f ≡ file
 IsReporting file other = ⊥
 
-abbrev pub is_reporting : ℕ → Told → Bool
+-- the entry is an A `busy` of call q
+abbrev pub IsBusyAnswer : (who : Who) (q : ℕ) → Entry → Type 0
+IsBusyAnswer who q (A by n Busy) = (by ≡ who) × (n ≡ q)
+IsBusyAnswer who q other = ⊥
+
+-- the entry is a C of the incarnation that has to report its losses on the file: it is not answered `busy`
+abbrev pub MustReport : (whole : List Entry) (who : Who) (file : ℕ) → Entry → Type 0
+MustReport whole who file (C by q told) = (by ≡ who) × IsReporting file told × ¬ Exists (IsBusyAnswer who q) whole
+MustReport whole who file other = ⊥
+
+-- the next entry is the A of this C, is `lost` and names the loss
+abbrev pub IsNamedNext : (whole : List Entry) (who : Who) (loss : Loss) → Entry → List Entry → Type 0
+IsNamedNext whole who loss (C by q told) (next ∷ after) = IsAnswer by q next × Names whole who loss next
+IsNamedNext whole who loss call after = ⊥
+
+-- going on from an L, the first C that has to report it is answered at once by an A that names it, unless an A before
+-- that C names it
+abbrev pub IsReportedIn : (whole : List Entry) (who : Who) (loss : Loss) → List Entry → Type 0
+IsReportedIn whole who loss [] = ⊤
+IsReportedIn whole who loss (entry ∷ after) =
+    (MustReport whole who loss.file entry → IsNamedNext whole who loss entry after) × (¬ MustReport whole who loss.file entry → ¬ Names whole who loss entry → IsReportedIn whole who loss after)
+
+-- ---- each name is of a loss
+
+-- the entry is an L of the incarnation, on the file of a call, with the block and numbers of a span, that no A has named
+abbrev pub IsUnnamed : (whole before : List Entry) (who : Who) (call : Option Told) (span : Span) → Entry → Type 0
+IsUnnamed whole before who call span (L by file block first last) =
+    (by ≡ who) × SpeaksOf file call × IsNameOf (record { file = file; block = block; first = first; last = last }) span × ¬ Exists (Names whole who (record { file = file; block = block; first = first; last = last })) before
+IsUnnamed whole before who call span other = ⊥
+
+-- two spans are one
+abbrev pub IsSameSpan : (a b : Span) → Type 0
+IsSameSpan a b = (a.block ≡ b.block) × (a.first ≡ b.first) × (a.last ≡ b.last)
+
+-- each span names an earlier L of the incarnation on the file of the call, and names it for the first time
+abbrev pub NameLosses : (whole before : List Entry) (who : Who) (call : Option Told) → List Span → Type 0
+NameLosses whole before who call [] = ⊤
+NameLosses whole before who call (span ∷ spans) = Exists (IsUnnamed whole before who call span) before × ¬ Exists (IsSameSpan span) spans × NameLosses whole before who call spans
+
+-- ---- the law
+
+-- what is asked of an L, and of an A that says `lost`
+abbrev pub IsReportedAt : (whole after : List Entry) → Entry → (before : List Entry) → Type 0
+IsReportedAt whole after (L who file block first last) before = IsReportedIn whole who (record { file = file; block = block; first = first; last = last }) after
+IsReportedAt whole after (A who q (Lost spans)) before = NameLosses whole before who (call_of whole who q) spans.items
+IsReportedAt whole after other before = ⊤
+
+-- the losses of a journal are reported: each L is named by the first call that can, and what an A names is an earlier L,
+-- named once
+abbrev pub IsReported : (journal : List Entry) → Type 0
+IsReported journal = AtEachPlace (IsReportedAt journal) [] journal
+
+-- ---- the facts as tests
+
+abbrev pub is_name_of : (loss : Loss) (span : Span) → Bool
+is_name_of loss span = (span.block == loss.block) && (span.first == loss.first) && (span.last == loss.last)
+
+abbrev pub names : (whole : List Entry) (who : Who) (loss : Loss) → Entry → Bool
+names whole who loss (A by q (Lost spans)) = same_who by who && speaks_of loss.file (call_of whole by q) && exists (is_name_of loss) spans.items
+names whole who loss other = false
+
+abbrev pub is_reporting : (file : ℕ) → Told → Bool
 is_reporting file (Write f block value) = f == file
 is_reporting file (WriteSync f block value) = f == file
 is_reporting file (Sync f) = f == file
@@ -47,91 +101,39 @@ is_reporting file (Resize f blocks) = f == file
 is_reporting file (Remove f) = f == file
 is_reporting file other = false
 
--- the entry is an A `busy` of call q
-abbrev pub IsBusyAnswer : Who → ℕ → Entry → Type 0
-IsBusyAnswer who q (A by n Busy) = (by ≡ who) × (n ≡ q)
-IsBusyAnswer who q other = ⊥
-
-abbrev pub is_busy_answer : Who → ℕ → Entry → Bool
+abbrev pub is_busy_answer : (who : Who) (q : ℕ) → Entry → Bool
 is_busy_answer who q (A by n Busy) = same_who by who && (n == q)
 is_busy_answer who q other = false
 
--- the entry is a C of the incarnation that has to report its losses on the file: it is not answered `busy`
-abbrev pub MustReport : List Entry → Who → ℕ → Entry → Type 0
-MustReport whole who file (C by q told) = (by ≡ who) × IsReporting file told × ¬ Exists (IsBusyAnswer who q) whole
-MustReport whole who file other = ⊥
-
-abbrev pub must_report : List Entry → Who → ℕ → Entry → Bool
+abbrev pub must_report : (whole : List Entry) (who : Who) (file : ℕ) → Entry → Bool
 must_report whole who file (C by q told) = same_who by who && is_reporting file told && not (exists (is_busy_answer who q) whole)
 must_report whole who file other = false
 
--- the next entry is the A of this C, is `lost` and names the loss
-abbrev pub IsNamedNext : List Entry → Who → Loss → Entry → List Entry → Type 0
-IsNamedNext whole who loss (C by q told) (next ∷ after) = IsAnswer by q next × Names whole who loss next
-IsNamedNext whole who loss call after = ⊥
-
-abbrev pub is_named_next : List Entry → Who → Loss → Entry → List Entry → Bool
+abbrev pub is_named_next : (whole : List Entry) (who : Who) (loss : Loss) → Entry → List Entry → Bool
 is_named_next whole who loss (C by q told) (next ∷ after) = is_answer by q next && names whole who loss next
 is_named_next whole who loss call after = false
 
--- going on from an L, the first C that has to report it is answered at once by an A that names it, unless an A before
--- that C names it
-abbrev pub IsReportedIn : List Entry → Who → Loss → List Entry → Type 0
-IsReportedIn whole who loss [] = ⊤
-IsReportedIn whole who loss (entry ∷ after) =
-    (MustReport whole who loss.file entry → IsNamedNext whole who loss entry after) × (¬ MustReport whole who loss.file entry → ¬ Names whole who loss entry → IsReportedIn whole who loss after)
-
-abbrev pub is_reported_in : List Entry → Who → Loss → List Entry → Bool
+abbrev pub is_reported_in : (whole : List Entry) (who : Who) (loss : Loss) → List Entry → Bool
 is_reported_in whole who loss [] = true
 is_reported_in whole who loss (entry ∷ after) =
     (not (must_report whole who loss.file entry) || is_named_next whole who loss entry after) && (must_report whole who loss.file entry || (names whole who loss entry || is_reported_in whole who loss after))
 
--- ---- each name is of a loss
-
--- the entry is an L of the incarnation, on the file of a call, with the block and numbers of a span, that no A has named
-abbrev pub IsUnnamed : List Entry → List Entry → Who → Option Told → Span → Entry → Type 0
-IsUnnamed whole before who call span (L by file block first last) =
-    (by ≡ who) × IsOn file call × IsNameOf (record { file = file; block = block; first = first; last = last }) span × ¬ Exists (Names whole who (record { file = file; block = block; first = first; last = last })) before
-IsUnnamed whole before who call span other = ⊥
-
-abbrev pub is_unnamed : List Entry → List Entry → Who → Option Told → Span → Entry → Bool
+abbrev pub is_unnamed : (whole before : List Entry) (who : Who) (call : Option Told) (span : Span) → Entry → Bool
 is_unnamed whole before who call span (L by file block first last) =
-    same_who by who && is_on file call && is_name_of (record { file = file; block = block; first = first; last = last }) span && not (exists (names whole who (record { file = file; block = block; first = first; last = last })) before)
+    same_who by who && speaks_of file call && is_name_of (record { file = file; block = block; first = first; last = last }) span && not (exists (names whole who (record { file = file; block = block; first = first; last = last })) before)
 is_unnamed whole before who call span other = false
 
--- two spans are one
-abbrev pub IsSameSpan : Span → Span → Type 0
-IsSameSpan a b = (a.block ≡ b.block) × (a.first ≡ b.first) × (a.last ≡ b.last)
-
-abbrev pub is_same_span : Span → Span → Bool
+abbrev pub is_same_span : (a b : Span) → Bool
 is_same_span a b = (a.block == b.block) && (a.first == b.first) && (a.last == b.last)
 
--- each span names an earlier L of the incarnation on the file of the call, and names it for the first time
-abbrev pub NameLosses : List Entry → List Entry → Who → Option Told → List Span → Type 0
-NameLosses whole before who call [] = ⊤
-NameLosses whole before who call (span ∷ spans) = Exists (IsUnnamed whole before who call span) before × ¬ Exists (IsSameSpan span) spans × NameLosses whole before who call spans
-
-abbrev pub name_losses : List Entry → List Entry → Who → Option Told → List Span → Bool
+abbrev pub name_losses : (whole before : List Entry) (who : Who) (call : Option Told) → List Span → Bool
 name_losses whole before who call [] = true
 name_losses whole before who call (span ∷ spans) = exists (is_unnamed whole before who call span) before && not (exists (is_same_span span) spans) && name_losses whole before who call spans
 
--- ---- the law
-
--- what is asked of an L, and of an A that says `lost`
-abbrev pub IsReportedAt : List Entry → List Entry → Entry → List Entry → Type 0
-IsReportedAt whole after (L who file block first last) before = IsReportedIn whole who (record { file = file; block = block; first = first; last = last }) after
-IsReportedAt whole after (A who q (Lost spans)) before = NameLosses whole before who (call_of whole who q) spans.items
-IsReportedAt whole after other before = ⊤
-
-abbrev pub is_reported_at : List Entry → List Entry → Entry → List Entry → Bool
+abbrev pub is_reported_at : (whole after : List Entry) → Entry → (before : List Entry) → Bool
 is_reported_at whole after (L who file block first last) before = is_reported_in whole who (record { file = file; block = block; first = first; last = last }) after
 is_reported_at whole after (A who q (Lost spans)) before = name_losses whole before who (call_of whole who q) spans.items
 is_reported_at whole after other before = true
 
--- the losses of a journal are reported: each L is named by the first call that can, and what an A names is an earlier L,
--- named once
-abbrev pub IsReported : List Entry → Type 0
-IsReported journal = AtEachPlace (IsReportedAt journal) [] journal
-
-abbrev pub is_reported : List Entry → Bool
+abbrev pub is_reported : (journal : List Entry) → Bool
 is_reported journal = at_each_place (is_reported_at journal) [] journal

@@ -18,6 +18,8 @@ pub record IsSound (journal : List Entry) : Type 0 where
   pub reported : IsReported journal
   pub synchronized : IsSynchronized journal
 
+-- ---- the facts as tests
+
 abbrev pub is_sound : List Entry → Bool
 is_sound journal =
     is_legal journal && is_ordered journal && is_accounted journal && is_excused journal && is_reported journal && is_synchronized journal

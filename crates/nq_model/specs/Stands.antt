@@ -7,17 +7,19 @@ use Rattle.nq_model.specs.Journal.{IsWriteOn, is_write_on, IsWriteBy, is_write_b
 
 -- a write stands for a later read of its block, where no Z between them cuts that block, and it is through, or an S
 -- anywhere in the journal covers it, or it is of the reader's own incarnation and no L before the read covers it
-abbrev pub Stands : List Entry → List Entry → Who → ℕ → ℕ → Entry → Type 0
+abbrev pub Stands : (whole before : List Entry) (reader : Who) (file block : ℕ) (write : Entry) → Type 0
 Stands whole before reader file block write =
     IsWriteOn file block write × (IsThrough write ⊎ IsStored whole write ⊎ IsWriteBy reader write × ¬ IsLost before write)
 
-abbrev pub stands : List Entry → List Entry → Who → ℕ → ℕ → Entry → Bool
+-- the value is that of the last write before a read that stands for it, or 0 where there is none
+abbrev pub IsStandingValue : (whole before : List Entry) (reader : Who) (file block value : ℕ) → Type 0
+IsStandingValue whole before reader file block value = IsLastValue (Stands whole before reader file block) (since_cut before file block) value
+
+-- ---- the facts as tests
+
+abbrev pub stands : (whole before : List Entry) (reader : Who) (file block : ℕ) (write : Entry) → Bool
 stands whole before reader file block write =
     is_write_on file block write && (is_through write || (is_stored whole write || is_write_by reader write && not (is_lost before write)))
 
--- the value is that of the last write before a read that stands for it, or 0 where there is none
-abbrev pub IsStandingValue : List Entry → List Entry → Who → ℕ → ℕ → ℕ → Type 0
-IsStandingValue whole before reader file block value = IsLastValue (Stands whole before reader file block) (since_cut before file block) value
-
-abbrev pub standing_value : List Entry → List Entry → Who → ℕ → ℕ → ℕ
+abbrev pub standing_value : (whole before : List Entry) (reader : Who) (file block : ℕ) → ℕ
 standing_value whole before reader file block = last_value (stands whole before reader file block) (since_cut before file block)

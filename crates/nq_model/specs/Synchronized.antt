@@ -13,103 +13,105 @@ use Rattle.nq_model.specs.Reported.{Names, names}
 -- ---- a put
 
 -- the entry is the write of call q: it is through, or an S covers it before the answer
-abbrev pub IsPutKept : List Entry → Who → ℕ → Entry → List Entry → Type 0
+abbrev pub IsPutKept : (answered : List Entry) (who : Who) (q : ℕ) → Entry → (before : List Entry) → Type 0
 IsPutKept answered who q (W by file block number value through) before =
     (by ≡ who) × IsOpen before who q × (IsThrough (W by file block number value through) ⊎ IsStored answered (W by file block number value through))
 IsPutKept answered who q other before = ⊥
 
-abbrev pub is_put_kept : List Entry → Who → ℕ → Entry → List Entry → Bool
-is_put_kept answered who q (W by file block number value through) before =
-    same_who by who && is_open before who q && (is_through (W by file block number value through) || is_stored answered (W by file block number value through))
-is_put_kept answered who q other before = false
-
 -- ---- a sync, a resize, a removal
 
 -- an L covers a write, and an A of these entries names that L
-abbrev pub IsNamedLoss : List Entry → List Entry → Entry → Entry → Type 0
+abbrev pub IsNamedLoss : (whole answers : List Entry) (write : Entry) → Entry → Type 0
 IsNamedLoss whole answers write (L who file block first last) =
     Loses (L who file block first last) write × Exists (Names whole who (record { file = file; block = block; first = first; last = last })) answers
 IsNamedLoss whole answers write other = ⊥
 
-abbrev pub is_named_loss : List Entry → List Entry → Entry → Entry → Bool
-is_named_loss whole answers write (L who file block first last) =
-    loses (L who file block first last) write && exists (names whole who (record { file = file; block = block; first = first; last = last })) answers
-is_named_loss whole answers write other = false
-
 -- where the entry is a delayed write of the incarnation on the file, an S of these entries covers it, or an L that an A of
 -- those names
-abbrev pub IsSettled : List Entry → List Entry → List Entry → Who → ℕ → Entry → Type 0
+abbrev pub IsSettled : (whole stores answers : List Entry) (who : Who) (file : ℕ) → Entry → Type 0
 IsSettled whole stores answers who file (W by f block number value false) =
     by ≡ who → f ≡ file → IsStored stores (W by f block number value false) ⊎ Exists (IsNamedLoss whole answers (W by f block number value false)) whole
 IsSettled whole stores answers who file other = ⊤
 
-abbrev pub is_settled : List Entry → List Entry → List Entry → Who → ℕ → Entry → Bool
-is_settled whole stores answers who file (W by f block number value false) =
-    not (same_who by who) || (not (f == file) || (is_stored stores (W by f block number value false) || exists (is_named_loss whole answers (W by f block number value false)) whole))
-is_settled whole stores answers who file other = true
-
 -- the entry is the Z of call q, before which each delayed write of the incarnation on the file, of those that stand before
 -- the answer, is stored, or an A names its loss
-abbrev pub IsSettledResize : List Entry → List Entry → Who → ℕ → ℕ → Entry → List Entry → Type 0
+abbrev pub IsSettledResize : (whole answered : List Entry) (who : Who) (q file : ℕ) → Entry → (before : List Entry) → Type 0
 IsSettledResize whole answered who q file (Z by n f from to) before = (by ≡ who) × (n ≡ q) × Each (IsSettled whole before answered who file) answered
 IsSettledResize whole answered who q file other before = ⊥
-
-abbrev pub is_settled_resize : List Entry → List Entry → Who → ℕ → ℕ → Entry → List Entry → Bool
-is_settled_resize whole answered who q file (Z by n f from to) before = same_who by who && (n == q) && each (is_settled whole before answered who file) answered
-is_settled_resize whole answered who q file other before = false
 
 -- ---- the law
 
 -- what ok means as an answer to a call: to a `put` that its write is through or stored; to a `sync` that each delayed
 -- write of the incarnation on the file is stored, or its loss was named; to a `resize` or `remove` that its Z stands
 -- there and this holds before the Z
-abbrev pub IsKept : List Entry → List Entry → Who → ℕ → Option Told → Type 0
+abbrev pub IsKept : (whole before : List Entry) (who : Who) (q : ℕ) → Option Told → Type 0
 IsKept whole before who q (Some (WriteSync file block value)) = Somewhere (IsPutKept before who q) before
 IsKept whole before who q (Some (Sync file)) = Each (IsSettled whole whole before who file) before
 IsKept whole before who q (Some (Resize file blocks)) = Somewhere (IsSettledResize whole before who q file) before
 IsKept whole before who q (Some (Remove file)) = Somewhere (IsSettledResize whole before who q file) before
 IsKept whole before who q other = ⊤
 
-abbrev pub is_kept : List Entry → List Entry → Who → ℕ → Option Told → Bool
+-- what is asked of an A that says ok
+abbrev pub IsKeptAt : (whole : List Entry) → Entry → (before : List Entry) → Type 0
+IsKeptAt whole (A who q Ok) before = IsKept whole before who q (call_of whole who q)
+IsKeptAt whole (A who q (OkValue value)) before = IsKept whole before who q (call_of whole who q)
+IsKeptAt whole (A who q (OkBy value packet)) before = IsKept whole before who q (call_of whole who q)
+IsKeptAt whole other before = ⊤
+
+-- a journal is synchronized: each ok that it tells is kept
+abbrev pub IsSynchronized : (journal : List Entry) → Type 0
+IsSynchronized journal = Throughout (IsKeptAt journal) journal
+
+-- ---- what the server holds by a journal
+
+-- whether a write of a block counts at the server: it is through, or an S covers it
+abbrev pub is_held : (journal : List Entry) (file block : ℕ) (write : Entry) → Bool
+is_held journal file block write = is_write_on file block write && (is_through write || is_stored journal write)
+
+-- the value that the server holds of a block: that of the last write on it that is through or stored and that no Z after it
+-- cuts, or 0 where there is none
+abbrev pub held_value : (journal : List Entry) (file block : ℕ) → ℕ
+held_value journal file block = last_value (is_held journal file block) (since_cut journal file block)
+
+-- the length of a file that the last Z on it says, where there is one
+abbrev pub last_length : List Entry → (file : ℕ) → Option ℕ
+last_length [] file = None
+last_length (Z who q f from to ∷ before) file = if f == file then Some to else last_length before file
+last_length (other ∷ before) file = last_length before file
+
+-- ---- the facts as tests
+
+abbrev pub is_put_kept : (answered : List Entry) (who : Who) (q : ℕ) → Entry → (before : List Entry) → Bool
+is_put_kept answered who q (W by file block number value through) before =
+    same_who by who && is_open before who q && (is_through (W by file block number value through) || is_stored answered (W by file block number value through))
+is_put_kept answered who q other before = false
+
+abbrev pub is_named_loss : (whole answers : List Entry) (write : Entry) → Entry → Bool
+is_named_loss whole answers write (L who file block first last) =
+    loses (L who file block first last) write && exists (names whole who (record { file = file; block = block; first = first; last = last })) answers
+is_named_loss whole answers write other = false
+
+abbrev pub is_settled : (whole stores answers : List Entry) (who : Who) (file : ℕ) → Entry → Bool
+is_settled whole stores answers who file (W by f block number value false) =
+    not (same_who by who) || (not (f == file) || (is_stored stores (W by f block number value false) || exists (is_named_loss whole answers (W by f block number value false)) whole))
+is_settled whole stores answers who file other = true
+
+abbrev pub is_settled_resize : (whole answered : List Entry) (who : Who) (q file : ℕ) → Entry → (before : List Entry) → Bool
+is_settled_resize whole answered who q file (Z by n f from to) before = same_who by who && (n == q) && each (is_settled whole before answered who file) answered
+is_settled_resize whole answered who q file other before = false
+
+abbrev pub is_kept : (whole before : List Entry) (who : Who) (q : ℕ) → Option Told → Bool
 is_kept whole before who q (Some (WriteSync file block value)) = somewhere (is_put_kept before who q) before
 is_kept whole before who q (Some (Sync file)) = each (is_settled whole whole before who file) before
 is_kept whole before who q (Some (Resize file blocks)) = somewhere (is_settled_resize whole before who q file) before
 is_kept whole before who q (Some (Remove file)) = somewhere (is_settled_resize whole before who q file) before
 is_kept whole before who q other = true
 
--- what is asked of an A that says ok
-abbrev pub IsKeptAt : List Entry → Entry → List Entry → Type 0
-IsKeptAt whole (A who q Ok) before = IsKept whole before who q (call_of whole who q)
-IsKeptAt whole (A who q (OkValue value)) before = IsKept whole before who q (call_of whole who q)
-IsKeptAt whole (A who q (OkBy value packet)) before = IsKept whole before who q (call_of whole who q)
-IsKeptAt whole other before = ⊤
-
-abbrev pub is_kept_at : List Entry → Entry → List Entry → Bool
+abbrev pub is_kept_at : (whole : List Entry) → Entry → (before : List Entry) → Bool
 is_kept_at whole (A who q Ok) before = is_kept whole before who q (call_of whole who q)
 is_kept_at whole (A who q (OkValue value)) before = is_kept whole before who q (call_of whole who q)
 is_kept_at whole (A who q (OkBy value packet)) before = is_kept whole before who q (call_of whole who q)
 is_kept_at whole other before = true
 
--- a journal is synchronized: each ok that it tells is kept
-abbrev pub IsSynchronized : List Entry → Type 0
-IsSynchronized journal = Throughout (IsKeptAt journal) journal
-
-abbrev pub is_synchronized : List Entry → Bool
+abbrev pub is_synchronized : (journal : List Entry) → Bool
 is_synchronized journal = throughout (is_kept_at journal) journal
-
--- ---- what the server holds by a journal
-
--- whether a write of a block counts at the server: it is through, or an S covers it
-abbrev pub is_held : List Entry → ℕ → ℕ → Entry → Bool
-is_held journal file block write = is_write_on file block write && (is_through write || is_stored journal write)
-
--- the value that the server holds of a block: that of the last write on it that is through or stored and that no Z after it
--- cuts, or 0 where there is none
-abbrev pub held_value : List Entry → ℕ → ℕ → ℕ
-held_value journal file block = last_value (is_held journal file block) (since_cut journal file block)
-
--- the length of a file that the last Z on it says, where there is one
-abbrev pub last_length : List Entry → ℕ → Option ℕ
-last_length [] file = None
-last_length (Z who q f from to ∷ before) file = if f == file then Some to else last_length before file
-last_length (other ∷ before) file = last_length before file

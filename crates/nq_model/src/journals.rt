@@ -1,7 +1,7 @@
 //! Each law of journals has a test that computes: it is true exactly where the law holds.
 
 ghost use Rattle.nq_model.specs.CutOff.{IsExcused, is_excused};
-ghost use Rattle.nq_model.specs.Fate.{IsAccounted, is_accounted};
+ghost use Rattle.nq_model.specs.Fate.{CoversOnce, IsAccounted, StoredOrLost, is_accounted};
 ghost use Rattle.nq_model.specs.Legal.{IsLegal, is_legal};
 ghost use Rattle.nq_model.specs.OfTheirCall.{AreOfTheirCall, are_of_their_call};
 ghost use Rattle.nq_model.specs.Ordered.{IsOrdered, is_ordered};
@@ -48,4 +48,14 @@ pub fn synchronized_test_is_exact()
 /// The test of sound journals tells them.
 pub fn sound_test_is_exact()
     ensures { TellsLaw is_sound IsSound }
+{}
+
+/// A journal that accounts for its delayed writes has one entry at most that covers a write.
+pub fn writes_are_covered_once()
+    ensures { CoversOnce }
+{}
+
+/// A journal that accounts for its delayed writes has no write that is both stored and lost.
+pub fn no_write_is_stored_and_lost()
+    ensures { StoredOrLost }
 {}

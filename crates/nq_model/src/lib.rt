@@ -12,5 +12,5 @@ pub use clocks::skew_test_is_sound;
 pub use journals::{
     accounted_test_is_exact, excused_test_is_exact, legal_test_is_exact,
     of_their_call_test_is_exact, ordered_test_is_exact, reported_test_is_exact,
-    sound_test_is_exact, synchronized_test_is_exact,
+    sound_test_is_exact, synchronized_test_is_exact, writes_are_covered_once,
 };
