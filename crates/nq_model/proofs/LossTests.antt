@@ -13,7 +13,7 @@ use Rattle.nq_model.specs.Profile.{skew, write_slack}
 use Rattle.nq_model.specs.Journal.{Each, Exists, Covers, covers, Loses, loses, call_of, SpeaksOf}
 use Rattle.nq_model.specs.Fate.{IsFirstToCover, is_first_to_cover, IsAccountedAt, is_accounted_at, IsAccounted, is_accounted}
 use Rattle.nq_model.specs.CutOff.{Given, last_grant, IsStoreOver, is_store_over, IsLateEnd, has_passed, is_late_end, IsLongWait, is_long_wait, IsLateOpening, is_late_opening, Ends, ends, EndsFirst, ends_first, IsCutOff, is_cut_off, IsExcused, is_excused}
-use Rattle.nq_model.specs.Reported.{IsNameOf, is_name_of, Names, names, IsReporting, is_reporting, IsBusyAnswer, is_busy_answer, MustReport, must_report, IsNamedNext, is_named_next, IsReportedIn, is_reported_in, IsUnnamed, is_unnamed, IsSameSpan, is_same_span, NameLosses, name_losses, IsReportedAt, is_reported_at, IsReported, is_reported}
+use Rattle.nq_model.specs.Reported.{loss_told, IsNameOf, is_name_of, Names, names, IsReporting, is_reporting, IsBusyAnswer, is_busy_answer, MustReport, must_report, IsNamedNext, is_named_next, IsReportedIn, is_reported_in, IsUnnamed, is_unnamed, IsSameSpan, is_same_span, NameLosses, name_losses, IsReportedAt, is_reported_at, IsReported, is_reported}
 use Rattle.nq_model.specs.Tests.{Tells, TellsLaw}
 use Rattle.nq_model.proofs.Telling.{yes, no, tells_alike, tells_and, tells_3, tells_4, tells_or, tells_not, tells_implies, tells_same, tells_le}
 use Rattle.nq_model.proofs.JournalTests.{tells_each, tells_exists, tells_throughout, tells_at_each_place, tells_who, tells_answer, tells_covers, tells_loses, tells_speaks_of}
@@ -116,7 +116,7 @@ tells_reported_in whole who loss (entry ∷ after) =
 
 tells_unnamed : (whole before : List Entry) (who : Who) (call : Option Told) (span : Span) (entry : Entry) → Tells (is_unnamed whole before who call span entry) (IsUnnamed whole before who call span entry)
 tells_unnamed whole before who call span (L by file block first last) =
-    tells_4 tells_who (tells_speaks_of file call) (tells_name_of (record { file = file; block = block; first = first; last = last }) span) (tells_not (tells_exists (tells_names whole who (record { file = file; block = block; first = first; last = last })) before))
+    tells_4 tells_who (tells_speaks_of file call) (tells_name_of (loss_told file block first last) span) (tells_not (tells_exists (tells_names whole who (loss_told file block first last)) before))
 tells_unnamed whole before who call span other = no
 
 tells_same_span : (a b : Span) → Tells (is_same_span a b) (IsSameSpan a b)
@@ -128,7 +128,7 @@ tells_name_losses whole before who call (span ∷ spans) =
     tells_3 (tells_exists (tells_unnamed whole before who call span) before) (tells_not (tells_exists (tells_same_span span) spans)) (tells_name_losses whole before who call spans)
 
 tells_reported_at : (whole after : List Entry) (entry : Entry) (before : List Entry) → Tells (is_reported_at whole after entry before) (IsReportedAt whole after entry before)
-tells_reported_at whole after (L who file block first last) before = tells_reported_in whole who (record { file = file; block = block; first = first; last = last }) after
+tells_reported_at whole after (L who file block first last) before = tells_reported_in whole who (loss_told file block first last) after
 tells_reported_at whole after (A who q (Lost spans)) before = tells_name_losses whole before who (call_of whole who q) spans.items
 tells_reported_at whole after other before = yes
 

@@ -9,28 +9,30 @@ use Rattle.nq_base.specs.declared.Told.TheVariants.{Read, Fetch, WriteSync, Sync
 use Rattle.nq_base.specs.declared.Who.{Who}
 use Rattle.nq_model.specs.Journal.{Each, Exists, call_of}
 use Rattle.nq_model.specs.OfTheirCall.{Reads, reads, IsOfItsCall, is_of_its_call, AreOfTheirCall, are_of_their_call}
-use Rattle.nq_model.specs.Synchronized.{IsPutKept, is_put_kept, IsNamedLoss, is_named_loss, IsSettled, is_settled, IsSettledResize, is_settled_resize, IsKept, is_kept, IsKeptAt, is_kept_at, IsSynchronized, is_synchronized}
+use Rattle.nq_model.specs.Synchronized.{IsPutKept, is_put_kept, IsDelayedBy, is_delayed_by, IsNamedLoss, is_named_loss, IsSettled, is_settled, IsSettledResize, is_settled_resize, IsKept, is_kept, IsKeptAt, is_kept_at, IsSynchronized, is_synchronized}
+use Rattle.nq_model.specs.Reported.{loss_told}
 use Rattle.nq_model.specs.Tests.{Tells, TellsLaw}
 use Rattle.nq_model.proofs.Telling.{yes, no, tells_and, tells_3, tells_or, tells_implies, tells_same}
-use Rattle.nq_model.proofs.JournalTests.{tells_each, tells_exists, tells_throughout, tells_somewhere, tells_who, tells_open, tells_through, tells_stored, tells_loses, tells_counted}
+use Rattle.nq_model.proofs.JournalTests.{tells_each, tells_exists, tells_throughout, tells_somewhere, tells_who, tells_open, tells_write_by, tells_through, tells_stored, tells_loses, tells_counted}
 use Rattle.nq_model.proofs.LossTests.{tells_names}
 
 -- ---- synchronized
 
-tells_put_kept : (answered : List Entry) (who : Who) (q : ℕ) (entry : Entry) (before : List Entry) → Tells (is_put_kept answered who q entry before) (IsPutKept answered who q entry before)
-tells_put_kept answered who q (W by file block number value through) before =
-    tells_3 tells_who (tells_open before who q) (tells_or (tells_through (W by file block number value through)) (tells_stored answered (W by file block number value through)))
-tells_put_kept answered who q other before = no
+tells_put_kept : (answered : List Entry) (who : Who) (q : ℕ) (write : Entry) (before : List Entry) → Tells (is_put_kept answered who q write before) (IsPutKept answered who q write before)
+tells_put_kept answered who q write before = tells_3 (tells_write_by who write) (tells_open before who q) (tells_or (tells_through write) (tells_stored answered write))
 
-tells_named_loss : (whole answers : List Entry) (write entry : Entry) → Tells (is_named_loss whole answers write entry) (IsNamedLoss whole answers write entry)
-tells_named_loss whole answers write (L who file block first last) =
-    tells_and (tells_loses (L who file block first last) write) (tells_exists (tells_names whole who (record { file = file; block = block; first = first; last = last })) answers)
-tells_named_loss whole answers write other = no
+tells_delayed_by : (who : Who) (file : ℕ) (entry : Entry) → Tells (is_delayed_by who file entry) (IsDelayedBy who file entry)
+tells_delayed_by who file (W by f block number value false) = tells_and tells_who tells_same
+tells_delayed_by who file other = no
 
-tells_settled : (whole stores answers : List Entry) (who : Who) (file : ℕ) (entry : Entry) → Tells (is_settled whole stores answers who file entry) (IsSettled whole stores answers who file entry)
-tells_settled whole stores answers who file (W by f block number value false) =
-    tells_implies tells_who (tells_implies tells_same (tells_or (tells_stored stores (W by f block number value false)) (tells_exists (tells_named_loss whole answers (W by f block number value false)) whole)))
-tells_settled whole stores answers who file other = yes
+tells_named_loss : (whole answered : List Entry) (write entry : Entry) → Tells (is_named_loss whole answered write entry) (IsNamedLoss whole answered write entry)
+tells_named_loss whole answered write (L who file block first last) =
+    tells_and (tells_loses (L who file block first last) write) (tells_exists (tells_names whole who (loss_told file block first last)) answered)
+tells_named_loss whole answered write other = no
+
+tells_settled : (whole stores answered : List Entry) (who : Who) (file : ℕ) (write : Entry) → Tells (is_settled whole stores answered who file write) (IsSettled whole stores answered who file write)
+tells_settled whole stores answered who file write =
+    tells_implies (tells_delayed_by who file write) (tells_or (tells_stored stores write) (tells_exists (tells_named_loss whole answered write) whole))
 
 tells_settled_resize : (whole answered : List Entry) (who : Who) (q file : ℕ) (entry : Entry) (before : List Entry) → Tells (is_settled_resize whole answered who q file entry before) (IsSettledResize whole answered who q file entry before)
 tells_settled_resize whole answered who q file (Z by n f from to) before = tells_3 tells_who tells_same (tells_each (tells_settled whole before answered who file) answered)

@@ -12,11 +12,15 @@ use Rattle.nq_model.specs.Journal.{Exists, exists, AtEachPlace, at_each_place, s
 
 -- ---- names
 
--- the span names a loss, on the loss's file
+-- the loss that an L tells
+abbrev pub loss_told : (file block first last : ℕ) → Loss
+loss_told file block first last = record { file = file; block = block; first = first; last = last }
+
+-- the span names a loss: it has the loss's block and numbers
 abbrev pub IsNameOf : (loss : Loss) (span : Span) → Type 0
 IsNameOf loss span = (span.block ≡ loss.block) × (span.first ≡ loss.first) × (span.last ≡ loss.last)
 
--- the entry is an A `lost` of an incarnation on the file of a loss, and names the loss
+-- the entry is an A `lost` to a call of an incarnation on the file of a loss, and names the loss
 abbrev pub Names : (whole : List Entry) (who : Who) (loss : Loss) → Entry → Type 0
 Names whole who loss (A by q (Lost spans)) = (by ≡ who) × SpeaksOf loss.file (call_of whole by q) × Exists (IsNameOf loss) spans.items
 Names whole who loss other = ⊥
@@ -52,14 +56,18 @@ IsNamedNext whole who loss call after = ⊥
 abbrev pub IsReportedIn : (whole : List Entry) (who : Who) (loss : Loss) → List Entry → Type 0
 IsReportedIn whole who loss [] = ⊤
 IsReportedIn whole who loss (entry ∷ after) =
-    (MustReport whole who loss.file entry → IsNamedNext whole who loss entry after) × (¬ MustReport whole who loss.file entry → ¬ Names whole who loss entry → IsReportedIn whole who loss after)
+    (MustReport whole who loss.file entry → IsNamedNext whole who loss entry after)
+    × (¬ MustReport whole who loss.file entry → ¬ Names whole who loss entry → IsReportedIn whole who loss after)
 
 -- ---- each name is of a loss
 
--- the entry is an L of the incarnation, on the file of a call, with the block and numbers of a span, that no A has named
+-- the entry is an L of the incarnation on the file of a call, has the block and numbers of a span, and no A has named it
 abbrev pub IsUnnamed : (whole before : List Entry) (who : Who) (call : Option Told) (span : Span) → Entry → Type 0
 IsUnnamed whole before who call span (L by file block first last) =
-    (by ≡ who) × SpeaksOf file call × IsNameOf (record { file = file; block = block; first = first; last = last }) span × ¬ Exists (Names whole who (record { file = file; block = block; first = first; last = last })) before
+    (by ≡ who)
+    × SpeaksOf file call
+    × IsNameOf (loss_told file block first last) span
+    × ¬ Exists (Names whole who (loss_told file block first last)) before
 IsUnnamed whole before who call span other = ⊥
 
 -- two spans are one
@@ -69,13 +77,16 @@ IsSameSpan a b = (a.block ≡ b.block) × (a.first ≡ b.first) × (a.last ≡ b
 -- each span names an earlier L of the incarnation on the file of the call, and names it for the first time
 abbrev pub NameLosses : (whole before : List Entry) (who : Who) (call : Option Told) → List Span → Type 0
 NameLosses whole before who call [] = ⊤
-NameLosses whole before who call (span ∷ spans) = Exists (IsUnnamed whole before who call span) before × ¬ Exists (IsSameSpan span) spans × NameLosses whole before who call spans
+NameLosses whole before who call (span ∷ spans) =
+    Exists (IsUnnamed whole before who call span) before
+    × ¬ Exists (IsSameSpan span) spans
+    × NameLosses whole before who call spans
 
 -- ---- the law
 
 -- what is asked of an L, and of an A that says `lost`
 abbrev pub IsReportedAt : (whole after : List Entry) → Entry → (before : List Entry) → Type 0
-IsReportedAt whole after (L who file block first last) before = IsReportedIn whole who (record { file = file; block = block; first = first; last = last }) after
+IsReportedAt whole after (L who file block first last) before = IsReportedIn whole who (loss_told file block first last) after
 IsReportedAt whole after (A who q (Lost spans)) before = NameLosses whole before who (call_of whole who q) spans.items
 IsReportedAt whole after other before = ⊤
 
@@ -120,7 +131,7 @@ is_reported_in whole who loss (entry ∷ after) =
 
 abbrev pub is_unnamed : (whole before : List Entry) (who : Who) (call : Option Told) (span : Span) → Entry → Bool
 is_unnamed whole before who call span (L by file block first last) =
-    same_who by who && speaks_of file call && is_name_of (record { file = file; block = block; first = first; last = last }) span && not (exists (names whole who (record { file = file; block = block; first = first; last = last })) before)
+    same_who by who && speaks_of file call && is_name_of (loss_told file block first last) span && not (exists (names whole who (loss_told file block first last)) before)
 is_unnamed whole before who call span other = false
 
 abbrev pub is_same_span : (a b : Span) → Bool
@@ -131,7 +142,7 @@ name_losses whole before who call [] = true
 name_losses whole before who call (span ∷ spans) = exists (is_unnamed whole before who call span) before && not (exists (is_same_span span) spans) && name_losses whole before who call spans
 
 abbrev pub is_reported_at : (whole after : List Entry) → Entry → (before : List Entry) → Bool
-is_reported_at whole after (L who file block first last) before = is_reported_in whole who (record { file = file; block = block; first = first; last = last }) after
+is_reported_at whole after (L who file block first last) before = is_reported_in whole who (loss_told file block first last) after
 is_reported_at whole after (A who q (Lost spans)) before = name_losses whole before who (call_of whole who q) spans.items
 is_reported_at whole after other before = true
 

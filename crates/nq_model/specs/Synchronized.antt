@@ -2,48 +2,51 @@
 use Rattle.std.specs.Prelude.{◌≡◌, ◌⊎◌, ℕ, List, [], ◌∷◌, Option, Some, None, Bool, true, false, not, ◌&&◌, ◌||◌, ◌==◌, if◌then◌else◌, ⊤}
 use Rattle.nq_base.specs.declared.Entry.{Entry}
 use Rattle.nq_base.specs.declared.Entry.TheVariants.{W, L, Z, A}
-use Rattle.nq_base.specs.declared.Loss.{Loss}
 use Rattle.nq_base.specs.declared.Said.TheVariants.{Ok, OkValue, OkBy}
 use Rattle.nq_base.specs.declared.Told.{Told}
 use Rattle.nq_base.specs.declared.Told.TheVariants.{WriteSync, Sync, Resize, Remove}
 use Rattle.nq_base.specs.declared.Who.{Who}
-use Rattle.nq_model.specs.Journal.{Each, each, Exists, exists, Throughout, throughout, Somewhere, somewhere, same_who, IsOpen, is_open, call_of, IsWriteOn, is_write_on, IsThrough, is_through, IsStored, is_stored, Loses, loses, since_cut, last_value}
-use Rattle.nq_model.specs.Reported.{Names, names}
+use Rattle.nq_model.specs.Journal.{Each, each, Exists, exists, Throughout, throughout, Somewhere, somewhere, same_who, IsOpen, is_open, call_of, IsWriteOn, is_write_on, IsWriteBy, is_write_by, IsThrough, is_through, IsStored, is_stored, Loses, loses, since_cut, last_value}
+use Rattle.nq_model.specs.Reported.{loss_told, Names, names}
 
 -- ---- a put
 
--- the entry is the write of call q: it is through, or an S covers it before the answer
-abbrev pub IsPutKept : (answered : List Entry) (who : Who) (q : ℕ) → Entry → (before : List Entry) → Type 0
-IsPutKept answered who q (W by file block number value through) before =
-    (by ≡ who) × IsOpen before who q × (IsThrough (W by file block number value through) ⊎ IsStored answered (W by file block number value through))
-IsPutKept answered who q other before = ⊥
+-- the entry is the write of call q, and it is through, or an S before the answer covers it
+abbrev pub IsPutKept : (answered : List Entry) (who : Who) (q : ℕ) (write : Entry) (before : List Entry) → Type 0
+IsPutKept answered who q write before = IsWriteBy who write × IsOpen before who q × (IsThrough write ⊎ IsStored answered write)
 
 -- ---- a sync, a resize, a removal
 
--- an L covers a write, and an A of these entries names that L
-abbrev pub IsNamedLoss : (whole answers : List Entry) (write : Entry) → Entry → Type 0
-IsNamedLoss whole answers write (L who file block first last) =
-    Loses (L who file block first last) write × Exists (Names whole who (record { file = file; block = block; first = first; last = last })) answers
-IsNamedLoss whole answers write other = ⊥
+-- the entry is a delayed write of an incarnation on a file
+abbrev pub IsDelayedBy : (who : Who) (file : ℕ) → Entry → Type 0
+IsDelayedBy who file (W by f block number value false) = (by ≡ who) × (f ≡ file)
+IsDelayedBy who file other = ⊥
 
--- where the entry is a delayed write of the incarnation on the file, an S of these entries covers it, or an L that an A of
--- those names
-abbrev pub IsSettled : (whole stores answers : List Entry) (who : Who) (file : ℕ) → Entry → Type 0
-IsSettled whole stores answers who file (W by f block number value false) =
-    by ≡ who → f ≡ file → IsStored stores (W by f block number value false) ⊎ Exists (IsNamedLoss whole answers (W by f block number value false)) whole
-IsSettled whole stores answers who file other = ⊤
+-- the entry is an L that covers the write, and an A before the answer names it
+abbrev pub IsNamedLoss : (whole answered : List Entry) (write : Entry) → Entry → Type 0
+IsNamedLoss whole answered write (L who file block first last) =
+    Loses (L who file block first last) write × Exists (Names whole who (loss_told file block first last)) answered
+IsNamedLoss whole answered write other = ⊥
 
--- the entry is the Z of call q, before which each delayed write of the incarnation on the file, of those that stand before
--- the answer, is stored, or an A names its loss
+-- where the entry is a delayed write of the incarnation on the file, an S of the `stores` covers it, or an L that an A before
+-- the answer names
+abbrev pub IsSettled : (whole stores answered : List Entry) (who : Who) (file : ℕ) (write : Entry) → Type 0
+IsSettled whole stores answered who file write =
+    IsDelayedBy who file write → IsStored stores write ⊎ Exists (IsNamedLoss whole answered write) whole
+
+-- the entry is the Z of call q, and each delayed write of the incarnation on the file before the answer is covered by an S
+-- before the Z, or by an L that an A before the answer names
 abbrev pub IsSettledResize : (whole answered : List Entry) (who : Who) (q file : ℕ) → Entry → (before : List Entry) → Type 0
-IsSettledResize whole answered who q file (Z by n f from to) before = (by ≡ who) × (n ≡ q) × Each (IsSettled whole before answered who file) answered
+IsSettledResize whole answered who q file (Z by n f from to) before =
+    (by ≡ who) × (n ≡ q) × Each (IsSettled whole before answered who file) answered
 IsSettledResize whole answered who q file other before = ⊥
 
 -- ---- the law
 
--- what ok means as an answer to a call: to a `put` that its write is through or stored; to a `sync` that each delayed
--- write of the incarnation on the file is stored, or its loss was named; to a `resize` or `remove` that its Z stands
--- there and this holds before the Z
+-- what an ok says. To a `put`: its write is through, or an S before the answer covers it. To a `sync`: each delayed write of
+-- the incarnation on the file before the answer is covered by an S, or by an L that an A before the answer names. To a
+-- `resize` or `remove`: its Z stands before the answer, and each such write is covered by an S before that Z, or by an L so
+-- named
 abbrev pub IsKept : (whole before : List Entry) (who : Who) (q : ℕ) → Option Told → Type 0
 IsKept whole before who q (Some (WriteSync file block value)) = Somewhere (IsPutKept before who q) before
 IsKept whole before who q (Some (Sync file)) = Each (IsSettled whole whole before who file) before
@@ -81,23 +84,25 @@ last_length (other ∷ before) file = last_length before file
 
 -- ---- the facts as tests
 
-abbrev pub is_put_kept : (answered : List Entry) (who : Who) (q : ℕ) → Entry → (before : List Entry) → Bool
-is_put_kept answered who q (W by file block number value through) before =
-    same_who by who && is_open before who q && (is_through (W by file block number value through) || is_stored answered (W by file block number value through))
-is_put_kept answered who q other before = false
+abbrev pub is_put_kept : (answered : List Entry) (who : Who) (q : ℕ) (write : Entry) (before : List Entry) → Bool
+is_put_kept answered who q write before = is_write_by who write && is_open before who q && (is_through write || is_stored answered write)
 
-abbrev pub is_named_loss : (whole answers : List Entry) (write : Entry) → Entry → Bool
-is_named_loss whole answers write (L who file block first last) =
-    loses (L who file block first last) write && exists (names whole who (record { file = file; block = block; first = first; last = last })) answers
-is_named_loss whole answers write other = false
+abbrev pub is_delayed_by : (who : Who) (file : ℕ) → Entry → Bool
+is_delayed_by who file (W by f block number value false) = same_who by who && (f == file)
+is_delayed_by who file other = false
 
-abbrev pub is_settled : (whole stores answers : List Entry) (who : Who) (file : ℕ) → Entry → Bool
-is_settled whole stores answers who file (W by f block number value false) =
-    not (same_who by who) || (not (f == file) || (is_stored stores (W by f block number value false) || exists (is_named_loss whole answers (W by f block number value false)) whole))
-is_settled whole stores answers who file other = true
+abbrev pub is_named_loss : (whole answered : List Entry) (write : Entry) → Entry → Bool
+is_named_loss whole answered write (L who file block first last) =
+    loses (L who file block first last) write && exists (names whole who (loss_told file block first last)) answered
+is_named_loss whole answered write other = false
+
+abbrev pub is_settled : (whole stores answered : List Entry) (who : Who) (file : ℕ) (write : Entry) → Bool
+is_settled whole stores answered who file write =
+    not (is_delayed_by who file write) || (is_stored stores write || exists (is_named_loss whole answered write) whole)
 
 abbrev pub is_settled_resize : (whole answered : List Entry) (who : Who) (q file : ℕ) → Entry → (before : List Entry) → Bool
-is_settled_resize whole answered who q file (Z by n f from to) before = same_who by who && (n == q) && each (is_settled whole before answered who file) answered
+is_settled_resize whole answered who q file (Z by n f from to) before =
+    same_who by who && (n == q) && each (is_settled whole before answered who file) answered
 is_settled_resize whole answered who q file other before = false
 
 abbrev pub is_kept : (whole before : List Entry) (who : Who) (q : ℕ) → Option Told → Bool
