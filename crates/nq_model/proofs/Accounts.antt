@@ -1,11 +1,10 @@
 -- What follows of journals that account for their delayed writes.
-use Rattle.std.proofs.Common.{◌≡◌, ℕ, Bool, true, false, List, [], ◌∷◌, refl}
-use Rattle.std.specs.Prelude.{◌⊎◌, ⊤}
+use Rattle.std.proofs.Common.{List, [], ◌∷◌}
 use mathlib.Core.Logic.{inl, inr}
 use Rattle.nq_base.specs.declared.Entry.{Entry}
-use Rattle.nq_base.specs.declared.Entry.TheVariants.{C, W, R, S, L, G, F, O, B, X, Z, A}
+use Rattle.nq_base.specs.declared.Entry.TheVariants.{S, L}
 use Rattle.nq_model.specs.Journal.{Each, Exists, AtMostOne, Throughout, Covers, Stores, Loses, IsStored, IsLost}
-use Rattle.nq_model.specs.Fate.{IsFirstToCover, IsAccountedAt, IsAccounted, CoversOnce, StoredOrLost}
+use Rattle.nq_model.specs.Fate.{IsFirstToCover, IsAccountedAt, CoversOnce, StoredOrLost}
 
 -- a fact of each element, of each of which another follows
 each_follows : {X : Type 0} {P Q : X → Type 0} → ((x : X) → P x → Q x) → (xs : List X) → Each P xs → Each Q xs
@@ -31,7 +30,7 @@ first_to_cover whole other before h = each_of_all (λ write covers. absurd cover
 -- each write of the whole journal is covered by one entry at most of what stands before a place
 covered_once : (whole journal : List Entry) → Throughout (IsAccountedAt whole) journal → Each (λ write. AtMostOne (λ entry. Covers entry write) journal) whole
 covered_once whole [] h = each_of_all (λ write. tt) whole
-covered_once whole (entry ∷ before) h = 
+covered_once whole (entry ∷ before) h =
     both_of_each
     (IsFirstToCover before entry)
     (λ write. AtMostOne (λ other. Covers other write) before)

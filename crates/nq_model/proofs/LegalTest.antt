@@ -1,8 +1,8 @@
 -- The test of legal journals is right.
-use Rattle.std.proofs.Common.{◌≡◌, ℕ, Bool, true, false, List, [], ◌∷◌, refl}
-use Rattle.std.specs.Prelude.{Option, Some, None, ◌==◌}
+use Rattle.std.proofs.Common.{ℕ, List}
+use Rattle.std.specs.Prelude.{Option, Some, ◌==◌}
 use Rattle.nq_base.specs.declared.Entry.{Entry}
-use Rattle.nq_base.specs.declared.Entry.TheVariants.{C, W, R, S, L, G, F, O, B, X, Z, A}
+use Rattle.nq_base.specs.declared.Entry.TheVariants.{R, A}
 use Rattle.nq_base.specs.declared.Said.{Said}
 use Rattle.nq_base.specs.declared.Said.TheVariants.{OkValue, OkBy}
 use Rattle.nq_base.specs.declared.Told.{Told}

@@ -1,8 +1,8 @@
 -- The tests of what becomes of delayed writes are right: accounted, excused, reported.
-use Rattle.std.proofs.Common.{◌≡◌, ◌≤◌, ◌+◌, ℕ, Bool, true, false, not, ◌&&◌, ◌||◌, List, [], ◌∷◌, refl}
-use Rattle.std.specs.Prelude.{Option, Some, None, IsSomeAnd, ◌==◌, ◌⊎◌, nat_le, ⊤}
+use Rattle.std.proofs.Common.{◌≤◌, ◌+◌, ℕ, List, [], ◌∷◌}
+use Rattle.std.specs.Prelude.{Option, Some, None, IsSomeAnd}
 use Rattle.nq_base.specs.declared.Entry.{Entry}
-use Rattle.nq_base.specs.declared.Entry.TheVariants.{C, W, R, S, L, G, F, O, B, X, Z, A}
+use Rattle.nq_base.specs.declared.Entry.TheVariants.{C, S, L, F, O, X, A}
 use Rattle.nq_base.specs.declared.Loss.{Loss}
 use Rattle.nq_base.specs.declared.Said.TheVariants.{Lost, Busy}
 use Rattle.nq_base.specs.declared.Span.{Span}
@@ -10,7 +10,7 @@ use Rattle.nq_base.specs.declared.Told.{Told}
 use Rattle.nq_base.specs.declared.Told.TheVariants.{Write, WriteSync, Sync, Resize, Remove}
 use Rattle.nq_base.specs.declared.Who.{Who}
 use Rattle.nq_model.specs.Profile.{skew, write_slack}
-use Rattle.nq_model.specs.Journal.{Each, Exists, Covers, covers, Loses, loses, call_of, SpeaksOf}
+use Rattle.nq_model.specs.Journal.{call_of}
 use Rattle.nq_model.specs.Fate.{IsFirstToCover, is_first_to_cover, IsAccountedAt, is_accounted_at, IsAccounted, is_accounted}
 use Rattle.nq_model.specs.CutOff.{Given, last_grant, IsStoreOver, is_store_over, IsLateEnd, has_passed, is_late_end, IsLongWait, is_long_wait, IsLateOpening, is_late_opening, Ends, ends, EndsFirst, ends_first, IsCutOff, is_cut_off, IsExcused, is_excused}
 use Rattle.nq_model.specs.Reported.{loss_told, IsNameOf, is_name_of, Names, names, IsReporting, is_reporting, IsBusyAnswer, is_busy_answer, MustReport, must_report, IsNamedNext, is_named_next, IsReportedIn, is_reported_in, IsUnnamed, is_unnamed, IsSameSpan, is_same_span, NameLosses, name_losses, IsReportedAt, is_reported_at, IsReported, is_reported}

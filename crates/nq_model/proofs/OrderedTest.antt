@@ -1,17 +1,17 @@
 -- The test of ordered journals is right.
-use Rattle.std.proofs.Common.{◌≡◌, ◌<◌, ℕ, Bool, true, false, not, ◌&&◌, ◌||◌, List, [], ◌∷◌, refl, sym, subst}
-use Rattle.std.specs.Prelude.{Option, Some, None, ◌==◌, ◌⊎◌, IsTrue, IsFalse, ⊤, if◌then◌else◌}
+use Rattle.std.proofs.Common.{◌≡◌, ℕ, Bool, true, false, ◌||◌, List, [], ◌∷◌, refl, sym, subst}
+use Rattle.std.specs.Prelude.{Option, Some, None, IsTrue, ⊤, if◌then◌else◌}
 use Rattle.nq_base.specs.declared.Entry.{Entry}
-use Rattle.nq_base.specs.declared.Entry.TheVariants.{C, W, R, S, L, G, F, O, B, X, Z, A}
+use Rattle.nq_base.specs.declared.Entry.TheVariants.{C, W, R, Z, A}
 use Rattle.nq_base.specs.declared.Said.TheVariants.{Busy}
 use Rattle.nq_base.specs.declared.Told.{Told}
 use Rattle.nq_base.specs.declared.Told.TheVariants.{Write, WriteSync, Resize, Remove}
 use Rattle.nq_base.specs.declared.Who.{Who}
 use mathlib.Core.Logic.{inl, inr}
-use Rattle.nq_model.specs.Journal.{Each, each, Exists, exists, Throughout, IsCall, IsAnswer, IsOpen, call_of}
+use Rattle.nq_model.specs.Journal.{Each, each, Exists, Throughout, IsCall, IsOpen, call_of}
 use Rattle.nq_model.specs.Ordered.{IsCallBelow, is_call_below, IsOpenCall, is_open_call, HasOpen, has_open, IsBusyNext, is_busy_next, IsCallInOrder, is_call_in_order, Writes, writes, IsBeforeCall, is_before_call, IsNumbered, is_numbered, IsWriteOf, is_write_of, IsWriteInOrder, is_write_in_order, is_no_other, open_call, Resizes, resizes, IsResizeBy, is_resize_by, IsResizeInOrder, is_resize_in_order, IsReadInOrder, is_read_in_order, IsInOrder, is_in_order, IsOrdered, is_ordered}
 use Rattle.nq_model.specs.Tests.{Tells, TellsLaw}
-use Rattle.nq_model.proofs.Telling.{yes, no, tells_alike, tells_and, tells_3, tells_4, tells_or, tells_not, tells_implies, tells_same, tells_lt, not_told}
+use Rattle.nq_model.proofs.Telling.{yes, no, tells_alike, tells_and, tells_3, tells_4, tells_not, tells_implies, tells_same, tells_lt, not_told}
 use Rattle.nq_model.proofs.JournalTests.{tells_each, tells_exists, tells_throughout, tells_at_each_place, tells_who, tells_call, tells_answer, tells_open, tells_counted}
 use Rattle.nq_model.proofs.LegalTest.{tells_counted_by}
 

@@ -1,13 +1,13 @@
 -- The tests of synchronized journals and of reads of their call are right.
-use Rattle.std.proofs.Common.{◌≡◌, ℕ, Bool, true, false, not, ◌&&◌, ◌||◌, List, [], ◌∷◌, refl}
-use Rattle.std.specs.Prelude.{Option, Some, None, ◌==◌, ◌⊎◌, ⊤}
+use Rattle.std.proofs.Common.{ℕ, false, List}
+use Rattle.std.specs.Prelude.{Option, Some}
 use Rattle.nq_base.specs.declared.Entry.{Entry}
-use Rattle.nq_base.specs.declared.Entry.TheVariants.{C, W, R, S, L, G, F, O, B, X, Z, A}
+use Rattle.nq_base.specs.declared.Entry.TheVariants.{W, R, L, Z, A}
 use Rattle.nq_base.specs.declared.Said.TheVariants.{Ok, OkValue, OkBy}
 use Rattle.nq_base.specs.declared.Told.{Told}
 use Rattle.nq_base.specs.declared.Told.TheVariants.{Read, Fetch, WriteSync, Sync, Resize, Remove}
 use Rattle.nq_base.specs.declared.Who.{Who}
-use Rattle.nq_model.specs.Journal.{Each, Exists, call_of}
+use Rattle.nq_model.specs.Journal.{call_of}
 use Rattle.nq_model.specs.OfTheirCall.{Reads, reads, IsOfItsCall, is_of_its_call, AreOfTheirCall, are_of_their_call}
 use Rattle.nq_model.specs.Synchronized.{IsPutKept, is_put_kept, IsDelayedBy, is_delayed_by, IsNamedLoss, is_named_loss, IsSettled, is_settled, IsSettledResize, is_settled_resize, IsKept, is_kept, IsKeptAt, is_kept_at, IsSynchronized, is_synchronized}
 use Rattle.nq_model.specs.Reported.{loss_told}

@@ -1,7 +1,7 @@
 -- Tests of compound facts tell them, where the tests of their parts do.
-use Rattle.std.proofs.Common.{◌≡◌, ◌≤◌, ◌<◌, ℕ, Bool, true, false, not, ◌&&◌, ◌||◌, refl, arith}
-use Rattle.std.specs.Prelude.{◌⊎◌, ◌==◌, nat_le, nat_lt, IsTrue, IsFalse, ⊤}
-use Rattle.std.proofs.lemmas.Bool.{and_parts, and_from, or_cases, or_left, or_right, cases_Bool, eqb-true, eq-eqb, leb-true, le-leb, ltb-true, lt-ltb, both_ways}
+use Rattle.std.proofs.Common.{◌≡◌, ◌≤◌, ◌<◌, ℕ, Bool, true, false, not, ◌&&◌, ◌||◌, refl}
+use Rattle.std.specs.Prelude.{◌⊎◌, ◌==◌, nat_le, nat_lt, IsFalse, ⊤}
+use Rattle.std.proofs.lemmas.Bool.{and_parts, and_from, or_cases, or_left, or_right, eqb-true, eq-eqb, leb-true, le-leb, ltb-true, lt-ltb, both_ways}
 use mathlib.Core.Logic.{inl, inr}
 use Rattle.nq_model.specs.Tests.{Tells}
 

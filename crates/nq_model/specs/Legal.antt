@@ -1,5 +1,5 @@
 -- Reads are legal: each block is one register.
-use Rattle.std.specs.Prelude.{◌≡◌, ℕ, List, Option, Some, None, IsSomeAnd, Bool, true, false, not, ◌&&◌, ◌||◌, ◌==◌, ⊤}
+use Rattle.std.specs.Prelude.{◌≡◌, ℕ, List, Option, Some, Bool, true, false, not, ◌&&◌, ◌||◌, ◌==◌, ⊤}
 use Rattle.nq_base.specs.declared.Entry.{Entry}
 use Rattle.nq_base.specs.declared.Entry.TheVariants.{R, A}
 use Rattle.nq_base.specs.declared.Said.{Said}
