@@ -38,7 +38,7 @@ def listed(terms):
     return "".join(term + " ∷ " for term in terms) + "[]"
 
 
-def wrapped(terms):
+def wrapped(terms, indent=INDENT):
     """The same over several lines, with each but the first indented."""
     lines, line = [], ""
     for term in [term + " ∷" for term in terms] + ["[]"]:
@@ -46,7 +46,7 @@ def wrapped(terms):
             lines.append(line)
             line = ""
         line = f"{line} {term}".strip()
-    return ("\n" + INDENT).join(lines + [line])
+    return ("\n" + indent).join(lines + [line])
 
 
 def name(word):
@@ -138,10 +138,10 @@ def entry(line, version):
     return " ".join([constructor, incarnation] + rest)
 
 
-def journal(text):
+def journal(text, indent=INDENT):
     """A journal as a list of entries, the newest first."""
     version, lines = ends_of(text, "journal")
-    return wrapped(reversed([entry(line, version) for line in lines]))
+    return wrapped(reversed([entry(line, version) for line in lines]), indent)
 
 
 def call(words):
@@ -178,7 +178,7 @@ def line_of(line, version):
     raise ValueError("a line is not of the grammar")
 
 
-def schedule(text):
+def schedule(text, indent=INDENT):
     """A schedule's head and its lines, in their order."""
     version, lines = ends_of(text, "schedule")
     begin = lines.index("begin")
@@ -195,7 +195,7 @@ def schedule(text):
         f"record {{ hosts = {numbers['hosts']}; term = {numbers['term']}; "
         f"longest = {longest}; files = {listed(files)} }}"
     )
-    return head, wrapped([line_of(line, version) for line in lines[begin + 1 :]])
+    return head, wrapped([line_of(line, version) for line in lines[begin + 1 :]], indent)
 
 
 PRELUDE = {
@@ -267,9 +267,10 @@ def journals(list_name, paths):
 
 def example(path):
     """A schedule with its journal."""
-    head, lines = schedule(read(path))
-    entries = journal(read(os.path.splitext(path)[0] + ".journal"))
-    fields = [f"head = {head}", f"lines =\n{INDENT}{lines}", f"journal =\n{INDENT}{entries}"]
+    indent = INDENT + "  "
+    head, lines = schedule(read(path), indent)
+    entries = journal(read(os.path.splitext(path)[0] + ".journal"), indent)
+    fields = [f"head = {head}", f"lines =\n{indent}{lines}", f"journal =\n{indent}{entries}"]
     return " record {\n" + "".join(f"  {field};\n" for field in fields) + "}"
 
 
