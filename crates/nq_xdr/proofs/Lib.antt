@@ -1,0 +1,4 @@
+pub mod Bytes
+pub mod Steps
+pub mod Numbers
+pub mod Opaque

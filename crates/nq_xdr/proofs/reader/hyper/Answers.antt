@@ -1,0 +1,7 @@
+use Rattle.std.proofs.Common.{arith}
+use Rattle.nq_xdr.proofs.Numbers.{hyper_read}
+use Rattle.nq_xdr.proofs.reader.hyper.Goals as goal
+
+pub returns-clause-found : goal.returns-clause-found
+returns-clause-found c =
+    hyper_read c.args.bytes.now c.in_ok-front.front.now c.in_ok-front.rest.now c.read_u64.result (λ i. omega (arith, c.type_inv.bytes i)) c.in_ok-front.ensures.step c.read_u64.ensures

@@ -1,0 +1,4 @@
+pub mod Item
+pub mod Reading
+pub mod Fault
+pub mod Buffer

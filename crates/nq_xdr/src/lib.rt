@@ -1,0 +1,20 @@
+//! The items of XDR, the external data representation of RFC 1014, read and written.
+//!
+//! Each item is a multiple of four bytes, numbers stand with their highest byte first, and each value
+//! has one spelling (`specs/Item.antt`). [`Reader`] reads exactly what is spelled so, and names the
+//! first fault of anything else; [`Writer`] writes it.
+#![tactic(auto)]
+
+mod fault;
+pub mod laws;
+mod memory;
+mod reader;
+mod writer;
+
+pub use fault::XdrFault;
+pub use memory::NoMemory;
+pub use reader::Reader;
+pub use writer::Writer;
+
+#[cfg(test)]
+mod tests;

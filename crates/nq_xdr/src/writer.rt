@@ -1,0 +1,124 @@
+ghost use Rattle.std.specs.Prelude.{◌≡◌, ◌+◌, ◌-◌, ◌<◌, ◌≤◌, ◌^◌, [], ◌++◌, length, vec_len, vec_capacity, IfOk, IsOk, OnOk, OnErr};
+ghost use Rattle.nq_xdr.specs.Item.{word, hyper, boolean, residual, padding, opaque, opaque_len};
+
+use crate::NoMemory;
+use byteorder::{BigEndian, ByteOrder};
+use std::alloc::Global;
+use std::marker::Model;
+
+/// Writes items one behind the other. Contracts see the bytes written so far, and `spare`, the number
+/// of bytes that still fit before memory is wanted.
+///
+/// Each write either appends its item or leaves the writer as it was. It is refused only where the
+/// item takes more than `spare` bytes, so what was reserved is written without memory.
+#[derive(Debug, Drop)]
+pub struct Writer {
+    bytes: Vec<u8>,
+}
+
+impl Model for Writer {
+    ghost use Rattle.std.specs.Prelude.{◌-◌, vec_len, vec_capacity};
+    ghost use Rattle.nq_xdr.specs.Buffer.{Buffer};
+
+    ghost Value = { Buffer };
+
+    ghost view = { λ w. record { bytes = w.bytes.items; spare = vec_capacity w.bytes - vec_len w.bytes } };
+}
+
+impl Writer {
+    /// A writer that holds nothing yet. It takes no memory before the first write.
+    pub fn new(alloc: Global) -> Result<Writer, NoMemory>
+        ensures made { IsOk result }
+        ensures empty { IfOk result (λ w. w.bytes ≡ []) }
+    {
+        Ok(Writer {
+            bytes: Vec::new(alloc),
+        })
+    }
+
+    /// Makes room for `more` bytes.
+    pub fn reserve(&mut self, more: usize) -> Result<(), NoMemory>
+        ensures bytes { self.new.bytes ≡ self.old.bytes }
+        ensures room { OnOk result (more ≤ self.new.spare) }
+        ensures refused { OnErr result (self.new ≡ self.old) }
+        ensures succeeds { more ≤ self.old.spare → IsOk result }
+        ensures spare { self.old.spare ≤ self.new.spare }
+    {
+        self.bytes.reserve(more)?;
+        Ok(())
+    }
+
+    /// Writes an unsigned integer (RFC 1014 section 3.2).
+    #[tactic(auto, unfolding(crate::specs::Item::word))]
+    pub fn u32(&mut self, value: u32) -> Result<(), NoMemory>
+        ensures written { OnOk result (self.new.bytes ≡ self.old.bytes ++ word value) }
+        ensures refused { OnErr result (self.new ≡ self.old) }
+        ensures succeeds { 4 ≤ self.old.spare → IsOk result }
+        ensures spare { self.old.spare ≤ self.new.spare + 4 }
+    {
+        let mut number = [0; 4];
+        BigEndian::write_u32(&mut number, value);
+        self.append(&number)
+    }
+
+    /// Writes an unsigned hyper integer (RFC 1014 section 3.5).
+    #[tactic(auto, unfolding(crate::specs::Item::hyper))]
+    pub fn u64(&mut self, value: u64) -> Result<(), NoMemory>
+        ensures written { OnOk result (self.new.bytes ≡ self.old.bytes ++ hyper value) }
+        ensures refused { OnErr result (self.new ≡ self.old) }
+        ensures succeeds { 8 ≤ self.old.spare → IsOk result }
+        ensures spare { self.old.spare ≤ self.new.spare + 8 }
+    {
+        let mut number = [0; 8];
+        BigEndian::write_u64(&mut number, value);
+        self.append(&number)
+    }
+
+    /// Writes a boolean (RFC 1014 section 3.4).
+    #[tactic(auto, unfolding(crate::specs::Item::boolean))]
+    pub fn boolean(&mut self, value: bool) -> Result<(), NoMemory>
+        ensures written { OnOk result (self.new.bytes ≡ self.old.bytes ++ boolean value) }
+        ensures refused { OnErr result (self.new ≡ self.old) }
+        ensures succeeds { 4 ≤ self.old.spare → IsOk result }
+        ensures spare { self.old.spare ≤ self.new.spare + 4 }
+    {
+        self.u32(u32::from(value))
+    }
+
+    /// Writes the bytes as they are, with no length and no residual bytes.
+    pub fn append(&mut self, bytes: &[u8]) -> Result<(), NoMemory>
+        ensures written { OnOk result (self.new.bytes ≡ self.old.bytes ++ bytes.now) }
+        ensures refused { OnErr result (self.new ≡ self.old) }
+        ensures succeeds { length bytes.now ≤ self.old.spare → IsOk result }
+        ensures spare { self.old.spare ≤ self.new.spare + length bytes.now }
+    {
+        self.bytes.reserve(bytes.len())?;
+        self.bytes.extend_from_slice(bytes).unwrap();
+        Ok(())
+    }
+
+    /// Writes variable-length opaque data (RFC 1014 section 3.9).
+    pub fn opaque(&mut self, bytes: &[u8]) -> Result<(), NoMemory>
+        requires { length bytes.now < 2 ^ 32 - 4 }
+        ensures written { OnOk result (self.new.bytes ≡ self.old.bytes ++ opaque bytes.now) }
+        ensures refused { OnErr result (self.new ≡ self.old) }
+        ensures succeeds { opaque_len (length bytes.now) ≤ self.old.spare → IsOk result }
+        ensures spare { self.old.spare ≤ self.new.spare + opaque_len (length bytes.now) }
+    {
+        let length = bytes.len();
+        let residual = (4 - length % 4) % 4;
+        self.reserve(4 + length + residual)?;
+        self.u32(length as u32).unwrap();
+        self.append(bytes).unwrap();
+        self.append(&[0; 3][..residual]).unwrap();
+        Ok(())
+    }
+
+    /// The bytes that were written.
+    pub fn into_bytes(self) -> Vec<u8>
+        ensures { result.items ≡ self.bytes }
+    {
+        let Writer { bytes } = self;
+        bytes
+    }
+}
