@@ -16,11 +16,13 @@ abbrev pub ◌>>=◌ : {A B F : Type 0} → Result A F → (A → Result B F) �
 unfoldable pub bytes_at : ℕ → List ℕ → Result (List ℕ × List ℕ) XdrFault
 bytes_at n bytes = if nat_lt (length bytes) n then Err Short else Ok (take n bytes, drop n bytes)
 
+-- the word at the front
 unfoldable pub word_at : List ℕ → Result (ℕ × List ℕ) XdrFault
 word_at bytes = do
   front ← bytes_at 4 bytes
   Ok (from_be_bytes w32 front.0, front.1)
 
+-- the hyper integer at the front
 unfoldable pub hyper_at : List ℕ → Result (ℕ × List ℕ) XdrFault
 hyper_at bytes = do
   front ← bytes_at 8 bytes
@@ -30,6 +32,7 @@ hyper_at bytes = do
 abbrev pub boolean_of : ℕ → List ℕ → Result (Bool × List ℕ) XdrFault
 boolean_of n rest = if nat_lt 1 n then Err NoBoolean else Ok (n == 1, rest)
 
+-- the boolean at the front
 unfoldable pub boolean_at : List ℕ → Result (Bool × List ℕ) XdrFault
 boolean_at bytes = do
   n ← word_at bytes
@@ -42,7 +45,7 @@ body_at n bytes = do
   pad ← bytes_at (residual n) body.1
   if list_all (λ b. b == 0) pad.0 then Ok (body.0, pad.1) else Err Pad
 
--- opaque data of at most max bytes
+-- the opaque data at the front, of at most max bytes
 unfoldable pub opaque_at : ℕ → List ℕ → Result (List ℕ × List ℕ) XdrFault
 opaque_at max bytes = do
   n ← word_at bytes

@@ -1,0 +1,51 @@
+-- What a call that decodes gives, from what reading the bytes gives.
+use Rattle.std.proofs.Common.{◌≡◌, ℕ, List, Result, Ok, Err, refl, sym, ap, subst, ◌∙◌, inl, inr, ◌⊎◌}
+use Rattle.std.specs.Prelude.{IfOk, IfErr, IsOk}
+use Rattle.nq_rpc.specs.declared.fault.RpcFault.{RpcFault}
+use Rattle.nq_rpc.specs.declared.fault.RpcFault.TheVariants.{Short, BadKind, BadAuth, Xdr, Memory}
+use Rattle.nq_rpc.specs.declared.message.Message.{Message}
+use Rattle.nq_rpc.specs.Message.{IsSpelled}
+use Rattle.nq_rpc.specs.Reading.{Decodes}
+use Rattle.nq_rpc.specs.Fault.{Next, Numbers, Choice, Authentication, End, IsItemFault, next, IsMessageFault, IsDecodeFault}
+use Rattle.nq_rpc.proofs.Messages.{MessageSays}
+
+-- want of memory is no fault of the bytes
+no_item : (after : Next) (rest : List ℕ) → IsItemFault after rest Memory → ⊥
+no_item (Numbers count) rest h = h
+no_item (Choice top) rest h = h
+no_item Authentication rest h = h
+no_item End rest h = h
+
+fault_decoded : (bytes : List ℕ) (e : RpcFault) → IsMessageFault bytes e → IsDecodeFault bytes e
+fault_decoded bytes Short h = h
+fault_decoded bytes BadKind h = h
+fault_decoded bytes BadAuth h = h
+fault_decoded bytes Xdr h = h
+fault_decoded bytes Memory h = absurd (no_item (next h.0) h.1.0 h.1.1.2)
+
+wanted : (bytes : List ℕ) (e : RpcFault) (read : Result Message RpcFault) → e ≡ Memory → IsOk read → MessageSays bytes read → IsDecodeFault bytes e
+wanted bytes e (Ok m) is_memory is_ok says = subst (IsDecodeFault bytes) (sym is_memory) (m, says)
+wanted bytes e (Err d) is_memory is_ok says = absurd cc
+
+pub decoded_found : (bytes : List ℕ) (r read : Result Message RpcFault) → MessageSays bytes read → Decodes r read → IfOk r (λ m. IsSpelled m bytes)
+decoded_found bytes (Ok m) read says given = subst (MessageSays bytes) given says
+decoded_found bytes (Err e) read says given = tt
+
+pub decoded_fault : (bytes : List ℕ) (r read : Result Message RpcFault) → MessageSays bytes read → Decodes r read → IfErr r (IsDecodeFault bytes)
+decoded_fault bytes (Ok m) read says given = tt
+decoded_fault bytes (Err e) read says (inl given) = fault_decoded bytes e (subst (MessageSays bytes) given says)
+decoded_fault bytes (Err e) read says (inr memory) = wanted bytes e read memory.0 memory.1 says
+
+pub decoded_only : (m : Message) (r read : Result Message RpcFault) → read ≡ Ok m → Decodes r read → (r ≡ Ok m) ⊎ (r ≡ Err Memory)
+decoded_only m (Ok x) read is given = inl (sym given ∙ is)
+decoded_only m (Err e) read is (inl given) = absurd cc
+decoded_only m (Err e) read is (inr memory) = inr (ap (λ (x : RpcFault). Err x) memory.0)
+
+fault_given : (e d : RpcFault) (read : Result Message RpcFault) → read ≡ Err e → d ≡ Memory → IsOk read → Err d ≡ read
+fault_given e d (Ok x) is is_memory is_ok = absurd cc
+fault_given e d (Err x) is is_memory is_ok = absurd cc
+
+pub decoded_only_fault : (e : RpcFault) (r read : Result Message RpcFault) → read ≡ Err e → Decodes r read → r ≡ Err e
+decoded_only_fault e (Ok x) read is given = sym given ∙ is
+decoded_only_fault e (Err d) read is (inl given) = sym given ∙ is
+decoded_only_fault e (Err d) read is (inr memory) = fault_given e d read is memory.0 memory.1 ∙ is

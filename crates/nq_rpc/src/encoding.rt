@@ -1,0 +1,163 @@
+ghost use Rattle.std.specs.Prelude.{◌≡◌, ◌+◌, ◌≤◌, ◌++◌, IfOk, IsOk, OnOk, OnErr};
+ghost use Rattle.nq_xdr.specs.Item.{word};
+ghost use Rattle.nq_rpc.specs.Message.{auth, null, numbers, outcome, spelling, outcome_len, spelling_len};
+
+use crate::{CallMessage, Message, NoMemory, Outcome, number};
+use nq_xdr::Writer;
+use std::alloc::Global;
+
+/// The flavor of AUTH_NULL (RFC 1057 section 9.1).
+const AUTH_NULL: u32 = 0;
+
+/// How many bytes the message takes.
+fn message_len(message: &Message) -> usize
+    ensures { result ≡ spelling_len message.now }
+{
+    match message {
+        Message::Call(call) => 40 + call.arguments.as_bytes().len(),
+        Message::Reply(reply) => match &reply.outcome {
+            Outcome::Success(results) => 24 + results.as_bytes().len(),
+            Outcome::ProgMismatch { .. } => 32,
+            Outcome::ProgUnavail
+            | Outcome::ProcUnavail
+            | Outcome::GarbageArgs
+            | Outcome::RpcMismatch { .. } => 24,
+            Outcome::AuthError(_) => 20,
+        },
+    }
+}
+
+/// Writes AUTH_NULL.
+#[tactic(auto, unfolding(crate::specs::Message::auth))]
+fn put_auth(out: &mut Writer) -> Result<(), NoMemory>
+    ensures written { OnOk result (out.new.bytes ≡ out.old.bytes ++ auth null) }
+    ensures succeeds { 8 ≤ out.old.spare → IsOk result }
+    ensures spare { out.old.spare ≤ out.new.spare + 8 }
+{
+    out.u32(AUTH_NULL)?;
+    out.opaque(&[])?;
+    Ok(())
+}
+
+fn put_bounds(low: u32, high: u32, out: &mut Writer) -> Result<(), NoMemory>
+    ensures written { OnOk result (out.new.bytes ≡ out.old.bytes ++ word low ++ word high) }
+    ensures succeeds { 8 ≤ out.old.spare → IsOk result }
+    ensures spare { out.old.spare ≤ out.new.spare + 8 }
+{
+    out.u32(low)?;
+    out.u32(high)?;
+    Ok(())
+}
+
+#[tactic(auto, unfolding(crate::specs::Message::numbers))]
+fn put_numbers(call: &CallMessage, out: &mut Writer) -> Result<(), NoMemory>
+    ensures written { OnOk result (out.new.bytes ≡ out.old.bytes ++ numbers call.now) }
+    ensures succeeds { 24 ≤ out.old.spare → IsOk result }
+    ensures spare { out.old.spare ≤ out.new.spare + 24 }
+{
+    out.u32(call.head.xid)?;
+    out.u32(number::CALL)?;
+    out.u32(call.rpcvers)?;
+    out.u32(call.head.prog)?;
+    out.u32(call.head.vers)?;
+    out.u32(call.head.procedure)?;
+    Ok(())
+}
+
+/// Begins an accepted reply.
+fn put_accepted(stat: u32, out: &mut Writer) -> Result<(), NoMemory>
+    ensures written { OnOk result (out.new.bytes ≡ out.old.bytes ++ (word 0 ++ auth null ++ word stat)) }
+    ensures succeeds { 16 ≤ out.old.spare → IsOk result }
+    ensures spare { out.old.spare ≤ out.new.spare + 16 }
+{
+    out.u32(number::MSG_ACCEPTED)?;
+    put_auth(out)?;
+    out.u32(stat)?;
+    Ok(())
+}
+
+/// Begins a denied reply.
+fn put_denied(stat: u32, out: &mut Writer) -> Result<(), NoMemory>
+    ensures written { OnOk result (out.new.bytes ≡ out.old.bytes ++ (word 1 ++ word stat)) }
+    ensures succeeds { 8 ≤ out.old.spare → IsOk result }
+    ensures spare { out.old.spare ≤ out.new.spare + 8 }
+{
+    out.u32(number::MSG_DENIED)?;
+    out.u32(stat)?;
+    Ok(())
+}
+
+#[tactic(auto, unfolding(crate::specs::Message::outcome))]
+fn put_outcome(reply: &Outcome, out: &mut Writer) -> Result<(), NoMemory>
+    ensures written { OnOk result (out.new.bytes ≡ out.old.bytes ++ outcome reply.now null) }
+    ensures succeeds { outcome_len reply.now ≤ out.old.spare → IsOk result }
+    ensures spare { out.old.spare ≤ out.new.spare + outcome_len reply.now }
+{
+    match reply {
+        Outcome::Success(results) => {
+            put_accepted(number::SUCCESS, out)?;
+            out.append(results.as_bytes())?;
+            Ok(())
+        }
+        Outcome::ProgUnavail => put_accepted(number::PROG_UNAVAIL, out),
+        Outcome::ProgMismatch { low, high } => {
+            put_accepted(number::PROG_MISMATCH, out)?;
+            put_bounds(*low, *high, out)
+        }
+        Outcome::ProcUnavail => put_accepted(number::PROC_UNAVAIL, out),
+        Outcome::GarbageArgs => put_accepted(number::GARBAGE_ARGS, out),
+        Outcome::RpcMismatch { low, high } => {
+            put_denied(number::RPC_MISMATCH, out)?;
+            put_bounds(*low, *high, out)
+        }
+        Outcome::AuthError(stat) => {
+            put_denied(number::AUTH_ERROR, out)?;
+            out.u32(*stat)?;
+            Ok(())
+        }
+    }
+}
+
+#[tactic(auto, unfolding(crate::specs::Message::spelling))]
+fn put(message: &Message, out: &mut Writer) -> Result<(), NoMemory>
+    ensures written { OnOk result (out.new.bytes ≡ out.old.bytes ++ spelling message.now null null) }
+    ensures succeeds { spelling_len message.now ≤ out.old.spare → IsOk result }
+    ensures spare { out.old.spare ≤ out.new.spare + spelling_len message.now }
+{
+    match message {
+        Message::Call(call) => {
+            put_numbers(call, out)?;
+            put_auth(out)?;
+            put_auth(out)?;
+            out.append(call.arguments.as_bytes())?;
+            Ok(())
+        }
+        Message::Reply(reply) => {
+            out.u32(reply.xid)?;
+            out.u32(number::REPLY)?;
+            put_outcome(&reply.outcome, out)
+        }
+    }
+}
+
+/// Writes the message behind what `out` holds, with AUTH_NULL for its credential and its verifier
+/// (RFC 1057 section 8). Memory is wanted only where `out` has too little room.
+pub fn encode_into(message: &Message, out: &mut Writer) -> Result<(), NoMemory>
+    ensures written { OnOk result (out.new.bytes ≡ out.old.bytes ++ spelling message.now null null) }
+    ensures refused { OnErr result (out.new ≡ out.old) }
+    ensures succeeds { spelling_len message.now ≤ out.old.spare → IsOk result }
+    ensures spare { out.old.spare ≤ out.new.spare + spelling_len message.now }
+{
+    out.reserve(message_len(message))?;
+    put(message, out).unwrap();
+    Ok(())
+}
+
+/// The bytes of the message, with AUTH_NULL for its credential and its verifier (RFC 1057 section 8).
+pub fn encode(alloc: Global, message: &Message) -> Result<Vec<u8>, NoMemory>
+    ensures { IfOk result (λ v. v.items ≡ spelling message.now null null) }
+{
+    let mut out = Writer::new(alloc)?;
+    encode_into(message, &mut out)?;
+    Ok(out.into_bytes())
+}
