@@ -1,44 +1,22 @@
 -- Steps of reading a message, and credentials and verifiers: what is spelled so is passed over, and what
 -- is passed over is spelled so.
-use Rattle.std.proofs.Common.{◌≡◌, ℕ, suc, ◌+◌, ◌*◌, ◌^◌, ◌<◌, ◌≤◌, cond, eqb, Bool, true, false, List, [], ◌∷◌, ◌++◌, length, drop, Result, Ok, Err, refl, sym, ap, subst, ◌∙◌, append_assoc, arith, inl, inr, ◌⊎◌}
-use Rattle.std.proofs.lemmas.Bool.{cases_lt, cond_both, eqb-true, eqb-false, eq-eqb, ne_eqb}
-use Rattle.std.proofs.lemmas.List.{length-append, append-nil}
+use Rattle.std.proofs.Common.{◌≡◌, ℕ, ◌*◌, ◌^◌, ◌<◌, ◌≤◌, cond, eqb, List, ◌++◌, length, Result, Ok, Err, refl, sym, ap, subst, ◌∙◌, append_assoc, arith, inl, inr}
+use Rattle.std.proofs.lemmas.Bool.{cond_both, eqb-true, eqb-false, ne_eqb}
 use Rattle.nq_xdr.specs.declared.XdrFault.{XdrFault}
 use Rattle.nq_xdr.specs.declared.XdrFault.TheVariants as xdr
 use Rattle.nq_xdr.specs.Item.{word, opaque}
-use Rattle.nq_xdr.specs.Fault.{BeginsWithWord, IsOpaqueFault}
+use Rattle.nq_xdr.specs.Fault.{IsOpaqueFault}
 use Rattle.nq_xdr.specs.Reading.{◌>>=◌, word_at, opaque_at}
 use Rattle.nq_xdr.proofs.Bytes.{IsBytes, IsBytes-behind}
 use Rattle.nq_xdr.proofs.Steps.{Says}
-use Rattle.nq_xdr.proofs.Numbers.{length-word, word_at-short, word_again, word_there}
-use Rattle.nq_xdr.proofs.Opaque.{opaque_says, opaque_again, opaque_only, length-opaque}
+use Rattle.nq_xdr.proofs.Numbers.{word_at-short, word_again}
+use Rattle.nq_xdr.proofs.Opaque.{opaque_says, opaque_again, opaque_only}
+use Rattle.nq_xdr.proofs.Follows.{word_step, word_ends}
 use Rattle.nq_rpc.specs.declared.fault.RpcFault.{RpcFault}
 use Rattle.nq_rpc.specs.declared.fault.RpcFault.TheVariants.{Short, BadKind, BadAuth, Xdr, Memory}
-use Rattle.nq_rpc.specs.Message.{Auth, IsAuth, auth, null}
+use Rattle.nq_rpc.specs.Message.{Auth, IsAuth, auth}
 use Rattle.nq_rpc.specs.Reading.{item, fault_of, behind_auth}
-use Rattle.nq_rpc.specs.Fault.{Next, Numbers, Choice, Authentication, End, IsItemFault}
-
--- a fact of what follows a word, from its cases
-pub word_step : {X : Type 0} (bytes : List ℕ) (f : ℕ × List ℕ → Result X RpcFault) (P : Result X RpcFault → Type 0) → IsBytes bytes
-    → (length bytes < 4 → P (Err Short))
-    → ((n : ℕ) (rest : List ℕ) → n < 2 ^ 32 → bytes ≡ word n ++ rest → IsBytes rest → P (f (n, rest)))
-    → P (item (word_at bytes) >>= f)
-word_step {X = X} bytes f P fits short goes_on =
-    elim (cases_lt (length bytes) 4) [
-      | inl lt ↦ rw (word_at-short bytes lt) (short lt)
-      | inr le ↦
-          let w = word_there bytes fits le in
-          let behind : IsBytes (drop 4 bytes) = IsBytes-behind (word w.0) (drop 4 bytes) (subst IsBytes w.1.1 fits) in
-          let read : word_at bytes ≡ Ok (w.0, drop 4 bytes) = ap word_at w.1.1 ∙ word_again w.0 (drop 4 bytes) w.1.0 in
-          rw read (goes_on w.0 (drop 4 bytes) w.1.0 w.1.1 behind)
-    ]
-
--- what follows a word that is there
-pub word_goes_on : {X : Type 0} (n : ℕ) (rest : List ℕ) (f : ℕ × List ℕ → Result X RpcFault) → n < 2 ^ 32 → (item (word_at (word n ++ rest)) >>= f) ≡ f (n, rest)
-word_goes_on n rest f fits = rw (word_again n rest fits) refl
-
-pub word_ends : {X : Type 0} (rest : List ℕ) (f : ℕ × List ℕ → Result X RpcFault) → length rest < 4 → (item (word_at rest) >>= f) ≡ Err Short
-word_ends rest f lt = rw (word_at-short rest lt) refl
+use Rattle.nq_rpc.specs.Fault.{Numbers, Choice, Authentication, End, IsItemFault}
 
 -- a fact of a choice by a number
 pub chosen : {X : Type 0} (n k : ℕ) (x y : X) (P : X → Type 0) → (n ≡ k → P x) → ((n ≡ k → ⊥) → P y) → P (cond (eqb n k) x y)
@@ -66,7 +44,7 @@ end_fault rest Memory h = absurd h
 -- a choice with a fault gives it, where no number above the highest goes on
 pub choice_ends : {X : Type 0} (top : ℕ) (rest : List ℕ) (e : RpcFault) (f : ℕ × List ℕ → Result X RpcFault) → ((n : ℕ) (r : List ℕ) → top < n → f (n, r) ≡ Err BadKind)
     → IsItemFault (Choice top) rest e → (item (word_at rest) >>= f) ≡ Err e
-choice_ends top rest Short f bad h = word_ends rest f h
+choice_ends top rest Short f bad h = word_ends fault_of rest f h
 choice_ends top rest BadKind f bad h =
     rw (ap word_at h.1.1.1 ∙ word_again h.0 h.1.0 h.1.1.0) (bad h.0 h.1.0 h.1.1.2)
 choice_ends top rest BadAuth f bad h = absurd h
@@ -96,7 +74,7 @@ body_says bytes flavor body (Err xdr.Trailing) fits e says = absurd says
 pub auth_says : (bytes : List ℕ) → IsBytes bytes → AuthSays bytes (behind_auth bytes)
 unfolding behind_auth
 auth_says bytes fits =
-    word_step bytes (λ flavor. item (opaque_at 400 flavor.1) >>= λ body. Ok body.1) (AuthSays bytes) fits
+    word_step fault_of bytes (λ flavor. item (opaque_at 400 flavor.1) >>= λ body. Ok body.1) (AuthSays bytes) fits
     (λ lt. inl lt)
     (λ flavor body flavor-fits e body-fits. body_says bytes flavor body (opaque_at 400 body) flavor-fits e (opaque_says 400 body body-fits))
 

@@ -1,20 +1,21 @@
 -- Messages: what is spelled so is read, what is read is spelled so, and each fault is the one of its place.
-use Rattle.std.proofs.Common.{◌≡◌, ℕ, ◌+◌, ◌*◌, ◌^◌, ◌<◌, ◌≤◌, cond, eqb, List, [], ◌∷◌, ◌++◌, length, Result, Ok, Err, refl, sym, ap, subst, ◌∙◌, append_assoc, arith}
+use Rattle.std.proofs.Common.{◌≡◌, ℕ, ◌+◌, ◌^◌, ◌<◌, cond, eqb, List, [], ◌++◌, length, Result, Ok, Err, refl, sym, ap, subst, ◌∙◌, append_assoc, arith}
 use Rattle.std.proofs.lemmas.List.{length-append}
 use Rattle.nq_xdr.specs.Item.{word}
 use Rattle.nq_xdr.specs.Reading.{◌>>=◌, word_at}
 use Rattle.nq_xdr.proofs.Bytes.{IsBytes, IsBytes-behind}
 use Rattle.nq_xdr.proofs.Numbers.{length-word, word_again}
+use Rattle.nq_xdr.proofs.Follows.{word_step, word_goes_on, word_ends}
 use Rattle.nq_rpc.specs.declared.fault.RpcFault.{RpcFault}
-use Rattle.nq_rpc.specs.declared.fault.RpcFault.TheVariants.{Short, BadKind, BadAuth, Xdr, Memory}
+use Rattle.nq_rpc.specs.declared.fault.RpcFault.TheVariants.{Short, BadKind}
 use Rattle.nq_rpc.specs.declared.message.CallMessage.{CallMessage}
 use Rattle.nq_rpc.specs.declared.message.Outcome.{Outcome}
 use Rattle.nq_rpc.specs.declared.message.Message.{Message}
 use Rattle.nq_rpc.specs.declared.message.Message.TheVariants.{Call, Reply}
-use Rattle.nq_rpc.specs.Message.{Auth, IsAuth, auth, null, numbers, outcome, spelling, IsCall, IsOutcome, IsMessage, Spells, IsSpelled}
-use Rattle.nq_rpc.specs.Reading.{item, behind_auth, call_at, outcome_at, reply_at, message_at}
-use Rattle.nq_rpc.specs.Fault.{Numbers, Authentication, IsItemFault, Place, Xid, MessageType, CallNumbers, Credential, Verifier, InReply, front, next, IsPlace, IsMessageFault, reply_front, reply_next, IsReplyPlace, IsReplyFault}
-use Rattle.nq_rpc.proofs.Auths.{word_step, word_goes_on, word_ends, chosen, not_chosen, numbers_fault, choice_ends, auth_again, auth_ends, auth_step}
+use Rattle.nq_rpc.specs.Message.{Auth, IsAuth, auth, null, numbers, outcome, spelling, IsCall, IsMessage, IsSpelled}
+use Rattle.nq_rpc.specs.Reading.{item, fault_of, behind_auth, call_at, outcome_at, reply_at, message_at}
+use Rattle.nq_rpc.specs.Fault.{IsItemFault, Place, Xid, MessageType, CallNumbers, Credential, Verifier, InReply, front, next, IsPlace, IsMessageFault, reply_front}
+use Rattle.nq_rpc.proofs.Auths.{chosen, not_chosen, numbers_fault, choice_ends, auth_again, auth_ends, auth_step}
 use Rattle.nq_rpc.proofs.Replies.{ReplySays, outcome_says, outcome_again, outcome_only}
 
 -- what bytes say: the message that they spell, or a fault at a place
@@ -78,19 +79,19 @@ numbers_step : (xid : ℕ) (bytes : List ℕ) (P : Result Message RpcFault → T
     → P (call_at xid bytes)
 unfolding call_at
 numbers_step xid bytes P fits short goes_on =
-    word_step bytes
+    word_step fault_of bytes
     (λ rpcvers. item (word_at rpcvers.1) >>= λ prog. item (word_at prog.1) >>= λ vers. item (word_at vers.1) >>= λ procedure. auths_at xid rpcvers.0 prog.0 vers.0 procedure.0 procedure.1) P fits
     (λ lt. short (omega arith))
     (λ rpcvers b rpcvers-fits e b-fits.
-    word_step b (λ prog. item (word_at prog.1) >>= λ vers. item (word_at vers.1) >>= λ procedure. auths_at xid rpcvers prog.0 vers.0 procedure.0 procedure.1) P b-fits
+    word_step fault_of b (λ prog. item (word_at prog.1) >>= λ vers. item (word_at vers.1) >>= λ procedure. auths_at xid rpcvers prog.0 vers.0 procedure.0 procedure.1) P b-fits
     (λ lt. short (omega (arith, few bytes b [] rpcvers 4 e lt)))
     (λ prog c prog-fits e' c-fits.
     let two = behind bytes (word rpcvers) (word prog) b c e e' in
-    word_step c (λ vers. item (word_at vers.1) >>= λ procedure. auths_at xid rpcvers prog vers.0 procedure.0 procedure.1) P c-fits
+    word_step fault_of c (λ vers. item (word_at vers.1) >>= λ procedure. auths_at xid rpcvers prog vers.0 procedure.0 procedure.1) P c-fits
     (λ lt. short (omega (arith, few bytes b [] rpcvers 8 e (few b c [] prog 4 e' lt))))
     (λ vers d vers-fits e'' d-fits.
     let three = behind bytes (word rpcvers ++ word prog) (word vers) c d two e'' in
-    word_step d (λ procedure. auths_at xid rpcvers prog vers procedure.0 procedure.1) P d-fits
+    word_step fault_of d (λ procedure. auths_at xid rpcvers prog vers procedure.0 procedure.1) P d-fits
     (λ lt. short (omega (arith, few bytes b [] rpcvers 12 e (few b c [] prog 8 e' (few c d [] vers 4 e'' lt)))))
     (λ procedure rest procedure-fits e''' rest-fits.
     goes_on rpcvers prog vers procedure rest rpcvers-fits prog-fits vers-fits procedure-fits
@@ -143,10 +144,10 @@ pub message_says : (bytes : List ℕ) → IsBytes bytes → MessageSays bytes (m
 unfolding message_at front
 message_says bytes fits =
     let P : Result Message RpcFault → Type 0 = MessageSays bytes in
-    word_step bytes (λ xid. item (word_at xid.1) >>= λ kind. kind_at xid.0 kind) P fits
+    word_step fault_of bytes (λ xid. item (word_at xid.1) >>= λ kind. kind_at xid.0 kind) P fits
     (λ lt. (Xid, (bytes, (tt, refl, omega arith))))
     (λ xid rest xid-fits e rest-fits.
-    word_step rest (kind_at xid) P rest-fits
+    word_step fault_of rest (kind_at xid) P rest-fits
     (λ lt. (MessageType xid, (rest, (xid-fits, e, lt))))
     (λ kind left kind-fits e' left-fits.
     let whole = behind bytes (word xid) (word kind) rest left e e' in
@@ -164,12 +165,12 @@ xid_goes_on xid rest fits = rw (word_again xid rest fits) refl
 
 call_goes_on : (xid : ℕ) (rest : List ℕ) → xid < 2 ^ 32 → message_at ((word xid ++ word 0) ++ rest) ≡ call_at xid rest
 call_goes_on xid rest fits =
-    ap message_at (append_assoc (word xid) (word 0) rest) ∙ xid_goes_on xid (word 0 ++ rest) fits ∙ word_goes_on 0 rest (kind_at xid) (omega arith)
+    ap message_at (append_assoc (word xid) (word 0) rest) ∙ xid_goes_on xid (word 0 ++ rest) fits ∙ word_goes_on fault_of 0 rest (kind_at xid) (omega arith)
 
 pub reply_goes_on : (xid : ℕ) (rest : List ℕ) → xid < 2 ^ 32 → message_at ((word xid ++ word 1) ++ rest) ≡ (outcome_at rest >>= λ outcome. Ok (Reply (record { xid = xid; outcome = outcome })))
 unfolding reply_at
 reply_goes_on xid rest fits =
-    ap message_at (append_assoc (word xid) (word 1) rest) ∙ xid_goes_on xid (word 1 ++ rest) fits ∙ word_goes_on 1 rest (kind_at xid) (omega arith)
+    ap message_at (append_assoc (word xid) (word 1) rest) ∙ xid_goes_on xid (word 1 ++ rest) fits ∙ word_goes_on fault_of 1 rest (kind_at xid) (omega arith)
 
 -- what follows the numbers of a call
 auths_go_on : (m : CallMessage) (rest : List ℕ) → IsCall m → message_at (numbers m ++ rest) ≡ auths_at m.head.xid m.rpcvers m.head.prog m.head.vers m.head.procedure rest
@@ -202,7 +203,7 @@ message_ends : (place : Place) (rest : List ℕ) (e : RpcFault) → IsPlace plac
 unfolding front message_at call_at
 message_ends Xid rest e fits whole-fits h =
     let f = numbers_fault 1 rest e h in
-    word_ends rest (λ xid. item (word_at xid.1) >>= λ kind. kind_at xid.0 kind) (omega (arith, f.1)) ∙ ap (λ (x : RpcFault). Err x) (sym f.0)
+    word_ends fault_of rest (λ xid. item (word_at xid.1) >>= λ kind. kind_at xid.0 kind) (omega (arith, f.1)) ∙ ap (λ (x : RpcFault). Err x) (sym f.0)
 message_ends (MessageType xid) rest e fits whole-fits h =
     xid_goes_on xid rest fits ∙ choice_ends 1 rest e (kind_at xid) (λ n r above. not_chosen n 0 _ _ (λ e. omega arith) ∙ not_chosen n 1 _ _ (λ e. omega arith)) h
 message_ends (CallNumbers xid) rest e fits whole-fits h =

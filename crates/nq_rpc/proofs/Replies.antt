@@ -1,18 +1,19 @@
 -- Replies: what is spelled so is read, what is read is spelled so, and each fault is the one of its place.
-use Rattle.std.proofs.Common.{◌≡◌, ℕ, zero, suc, ◌+◌, ◌*◌, ◌^◌, ◌<◌, ◌≤◌, cond, eqb, List, [], ◌∷◌, ◌++◌, length, Result, Ok, Err, refl, sym, ap, subst, ◌∙◌, append_assoc, arith}
+use Rattle.std.proofs.Common.{◌≡◌, ℕ, ◌*◌, ◌^◌, ◌<◌, cond, eqb, List, [], ◌++◌, length, Result, Ok, Err, refl, sym, ap, subst, ◌∙◌, append_assoc, arith}
 use Rattle.std.proofs.lemmas.List.{length-append, append-nil, nil_from_length}
 use Rattle.nq_xdr.specs.Item.{word}
 use Rattle.nq_xdr.specs.Reading.{◌>>=◌, word_at}
 use Rattle.nq_xdr.proofs.Bytes.{IsBytes, IsBytes-behind}
 use Rattle.nq_xdr.proofs.Numbers.{length-word, word_again}
+use Rattle.nq_xdr.proofs.Follows.{word_step, word_goes_on, word_ends}
 use Rattle.nq_rpc.specs.declared.fault.RpcFault.{RpcFault}
-use Rattle.nq_rpc.specs.declared.fault.RpcFault.TheVariants.{Short, BadKind, BadAuth, Xdr, Memory}
+use Rattle.nq_rpc.specs.declared.fault.RpcFault.TheVariants.{Short, BadKind, Xdr}
 use Rattle.nq_rpc.specs.declared.message.Outcome.{Outcome}
 use Rattle.nq_rpc.specs.declared.message.Outcome.TheVariants.{Success, ProgUnavail, ProgMismatch, ProcUnavail, GarbageArgs, RpcMismatch, AuthError}
 use Rattle.nq_rpc.specs.Message.{Auth, IsAuth, auth, null, outcome, IsOutcome, IsError}
-use Rattle.nq_rpc.specs.Reading.{item, behind_auth, ended, bounds_at, accepted_as, accepted_at, denied_as, denied_at, outcome_at}
-use Rattle.nq_rpc.specs.Fault.{Numbers, Choice, Authentication, IsItemFault, ReplyPlace, ReplyStat, ReplyVerifier, AcceptStat, ProgramVersions, RejectStat, RpcVersions, AuthStat, EndOfReply, reply_front, reply_next, IsReplyPlace, IsReplyFault}
-use Rattle.nq_rpc.proofs.Auths.{word_step, word_goes_on, word_ends, chosen, not_chosen, numbers_fault, end_fault, choice_ends, auth_again, auth_ends, auth_step}
+use Rattle.nq_rpc.specs.Reading.{item, fault_of, ended, bounds_at, accepted_as, accepted_at, denied_as, denied_at, outcome_at}
+use Rattle.nq_rpc.specs.Fault.{Numbers, IsItemFault, ReplyPlace, ReplyStat, ReplyVerifier, AcceptStat, ProgramVersions, RejectStat, RpcVersions, AuthStat, EndOfReply, reply_front, reply_next, IsReplyPlace, IsReplyFault}
+use Rattle.nq_rpc.proofs.Auths.{chosen, not_chosen, numbers_fault, end_fault, choice_ends, auth_again, auth_ends, auth_step}
 
 -- ---- two numbers
 
@@ -24,10 +25,10 @@ bounds_step : {X : Type 0} (bytes : List ℕ) (f : ℕ × ℕ × List ℕ → Re
 unfolding bounds_at
 bounds_step bytes f P fits short goes_on =
     let Q : Result (ℕ × ℕ × List ℕ) RpcFault → Type 0 = λ read. P (read >>= f) in
-    word_step bytes (λ low. item (word_at low.1) >>= λ high. Ok (low.0, high.0, high.1)) Q fits
+    word_step fault_of bytes (λ low. item (word_at low.1) >>= λ high. Ok (low.0, high.0, high.1)) Q fits
     (λ lt. short (omega arith))
     (λ low behind low-fits e behind-fits.
-    word_step behind (λ high. Ok (low, high.0, high.1)) Q behind-fits
+    word_step fault_of behind (λ high. Ok (low, high.0, high.1)) Q behind-fits
     (λ lt. short (omega (arith, ap length e, length-append (word low) behind, length-word low)))
     (λ high rest high-fits e' rest-fits.
     goes_on low high rest low-fits high-fits (e ∙ ap (λ (x : List ℕ). word low ++ x) e' ∙ sym (append_assoc (word low) (word high) rest)) rest-fits))
@@ -101,7 +102,7 @@ accepted_says bytes rest e fits =
     (λ fault h. (ReplyVerifier, (rest, (tt, e, h))))
     (λ verifier behind verifier-fits e' behind-fits.
     let whole : bytes ≡ accepted_front verifier ++ behind = e ∙ ap (λ (x : List ℕ). word 0 ++ x) e' ∙ sym (append_assoc (word 0) (auth verifier) behind) in
-    word_step behind (λ stat. accepted_as stat.0 stat.1) P behind-fits
+    word_step fault_of behind (λ stat. accepted_as stat.0 stat.1) P behind-fits
     (λ lt. (AcceptStat verifier, (behind, (verifier-fits, whole, lt))))
     (λ stat left stat-fits e'' left-fits.
     accepted_as_says bytes left stat verifier verifier-fits stat-fits (whole ∙ ap (λ (x : List ℕ). accepted_front verifier ++ x) e'') left-fits))
@@ -121,7 +122,7 @@ denied_as_says bytes rest stat stat-fits e rest-fits =
     (λ not_0. chosen stat 1 _ _ P
     (λ same.
     let whole = joined bytes (word 1) rest stat 1 same e in
-    word_step rest (λ reason. ended (AuthError reason.0) reason.1) P rest-fits
+    word_step fault_of rest (λ reason. ended (AuthError reason.0) reason.1) P rest-fits
     (λ lt. (AuthStat, (rest, (tt, whole, lt))))
     (λ reason behind reason-fits e' behind-fits.
     ended_says bytes behind (AuthError reason) null tt reason-fits null-fits
@@ -132,7 +133,7 @@ denied_says : (bytes rest : List ℕ) → bytes ≡ word 1 ++ rest → IsBytes r
 unfolding denied_at reply_front
 denied_says bytes rest e fits =
     let P : Result Outcome RpcFault → Type 0 = ReplySays bytes in
-    word_step rest (λ stat. denied_as stat.0 stat.1) P fits
+    word_step fault_of rest (λ stat. denied_as stat.0 stat.1) P fits
     (λ lt. (RejectStat, (rest, (tt, e, lt))))
     (λ stat behind stat-fits e' behind-fits. denied_as_says bytes behind stat stat-fits (e ∙ ap (λ (x : List ℕ). word 1 ++ x) e') behind-fits)
 
@@ -140,7 +141,7 @@ pub outcome_says : (bytes : List ℕ) → IsBytes bytes → ReplySays bytes (out
 unfolding outcome_at reply_front
 outcome_says bytes fits =
     let P : Result Outcome RpcFault → Type 0 = ReplySays bytes in
-    word_step bytes (λ stat. cond (eqb stat.0 0) (accepted_at stat.1) (cond (eqb stat.0 1) (denied_at stat.1) (Err BadKind))) P fits
+    word_step fault_of bytes (λ stat. cond (eqb stat.0 0) (accepted_at stat.1) (cond (eqb stat.0 1) (denied_at stat.1) (Err BadKind))) P fits
     (λ lt. (ReplyStat, (bytes, (tt, refl, lt))))
     (λ stat rest stat-fits e rest-fits.
     chosen stat 0 _ _ P
@@ -168,7 +169,7 @@ accepted_goes_on verifier rest fits =
 stat_goes_on : (verifier : Auth) (stat : ℕ) (rest : List ℕ) → IsAuth verifier → stat < 2 ^ 32 → outcome_at ((accepted_front verifier ++ word stat) ++ rest) ≡ accepted_as stat rest
 stat_goes_on verifier stat rest fits stat-fits =
     ap outcome_at (append_assoc (accepted_front verifier) (word stat) rest) ∙ accepted_goes_on verifier (word stat ++ rest) fits
-    ∙ word_goes_on stat rest (λ stat. accepted_as stat.0 stat.1) stat-fits
+    ∙ word_goes_on fault_of stat rest (λ stat. accepted_as stat.0 stat.1) stat-fits
 
 denied_goes_on : (stat : ℕ) (rest : List ℕ) → stat < 2 ^ 32 → outcome_at ((word 1 ++ word stat) ++ rest) ≡ denied_as stat rest
 unfolding denied_at
@@ -193,7 +194,7 @@ error_goes_on (RpcMismatch low high) verifier rest error fits verifier-fits =
 error_goes_on (AuthError reason) verifier rest error fits verifier-fits =
     ap outcome_at (append_assoc (word 1 ++ word 1) (word reason) rest)
     ∙ denied_goes_on 1 (word reason ++ rest) (omega arith)
-    ∙ word_goes_on reason rest (λ reason. ended (AuthError reason.0) reason.1) fits
+    ∙ word_goes_on fault_of reason rest (λ reason. ended (AuthError reason.0) reason.1) fits
 
 pub ended_here : (o : Outcome) → ended o [] ≡ Ok o
 unfolding ended
@@ -244,7 +245,7 @@ outcome_ends RpcVersions rest e fits rest-fits h =
     (λ lt. denied_goes_on 0 rest (omega arith) ∙ bounds_ends rest (λ bounds. ended (RpcMismatch bounds.0 bounds.1) bounds.2) rest-fits lt) h
 outcome_ends AuthStat rest e fits rest-fits h =
     numbers_end 1 rest e (outcome_at ((word 1 ++ word 1) ++ rest))
-    (λ lt. denied_goes_on 1 rest (omega arith) ∙ word_ends rest (λ reason. ended (AuthError reason.0) reason.1) (omega arith)) h
+    (λ lt. denied_goes_on 1 rest (omega arith) ∙ word_ends fault_of rest (λ reason. ended (AuthError reason.0) reason.1) (omega arith)) h
 outcome_ends (EndOfReply o verifier) rest e fits rest-fits h =
     let f = end_fault rest e h in
     error_goes_on o verifier rest fits.0 fits.1 fits.2 ∙ not_chosen (length rest) 0 (Ok o) (Err Xdr) (λ e. omega (arith, f.1)) ∙ ap (λ (x : RpcFault). Err x) (sym f.0)

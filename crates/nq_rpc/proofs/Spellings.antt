@@ -1,5 +1,5 @@
 -- Laws of the spellings of messages.
-use Rattle.std.proofs.Common.{◌≡◌, ℕ, ◌+◌, ◌^◌, ◌<◌, List, [], ◌∷◌, ◌++◌, length, Result, Ok, Err, refl, sym, ap, ◌∙◌, append_assoc, arith}
+use Rattle.std.proofs.Common.{◌≡◌, ℕ, ◌^◌, ◌<◌, List, [], ◌∷◌, ◌++◌, length, Result, Ok, Err, refl, ap, ◌∙◌, append_assoc, arith}
 use Rattle.std.proofs.lemmas.List.{length-append}
 use Rattle.nq_xdr.specs.Item.{word, opaque}
 use Rattle.nq_xdr.specs.Reading.{◌>>=◌}
@@ -14,7 +14,7 @@ use Rattle.nq_rpc.specs.declared.message.ReplyMessage.{ReplyMessage}
 use Rattle.nq_rpc.specs.declared.message.Message.{Message}
 use Rattle.nq_rpc.specs.declared.message.Message.TheVariants.{Call, Reply}
 use Rattle.nq_rpc.specs.Message.{Auth, IsAuth, auth, null, numbers, outcome, spelling, outcome_len, spelling_len, IsOutcome, IsError, IsMessage, IsSpelled}
-use Rattle.nq_rpc.specs.Reading.{ended, outcome_at, message_at}
+use Rattle.nq_rpc.specs.Reading.{ended, message_at}
 use Rattle.nq_rpc.proofs.Auths.{not_chosen}
 use Rattle.nq_rpc.proofs.Replies.{error_goes_on}
 use Rattle.nq_rpc.proofs.Messages.{null_fits, message_again, reply_goes_on}

@@ -1,5 +1,5 @@
 -- What is wrong with bytes that are no message: where in a message they go wrong, and how.
-use Rattle.std.specs.Prelude.{◌≡◌, ℕ, ◌+◌, ◌*◌, ◌^◌, ◌<◌, ◌⊎◌, List, [], ◌++◌, length}
+use Rattle.std.specs.Prelude.{◌≡◌, ℕ, ◌*◌, ◌^◌, ◌<◌, ◌⊎◌, List, [], ◌++◌, length}
 use Rattle.nq_xdr.specs.Item.{word}
 use Rattle.nq_xdr.specs.Fault.{BeginsWithWord, IsOpaqueFault}
 use Rattle.nq_xdr.specs.declared.XdrFault.TheVariants as xdr
@@ -52,7 +52,7 @@ pub data Place : Type 0 where
   Verifier : CallMessage → Auth → Place
   InReply : ℕ → ReplyPlace → Place
 
--- the bytes up to a place, and what comes next there, by RFC 1057 section 8
+-- the bytes of a reply up to a place (RFC 1057 section 8)
 unfoldable pub reply_front : ReplyPlace → List ℕ
 reply_front ReplyStat = []
 reply_front ReplyVerifier = word 0
@@ -63,6 +63,7 @@ reply_front RpcVersions = word 1 ++ word 0
 reply_front AuthStat = word 1 ++ word 1
 reply_front (EndOfReply error verifier) = outcome error verifier
 
+-- what comes next at a place of a reply
 abbrev pub reply_next : ReplyPlace → Next
 reply_next ReplyStat = Choice 1
 reply_next ReplyVerifier = Authentication
@@ -73,6 +74,7 @@ reply_next RpcVersions = Numbers 2
 reply_next AuthStat = Numbers 1
 reply_next (EndOfReply error verifier) = End
 
+-- the bytes of a message up to a place (RFC 1057 section 8)
 unfoldable pub front : Place → List ℕ
 front Xid = []
 front (MessageType xid) = word xid
@@ -81,6 +83,7 @@ front (Credential m) = numbers m
 front (Verifier m credential) = numbers m ++ auth credential
 front (InReply xid place) = word xid ++ word 1 ++ reply_front place
 
+-- what comes next at a place of a message
 abbrev pub next : Place → Next
 next Xid = Numbers 1
 next (MessageType xid) = Choice 1
@@ -89,13 +92,14 @@ next (Credential m) = Authentication
 next (Verifier m credential) = Authentication
 next (InReply xid place) = reply_next place
 
--- what was said up to a place is well formed
+-- what was said up to a place of a reply is well formed
 abbrev pub IsReplyPlace : ReplyPlace → Type 0
 IsReplyPlace (AcceptStat verifier) = IsAuth verifier
 IsReplyPlace (ProgramVersions verifier) = IsAuth verifier
 IsReplyPlace (EndOfReply error verifier) = IsError error × IsOutcome error × IsAuth verifier
 IsReplyPlace _ = Unit {0}
 
+-- what was said up to a place of a message is well formed
 abbrev pub IsPlace : Place → Type 0
 IsPlace Xid = Unit {0}
 IsPlace (MessageType xid) = xid < 2 ^ 32
@@ -104,11 +108,12 @@ IsPlace (Credential m) = IsCall m
 IsPlace (Verifier m credential) = IsCall m × IsAuth credential
 IsPlace (InReply xid place) = (xid < 2 ^ 32) × IsReplyPlace place
 
--- the bytes are well formed up to a place, and have the fault there
+-- the bytes are a well-formed reply up to a place, and have the fault there
 abbrev pub IsReplyFault : List ℕ → RpcFault → Type 0
 IsReplyFault bytes fault =
     (place : ReplyPlace) × ((rest : List ℕ) × (IsReplyPlace place × (bytes ≡ reply_front place ++ rest) × IsItemFault (reply_next place) rest fault))
 
+-- the bytes are a well-formed message up to a place, and have the fault there
 abbrev pub IsMessageFault : List ℕ → RpcFault → Type 0
 IsMessageFault bytes fault =
     (place : Place) × ((rest : List ℕ) × (IsPlace place × (bytes ≡ front place ++ rest) × IsItemFault (next place) rest fault))

@@ -4,7 +4,6 @@ use Rattle.nq_xdr.specs.Item.{word, opaque}
 use Rattle.nq_rpc.specs.declared.message.CallMessage.{CallMessage}
 use Rattle.nq_rpc.specs.declared.message.Outcome.{Outcome}
 use Rattle.nq_rpc.specs.declared.message.Outcome.TheVariants.{Success, ProgUnavail, ProgMismatch, ProcUnavail, GarbageArgs, RpcMismatch, AuthError}
-use Rattle.nq_rpc.specs.declared.message.ReplyMessage.{ReplyMessage}
 use Rattle.nq_rpc.specs.declared.message.Message.{Message}
 use Rattle.nq_rpc.specs.declared.message.Message.TheVariants.{Call, Reply}
 

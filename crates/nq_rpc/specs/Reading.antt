@@ -2,7 +2,7 @@
 use Rattle.std.specs.Prelude.{◌≡◌, ◌⊎◌, ℕ, List, length, Result, Ok, Err, ◌==◌, if◌then◌else◌, IsOk}
 use Rattle.nq_xdr.specs.declared.XdrFault.{XdrFault}
 use Rattle.nq_xdr.specs.declared.XdrFault.TheVariants as xdr
-use Rattle.nq_xdr.specs.Reading.{◌>>=◌, word_at, opaque_at}
+use Rattle.nq_xdr.specs.Reading.{◌>>=◌, map_err, word_at, opaque_at}
 use Rattle.nq_rpc.specs.declared.fault.RpcFault.{RpcFault}
 use Rattle.nq_rpc.specs.declared.fault.RpcFault.TheVariants.{Short, BadKind, BadAuth, Xdr, Memory}
 use Rattle.nq_rpc.specs.declared.message.Outcome.{Outcome}
@@ -20,8 +20,7 @@ fault_of xdr.Trailing = Xdr
 
 -- an item of a message
 abbrev pub item : {A : Type 0} → Result A XdrFault → Result A RpcFault
-item (Ok x) = Ok x
-item (Err e) = Err (fault_of e)
+item read = map_err fault_of read
 
 -- what stands behind the credential or the verifier at the front
 unfoldable pub behind_auth : List ℕ → Result (List ℕ) RpcFault

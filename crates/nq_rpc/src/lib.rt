@@ -20,3 +20,6 @@ pub use encoding::{encode, encode_into};
 pub use fault::RpcFault;
 pub use memory::NoMemory;
 pub use message::{CallMessage, Head, Message, Outcome, ReplyMessage};
+
+#[cfg(test)]
+mod tests;

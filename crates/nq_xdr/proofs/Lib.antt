@@ -2,3 +2,4 @@ pub mod Bytes
 pub mod Steps
 pub mod Numbers
 pub mod Opaque
+pub mod Follows

@@ -12,6 +12,11 @@ abbrev pub ◌>>=◌ : {A B F : Type 0} → Result A F → (A → Result B F) �
 (Ok x) >>= f = f x
 (Err e) >>= f = Err e
 
+-- a step whose faults have other names
+abbrev pub map_err : {A E F : Type 0} → (E → F) → Result A E → Result A F
+map_err name (Ok x) = Ok x
+map_err name (Err e) = Err (name e)
+
 -- the first n bytes
 unfoldable pub bytes_at : ℕ → List ℕ → Result (List ℕ × List ℕ) XdrFault
 bytes_at n bytes = if nat_lt (length bytes) n then Err Short else Ok (take n bytes, drop n bytes)
