@@ -1,0 +1,2 @@
+//! Laws over every run.
+#![tactic(auto)]
