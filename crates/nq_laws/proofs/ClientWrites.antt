@@ -110,3 +110,11 @@ loses {notices = notices} {dirty = dirty} {push = push} file h = record {
   under_way = λ p e. h.under_way p (left-push file push p e);
   empty = λ e. ap (other_dirty file) (h.empty e);
 }
+
+-- all delayed writes are lost of a file for which no notice waits
+pub loses-unnoticed : {attached : Bool} {ticket : Option Ticket} {notices : List Notice} {dirty : List Push} {push : Option Push} (file : ℕ) → notice_on file notices ≡ None → Delaying attached ticket notices dirty push → Delaying attached ticket notices (other_dirty file dirty) (other_push file push)
+loses-unnoticed {notices = notices} {dirty = dirty} {push = push} file none h = record {
+  noticed = λ f n e. still-unclean file f dirty push (λ same. none-some n (sym none ∙ subst (λ g. notice_on g notices ≡ Some n) same e)) (h.noticed f n e);
+  under_way = λ p e. h.under_way p (left-push file push p e);
+  empty = λ e. ap (other_dirty file) (h.empty e);
+}
