@@ -1,10 +1,10 @@
 -- The ask table, walked once: what is shown of each of its outcomes, with what led to it, holds of what it tells.
-use Rattle.std.proofs.Common.{◌≡◌, ℕ, ◌-◌, Bool, true, false, nat_lt, List, Option, Some, None, if◌then◌else◌, refl, length}
+use Rattle.std.proofs.Common.{◌≡◌, ℕ, ◌-◌, Bool, true, false, nat_lt, Option, Some, None, if◌then◌else◌, refl, length}
 use Rattle.std.specs.List.{find, list_any}
 use Rattle.nq_base.specs.declared.Asked.{Asked}
 use Rattle.nq_base.specs.declared.Row.{Row}
 use Rattle.nq_base.specs.declared.Want.{Want}
-use Rattle.nq_model.specs.Ask.{Question, Reply, conflicts, shares, marked, term_of, grant_of, sharing_row, caching_row, shared_again, renewed_row, with_waiting, put_off, free, put_off_by_own, granted, no_lease, share_again, begin, renew, ask_for, ask_freely, ask_past, ask}
+use Rattle.nq_model.specs.Ask.{Question, Reply, conflicts, shares, marked, term_of, sharing_row, caching_row, shared_again, renewed_row, with_waiting, put_off, free, put_off_by_own, granted, no_lease, share_again, begin, renew, ask_for, ask_freely, ask_past, ask}
 use Rattle.nq_model.specs.Profile.{most_rows}
 use Rattle.nq_model.specs.Table.{Table, caches, find_row, put_row, with_rows, after_draw}
 use Rattle.nq_laws.proofs.Rows.{choice}
@@ -41,10 +41,10 @@ told_later table clash = record { table = table; asked = Asked.TryLater (record 
 -- why a row is granted for a term: the asker's own non-caching row goes on, or he has none and shares the file, or he
 -- has none and gets a caching one, or his own caching row is renewed
 pub data IsGranted (table : Table) (q : Question) (want : Want) (row : Row) (term : ℕ) : Type 0 where
-  goes_on : (own : Row) → own_in table q ≡ Some own → own.evicting ≡ false → caches own.mode ≡ false → row ≡ shared_again table own → term ≡ own.until - q.now → IsGranted table q want row term
-  is_sharing : own_in table q ≡ None → has_room table ≡ true → is_shared table q ≡ true → row ≡ sharing_row table q (term_of q want) → term ≡ term_of q want → IsGranted table q want row term
-  is_new : own_in table q ≡ None → has_room table ≡ true → is_shared table q ≡ false → row ≡ caching_row table q want.mode (term_of q want) → term ≡ term_of q want → IsGranted table q want row term
-  is_renewed : (own : Row) → own_in table q ≡ Some own → own.evicting ≡ false → caches own.mode ≡ true → row ≡ renewed_row table q own want.mode (term_of q want) → term ≡ term_of q want → IsGranted table q want row term
+  shares_again : (own : Row) → own_in table q ≡ Some own → own.evicting ≡ false → caches own.mode ≡ false → row ≡ shared_again table own → term ≡ own.until - q.now → IsGranted table q want row term
+  begins_sharing : own_in table q ≡ None → has_room table ≡ true → is_shared table q ≡ true → row ≡ sharing_row table q (term_of q want) → term ≡ term_of q want → IsGranted table q want row term
+  begins_caching : own_in table q ≡ None → has_room table ≡ true → is_shared table q ≡ false → row ≡ caching_row table q want.mode (term_of q want) → term ≡ term_of q want → IsGranted table q want row term
+  renews_row : (own : Row) → own_in table q ≡ Some own → own.evicting ≡ false → caches own.mode ≡ true → row ≡ renewed_row table q own want.mode (term_of q want) → term ≡ term_of q want → IsGranted table q want row term
 
 -- the outcomes
 pub record AskCases (table : Table) (q : Question) (R : Reply → Type 0) : Type 0 where
@@ -83,13 +83,13 @@ begins table q R cases e want f g =
     else granted table q (caching_row table q want.mode (term_of q want)) (term_of q want))
     (no_lease table)
     (λ room.
-        choice
-        R
-        (is_shared table q)
-        (granted table q (sharing_row table q (term_of q want)) (term_of q want))
-        (granted table q (caching_row table q want.mode (term_of q want)) (term_of q want))
-        (λ shared. cases.granting want (sharing_row table q (term_of q want)) (term_of q want) e f (is_sharing g room shared refl refl))
-        (λ alone. cases.granting want (caching_row table q want.mode (term_of q want)) (term_of q want) e f (is_new g room alone refl refl)))
+    choice
+    R
+    (is_shared table q)
+    (granted table q (sharing_row table q (term_of q want)) (term_of q want))
+    (granted table q (caching_row table q want.mode (term_of q want)) (term_of q want))
+    (λ shared. cases.granting want (sharing_row table q (term_of q want)) (term_of q want) e f (begins_sharing g room shared refl refl))
+    (λ alone. cases.granting want (caching_row table q want.mode (term_of q want)) (term_of q want) e f (begins_caching g room alone refl refl)))
     (λ room. cases.full want e f g room)
 
 goes-on : (table : Table) (q : Question) (R : Reply → Type 0) → AskCases table q R → clash_in table q ≡ None → (want : Want) → q.want ≡ Some want → (own : Row) → own_in table q ≡ Some own → R (ask_for table q want (Some own))
@@ -101,13 +101,13 @@ goes-on table q R cases e want f own g =
     (if caches own.mode then renew table q want own else share_again table q own)
     (λ evicting. cases.later_by_own want own e f g evicting)
     (λ stays.
-        choice
-        R
-        (caches own.mode)
-        (renew table q want own)
-        (share_again table q own)
-        (λ caching. cases.granting want (renewed_row table q own want.mode (term_of q want)) (term_of q want) e f (is_renewed own g stays caching refl refl))
-        (λ sharing. cases.granting want (shared_again table own) (own.until - q.now) e f (goes_on own g stays sharing refl refl)))
+    choice
+    R
+    (caches own.mode)
+    (renew table q want own)
+    (share_again table q own)
+    (λ caching. cases.granting want (renewed_row table q own want.mode (term_of q want)) (term_of q want) e f (renews_row own g stays caching refl refl))
+    (λ sharing. cases.granting want (shared_again table own) (own.until - q.now) e f (shares_again own g stays sharing refl refl)))
 
 past-none : (table : Table) (q : Question) (R : Reply → Type 0) → AskCases table q R → clash_in table q ≡ None → (want : Option Want) → q.want ≡ want → (own : Option Row) → own_in table q ≡ own → R (ask_freely table q want own)
 past-none table q R cases e None f own g = cases.freely e f

@@ -1,0 +1,33 @@
+-- What tests of numbers say.
+use Rattle.std.proofs.Common.{◌≡◌, ◌≢◌, ◌<◌, ◌≤◌, ℕ, ◌==◌, Bool, true, false, ◌||◌, nat_lt, Option, Some, None, refl, arith}
+use Rattle.std.specs.Prelude.{is_some, nat_le}
+use Rattle.std.proofs.lemmas.Bool.Decides.{nat_tests}
+
+pub is-below : (m n : ℕ) → nat_lt m n ≡ true → m < n
+is-below m n h = grind (arith, nat_tests)
+
+pub is-not-below : (m n : ℕ) → nat_lt m n ≡ false → n ≤ m
+is-not-below m n h = grind (arith, nat_tests)
+
+pub is-at-most : (m n : ℕ) → nat_le m n ≡ true → m ≤ n
+is-at-most m n h = grind (arith, nat_tests)
+
+pub is-not-at-most : (m n : ℕ) → nat_le m n ≡ false → n < m
+is-not-at-most m n h = grind (arith, nat_tests)
+
+pub is-other : (m n : ℕ) → (m == n) ≡ false → m ≢ n
+is-other m n h = grind (arith, nat_tests)
+
+pub is-above : (m n : ℕ) → (m == n) ≡ false → nat_lt m n ≡ false → n < m
+is-above m n h k = grind (arith, nat_tests)
+
+pub is-same : (m n : ℕ) → nat_lt m n ≡ false → nat_lt n m ≡ false → m ≡ n
+is-same m n h k = grind (arith, nat_tests)
+
+pub either-false : (a b : Bool) → a || b ≡ false → (a ≡ false) × (b ≡ false)
+either-false true b h = cc
+either-false false b h = (refl, h)
+
+pub none-there : {A : Type 0} (o : Option A) → is_some o ≡ false → o ≡ None
+none-there None h = refl
+none-there (Some x) h = cc
