@@ -70,9 +70,12 @@ pub record CanSend (k : Core) (job : Job) (request : Request) : Type 0 where
   pub unwanted : (file : ℕ) (n : Notice) → notice_on file k.notices ≡ Some n → wants_of file request ≡ false
   pub changed : (file : ℕ) → changes_file request ≡ Some file → lease_on file k.leases ≡ None
 
--- a lease can be given up: no request wants the file, and the tag is that of a waiting notice, or of one that is heard
-pub record CanVacate (Heard : ℕ → Tag → Type 0) (k : Core) (file : ℕ) (tag : Tag) : Type 0 where
+-- a lease can be given up: the client is attached, no request wants the file, no grant of it is to be taken, and the tag
+-- is that of a waiting notice, or of one that is heard
+pub record CanVacate (Heard : ℕ → Tag → Type 0) (Given : ℕ → Grant → ℕ → Type 0) (k : Core) (file : ℕ) (tag : Tag) : Type 0 where
+  pub attached : k.attached ≡ true
   pub unwanted : (t : Ticket) → k.ticket ≡ Some t → wants_of file t.request ≡ false
+  pub ungiven : (g : Grant) (sent : ℕ) → Given file g sent → ⊥
   pub source : ((n : Notice) × (notice_on file k.notices ≡ Some n) × (tag ≡ n.tag)) ⊎ Heard file tag
 
 -- what each small change keeps. `Heard` are the notices that are heard in this step, `Given` the grants with the time
@@ -80,7 +83,7 @@ pub record CanVacate (Heard : ℕ → Tag → Type 0) (k : Core) (file : ℕ) (t
 pub record Closed (Heard : ℕ → Tag → Type 0) (Given : ℕ → Grant → ℕ → Type 0) (P : Core → Type 0) : Type 0 where
   pub uses : (k : Core) (file : ℕ) → P k → P (record k { leases = used_lease file k.leases })
   pub drops : (k : Core) (file : ℕ) → P k → P (record k { leases = drop_lease file k.leases })
-  pub vacates : (k : Core) (file : ℕ) (tag : Tag) → CanVacate Heard k file tag → P k → P (after_vacated k file tag)
+  pub vacates : (k : Core) (file : ℕ) (tag : Tag) → CanVacate Heard Given k file tag → P k → P (after_vacated k file tag)
   pub asks : (k : Core) (job : Job) (request : Request) → seq_of request ≡ None → CanSend k job request → P k → P (after_request k job request)
   pub decides : (k : Core) (job : Job) (request : Request) → seq_of request ≡ Some k.seq → CanSend k job request → P k → P (after_decided k job request)
   pub again : (k : Core) (t : Ticket) → k.ticket ≡ Some t → P k → P (after_again k t)

@@ -69,6 +69,7 @@ pub record Replying (Given : ℕ → Grant → ℕ → Type 0) (P : Core → Typ
   pub spent : (ticket.job ≡ attaching → ⊥) → P (record (core_of (begun c)) { ticket = None })
   pub attached : ticket.job ≡ attaching → P (record (core_of (begun c)) { ticket = None; attached = true })
   pub brings : Bringing Given ticket r
+  pub only : (file : ℕ) (g : Grant) (sent : ℕ) → Given file g sent → requested_file ticket.request ≡ Some file
 
 job-attached : (c : Client) (ticket : Ticket) → c.ticket ≡ Some ticket → Alone c → (ticket.job ≡ attaching → ⊥) → c.attached ≡ true
 job-attached c ticket is a other = attached-with-ticket a.asking ticket is other
@@ -87,7 +88,7 @@ done-keeps closed c number ticket r pushing job counts h =
     let other : ticket.job ≡ attaching → ⊥ = λ e. absurd (cc) in
     let is_attached : c.attached ≡ true = job-attached c ticket h.asked h.alone other in
     let fits : is_some (push_in ticket.request) ≡ true = subst (λ j. fits_job j ticket.request ≡ true) job (h.alone.asking.ticketed ticket h.asked).fits in
-    done-push-keeps closed c ticket ticket.request r refl fits counts h.asked is_attached h.alone (h.spent other)
+    done-push-keeps closed c ticket ticket.request r h.only refl fits counts h.asked is_attached h.alone (h.spent other)
 
 refused-keeps : {Heard : ℕ → Tag → Type 0} {Given : ℕ → Grant → ℕ → Type 0} {P : Core → Type 0} → Closed Heard Given P → (c : Client) (ticket : Ticket) (inc : ℕ) (status : Refusal) (job : Job) → ticket.job ≡ job → refusal_counts status ticket.request job ≡ true → Replying Given P c ticket (Reply.Refused inc status) → Both P (refused (spends (begun c)) status ticket job)
 refused-keeps closed c ticket inc status attaching job counts h = absurd (cc)
@@ -107,7 +108,7 @@ refused-keeps closed c ticket inc status pushing job counts h =
     let other : ticket.job ≡ attaching → ⊥ = λ e. absurd (cc) in
     let is_attached : c.attached ≡ true = job-attached c ticket h.asked h.alone other in
     let fits : is_some (push_in ticket.request) ≡ true = subst (λ j. fits_job j ticket.request ≡ true) job (h.alone.asking.ticketed ticket h.asked).fits in
-    refused-push-keeps closed c ticket ticket.request refl fits h.asked is_attached h.alone (h.spent other)
+    refused-push-keeps closed c ticket ticket.request h.only refl fits h.asked is_attached h.alone (h.spent other)
 
 replied-keeps : {Heard : ℕ → Tag → Type 0} {Given : ℕ → Grant → ℕ → Type 0} {P : Core → Type 0} → Closed Heard Given P → (c : Client) (number : ℕ) (ticket : Ticket) (r : Reply) → Replying Given P c ticket r → Both P (replied (begun c) number ticket r)
 replied-keeps closed c number ticket (Reply.Refused inc status) h = refused-keeps closed c ticket inc status ticket.job refl h.counts h
@@ -146,7 +147,11 @@ cancelled-spared : (c : Client) (file : ℕ) (t : Ticket) → (cancels (begun c)
 unfolding cancels
 cancelled-spared c file t e = (keeps-or-cancels file c.ticket t e).1
 
-vacates-keeps : {Heard : ℕ → Tag → Type 0} {Given : ℕ → Grant → ℕ → Type 0} {P : Core → Type 0} → Closed Heard Given P → (t : ClientStep) (file : ℕ) (tag : Tag) → CanVacate Heard (core_of t) file tag → Both P t → Both P (vacates_lease t file tag)
+cancelled-attached : (c : Client) (file : ℕ) → c.attached ≡ true → (cancels (begun c) file).client.attached ≡ true
+unfolding cancels
+cancelled-attached c file is_attached = is_attached
+
+vacates-keeps : {Heard : ℕ → Tag → Type 0} {Given : ℕ → Grant → ℕ → Type 0} {P : Core → Type 0} → Closed Heard Given P → (t : ClientStep) (file : ℕ) (tag : Tag) → CanVacate Heard Given (core_of t) file tag → Both P t → Both P (vacates_lease t file tag)
 unfolding vacates_lease
 vacates-keeps closed t file tag can b = record {
   alone = record {
@@ -192,16 +197,16 @@ notes-keeps closed t file tag heard spared unclean b = record {
   is_attached : c.attached ≡ true
   is_attached = unclean-attached c file unclean b.alone
 
-evicted-keeps : {Heard : ℕ → Tag → Type 0} {Given : ℕ → Grant → ℕ → Type 0} {P : Core → Type 0} → Closed Heard Given P → (t : ClientStep) (file : ℕ) (tag : Tag) → Heard file tag → ((u : Ticket) → t.client.ticket ≡ Some u → wants_of file u.request ≡ false) → Both P t → Both P (evicted t file tag)
-evicted-keeps {P = P} closed t file tag heard spared b =
+evicted-keeps : {Heard : ℕ → Tag → Type 0} {Given : ℕ → Grant → ℕ → Type 0} {P : Core → Type 0} → Closed Heard Given P → (t : ClientStep) (file : ℕ) (tag : Tag) → Heard file tag → ((g : Grant) (sent : ℕ) → Given file g sent → ⊥) → t.client.attached ≡ true → ((u : Ticket) → t.client.ticket ≡ Some u → wants_of file u.request ≡ false) → Both P t → Both P (evicted t file tag)
+evicted-keeps {P = P} closed t file tag heard ungiven is_attached spared b =
     choice (Both P) (is_clean t.client file) (vacates_lease t file tag) (notes_notice t file tag)
-        (λ e. vacates-keeps closed t file tag (record { unwanted = spared; source = inr heard }) b)
+        (λ e. vacates-keeps closed t file tag (record { attached = is_attached; unwanted = spared; ungiven = ungiven; source = inr heard }) b)
         (λ e. notes-keeps closed t file tag heard spared e b)
 
-pub notice-keeps : {Heard : ℕ → Tag → Type 0} {Given : ℕ → Grant → ℕ → Type 0} {P : Core → Type 0} → Closed Heard Given P → (c : Client) (file : ℕ) (tag : Tag) → Heard file tag → Alone c → P (core_of (begun c)) → Both P (goes_on (evicted (cancels (begun c) file) file tag))
-notice-keeps closed c file tag heard a core =
+pub notice-keeps : {Heard : ℕ → Tag → Type 0} {Given : ℕ → Grant → ℕ → Type 0} {P : Core → Type 0} → Closed Heard Given P → (c : Client) (file : ℕ) (tag : Tag) → Heard file tag → ((g : Grant) (sent : ℕ) → Given file g sent → ⊥) → c.attached ≡ true → Alone c → P (core_of (begun c)) → Both P (goes_on (evicted (cancels (begun c) file) file tag))
+notice-keeps closed c file tag heard ungiven is_attached a core =
     goes-on-keeps closed (evicted (cancels (begun c) file) file tag)
-        (evicted-keeps closed (cancels (begun c) file) file tag heard (cancelled-spared c file) (cancels-keeps closed c file a core))
+        (evicted-keeps closed (cancels (begun c) file) file tag heard ungiven (cancelled-attached c file is_attached) (cancelled-spared c file) (cancels-keeps closed c file a core))
 
 -- ---- calls
 

@@ -265,10 +265,10 @@ both-again : {P : Core → Type 0} (t : ClientStep) (file : ℕ) → Spent P t f
 both-again t file s none own = record { alone = settled-push t file s.spent none own; core = s.core }
 
 -- a notice on the file is answered
-vacates-spent : {Heard : ℕ → Tag → Type 0} {Given : ℕ → Grant → ℕ → Type 0} {P : Core → Type 0} → Closed Heard Given P → (t : ClientStep) (file : ℕ) (o : Option Notice) → notice_on file t.client.notices ≡ o → Spent P t file → t.client.push ≡ None → Both P (vacates_noticed t file o)
+vacates-spent : {Heard : ℕ → Tag → Type 0} {Given : ℕ → Grant → ℕ → Type 0} {P : Core → Type 0} → Closed Heard Given P → (t : ClientStep) (file : ℕ) (o : Option Notice) → ((g : Grant) (sent : ℕ) → Given file g sent → ⊥) → notice_on file t.client.notices ≡ o → Spent P t file → t.client.push ≡ None → Both P (vacates_noticed t file o)
 unfolding vacates_lease
-vacates-spent closed t file None is s none = both-again t file s none (λ n e. none-some n (sym is ∙ e))
-vacates-spent closed t file (Some n) is s none = record {
+vacates-spent closed t file None ungiven is s none = both-again t file s none (λ n e. none-some n (sym is ∙ e))
+vacates-spent closed t file (Some n) ungiven is s none = record {
   alone = record {
     asking = move.drops-notice file (move.drops file (move.draws (t.client.xid + 1) t.client.seq (omega arith) (omega arith) s.spent.asking));
     delaying = record {
@@ -277,7 +277,7 @@ vacates-spent closed t file (Some n) is s none = record {
       empty = λ e. let a = s.spent.free.attached in absurd (cc);
     };
   };
-  core = closed.vacates (core_of t) file n.tag (record { unwanted = λ u e. none-some u (sym s.spent.free.free ∙ e); source = inl (n, is, refl) }) s.core;
+  core = closed.vacates (core_of t) file n.tag (record { attached = s.spent.free.attached; unwanted = λ u e. none-some u (sym s.spent.free.free ∙ e); ungiven = ungiven; source = inl (n, is, refl) }) s.core;
 }
 
 -- a push was done
@@ -297,15 +297,15 @@ ends-none : (t : ClientStep) (file rev : ℕ) → (knows_revision (ends_push t) 
 unfolding ends_push knows_revision
 ends-none t file rev = refl
 
-vacates-if-clean-keeps : {Heard : ℕ → Tag → Type 0} {Given : ℕ → Grant → ℕ → Type 0} {P : Core → Type 0} → Closed Heard Given P → (t : ClientStep) (file : ℕ) → Spent P t file → t.client.push ≡ None → Both P (vacates_if_clean t file)
-vacates-if-clean-keeps {P = P} closed t file s none =
+vacates-if-clean-keeps : {Heard : ℕ → Tag → Type 0} {Given : ℕ → Grant → ℕ → Type 0} {P : Core → Type 0} → Closed Heard Given P → (t : ClientStep) (file : ℕ) → ((g : Grant) (sent : ℕ) → Given file g sent → ⊥) → Spent P t file → t.client.push ≡ None → Both P (vacates_if_clean t file)
+vacates-if-clean-keeps {P = P} closed t file ungiven s none =
     choice (Both P) (is_clean t.client file) (vacates_noticed t file (notice_on file t.client.notices)) t
-        (λ e. vacates-spent closed t file (notice_on file t.client.notices) refl s none)
+        (λ e. vacates-spent closed t file (notice_on file t.client.notices) ungiven refl s none)
         (λ e. both-again t file s none (λ n f. e))
 
-push-done-keeps : {Heard : ℕ → Tag → Type 0} {Given : ℕ → Grant → ℕ → Type 0} {P : Core → Type 0} → Closed Heard Given P → (t : ClientStep) (file block : ℕ) (body : List ℕ) (rev : ℕ) → Spent P t file → Both P (push_done t file block body rev)
-push-done-keeps closed t file block body rev s =
-    vacates-if-clean-keeps closed (caches_push (knows_revision (ends_push t) file rev) file block body) file
+push-done-keeps : {Heard : ℕ → Tag → Type 0} {Given : ℕ → Grant → ℕ → Type 0} {P : Core → Type 0} → Closed Heard Given P → (t : ClientStep) (file block : ℕ) (body : List ℕ) (rev : ℕ) → ((g : Grant) (sent : ℕ) → Given file g sent → ⊥) → Spent P t file → Both P (push_done t file block body rev)
+push-done-keeps closed t file block body rev ungiven s =
+    vacates-if-clean-keeps closed (caches_push (knows_revision (ends_push t) file rev) file block body) file ungiven
         (caches-push-spent (knows_revision (ends_push t) file rev) file block body (ends-spent t file rev s))
         (caches-push-none (knows_revision (ends_push t) file rev) file block body (ends-none t file rev))
 
@@ -345,11 +345,11 @@ unfolding vacates_lease
 vacated-free t file None f = f
 vacated-free t file (Some n) f = record { free = f.free; attached = f.attached }
 
-push-refused-keeps : {Heard : ℕ → Tag → Type 0} {Given : ℕ → Grant → ℕ → Type 0} {P : Core → Type 0} → Closed Heard Given P → (t : ClientStep) (file : ℕ) → other_push file t.client.push ≡ None → Spent P t file → Both P (push_refused t file)
-push-refused-keeps {P = P} closed t file gone s =
+push-refused-keeps : {Heard : ℕ → Tag → Type 0} {Given : ℕ → Grant → ℕ → Type 0} {P : Core → Type 0} → Closed Heard Given P → (t : ClientStep) (file : ℕ) → ((g : Grant) (sent : ℕ) → Given file g sent → ⊥) → other_push file t.client.push ≡ None → Spent P t file → Both P (push_refused t file)
+push-refused-keeps {P = P} closed t file ungiven gone s =
     reports-keeps (vacates_noticed third file (notice_on file t.client.notices)) file
         (vacated-free third file (notice_on file t.client.notices) kept.spent.free)
-        (vacates-spent closed third file (notice_on file t.client.notices) same kept none)
+        (vacates-spent closed third file (notice_on file t.client.notices) ungiven same kept none)
   where
   third : ClientStep
   third = without_lease (loses t file) file
@@ -430,13 +430,13 @@ spent-gone c ticket file is of_file a = case c.push refl
 
 -- ---- the reply to the request under way
 
-pub done-push-keeps : {Heard : ℕ → Tag → Type 0} {Given : ℕ → Grant → ℕ → Type 0} {P : Core → Type 0} → Closed Heard Given P → (c : Client) (ticket : Ticket) (request : Request) (r : Reply) → ticket.request ≡ request → is_some (push_in request) ≡ true → is_of_procedure r request ≡ true → c.ticket ≡ Some ticket → c.attached ≡ true → Alone c → P (record (core_of (begun c)) { ticket = None }) → Both P (done_push (spends (begun c)) request r)
-done-push-keeps closed c ticket (Request.Write w seq file block first last (Some base) body) (Reply.Write inc rev) eq fits counts is attached a core =
-    push-done-keeps closed (spends (begun c)) file block body rev (spent-push c ticket file is attached (λ p e. push-of-file w seq file block first last base body p (subst (λ z. push_in z ≡ Some p) eq e)) a core)
-done-push-keeps closed c ticket request r eq fits counts is attached a core = absurd (cc)
+pub done-push-keeps : {Heard : ℕ → Tag → Type 0} {Given : ℕ → Grant → ℕ → Type 0} {P : Core → Type 0} → Closed Heard Given P → (c : Client) (ticket : Ticket) (request : Request) (r : Reply) → ((file : ℕ) (g : Grant) (sent : ℕ) → Given file g sent → requested_file ticket.request ≡ Some file) → ticket.request ≡ request → is_some (push_in request) ≡ true → is_of_procedure r request ≡ true → c.ticket ≡ Some ticket → c.attached ≡ true → Alone c → P (record (core_of (begun c)) { ticket = None }) → Both P (done_push (spends (begun c)) request r)
+done-push-keeps closed c ticket (Request.Write w seq file block first last (Some base) body) (Reply.Write inc rev) only eq fits counts is attached a core =
+    push-done-keeps closed (spends (begun c)) file block body rev (λ g sent given. none-some file (ap requested_file (sym eq) ∙ only file g sent given)) (spent-push c ticket file is attached (λ p e. push-of-file w seq file block first last base body p (subst (λ z. push_in z ≡ Some p) eq e)) a core)
+done-push-keeps closed c ticket request r only eq fits counts is attached a core = absurd (cc)
 
-pub refused-push-keeps : {Heard : ℕ → Tag → Type 0} {Given : ℕ → Grant → ℕ → Type 0} {P : Core → Type 0} → Closed Heard Given P → (c : Client) (ticket : Ticket) (request : Request) → ticket.request ≡ request → is_some (push_in request) ≡ true → c.ticket ≡ Some ticket → c.attached ≡ true → Alone c → P (record (core_of (begun c)) { ticket = None }) → Both P (refused_push (spends (begun c)) request)
-refused-push-keeps closed c ticket (Request.Write w seq file block first last (Some base) body) eq fits is attached a core =
+pub refused-push-keeps : {Heard : ℕ → Tag → Type 0} {Given : ℕ → Grant → ℕ → Type 0} {P : Core → Type 0} → Closed Heard Given P → (c : Client) (ticket : Ticket) (request : Request) → ((file : ℕ) (g : Grant) (sent : ℕ) → Given file g sent → requested_file ticket.request ≡ Some file) → ticket.request ≡ request → is_some (push_in request) ≡ true → c.ticket ≡ Some ticket → c.attached ≡ true → Alone c → P (record (core_of (begun c)) { ticket = None }) → Both P (refused_push (spends (begun c)) request)
+refused-push-keeps closed c ticket (Request.Write w seq file block first last (Some base) body) only eq fits is attached a core =
     let of_file : (p : Push) → push_in ticket.request ≡ Some p → p.file ≡ file = λ p e. push-of-file w seq file block first last base body p (subst (λ z. push_in z ≡ Some p) eq e) in
-    push-refused-keeps closed (spends (begun c)) file (spent-gone c ticket file is of_file a) (spent-push c ticket file is attached of_file a core)
-refused-push-keeps closed c ticket request eq fits is attached a core = absurd (cc)
+    push-refused-keeps closed (spends (begun c)) file (λ g sent given. none-some file (ap requested_file (sym eq) ∙ only file g sent given)) (spent-gone c ticket file is of_file a) (spent-push c ticket file is attached of_file a core)
+refused-push-keeps closed c ticket request only eq fits is attached a core = absurd (cc)
