@@ -70,10 +70,9 @@ pub record CanSend (k : Core) (job : Job) (request : Request) : Type 0 where
   pub unwanted : (file : ℕ) (n : Notice) → notice_on file k.notices ≡ Some n → wants_of file request ≡ false
   pub changed : (file : ℕ) → changes_file request ≡ Some file → lease_on file k.leases ≡ None
 
--- a lease can be given up: the client is attached, no request wants the file, no grant of it is to be taken, and the tag
--- is that of a waiting notice, or of one that is heard
+-- a lease can be given up: no request wants the file, no grant of it is to be taken, and the tag is that of a waiting
+-- notice, or of one that is heard
 pub record CanVacate (Heard : ℕ → Tag → Type 0) (Given : ℕ → Grant → ℕ → Type 0) (k : Core) (file : ℕ) (tag : Tag) : Type 0 where
-  pub attached : k.attached ≡ true
   pub unwanted : (t : Ticket) → k.ticket ≡ Some t → wants_of file t.request ≡ false
   pub ungiven : (g : Grant) (sent : ℕ) → Given file g sent → ⊥
   pub source : ((n : Notice) × (notice_on file k.notices ≡ Some n) × (tag ≡ n.tag)) ⊎ Heard file tag

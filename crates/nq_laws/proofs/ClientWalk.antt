@@ -147,10 +147,6 @@ cancelled-spared : (c : Client) (file : ℕ) (t : Ticket) → (cancels (begun c)
 unfolding cancels
 cancelled-spared c file t e = (keeps-or-cancels file c.ticket t e).1
 
-cancelled-attached : (c : Client) (file : ℕ) → c.attached ≡ true → (cancels (begun c) file).client.attached ≡ true
-unfolding cancels
-cancelled-attached c file is_attached = is_attached
-
 vacates-keeps : {Heard : ℕ → Tag → Type 0} {Given : ℕ → Grant → ℕ → Type 0} {P : Core → Type 0} → Closed Heard Given P → (t : ClientStep) (file : ℕ) (tag : Tag) → CanVacate Heard Given (core_of t) file tag → Both P t → Both P (vacates_lease t file tag)
 unfolding vacates_lease
 vacates-keeps closed t file tag can b = record {
@@ -197,16 +193,16 @@ notes-keeps closed t file tag heard spared unclean b = record {
   is_attached : c.attached ≡ true
   is_attached = unclean-attached c file unclean b.alone
 
-evicted-keeps : {Heard : ℕ → Tag → Type 0} {Given : ℕ → Grant → ℕ → Type 0} {P : Core → Type 0} → Closed Heard Given P → (t : ClientStep) (file : ℕ) (tag : Tag) → Heard file tag → ((g : Grant) (sent : ℕ) → Given file g sent → ⊥) → t.client.attached ≡ true → ((u : Ticket) → t.client.ticket ≡ Some u → wants_of file u.request ≡ false) → Both P t → Both P (evicted t file tag)
-evicted-keeps {P = P} closed t file tag heard ungiven is_attached spared b =
+evicted-keeps : {Heard : ℕ → Tag → Type 0} {Given : ℕ → Grant → ℕ → Type 0} {P : Core → Type 0} → Closed Heard Given P → (t : ClientStep) (file : ℕ) (tag : Tag) → Heard file tag → ((g : Grant) (sent : ℕ) → Given file g sent → ⊥) → ((u : Ticket) → t.client.ticket ≡ Some u → wants_of file u.request ≡ false) → Both P t → Both P (evicted t file tag)
+evicted-keeps {P = P} closed t file tag heard ungiven spared b =
     choice (Both P) (is_clean t.client file) (vacates_lease t file tag) (notes_notice t file tag)
-        (λ e. vacates-keeps closed t file tag (record { attached = is_attached; unwanted = spared; ungiven = ungiven; source = inr heard }) b)
+        (λ e. vacates-keeps closed t file tag (record { unwanted = spared; ungiven = ungiven; source = inr heard }) b)
         (λ e. notes-keeps closed t file tag heard spared e b)
 
-pub notice-keeps : {Heard : ℕ → Tag → Type 0} {Given : ℕ → Grant → ℕ → Type 0} {P : Core → Type 0} → Closed Heard Given P → (c : Client) (file : ℕ) (tag : Tag) → Heard file tag → ((g : Grant) (sent : ℕ) → Given file g sent → ⊥) → c.attached ≡ true → Alone c → P (core_of (begun c)) → Both P (goes_on (evicted (cancels (begun c) file) file tag))
-notice-keeps closed c file tag heard ungiven is_attached a core =
+pub notice-keeps : {Heard : ℕ → Tag → Type 0} {Given : ℕ → Grant → ℕ → Type 0} {P : Core → Type 0} → Closed Heard Given P → (c : Client) (file : ℕ) (tag : Tag) → Heard file tag → ((g : Grant) (sent : ℕ) → Given file g sent → ⊥) → Alone c → P (core_of (begun c)) → Both P (goes_on (evicted (cancels (begun c) file) file tag))
+notice-keeps closed c file tag heard ungiven a core =
     goes-on-keeps closed (evicted (cancels (begun c) file) file tag)
-        (evicted-keeps closed (cancels (begun c) file) file tag heard ungiven (cancelled-attached c file is_attached) (cancelled-spared c file) (cancels-keeps closed c file a core))
+        (evicted-keeps closed (cancels (begun c) file) file tag heard ungiven (cancelled-spared c file) (cancels-keeps closed c file a core))
 
 -- ---- calls
 

@@ -277,7 +277,7 @@ vacates-spent closed t file (Some n) ungiven is s none = record {
       empty = λ e. let a = s.spent.free.attached in absurd (cc);
     };
   };
-  core = closed.vacates (core_of t) file n.tag (record { attached = s.spent.free.attached; unwanted = λ u e. none-some u (sym s.spent.free.free ∙ e); ungiven = ungiven; source = inl (n, is, refl) }) s.core;
+  core = closed.vacates (core_of t) file n.tag (record { unwanted = λ u e. none-some u (sym s.spent.free.free ∙ e); ungiven = ungiven; source = inl (n, is, refl) }) s.core;
 }
 
 -- a push was done

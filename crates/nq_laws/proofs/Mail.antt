@@ -79,6 +79,7 @@ pub server-mail : {who : Who} {xid : ℕ} {ticket : Option Ticket} {ps : List Pa
 server-mail {who = who} {xid = xid} {ticket = ticket} {ps = ps} sends said m = record {
   asked = λ x r w sent by. m.asked x r w (old x r (in-append ps sends (from_host who.host (call x r)) sent)) by;
   replied = λ x a sent i. told x a i (in-append ps sends (to_host who.host (reply x a)) sent);
+  past = λ x a sent. before x a (in-append ps sends (to_host who.host (reply x a)) sent);
   own = λ t e. let k = m.own t e in record { number = k.number; asks = k.asks; sent = in-left ps sends (from_host who.host (call t.xid t.request)) k.sent };
 } where
   not-said : (x : ℕ) (r : Request) → IsSaid ps (from_host who.host (call x r)) → ⊥
@@ -101,6 +102,19 @@ server-mail {who = who} {xid = xid} {ticket = ticket} {ps = ps} sends said m = r
       }
   fresh x a i (said_error host y e is) = let t = told-same who.host host (reply x a) (error y e) is in absurd (cc)
   fresh x a i (said_notice y row is) = let t = told-same who.host row.who.host (reply x a) (call y (Request.Evicted row.who row.file row.tag)) is in absurd (cc)
+  later : (x : ℕ) (a : Reply) → IsSaid ps (to_host who.host (reply x a)) → inc_of a ≤ who.inc
+  later x a (said_reply host y b e k) =
+      let t = told-same who.host host (reply x a) (reply y b) e in
+      let p = reply-same x y a b t.1 in
+      let sent : Asked ps who.host x k.asks = subst (λ n. Asked ps who.host n k.asks) (sym p.0) (subst (λ h. Asked ps h y k.asks) (sym t.0) k.sent) in
+      let below = (m.asked x k.asks k.who sent k.by).inc in
+      let same : inc_of a ≡ k.who.inc = ap inc_of p.1 ∙ k.inc in
+      omega arith
+  later x a (said_error host y e is) = let t = told-same who.host host (reply x a) (error y e) is in absurd (cc)
+  later x a (said_notice y row is) = let t = told-same who.host row.who.host (reply x a) (call y (Request.Evicted row.who row.file row.tag)) is in absurd (cc)
+  before : (x : ℕ) (a : Reply) → In ps (to_host who.host (reply x a)) ⊎ In sends (to_host who.host (reply x a)) → inc_of a ≤ who.inc
+  before x a (inl there) = m.past x a there
+  before x a (inr new) = later x a (said (to_host who.host (reply x a)) new)
   told : (x : ℕ) (a : Reply) → inc_of a ≡ who.inc → In ps (to_host who.host (reply x a)) ⊎ In sends (to_host who.host (reply x a)) → IsReplied xid ticket x a
   told x a i (inl there) = m.replied x a there i
   told x a i (inr new) = fresh x a i (said (to_host who.host (reply x a)) new)
@@ -110,6 +124,7 @@ pub other-mail : {who : Who} {xid : ℕ} {ticket : Option Ticket} {ps : List Pac
 other-mail {who = who} {xid = xid} {ticket = ticket} {ps = ps} host sends apart m = record {
   asked = λ x r w sent by. m.asked x r w (old x r (in-append ps (map (from_host host) sends) (from_host who.host (call x r)) sent)) by;
   replied = λ x a sent i. m.replied x a (told x a (in-append ps (map (from_host host) sends) (to_host who.host (reply x a)) sent)) i;
+  past = λ x a sent. m.past x a (told x a (in-append ps (map (from_host host) sends) (to_host who.host (reply x a)) sent));
   own = λ t e. let k = m.own t e in record { number = k.number; asks = k.asks; sent = in-left ps (map (from_host host) sends) (from_host who.host (call t.xid t.request)) k.sent };
 } where
   theirs : (ms : List Message) (x : ℕ) (r : Request) → In (map (from_host host) ms) (from_host who.host (call x r)) → ⊥

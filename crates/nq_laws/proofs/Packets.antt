@@ -108,6 +108,7 @@ pub record IsOwn (who : Who) (xid : ℕ) (ps : List Packet) (t : Ticket) : Type 
 pub record Mail (who : Who) (xid : ℕ) (ticket : Option Ticket) (ps : List Packet) : Type 0 where
   pub asked : (x : ℕ) (r : Request) (w : Who) → Asked ps who.host x r → asker r ≡ Some w → IsAsked who xid ticket x r w
   pub replied : (x : ℕ) (a : Reply) → Told ps who.host (reply x a) → inc_of a ≡ who.inc → IsReplied xid ticket x a
+  pub past : (x : ℕ) (a : Reply) → Told ps who.host (reply x a) → inc_of a ≤ who.inc
   pub own : (t : Ticket) → ticket ≡ Some t → IsOwn who xid ps t
 
 -- the request under way is one of those that were, but for its sending times, or none
@@ -118,6 +119,7 @@ pub fewer : {who : Who} {xid : ℕ} {ticket : Option Ticket} {ps : List Packet} 
 fewer {who = who} {xid = xid} {ps = ps} less few m = record {
   asked = λ x r w sent by. let k = m.asked x r w sent by in record { host = k.host; inc = k.inc; number = k.number; same = λ i t e n. let f = few t e in sym f.3 ∙ k.same i f.0 f.1 (f.2 ∙ n) };
   replied = λ x a sent i. let k = m.replied x a sent i in record { number = k.number; wants = λ t e n g grants file on. let f = few t e in subst (λ r. wants_of file r ≡ true) f.3 (k.wants f.0 f.1 (f.2 ∙ n) g grants file (ap requested_file f.3 ∙ on)) };
+  past = m.past;
   own = λ t e. let f = few t e in let k = m.own f.0 f.1 in record { number = subst (λ n. n < xid) f.2 k.number; asks = ap asker (sym f.3) ∙ k.asks; sent = subst (λ r. Asked ps who.host t.xid r) f.3 (subst (λ n. Asked ps who.host n f.0.request) f.2 k.sent) };
 }
 
@@ -126,8 +128,12 @@ pub mail-sends : {who : Who} {xid : ℕ} {ps : List Packet} (t : Ticket) → t.x
 mail-sends {who = who} {xid = xid} {ps = ps} t numbered asks m = record {
   asked = λ x r w sent by. case x r w by (in-last ps (from_host who.host (call xid t.request)) (from_host who.host (call x r)) sent);
   replied = λ x a sent i. told x a i (in-last ps (from_host who.host (call xid t.request)) (to_host who.host (reply x a)) sent);
+  past = λ x a sent. m.past x a (gone x a (in-last ps (from_host who.host (call xid t.request)) (to_host who.host (reply x a)) sent));
   own = λ u e. let one : t ≡ u = some-same t u e in subst (λ z. IsOwn who (xid + 1) (ps ++ from_host who.host (call xid t.request) ∷ []) z) one (record { number = omega arith; asks = asks; sent = in-right ps (from_host who.host (call xid t.request) ∷ []) (from_host who.host (call t.xid t.request)) (inl (ap (λ n. from_host who.host (call n t.request)) (sym numbered))) });
 } where
+  gone : (x : ℕ) (a : Reply) → In ps (to_host who.host (reply x a)) ⊎ (from_host who.host (call xid t.request) ≡ to_host who.host (reply x a)) → In ps (to_host who.host (reply x a))
+  gone x a (inl old) = old
+  gone x a (inr bad) = absurd (not-both who.host who.host (call xid t.request) (reply x a) bad)
   case : (x : ℕ) (r : Request) (w : Who) → asker r ≡ Some w → In ps (from_host who.host (call x r)) ⊎ (from_host who.host (call xid t.request) ≡ from_host who.host (call x r)) → IsAsked who (xid + 1) (Some t) x r w
   case x r w by (inl old) = let k = m.asked x r w old by in record {
     host = k.host;
@@ -156,8 +162,12 @@ pub mail-adds : {who : Who} {xid : ℕ} {ticket : Option Ticket} {ps : List Pack
 mail-adds {who = who} {xid = xid} {ticket = ticket} {ps = ps} request asks m = record {
   asked = λ x r w sent by. case x r w by (in-last ps (from_host who.host (call xid request)) (from_host who.host (call x r)) sent);
   replied = λ x a sent i. told x a i (in-last ps (from_host who.host (call xid request)) (to_host who.host (reply x a)) sent);
+  past = λ x a sent. m.past x a (gone x a (in-last ps (from_host who.host (call xid request)) (to_host who.host (reply x a)) sent));
   own = λ u e. let k = m.own u e in record { number = let below = k.number in omega arith; asks = k.asks; sent = in-left ps (from_host who.host (call xid request) ∷ []) (from_host who.host (call u.xid u.request)) k.sent };
 } where
+  gone : (x : ℕ) (a : Reply) → In ps (to_host who.host (reply x a)) ⊎ (from_host who.host (call xid request) ≡ to_host who.host (reply x a)) → In ps (to_host who.host (reply x a))
+  gone x a (inl old) = old
+  gone x a (inr bad) = absurd (not-both who.host who.host (call xid request) (reply x a) bad)
   case : (x : ℕ) (r : Request) (w : Who) → asker r ≡ Some w → In ps (from_host who.host (call x r)) ⊎ (from_host who.host (call xid request) ≡ from_host who.host (call x r)) → IsAsked who (xid + 1) ticket x r w
   case x r w by (inl old) = let k = m.asked x r w old by in record { host = k.host; inc = k.inc; number = λ i. let below = k.number i in omega arith; same = k.same }
   case x r w by (inr new) =
@@ -178,8 +188,12 @@ pub mail-again : {who : Who} {xid : ℕ} {ticket : Option Ticket} {ps : List Pac
 mail-again {who = who} {xid = xid} {ticket = ticket} {ps = ps} t is m = record {
   asked = λ x r w sent by. m.asked x r w (case x r (in-last ps (from_host who.host (call t.xid t.request)) (from_host who.host (call x r)) sent)) by;
   replied = λ x a sent i. m.replied x a (told x a (in-last ps (from_host who.host (call t.xid t.request)) (to_host who.host (reply x a)) sent)) i;
+  past = λ x a sent. m.past x a (gone x a (in-last ps (from_host who.host (call t.xid t.request)) (to_host who.host (reply x a)) sent));
   own = λ u e. let k = m.own u e in record { number = k.number; asks = k.asks; sent = in-left ps (from_host who.host (call t.xid t.request) ∷ []) (from_host who.host (call u.xid u.request)) k.sent };
 } where
+  gone : (x : ℕ) (a : Reply) → In ps (to_host who.host (reply x a)) ⊎ (from_host who.host (call t.xid t.request) ≡ to_host who.host (reply x a)) → In ps (to_host who.host (reply x a))
+  gone x a (inl old) = old
+  gone x a (inr bad) = absurd (not-both who.host who.host (call t.xid t.request) (reply x a) bad)
   case : (x : ℕ) (r : Request) → In ps (from_host who.host (call x r)) ⊎ (from_host who.host (call t.xid t.request) ≡ from_host who.host (call x r)) → In ps (from_host who.host (call x r))
   case x r (inl old) = old
   case x r (inr new) = subst (λ p. In ps p) new (m.own t is).sent
