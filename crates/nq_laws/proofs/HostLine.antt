@@ -48,11 +48,11 @@ pub record LineFits (who : Who) (attached : Bool) (ticket : Option Ticket) (noti
 abbrev pub LineIn : HostRow → List Packet → Core → Type 0
 LineIn line ps k = LineFits k.who k.attached k.ticket k.notices line (packets_with ps k.who.host k.sends)
 
-not-false : (b : Bool) → b ≡ true → b ≡ false → ⊥
+pub not-false : (b : Bool) → b ≡ true → b ≡ false → ⊥
 not-false b t f = absurd (cc)
 
 -- a request is sent by an attached client with none under way
-line-sends : {who : Who} {attached : Bool} {notices : List Notice} {line : HostRow} {ps : List Packet} (xid : ℕ) (t : Ticket) → t.xid ≡ xid → attached ≡ true → asker t.request ≡ Some who → Mail who xid None ps → LineFits who attached None notices line ps → LineFits who attached (Some t) notices line (ps ++ from_host who.host (call xid t.request) ∷ [])
+pub line-sends : {who : Who} {attached : Bool} {notices : List Notice} {line : HostRow} {ps : List Packet} (xid : ℕ) (t : Ticket) → t.xid ≡ xid → attached ≡ true → asker t.request ≡ Some who → Mail who xid None ps → LineFits who attached None notices line ps → LineFits who attached (Some t) notices line (ps ++ from_host who.host (call xid t.request) ∷ [])
 line-sends {who = who} {attached = attached} {notices = notices} {line = line} {ps = ps} xid t numbered is_attached asks m h = record {
   past = h.past;
   current = h.current;
@@ -91,7 +91,7 @@ line-sends {who = who} {attached = attached} {notices = notices} {line = line} {
       inr (t, refl, numbered ∙ c.0)
 
 -- a message is sent that is no request to be decided, by an attached client
-line-adds : {who : Who} {attached : Bool} {ticket : Option Ticket} {notices : List Notice} {line : HostRow} {ps : List Packet} (xid : ℕ) (request : Request) → attached ≡ true → asker request ≡ Some who → seq_of request ≡ None → LineFits who attached ticket notices line ps → LineFits who attached ticket notices line (ps ++ from_host who.host (call xid request) ∷ [])
+pub line-adds : {who : Who} {attached : Bool} {ticket : Option Ticket} {notices : List Notice} {line : HostRow} {ps : List Packet} (xid : ℕ) (request : Request) → attached ≡ true → asker request ≡ Some who → seq_of request ≡ None → LineFits who attached ticket notices line ps → LineFits who attached ticket notices line (ps ++ from_host who.host (call xid request) ∷ [])
 line-adds {who = who} {attached = attached} {ticket = ticket} {notices = notices} {line = line} {ps = ps} xid request is_attached asks no_seq h = record {
   past = h.past;
   current = h.current;
@@ -126,7 +126,7 @@ line-adds {who = who} {attached = attached} {ticket = ticket} {notices = notices
       none-some n (sym no_seq ∙ ap seq_of c.1 ∙ seq)
 
 -- a packet that was sent is sent again
-line-again : {who : Who} {attached : Bool} {ticket : Option Ticket} {notices : List Notice} {line : HostRow} {ps : List Packet} (p : Packet) → In ps p → LineFits who attached ticket notices line ps → LineFits who attached ticket notices line (ps ++ p ∷ [])
+pub line-again : {who : Who} {attached : Bool} {ticket : Option Ticket} {notices : List Notice} {line : HostRow} {ps : List Packet} (p : Packet) → In ps p → LineFits who attached ticket notices line ps → LineFits who attached ticket notices line (ps ++ p ∷ [])
 line-again {who = who} {ps = ps} p there h = record {
   past = h.past;
   current = h.current;
@@ -143,7 +143,7 @@ line-again {who = who} {ps = ps} p there h = record {
   old q (inr e) = subst (λ z. In ps z) e there
 
 -- the request under way is another of the same number and content, or none where none is to be decided
-line-ticket : {who : Who} {attached : Bool} {ticket : Option Ticket} {notices : List Notice} {line : HostRow} {ps : List Packet} (less : Option Ticket) → ((t : Ticket) → less ≡ Some t → (u : Ticket) × (ticket ≡ Some u) × (u.xid ≡ t.xid) × (u.request ≡ t.request)) → ((x n : ℕ) → line.inc ≡ who.inc → IsSettled ticket line.seq x n → (r : Request) (w : Who) → Asked ps who.host x r → asker r ≡ Some w → w.inc ≡ who.inc → seq_of r ≡ Some n → IsSettled less line.seq x n) → LineFits who attached ticket notices line ps → LineFits who attached less notices line ps
+pub line-ticket : {who : Who} {attached : Bool} {ticket : Option Ticket} {notices : List Notice} {line : HostRow} {ps : List Packet} (less : Option Ticket) → ((t : Ticket) → less ≡ Some t → (u : Ticket) × (ticket ≡ Some u) × (u.xid ≡ t.xid) × (u.request ≡ t.request)) → ((x n : ℕ) → line.inc ≡ who.inc → IsSettled ticket line.seq x n → (r : Request) (w : Who) → Asked ps who.host x r → asker r ≡ Some w → w.inc ≡ who.inc → seq_of r ≡ Some n → IsSettled less line.seq x n) → LineFits who attached ticket notices line ps → LineFits who attached less notices line ps
 line-ticket less few keeps h = record {
   past = h.past;
   current = h.current;
