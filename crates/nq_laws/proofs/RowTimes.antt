@@ -18,7 +18,7 @@ use Rattle.nq_laws.proofs.AskCases.{with_marked, IsGranted, shares_again, begins
 use Rattle.nq_laws.proofs.RowChanges.{HasUniqueKeys, unique-filtered, found-put, found-kept, found-vacated, found-marked, mark-is}
 use Rattle.nq_laws.proofs.ServerMoves.{ServerMoves, server-moves, receive-keeps, TickMoves, tick-moves, tick-keeps}
 use Rattle.nq_laws.proofs.ServerOutcomes.{wanted_by}
-use Rattle.nq_laws.proofs.ServerTables.{BootsFitOf, BootsFit, RecoversBoot, StandingFits, StandingFitsOf}
+use Rattle.nq_laws.proofs.ServerTables.{NoneRecoveringOf, none-opened, StandingFits, StandingFitsOf}
 use Rattle.nq_laws.proofs.TableFits.{TableFits}
 use Rattle.nq_laws.proofs.Tests.{is-not-at-most}
 
@@ -175,12 +175,10 @@ times-ended longest before now rows unique later each = λ file host row found.
     let k = found-kept (λ r. not (is_over now r)) file host rows row unique found in
     left-runs longest before now row later k.1 (each file host row k.0)
 
-times-opened : (s : Server) (now : ℕ) (until heard : ℕ) (last : Table) → s.phase ≡ recovering until heard last → BootsFitOf s → EachRow (RowRuns s.longest now) s.table.rows
-times-opened s now until heard last p b =
-    let r : RecoversBoot s.kept.boot s.kept.opened s.table last = subst (λ p. BootsFit s.kept.boot s.kept.opened p s.table) p b in
-    subst (EachRow (RowRuns s.longest now)) (sym r.empty) (λ file host row found. absurd (cc))
+times-opened : (s : Server) (now : ℕ) (until heard : ℕ) (last : Table) → s.phase ≡ recovering until heard last → NoneRecoveringOf s → EachRow (RowRuns s.longest now) s.table.rows
+times-opened s now until heard last p b = subst (EachRow (RowRuns s.longest now)) (sym (none-opened s until heard last p b)) (λ file host row found. absurd (cc))
 
-ticked : (s : Server) (now : ℕ) → s.now ≤ now → BootsFitOf s → StandingFitsOf s → TimesFitOf s → TickMoves s now (λ kept phase table. TimesFit s.longest now phase table)
+ticked : (s : Server) (now : ℕ) → s.now ≤ now → NoneRecoveringOf s → StandingFitsOf s → TimesFitOf s → TickMoves s now (λ kept phase table. TimesFit s.longest now phase table)
 unfolding with_rows
 ticked s now later b t f = record {
   waits = λ until heard last p goes_on. times-later s.longest s.now now s.phase s.table until heard last p later f;
@@ -195,7 +193,7 @@ ticked s now later b t f = record {
   ended p = times-ended s.longest s.now now s.table.rows (keys p) later (subst (λ p. TimesFit s.longest s.now p s.table) p f)
 
 -- and after a tick
-pub times-tick : (s : Server) (now : ℕ) → s.now ≤ now → BootsFitOf s → StandingFitsOf s → TimesFitOf s → TimesFitOf (tick s now).server
+pub times-tick : (s : Server) (now : ℕ) → s.now ≤ now → NoneRecoveringOf s → StandingFitsOf s → TimesFitOf s → TimesFitOf (tick s now).server
 times-tick s now later b t f =
     let k = tick-keeps s now in
     subst (λ longest. TimesFit longest (tick s now).server.now (tick s now).server.phase (tick s now).server.table) (sym k.0)

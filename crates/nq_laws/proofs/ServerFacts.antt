@@ -18,7 +18,7 @@ use Rattle.nq_laws.proofs.RowChanges.{HasUniqueKeys, unique-filtered, of-key, fo
 use Rattle.nq_laws.proofs.Rows.{found-row}
 use Rattle.nq_laws.proofs.ServerMoves.{first_line, ServerMoves, server-moves, tick-moves}
 use Rattle.nq_laws.proofs.ServerOutcomes.{line_of}
-use Rattle.nq_laws.proofs.ServerTables.{BootsFitOf, BootsFit, RecoversBoot, StandingFits, StandingFitsOf}
+use Rattle.nq_laws.proofs.ServerTables.{NoneRecoveringOf, none-opened, StandingFits, StandingFitsOf}
 use Rattle.nq_laws.proofs.TableFits.{TableFits}
 
 -- each row is of the kept incarnation of its host
@@ -126,16 +126,11 @@ unfolding with_files
 fence-lines kept None host = refl
 fence-lines kept (Some f) host = refl
 
-incs-opened : (s : Server) (until heard : ℕ) (last : Table) → s.phase ≡ recovering until heard last → BootsFitOf s → (kept : Kept) → AreCurrent kept s.table.rows
-incs-opened s until heard last p b kept =
-    let r : RecoversBoot s.kept.boot s.kept.opened s.table last = subst (λ p. BootsFit s.kept.boot s.kept.opened p s.table) p b in
-    λ file host row found. no-row file host row (subst (λ rows. find_row file host rows ≡ Some row) r.empty found)
-  where
-  no-row : (file host : ℕ) (row : Row) → find_row file host [] ≡ Some row → row.who.inc ≡ (host_row kept host).inc
-  no-row file host row e = absurd (cc)
+incs-opened : (s : Server) (until heard : ℕ) (last : Table) → s.phase ≡ recovering until heard last → NoneRecoveringOf s → (kept : Kept) → AreCurrent kept s.table.rows
+incs-opened s until heard last p b kept = subst (AreCurrent kept) (sym (none-opened s until heard last p b)) (λ file host row found. absurd (cc))
 
 -- and after a tick
-pub incs-tick : (s : Server) (now : ℕ) → BootsFitOf s → StandingFitsOf s → IncsFitOf s → IncsFitOf (tick s now).server
+pub incs-tick : (s : Server) (now : ℕ) → NoneRecoveringOf s → StandingFitsOf s → IncsFitOf s → IncsFitOf (tick s now).server
 unfolding with_rows
 incs-tick s now b t f = tick-moves s now IncsFit (record {
   waits = λ until heard last p goes_on. f;

@@ -9,7 +9,7 @@ use Rattle.nq_model.specs.Table.{empty_table}
 use Rattle.nq_laws.proofs.RowTimes.{WantsCaching, TimesFitOf, times-receive, times-tick, times-boot, times-crash}
 use Rattle.nq_laws.proofs.ServerFacts.{IncsFitOf, incs-receive, incs-tick, incs-boot, incs-crash}
 use Rattle.nq_laws.proofs.ServerNumbers.{TermsFitOf, IdsFitOf, IdsFit, LinesFitOf, LinesFit, RecoveryWaitsOf, terms-receive, terms-tick, terms-boot, terms-crash, ids-receive, ids-tick, ids-boot, ids-crash, lines-receive, lines-tick, lines-boot, lines-crash, waits-receive, waits-tick, waits-boot, waits-crash}
-use Rattle.nq_laws.proofs.ServerTables.{BootsFitOf, StandingFitsOf, boots-receive, boots-tick, boots-boot, boots-crash, stands-receive, stands-tick, stands-boot, stands-crash}
+use Rattle.nq_laws.proofs.ServerTables.{NoneRecoveringOf, none-of-boots, BootsFitOf, StandingFitsOf, boots-receive, boots-tick, boots-boot, boots-crash, stands-receive, stands-tick, stands-boot, stands-crash}
 use Rattle.nq_laws.proofs.TableFits.{no-rows-fit}
 
 -- the facts: the last boot was at this time, and no term is longer than this
@@ -35,12 +35,16 @@ fits-receive most booted s sender next d wants f = record {
   waits = waits-receive booted s sender next d f.waits;
 }
 
+-- while the server recovers its table is empty
+pub none-fits : (most booted : ℕ) (s : Server) → ServerFits most booted s → NoneRecoveringOf s
+none-fits most booted s f = none-of-boots s.kept.boot s.kept.opened s.phase s.table f.boots
+
 pub fits-tick : (most booted : ℕ) (s : Server) (now : ℕ) → s.now ≤ now → ServerFits most booted s → ServerFits most booted (tick s now).server
 fits-tick most booted s now later f = record {
   boots = boots-tick s now f.boots;
-  stands = stands-tick s now f.boots f.stands;
-  incs = incs-tick s now f.boots f.stands f.incs;
-  times = times-tick s now later f.boots f.stands f.times;
+  stands = stands-tick s now (none-fits most booted s f) f.stands;
+  incs = incs-tick s now (none-fits most booted s f) f.stands f.incs;
+  times = times-tick s now later (none-fits most booted s f) f.stands f.times;
   terms = terms-tick most s now f.terms;
   ids = ids-tick s now f.ids;
   lines = lines-tick s now f.lines;

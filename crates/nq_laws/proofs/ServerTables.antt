@@ -121,6 +121,69 @@ pub boots-crash : (s : Server) (longest : ℕ) → BootsFitOf s → BootsFitOf (
 unfolding crash
 boots-crash s longest b = boots-boot s.kept longest s.now (standing s) (opened-before _ _ s.phase s.table b) (standing-boot _ _ s.phase s.table b)
 
+-- while the server recovers its own table is empty
+abbrev pub NoneRecovering : Phase → Table → Type 0
+NoneRecovering serving table = Unit {0}
+NoneRecovering (recovering until heard last) table = table.rows ≡ []
+
+abbrev pub NoneRecoveringOf : Server → Type 0
+NoneRecoveringOf s = NoneRecovering s.phase s.table
+
+pub none-of-boots : (boot opened : ℕ) (phase : Phase) (table : Table) → BootsFit boot opened phase table → NoneRecovering phase table
+none-of-boots boot opened serving table b = tt
+none-of-boots boot opened (recovering until heard last) table b = b.empty
+
+none-with-rows : (phase : Phase) (table : Table) (rows : List Row) → (table.rows ≡ [] → rows ≡ []) → NoneRecovering phase table → NoneRecovering phase (with_rows table rows)
+unfolding with_rows
+none-with-rows serving table rows none b = tt
+none-with-rows (recovering until heard last) table rows none b = none b
+
+none-served : (phase : Phase) (table : Table) → phase ≡ serving → NoneRecovering phase table
+none-served phase table p = subst (λ p. NoneRecovering p table) (sym p) tt
+
+none-moves : (s : Server) (d : Datagram) → NoneRecoveringOf s → ServerMoves s d (λ kept phase table. NoneRecovering phase table)
+none-moves s d b = record {
+  stays = b;
+  decided = λ kept phase table who line inc same q. q;
+  attaching = λ who later. none-with-rows s.phase s.table _ (λ e. ap (drop_host who.host) e) b;
+  vacating = λ who file tag current. none-with-rows s.phase s.table _ (λ e. ap (λ rows. vacated_rows who file tag rows (find_row file who.host rows)) e) b;
+  marking = λ file host access serves. none-served s.phase _ serves;
+  marking_waiting = λ xid r who f want e wants asking own room. none-served s.phase _ asking.serves;
+  granting = λ xid r who f want row term e wants asking c g. none-served s.phase _ asking.serves;
+  creating = λ name blocks serves can. b;
+  changing = λ who f file serves current found same c. b;
+  storing = λ who f file base row serves current found same can. none-served s.phase _ serves;
+  storing_recovering = λ f file until heard last p found same. subst (λ p. NoneRecovering p s.table) p b;
+  removing = λ who f serves current found c. none-served s.phase _ serves;
+}
+
+pub none-receive : (s : Server) (sender next : ℕ) (d : Datagram) → NoneRecoveringOf s → NoneRecoveringOf (receive s sender next d).server
+none-receive s sender next d b = server-moves s sender next d (λ kept phase table. NoneRecovering phase table) (none-moves s d b)
+
+pub none-tick : (s : Server) (now : ℕ) → NoneRecoveringOf s → NoneRecoveringOf (tick s now).server
+none-tick s now b = tick-moves s now (λ kept phase table. NoneRecovering phase table) (record {
+  waits = λ until heard last p goes_on. b;
+  opening = λ until heard last p over. tt;
+  ends_reading = λ p. none-served s.phase _ p;
+  ending_writing = λ row p due. none-served s.phase _ p;
+})
+
+pub none-boot : (kept : Kept) (longest now : ℕ) (last : Table) → NoneRecoveringOf (boot kept longest now last)
+unfolding boot empty_table
+none-boot kept longest now last = by (kept.opened == 0)
+  where
+  by : (b : Bool) → NoneRecovering (if b then serving else recovering (now + kept.longest + 8) now last) (empty_table (kept.boot + 1))
+  by true = tt
+  by false = refl
+
+pub none-crash : (s : Server) (longest : ℕ) → NoneRecoveringOf (crash s longest).server
+unfolding crash
+none-crash s longest = none-boot s.kept longest s.now (standing s)
+
+-- where a recovery ends, the table is empty
+pub none-opened : (s : Server) (until heard : ℕ) (last : Table) → s.phase ≡ recovering until heard last → NoneRecoveringOf s → s.table.rows ≡ []
+none-opened s until heard last p b = subst (λ p. NoneRecovering p s.table) p b
+
 -- the standing table keeps to its rules: where the server serves, that is its own
 module _ (s : Server) (d : Datagram) (t : StandingFitsOf s) where
   own-fits : s.phase ≡ serving → TableFits s.kept.files s.table.boot s.table.drawn s.table.rows
@@ -206,13 +269,11 @@ unfolding with_files
 fenced-fits kept None boot drawn rows own = own
 fenced-fits kept (Some f) boot drawn rows own = fits-files kept.files _ boot drawn rows (λ id e. is-kept-replaced id (fenced_file f) kept.files ∙ e) own
 
-stands-opened : (s : Server) (until heard : ℕ) (last : Table) → s.phase ≡ recovering until heard last → BootsFitOf s → TableFits s.kept.files s.table.boot s.table.drawn s.table.rows
-stands-opened s until heard last p b =
-    let r : RecoversBoot s.kept.boot s.kept.opened s.table last = subst (λ p. BootsFit s.kept.boot s.kept.opened p s.table) p b in
-    subst (TableFits s.kept.files s.table.boot s.table.drawn) (sym r.empty) (no-rows-fit s.kept.files s.table.boot s.table.drawn)
+stands-opened : (s : Server) (until heard : ℕ) (last : Table) → s.phase ≡ recovering until heard last → NoneRecoveringOf s → TableFits s.kept.files s.table.boot s.table.drawn s.table.rows
+stands-opened s until heard last p b = subst (TableFits s.kept.files s.table.boot s.table.drawn) (sym (none-opened s until heard last p b)) (no-rows-fit s.kept.files s.table.boot s.table.drawn)
 
 -- and after a tick
-pub stands-tick : (s : Server) (now : ℕ) → BootsFitOf s → StandingFitsOf s → StandingFitsOf (tick s now).server
+pub stands-tick : (s : Server) (now : ℕ) → NoneRecoveringOf s → StandingFitsOf s → StandingFitsOf (tick s now).server
 unfolding with_rows
 stands-tick s now b t = tick-moves s now (λ kept phase table. StandingFits kept.files phase table) (record {
   waits = λ until heard last p goes_on. t;
