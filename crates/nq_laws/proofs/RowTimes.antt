@@ -43,9 +43,9 @@ each-fewer P rows fewer stood each = λ file host row found. each file host row 
 pub each-put : (P : Row → Type 0) (rows : List Row) (row : Row) → P row → EachRow P rows → EachRow P (put_row row rows)
 each-put P rows row holds each = λ file host r found. by file host r (found-put file host row r rows found)
   where
-  by : (file host : ℕ) (r : Row) → ((is_row_of file host row ≡ true) × (r ≡ row)) ⊎ ((is_row_of file host row ≡ false) × (find_row file host rows ≡ Some r)) → P r
-  by file host r (inl e) = subst P (sym e.1) holds
-  by file host r (inr e) = each file host r e.1
+    by : (file host : ℕ) (r : Row) → ((is_row_of file host row ≡ true) × (r ≡ row)) ⊎ ((is_row_of file host row ≡ false) × (find_row file host rows ≡ Some r)) → P r
+    by file host r (inl e) = subst P (sym e.1) holds
+    by file host r (inr e) = each file host r e.1
 
 -- the times of the rows that stand
 abbrev pub TimesFit : (longest now : ℕ) → Phase → Table → Type 0
@@ -158,17 +158,17 @@ left-runs longest before now row later left r = record {
   bounded = λ e. omega (arith, r.bounded e);
 }
   where
-  by : (w : Bool) → w ≡ false → (b : Bool) → nat_le row.until now ≡ b → not (not w && b) ≡ true → now < row.until
-  by true e b g h = cc
-  by false e true g h = cc
-  by false e false g h = is-not-at-most row.until now g
+    by : (w : Bool) → w ≡ false → (b : Bool) → nat_le row.until now ≡ b → not (not w && b) ≡ true → now < row.until
+    by true e b g h = cc
+    by false e true g h = cc
+    by false e false g h = is-not-at-most row.until now g
 
 times-later : (longest before now : ℕ) (phase : Phase) (table : Table) (until heard : ℕ) (last : Table) → phase ≡ recovering until heard last → before ≤ now → TimesFit longest before phase table → TimesFit longest now phase table
 times-later longest before now phase table until heard last p later f =
     subst (λ p. TimesFit longest now p table) (sym p) (λ file host row found. heard-still file host row (subst (λ p. TimesFit longest before p table) p f file host row found))
   where
-  heard-still : (file host : ℕ) (row : Row) → row.heard ≤ before → row.heard ≤ now
-  heard-still file host row h = omega arith
+    heard-still : (file host : ℕ) (row : Row) → row.heard ≤ before → row.heard ≤ now
+    heard-still file host row h = omega arith
 
 times-ended : (longest before now : ℕ) (rows : List Row) → HasUniqueKeys rows → before ≤ now → EachRow (RowRuns longest before) rows → EachRow (RowRuns longest now) (end_reading now rows)
 times-ended longest before now rows unique later each = λ file host row found.
@@ -187,10 +187,11 @@ ticked s now later b t f = record {
   ending_writing = λ row p due. subst (λ p. TimesFit s.longest now p (with_rows s.table (drop_row row.file row.who.host (end_reading now s.table.rows)))) (sym p) (each-fewer (RowRuns s.longest now) (end_reading now s.table.rows) _ (λ file host r found. (found-kept (λ x. not (is_row_of row.file row.who.host x)) file host _ r (unique-filtered _ s.table.rows (keys p)) found).0) (ended p));
 }
   where
-  keys : s.phase ≡ serving → HasUniqueKeys s.table.rows
-  keys p = let own : TableFits s.kept.files s.table.boot s.table.drawn s.table.rows = subst (λ p. StandingFits s.kept.files p s.table) p t in own.unique
-  ended : s.phase ≡ serving → EachRow (RowRuns s.longest now) (end_reading now s.table.rows)
-  ended p = times-ended s.longest s.now now s.table.rows (keys p) later (subst (λ p. TimesFit s.longest s.now p s.table) p f)
+    keys : s.phase ≡ serving → HasUniqueKeys s.table.rows
+    keys p = let own : TableFits s.kept.files s.table.boot s.table.drawn s.table.rows = subst (λ p. StandingFits s.kept.files p s.table) p t in own.unique
+
+    ended : s.phase ≡ serving → EachRow (RowRuns s.longest now) (end_reading now s.table.rows)
+    ended p = times-ended s.longest s.now now s.table.rows (keys p) later (subst (λ p. TimesFit s.longest s.now p s.table) p f)
 
 -- and after a tick
 pub times-tick : (s : Server) (now : ℕ) → s.now ≤ now → NoneRecoveringOf s → StandingFitsOf s → TimesFitOf s → TimesFitOf (tick s now).server
@@ -205,9 +206,9 @@ pub times-boot : (kept : Kept) (longest now : ℕ) (last : Table) → EachRow (�
 unfolding boot empty_table
 times-boot kept longest now last f = by (kept.opened == 0)
   where
-  by : (b : Bool) → TimesFit longest now (if b then serving else recovering (now + kept.longest + 8) now last) (empty_table (kept.boot + 1))
-  by true = λ file host row found. absurd (cc)
-  by false = f
+    by : (b : Bool) → TimesFit longest now (if b then serving else recovering (now + kept.longest + 8) now last) (empty_table (kept.boot + 1))
+    by true = λ file host row found. absurd (cc)
+    by false = f
 
 standing-times : (longest now : ℕ) (phase : Phase) (table : Table) → TimesFit longest now phase table → EachRow (λ row. row.heard ≤ now) (standing_in phase table).rows
 standing-times longest now serving table f = λ file host row found. (f file host row found).heard_by_now

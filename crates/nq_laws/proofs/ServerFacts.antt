@@ -1,5 +1,5 @@
 -- Facts about a server that each of its steps keeps: whose rows stand, terms, file ids, and how long a recovery waits.
-use Rattle.std.proofs.Common.{◌≡◌, ◌<◌, ◌≤◌, ◌⊎◌, ℕ, ◌+◌, ◌==◌, Bool, true, false, not, List, [], Option, Some, None, if◌then◌else◌, max, refl, sym, subst, ap, ◌∙◌, arith, inl, inr}
+use Rattle.std.proofs.Common.{◌≡◌, ◌<◌, ◌≤◌, ◌⊎◌, ℕ, ◌+◌, ◌==◌, Bool, true, false, not, List, Option, Some, None, if◌then◌else◌, max, refl, sym, subst, ap, ◌∙◌, arith, inl, inr}
 use Rattle.nq_base.specs.declared.Access.{Access}
 use Rattle.nq_base.specs.declared.HostRow.{HostRow}
 use Rattle.nq_base.specs.declared.Row.{Row}
@@ -53,9 +53,9 @@ incs-fewer kept (recovering until heard last) table rows stood f = f
 incs-put : (kept : Kept) (rows : List Row) (row : Row) → row.who.inc ≡ (host_row kept row.who.host).inc → AreCurrent kept rows → AreCurrent kept (put_row row rows)
 incs-put kept rows row current f = λ file host r found. by file host r (found-put file host row r rows found)
   where
-  by : (file host : ℕ) (r : Row) → ((is_row_of file host row ≡ true) × (r ≡ row)) ⊎ ((is_row_of file host row ≡ false) × (find_row file host rows ≡ Some r)) → r.who.inc ≡ (host_row kept host).inc
-  by file host r (inl e) = ap (λ x. x.who.inc) e.1 ∙ current ∙ ap (λ h. (host_row kept h).inc) (of-key file host row e.0).1
-  by file host r (inr e) = f file host r e.1
+    by : (file host : ℕ) (r : Row) → ((is_row_of file host row ≡ true) × (r ≡ row)) ⊎ ((is_row_of file host row ≡ false) × (find_row file host rows ≡ Some r)) → r.who.inc ≡ (host_row kept host).inc
+    by file host r (inl e) = ap (λ x. x.who.inc) e.1 ∙ current ∙ ap (λ h. (host_row kept h).inc) (of-key file host row e.0).1
+    by file host r (inr e) = f file host r e.1
 
 incs-marked : (kept : Kept) (rows : List Row) (f h : ℕ) (access : Access) → AreCurrent kept rows → AreCurrent kept (marked f h access rows)
 incs-marked kept rows f h access current = λ file host row found.
@@ -78,9 +78,9 @@ module _ (s : Server) (d : Datagram) (t : StandingFitsOf s) (f : IncsFitOf s) wh
       let stood = (found-kept (λ r. not (r.who.host == who.host)) file host s.table.rows row (own-unique p) found).0 in
       g file host row stood ∙ ap (λ line. line.inc) (sym (other-line s.kept who.host host (first_line who) (λ same. gone file host row found same)))
     where
-    gone : (file host : ℕ) (row : Row) → find_row file host (drop_host who.host s.table.rows) ≡ Some row → host ≡ who.host → ⊥
-    gone file host row found same =
-        let none : find_row file host (drop_host who.host s.table.rows) ≡ None = subst (λ h. find_row file h (drop_host who.host s.table.rows) ≡ None) (sym same) (find-host-dropped file who.host s.table.rows) in cc
+      gone : (file host : ℕ) (row : Row) → find_row file host (drop_host who.host s.table.rows) ≡ Some row → host ≡ who.host → ⊥
+      gone file host row found same =
+          let none : find_row file host (drop_host who.host s.table.rows) ≡ None = subst (λ h. find_row file h (drop_host who.host s.table.rows) ≡ None) (sym same) (find-host-dropped file who.host s.table.rows) in cc
   incs-attach who (recovering until heard last) p later g = λ file host row found.
       let was : row.who.inc ≤ (host_row s.kept host).inc = g file host row found in
       let line : (host_row s.kept who.host).inc ≤ (first_line who).inc = omega arith in
@@ -91,8 +91,8 @@ module _ (s : Server) (d : Datagram) (t : StandingFitsOf s) (f : IncsFitOf s) wh
   unfolding sharing_row caching_row shared_again renewed_row
   granted-inc q want row term p current (shares_again own found stays shares is lasts) = subst (λ r. r.who.inc ≡ (host_row s.kept r.who.host).inc) (sym is) (own-inc q own p found)
     where
-    own-inc : (q : Question) (own : Row) → s.phase ≡ serving → own_in s.table q ≡ Some own → own.who.inc ≡ (host_row s.kept own.who.host).inc
-    own-inc q own p found = own-incs p q.file q.who.host own found ∙ ap (λ h. (host_row s.kept h).inc) (sym (found-row q.file q.who.host s.table.rows own found).1)
+      own-inc : (q : Question) (own : Row) → s.phase ≡ serving → own_in s.table q ≡ Some own → own.who.inc ≡ (host_row s.kept own.who.host).inc
+      own-inc q own p found = own-incs p q.file q.who.host own found ∙ ap (λ h. (host_row s.kept h).inc) (sym (found-row q.file q.who.host s.table.rows own found).1)
   granted-inc q want row term p current (begins_sharing none room shared is lasts) = subst (λ r. r.who.inc ≡ (host_row s.kept r.who.host).inc) (sym is) current
   granted-inc q want row term p current (begins_caching none room shared is lasts) = subst (λ r. r.who.inc ≡ (host_row s.kept r.who.host).inc) (sym is) current
   granted-inc q want row term p current (renews_row own found stays caching is lasts) = subst (λ r. r.who.inc ≡ (host_row s.kept r.who.host).inc) (sym is) (own-incs p q.file q.who.host own found ∙ ap (λ h. (host_row s.kept h).inc) (sym (found-row q.file q.who.host s.table.rows own found).1))
@@ -139,17 +139,17 @@ incs-tick s now b t f = tick-moves s now IncsFit (record {
   ending_writing = λ row p due. incs-same s.kept (fence s.kept (find_file row.file s.kept.files)) s.phase _ (fence-lines s.kept (find_file row.file s.kept.files)) (incs-fewer s.kept s.phase s.table _ (λ p file host r found. ended p file host r (found-kept (λ r. not (is_row_of row.file row.who.host r)) file host _ r (unique-filtered _ s.table.rows (own-unique s too_long t f p)) found).0) f);
 })
   where
-  ended : s.phase ≡ serving → (file host : ℕ) (row : Row) → find_row file host (end_reading now s.table.rows) ≡ Some row → find_row file host s.table.rows ≡ Some row
-  ended p file host row found = (found-kept (λ r. not (is_over now r)) file host s.table.rows row (own-unique s too_long t f p) found).0
+    ended : s.phase ≡ serving → (file host : ℕ) (row : Row) → find_row file host (end_reading now s.table.rows) ≡ Some row → find_row file host s.table.rows ≡ Some row
+    ended p file host row found = (found-kept (λ r. not (is_over now r)) file host s.table.rows row (own-unique s too_long t f p) found).0
 
 -- and after a boot with a table in mind that has such rows at most
 pub incs-boot : (kept : Kept) (longest now : ℕ) (last : Table) → AreNoLater kept last.rows → IncsFitOf (boot kept longest now last)
 unfolding boot empty_table
 incs-boot kept longest now last f = by (kept.opened == 0)
   where
-  by : (b : Bool) → IncsFit (if b then record kept { boot = kept.boot + 1; opened = kept.boot + 1; longest = longest } else record kept { boot = kept.boot + 1 }) (if b then serving else recovering (now + kept.longest + 8) now last) (empty_table (kept.boot + 1))
-  by true = λ file host row found. absurd (cc)
-  by false = f
+    by : (b : Bool) → IncsFit (if b then record kept { boot = kept.boot + 1; opened = kept.boot + 1; longest = longest } else record kept { boot = kept.boot + 1 }) (if b then serving else recovering (now + kept.longest + 8) now last) (empty_table (kept.boot + 1))
+    by true = λ file host row found. absurd (cc)
+    by false = f
 
 standing-incs : (kept : Kept) (phase : Phase) (table : Table) → IncsFit kept phase table → AreNoLater kept (standing_in phase table).rows
 standing-incs kept serving table f = λ file host row found. let same : row.who.inc ≡ (host_row kept host).inc = f file host row found in omega arith

@@ -8,7 +8,7 @@ use Rattle.nq_model.specs.ServerStep.{receive, tick, boot, crash}
 use Rattle.nq_model.specs.Table.{empty_table}
 use Rattle.nq_laws.proofs.RowTimes.{WantsCaching, TimesFitOf, times-receive, times-tick, times-boot, times-crash}
 use Rattle.nq_laws.proofs.ServerFacts.{IncsFitOf, incs-receive, incs-tick, incs-boot, incs-crash}
-use Rattle.nq_laws.proofs.ServerNumbers.{TermsFitOf, IdsFitOf, IdsFit, LinesFitOf, LinesFit, RecoveryWaitsOf, terms-receive, terms-tick, terms-boot, terms-crash, ids-receive, ids-tick, ids-boot, ids-crash, lines-receive, lines-tick, lines-boot, lines-crash, waits-receive, waits-tick, waits-boot, waits-crash}
+use Rattle.nq_laws.proofs.ServerNumbers.{TermsFitOf, IdsFitOf, IdsFit, LinesFitOf, LinesFit, PhaseWaitsOf, terms-receive, terms-tick, terms-boot, terms-crash, ids-receive, ids-tick, ids-boot, ids-crash, lines-receive, lines-tick, lines-boot, lines-crash, waits-receive, waits-tick, waits-boot, waits-crash}
 use Rattle.nq_laws.proofs.ServerTables.{NoneRecoveringOf, none-of-boots, BootsFitOf, StandingFitsOf, boots-receive, boots-tick, boots-boot, boots-crash, stands-receive, stands-tick, stands-boot, stands-crash}
 use Rattle.nq_laws.proofs.TableFits.{no-rows-fit}
 
@@ -21,7 +21,7 @@ pub record ServerFits (most booted : ℕ) (s : Server) : Type 0 where
   pub terms : TermsFitOf most s
   pub ids : IdsFitOf s
   pub lines : LinesFitOf s
-  pub waits : RecoveryWaitsOf booted s
+  pub waits : PhaseWaitsOf booted s
 
 pub fits-receive : (most booted : ℕ) (s : Server) (sender next : ℕ) (d : Datagram) → WantsCaching d → ServerFits most booted s → ServerFits most booted (receive s sender next d).server
 fits-receive most booted s sender next d wants f = record {

@@ -67,9 +67,9 @@ pub terms-boot : (most : ℕ) (kept : Kept) (longest now : ℕ) (last : Table) �
 unfolding boot
 terms-boot most kept longest now last long few kept_long kept_few = by (kept.opened == 0)
   where
-  by : (b : Bool) → TermsFit most (if b then serving else recovering (now + kept.longest + 8) now last) (if b then record kept { boot = kept.boot + 1; opened = kept.boot + 1; longest = longest } else record kept { boot = kept.boot + 1 }).longest longest
-  by true = record { long = long; few = few; kept_long = long; kept_few = few; same = λ e. refl }
-  by false = record { long = long; few = few; kept_long = kept_long; kept_few = kept_few; same = λ e. absurd (cc) }
+    by : (b : Bool) → TermsFit most (if b then serving else recovering (now + kept.longest + 8) now last) (if b then record kept { boot = kept.boot + 1; opened = kept.boot + 1; longest = longest } else record kept { boot = kept.boot + 1 }).longest longest
+    by true = record { long = long; few = few; kept_long = long; kept_few = few; same = λ e. refl }
+    by false = record { long = long; few = few; kept_long = kept_long; kept_few = kept_few; same = λ e. absurd (cc) }
 
 pub terms-crash : (most : ℕ) (s : Server) (longest : ℕ) → shortest_term ≤ longest → longest ≤ most → TermsFitOf most s → TermsFitOf most (crash s longest).server
 unfolding crash
@@ -85,24 +85,24 @@ IdsFitOf s = IdsFit s.kept.files s.kept.next
 ids-replaced : (files : List File) (next : ℕ) (file f : File) → find_file f.id files ≡ Some f → file.id ≡ f.id → IdsFit files next → IdsFit (replace_file file files) next
 ids-replaced files next file f there same ids = λ id g found. by id g (found-replaced id file g files found)
   where
-  by : (id : ℕ) (g : File) → ((id ≡ file.id) × (g ≡ file)) ⊎ ((id ≢ file.id) × (find_file id files ≡ Some g)) → id < next
-  by id g (inl e) = let below : f.id < next = ids f.id f there in omega (arith, e.0, same)
-  by id g (inr e) = ids id g e.1
+    by : (id : ℕ) (g : File) → ((id ≡ file.id) × (g ≡ file)) ⊎ ((id ≢ file.id) × (find_file id files ≡ Some g)) → id < next
+    by id g (inl e) = let below : f.id < next = ids f.id f there in omega (arith, e.0, same)
+    by id g (inr e) = ids id g e.1
 
 ids-added : (files : List File) (next : ℕ) (file : File) → file.id ≡ next → IdsFit files next → IdsFit (files ++ file ∷ []) (next + 1)
 ids-added files next file same ids = λ id g found. by id g (found-added id file g files found)
   where
-  by : (id : ℕ) (g : File) → (find_file id files ≡ Some g) ⊎ ((id ≡ file.id) × (g ≡ file)) → id < next + 1
-  by id g (inl e) = let below : id < next = ids id g e in omega arith
-  by id g (inr e) = omega (arith, e.0, same)
+    by : (id : ℕ) (g : File) → (find_file id files ≡ Some g) ⊎ ((id ≡ file.id) × (g ≡ file)) → id < next + 1
+    by id g (inl e) = let below : id < next = ids id g e in omega arith
+    by id g (inr e) = omega (arith, e.0, same)
 
 ids-removed : (files : List File) (next removed : ℕ) → IdsFit files next → IdsFit (drop_file removed files) next
 ids-removed files next removed ids = λ id g found. by id g (cases_eq id removed) found
   where
-  by : (id : ℕ) (g : File) → (id ≡ removed) ⊎ (id ≡ removed → ⊥) → find_file id (drop_file removed files) ≡ Some g → id < next
-  by id g (inl e) found =
-      let none : find_file id (drop_file removed files) ≡ None = subst (λ i. find_file i (drop_file removed files) ≡ None) (sym e) (find-removed removed files) in absurd (cc)
-  by id g (inr e) found = ids id g (sym (find-not-removed removed id files e) ∙ found)
+    by : (id : ℕ) (g : File) → (id ≡ removed) ⊎ (id ≡ removed → ⊥) → find_file id (drop_file removed files) ≡ Some g → id < next
+    by id g (inl e) found =
+        let none : find_file id (drop_file removed files) ≡ None = subst (λ i. find_file i (drop_file removed files) ≡ None) (sym e) (find-removed removed files) in absurd (cc)
+    by id g (inr e) found = ids id g (sym (find-not-removed removed id files e) ∙ found)
 
 ids-moves : (s : Server) (d : Datagram) → IdsFitOf s → ServerMoves s d (λ kept phase table. IdsFit kept.files kept.next)
 unfolding with_row with_files with_new_file new_file
@@ -141,9 +141,9 @@ pub ids-boot : (kept : Kept) (longest now : ℕ) (last : Table) → IdsFit kept.
 unfolding boot
 ids-boot kept longest now last f = by (kept.opened == 0)
   where
-  by : (b : Bool) → IdsFit (if b then record kept { boot = kept.boot + 1; opened = kept.boot + 1; longest = longest } else record kept { boot = kept.boot + 1 }).files (if b then record kept { boot = kept.boot + 1; opened = kept.boot + 1; longest = longest } else record kept { boot = kept.boot + 1 }).next
-  by true = f
-  by false = f
+    by : (b : Bool) → IdsFit (if b then record kept { boot = kept.boot + 1; opened = kept.boot + 1; longest = longest } else record kept { boot = kept.boot + 1 }).files (if b then record kept { boot = kept.boot + 1; opened = kept.boot + 1; longest = longest } else record kept { boot = kept.boot + 1 }).next
+    by true = f
+    by false = f
 
 pub ids-crash : (s : Server) (longest : ℕ) → IdsFitOf s → IdsFitOf (crash s longest).server
 unfolding crash
@@ -193,9 +193,9 @@ pub lines-boot : (kept : Kept) (longest now : ℕ) (last : Table) → LinesFit k
 unfolding boot
 lines-boot kept longest now last f = by (kept.opened == 0)
   where
-  by : (b : Bool) → LinesFit (if b then record kept { boot = kept.boot + 1; opened = kept.boot + 1; longest = longest } else record kept { boot = kept.boot + 1 }).hosts
-  by true = f
-  by false = f
+    by : (b : Bool) → LinesFit (if b then record kept { boot = kept.boot + 1; opened = kept.boot + 1; longest = longest } else record kept { boot = kept.boot + 1 }).hosts
+    by true = f
+    by false = f
 
 pub lines-crash : (s : Server) (longest : ℕ) → LinesFitOf s → LinesFitOf (crash s longest).server
 unfolding crash
@@ -209,17 +209,17 @@ pub record Waits (booted now longest until heard : ℕ) : Type 0 where
   pub heard_since : booted ≤ heard
   pub heard_by_now : heard ≤ now
 
-abbrev pub RecoveryWaits : (booted now longest : ℕ) → Phase → Type 0
-RecoveryWaits booted now longest serving = Unit {0}
-RecoveryWaits booted now longest (recovering until heard last) = Waits booted now longest until heard
+abbrev pub PhaseWaits : (booted now longest : ℕ) → Phase → Type 0
+PhaseWaits booted now longest serving = Unit {0}
+PhaseWaits booted now longest (recovering until heard last) = Waits booted now longest until heard
 
-abbrev pub RecoveryWaitsOf : (booted : ℕ) → Server → Type 0
-RecoveryWaitsOf booted s = RecoveryWaits booted s.now s.kept.longest s.phase
+abbrev pub PhaseWaitsOf : (booted : ℕ) → Server → Type 0
+PhaseWaitsOf booted s = PhaseWaits booted s.now s.kept.longest s.phase
 
 waits-more : (booted now longest until heard : ℕ) → Waits booted now longest until heard → Waits booted now longest (max until (now + write_slack)) now
 waits-more booted now longest until heard w = record { after_leases = omega (arith, w.after_leases); after_writes = omega arith; heard_since = omega (arith, w.heard_since, w.heard_by_now); heard_by_now = omega arith }
 
-waits-moves : (booted : ℕ) (s : Server) (d : Datagram) → RecoveryWaitsOf booted s → ServerMoves s d (λ kept phase table. RecoveryWaits booted s.now kept.longest phase)
+waits-moves : (booted : ℕ) (s : Server) (d : Datagram) → PhaseWaitsOf booted s → ServerMoves s d (λ kept phase table. PhaseWaits booted s.now kept.longest phase)
 unfolding with_row with_files with_new_file
 waits-moves booted s d f = record {
   stays = f;
@@ -232,24 +232,24 @@ waits-moves booted s d f = record {
   creating = λ name blocks serves can. f;
   changing = λ who g file serves current found same c. f;
   storing = λ who g file base row serves current found same can. f;
-  storing_recovering = λ g file until heard last p found same. waits-more booted s.now s.kept.longest until heard (subst (RecoveryWaits booted s.now s.kept.longest) p f);
+  storing_recovering = λ g file until heard last p found same. waits-more booted s.now s.kept.longest until heard (subst (PhaseWaits booted s.now s.kept.longest) p f);
   removing = λ who g serves current found c. f;
 }
 
-pub waits-receive : (booted : ℕ) (s : Server) (sender next : ℕ) (d : Datagram) → RecoveryWaitsOf booted s → RecoveryWaitsOf booted (receive s sender next d).server
+pub waits-receive : (booted : ℕ) (s : Server) (sender next : ℕ) (d : Datagram) → PhaseWaitsOf booted s → PhaseWaitsOf booted (receive s sender next d).server
 waits-receive booted s sender next d f =
-    subst (λ now. RecoveryWaits booted now (receive s sender next d).server.kept.longest (receive s sender next d).server.phase) (sym (receive-keeps s sender next d).1) (server-moves s sender next d (λ kept phase table. RecoveryWaits booted s.now kept.longest phase) (waits-moves booted s d f))
+    subst (λ now. PhaseWaits booted now (receive s sender next d).server.kept.longest (receive s sender next d).server.phase) (sym (receive-keeps s sender next d).1) (server-moves s sender next d (λ kept phase table. PhaseWaits booted s.now kept.longest phase) (waits-moves booted s d f))
 
-waits-later : (booted now later longest : ℕ) (phase : Phase) → now ≤ later → RecoveryWaits booted now longest phase → RecoveryWaits booted later longest phase
+waits-later : (booted now later longest : ℕ) (phase : Phase) → now ≤ later → PhaseWaits booted now longest phase → PhaseWaits booted later longest phase
 waits-later booted now later longest serving h f = f
 waits-later booted now later longest (recovering until heard last) h f = record { after_leases = f.after_leases; after_writes = f.after_writes; heard_since = f.heard_since; heard_by_now = omega (arith, f.heard_by_now) }
 
-waits-served : (booted now longest : ℕ) (phase : Phase) → phase ≡ serving → RecoveryWaits booted now longest phase
-waits-served booted now longest phase p = subst (RecoveryWaits booted now longest) (sym p) tt
+waits-served : (booted now longest : ℕ) (phase : Phase) → phase ≡ serving → PhaseWaits booted now longest phase
+waits-served booted now longest phase p = subst (PhaseWaits booted now longest) (sym p) tt
 
-pub waits-tick : (booted : ℕ) (s : Server) (now : ℕ) → s.now ≤ now → RecoveryWaitsOf booted s → RecoveryWaitsOf booted (tick s now).server
+pub waits-tick : (booted : ℕ) (s : Server) (now : ℕ) → s.now ≤ now → PhaseWaitsOf booted s → PhaseWaitsOf booted (tick s now).server
 waits-tick booted s now later f =
-    subst (λ time. RecoveryWaits booted time (tick s now).server.kept.longest (tick s now).server.phase) (sym (tick-keeps s now).1) (tick-moves s now (λ kept phase table. RecoveryWaits booted now kept.longest phase) (record {
+    subst (λ time. PhaseWaits booted time (tick s now).server.kept.longest (tick s now).server.phase) (sym (tick-keeps s now).1) (tick-moves s now (λ kept phase table. PhaseWaits booted now kept.longest phase) (record {
       waits = λ until heard last p goes_on. waits-later booted s.now now s.kept.longest s.phase later f;
       opening = λ until heard last p over. tt;
       ends_reading = λ p. waits-served booted now s.kept.longest s.phase p;
@@ -257,14 +257,14 @@ waits-tick booted s now later f =
     }))
 
 -- a boot begins its wait
-pub waits-boot : (kept : Kept) (longest now : ℕ) (last : Table) → RecoveryWaitsOf now (boot kept longest now last)
+pub waits-boot : (kept : Kept) (longest now : ℕ) (last : Table) → PhaseWaitsOf now (boot kept longest now last)
 unfolding boot
 waits-boot kept longest now last = by (kept.opened == 0)
   where
-  by : (b : Bool) → RecoveryWaits now now (if b then record kept { boot = kept.boot + 1; opened = kept.boot + 1; longest = longest } else record kept { boot = kept.boot + 1 }).longest (if b then serving else recovering (now + kept.longest + 8) now last)
-  by true = tt
-  by false = record { after_leases = omega arith; after_writes = omega arith; heard_since = omega arith; heard_by_now = omega arith }
+    by : (b : Bool) → PhaseWaits now now (if b then record kept { boot = kept.boot + 1; opened = kept.boot + 1; longest = longest } else record kept { boot = kept.boot + 1 }).longest (if b then serving else recovering (now + kept.longest + 8) now last)
+    by true = tt
+    by false = record { after_leases = omega arith; after_writes = omega arith; heard_since = omega arith; heard_by_now = omega arith }
 
-pub waits-crash : (s : Server) (longest : ℕ) → RecoveryWaitsOf s.now (crash s longest).server
+pub waits-crash : (s : Server) (longest : ℕ) → PhaseWaitsOf s.now (crash s longest).server
 unfolding crash
 waits-crash s longest = waits-boot s.kept longest s.now (standing s)

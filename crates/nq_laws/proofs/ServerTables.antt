@@ -104,9 +104,9 @@ pub boots-boot : (kept : Kept) (longest now : ℕ) (last : Table) → kept.opene
 unfolding boot empty_table
 boots-boot kept longest now last before same = by (kept.opened == 0) refl
   where
-  by : (b : Bool) → (kept.opened == 0) ≡ b → BootsFit (if b then record kept { boot = kept.boot + 1; opened = kept.boot + 1; longest = longest } else record kept { boot = kept.boot + 1 }).boot (if b then record kept { boot = kept.boot + 1; opened = kept.boot + 1; longest = longest } else record kept { boot = kept.boot + 1 }).opened (if b then serving else recovering (now + kept.longest + 8) now last) (empty_table (kept.boot + 1))
-  by true e = record { opened_now = refl; table_boot = refl }
-  by false e = record { opened_before = omega arith; table_boot = refl; none_drawn = refl; empty = refl; last_boot = same }
+    by : (b : Bool) → (kept.opened == 0) ≡ b → BootsFit (if b then record kept { boot = kept.boot + 1; opened = kept.boot + 1; longest = longest } else record kept { boot = kept.boot + 1 }).boot (if b then record kept { boot = kept.boot + 1; opened = kept.boot + 1; longest = longest } else record kept { boot = kept.boot + 1 }).opened (if b then serving else recovering (now + kept.longest + 8) now last) (empty_table (kept.boot + 1))
+    by true e = record { opened_now = refl; table_boot = refl }
+    by false e = record { opened_before = omega arith; table_boot = refl; none_drawn = refl; empty = refl; last_boot = same }
 
 opened-before : (boot opened : ℕ) (phase : Phase) (table : Table) → BootsFit boot opened phase table → opened ≤ boot
 opened-before boot opened serving table b = omega (arith, b.opened_now)
@@ -172,9 +172,9 @@ pub none-boot : (kept : Kept) (longest now : ℕ) (last : Table) → NoneRecover
 unfolding boot empty_table
 none-boot kept longest now last = by (kept.opened == 0)
   where
-  by : (b : Bool) → NoneRecovering (if b then serving else recovering (now + kept.longest + 8) now last) (empty_table (kept.boot + 1))
-  by true = tt
-  by false = refl
+    by : (b : Bool) → NoneRecovering (if b then serving else recovering (now + kept.longest + 8) now last) (empty_table (kept.boot + 1))
+    by true = tt
+    by false = refl
 
 pub none-crash : (s : Server) (longest : ℕ) → NoneRecoveringOf (crash s longest).server
 unfolding crash
@@ -207,9 +207,9 @@ module _ (s : Server) (d : Datagram) (t : StandingFitsOf s) where
   keeps-added : (file : File) (id : ℕ) → is_some (find_file id s.kept.files) ≡ true → is_some (find_file id (s.kept.files ++ file ∷ [])) ≡ true
   keeps-added file id e = by (find_file id s.kept.files) refl e
     where
-    by : (o : Option File) → find_file id s.kept.files ≡ o → is_some o ≡ true → is_some (find_file id (s.kept.files ++ file ∷ [])) ≡ true
-    by None f g = absurd (cc)
-    by (Some x) f g = ap is_some (find-added id file x s.kept.files f)
+      by : (o : Option File) → find_file id s.kept.files ≡ o → is_some o ≡ true → is_some (find_file id (s.kept.files ++ file ∷ [])) ≡ true
+      by None f g = absurd (cc)
+      by (Some x) f g = ap is_some (find-added id file x s.kept.files f)
 
   stored-fits : (who : Who) (f : File) (row : Row) → find_row f.id who.host s.table.rows ≡ Some row → TableFits s.kept.files s.table.boot s.table.drawn s.table.rows → TableFits s.kept.files s.table.boot s.table.drawn (put_row (record row { heard = s.now }) s.table.rows)
   stored-fits who f row found own =
@@ -230,9 +230,9 @@ module _ (s : Server) (d : Datagram) (t : StandingFitsOf s) where
       (λ file host row found kept. subst (λ o. is_some o ≡ true) (sym (find-not-removed f.id file s.kept.files (λ same. gone file host row found same))) kept)
       own
     where
-    gone : (file host : ℕ) (row : Row) → find_row file host (drop_rows_of f.id s.table.rows) ≡ Some row → file ≡ f.id → ⊥
-    gone file host row found same =
-        let none : find_row file host (drop_rows_of f.id s.table.rows) ≡ None = subst (λ i. find_row i host (drop_rows_of f.id s.table.rows) ≡ None) (sym same) (find-file-dropped f.id host s.table.rows) in cc
+      gone : (file host : ℕ) (row : Row) → find_row file host (drop_rows_of f.id s.table.rows) ≡ Some row → file ≡ f.id → ⊥
+      gone file host row found same =
+          let none : find_row file host (drop_rows_of f.id s.table.rows) ≡ None = subst (λ i. find_row i host (drop_rows_of f.id s.table.rows) ≡ None) (sym same) (find-file-dropped f.id host s.table.rows) in cc
 
   is-there : (id : ℕ) (f : File) → find_file id s.kept.files ≡ Some f → is_some (find_file id s.kept.files) ≡ true
   is-there id f e = ap is_some e
@@ -285,18 +285,18 @@ stands-tick s now b t = tick-moves s now (λ kept phase table. StandingFits kept
 booted-files : (kept : Kept) (longest : ℕ) → (booted kept longest).files ≡ kept.files
 booted-files kept longest = by (kept.opened == 0)
   where
-  by : (b : Bool) → (if b then record kept { boot = kept.boot + 1; opened = kept.boot + 1; longest = longest } else record kept { boot = kept.boot + 1 }).files ≡ kept.files
-  by true = refl
-  by false = refl
+    by : (b : Bool) → (if b then record kept { boot = kept.boot + 1; opened = kept.boot + 1; longest = longest } else record kept { boot = kept.boot + 1 }).files ≡ kept.files
+    by true = refl
+    by false = refl
 
 -- and after a boot with a table in mind that keeps to them
 pub stands-boot : (kept : Kept) (longest now : ℕ) (last : Table) → TableFits kept.files last.boot last.drawn last.rows → StandingFitsOf (boot kept longest now last)
 unfolding boot empty_table
 stands-boot kept longest now last f = subst (λ files. StandingFits files (boot_phase kept.opened kept.longest now last) (empty_table (kept.boot + 1))) (sym (booted-files kept longest)) (by (kept.opened == 0))
   where
-  by : (b : Bool) → StandingFits kept.files (if b then serving else recovering (now + kept.longest + 8) now last) (empty_table (kept.boot + 1))
-  by true = no-rows-fit kept.files (kept.boot + 1) 0
-  by false = f
+    by : (b : Bool) → StandingFits kept.files (if b then serving else recovering (now + kept.longest + 8) now last) (empty_table (kept.boot + 1))
+    by true = no-rows-fit kept.files (kept.boot + 1) 0
+    by false = f
 
 -- and after a crash
 pub stands-crash : (s : Server) (longest : ℕ) → StandingFitsOf s → StandingFitsOf (crash s longest).server

@@ -36,8 +36,8 @@ pub record TableFits (files : List File) (boot drawn : ℕ) (rows : List Row) : 
 pub tag-in-order : (files : List File) (boot drawn : ℕ) (row : Row) → RowFits files boot drawn row → tag_below row.tag row.since ≡ false
 tag-in-order files boot drawn row fits = ordered row.tag.boot row.tag.number row.since.boot row.since.number (fits.tag_boot ∙ sym fits.since_boot) fits.in_order
   where
-  ordered : (a m b n : ℕ) → a ≡ b → n ≤ m → nat_lt a b || (a == b && nat_lt m n) ≡ false
-  ordered a m b n e h = grind (arith, nat_tests)
+    ordered : (a m b n : ℕ) → a ≡ b → n ≤ m → nat_lt a b || (a == b && nat_lt m n) ≡ false
+    ordered a m b n e h = grind (arith, nat_tests)
 
 -- a table without rows
 pub no-rows-fit : (files : List File) (boot drawn : ℕ) → TableFits files boot drawn []
@@ -55,8 +55,8 @@ fits-files files after boot drawn rows keeps t = record {
   alone = t.alone;
 }
   where
-  row-fits-files : (row : Row) → RowFits files boot drawn row → RowFits after boot drawn row
-  row-fits-files row f = record { kept = keeps row.file f.kept; tag_boot = f.tag_boot; since_boot = f.since_boot; drawn_before = f.drawn_before; in_order = f.in_order; calm = f.calm }
+    row-fits-files : (row : Row) → RowFits files boot drawn row → RowFits after boot drawn row
+    row-fits-files row f = record { kept = keeps row.file f.kept; tag_boot = f.tag_boot; since_boot = f.since_boot; drawn_before = f.drawn_before; in_order = f.in_order; calm = f.calm }
 
 -- fewer rows
 pub fits-fewer : (files : List File) (boot drawn : ℕ) (rows fewer : List Row) → HasUniqueKeys fewer → ((file host : ℕ) (row : Row) → find_row file host fewer ≡ Some row → find_row file host rows ≡ Some row) → TableFits files boot drawn rows → TableFits files boot drawn fewer
@@ -74,17 +74,17 @@ fits-fewer-files files after boot drawn rows fewer unique stood keeps t = record
   alone = λ file host other row r found beside differs writes. t.alone file host other row r (stood file host row found) (stood file other r beside) differs writes;
 }
   where
-  kept-fits : (file host : ℕ) (row : Row) → find_row file host fewer ≡ Some row → RowFits files boot drawn row → RowFits after boot drawn row
-  kept-fits file host row found f =
-      let same : row.file ≡ file = (found-row file host fewer row found).0 in
-      record {
-        kept = subst (λ id. is_some (find_file id after) ≡ true) (sym same) (keeps file host row found (subst (λ id. is_some (find_file id files) ≡ true) same f.kept));
-        tag_boot = f.tag_boot;
-        since_boot = f.since_boot;
-        drawn_before = f.drawn_before;
-        in_order = f.in_order;
-        calm = f.calm;
-      }
+    kept-fits : (file host : ℕ) (row : Row) → find_row file host fewer ≡ Some row → RowFits files boot drawn row → RowFits after boot drawn row
+    kept-fits file host row found f =
+        let same : row.file ≡ file = (found-row file host fewer row found).0 in
+        record {
+          kept = subst (λ id. is_some (find_file id after) ≡ true) (sym same) (keeps file host row found (subst (λ id. is_some (find_file id files) ≡ true) same f.kept));
+          tag_boot = f.tag_boot;
+          since_boot = f.since_boot;
+          drawn_before = f.drawn_before;
+          in_order = f.in_order;
+          calm = f.calm;
+        }
 
 -- a row that caches alone is marked
 marks-caching : (access : Access) (mode : Mode) → mode_conflicts access mode ≡ true → caches mode ≡ true
@@ -96,12 +96,12 @@ marks-caching Access.Write mode h = h
 mark-calm : (file host : ℕ) (access : Access) (r : Row) → (caches r.mode ≡ false → r.evicting ≡ false) → caches (mark file host access r).mode ≡ false → (mark file host access r).evicting ≡ false
 mark-calm file host access r calm = by (conflicts file host access r) refl
   where
-  by : (b : Bool) → conflicts file host access r ≡ b → caches (if b then record r { evicting = true } else r).mode ≡ false → (if b then record r { evicting = true } else r).evicting ≡ false
-  by false e = calm
-  by true e = not-both (marks-caching access r.mode (both-true (r.file == file && not (r.who.host == host)) (mode_conflicts access r.mode) e).1)
-    where
-    not-both : caches r.mode ≡ true → caches r.mode ≡ false → true ≡ false
-    not-both x y = cc
+    by : (b : Bool) → conflicts file host access r ≡ b → caches (if b then record r { evicting = true } else r).mode ≡ false → (if b then record r { evicting = true } else r).evicting ≡ false
+    by false e = calm
+    by true e = not-both (marks-caching access r.mode (both-true (r.file == file && not (r.who.host == host)) (mode_conflicts access r.mode) e).1)
+      where
+        not-both : caches r.mode ≡ true → caches r.mode ≡ false → true ≡ false
+        not-both x y = cc
 
 marked-fits : (files : List File) (boot drawn file host : ℕ) (access : Access) (was : Row) → RowFits files boot drawn was → RowFits files boot drawn (mark file host access was)
 marked-fits files boot drawn file host access was f =
@@ -143,20 +143,21 @@ fits-put files boot drawn later rows row more fits beside t = record {
   alone = λ file host other a b found found_beside differs writes. put-alone file host other a b (found-put file host row a rows found) (found-put file other row b rows found_beside) differs writes;
 }
   where
-  put-fits : (file host : ℕ) (r : Row) → ((is_row_of file host row ≡ true) × (r ≡ row)) ⊎ ((is_row_of file host row ≡ false) × (find_row file host rows ≡ Some r)) → RowFits files boot later r
-  put-fits file host r (inl e) = subst (λ x. RowFits files boot later x) (sym e.1) fits
-  put-fits file host r (inr e) =
-      let f = t.fits file host r e.1 in
-      record { kept = f.kept; tag_boot = f.tag_boot; since_boot = f.since_boot; drawn_before = omega (arith, f.drawn_before); in_order = f.in_order; calm = f.calm }
-  put-alone : (file host other : ℕ) (a b : Row) → ((is_row_of file host row ≡ true) × (a ≡ row)) ⊎ ((is_row_of file host row ≡ false) × (find_row file host rows ≡ Some a)) → ((is_row_of file other row ≡ true) × (b ≡ row)) ⊎ ((is_row_of file other row ≡ false) × (find_row file other rows ≡ Some b)) → other ≢ host → is_writing a.mode ≡ true → caches b.mode ≡ false
-  put-alone file host other a b (inl e) (inl f) differs writes = absurd (differs (sym (of-key file other row f.0).1 ∙ (of-key file host row e.0).1))
-  put-alone file host other a b (inl e) (inr f) differs writes =
-      let k = of-key file host row e.0 in
-      beside.to_others other b (subst (λ i. find_row i other rows ≡ Some b) (sym k.0) f.1) (λ same. differs (same ∙ k.1)) (subst (λ x. is_writing x.mode ≡ true) e.1 writes)
-  put-alone file host other a b (inr e) (inl f) differs writes =
-      let k = of-key file other row f.0 in
-      subst (λ x. caches x.mode ≡ false) (sym f.1) (beside.to_it host a (subst (λ i. find_row i host rows ≡ Some a) (sym k.0) e.1) (λ same. differs (sym k.1 ∙ sym same)) writes)
-  put-alone file host other a b (inr e) (inr f) differs writes = t.alone file host other a b e.1 f.1 differs writes
+    put-fits : (file host : ℕ) (r : Row) → ((is_row_of file host row ≡ true) × (r ≡ row)) ⊎ ((is_row_of file host row ≡ false) × (find_row file host rows ≡ Some r)) → RowFits files boot later r
+    put-fits file host r (inl e) = subst (λ x. RowFits files boot later x) (sym e.1) fits
+    put-fits file host r (inr e) =
+        let f = t.fits file host r e.1 in
+        record { kept = f.kept; tag_boot = f.tag_boot; since_boot = f.since_boot; drawn_before = omega (arith, f.drawn_before); in_order = f.in_order; calm = f.calm }
+
+    put-alone : (file host other : ℕ) (a b : Row) → ((is_row_of file host row ≡ true) × (a ≡ row)) ⊎ ((is_row_of file host row ≡ false) × (find_row file host rows ≡ Some a)) → ((is_row_of file other row ≡ true) × (b ≡ row)) ⊎ ((is_row_of file other row ≡ false) × (find_row file other rows ≡ Some b)) → other ≢ host → is_writing a.mode ≡ true → caches b.mode ≡ false
+    put-alone file host other a b (inl e) (inl f) differs writes = absurd (differs (sym (of-key file other row f.0).1 ∙ (of-key file host row e.0).1))
+    put-alone file host other a b (inl e) (inr f) differs writes =
+        let k = of-key file host row e.0 in
+        beside.to_others other b (subst (λ i. find_row i other rows ≡ Some b) (sym k.0) f.1) (λ same. differs (same ∙ k.1)) (subst (λ x. is_writing x.mode ≡ true) e.1 writes)
+    put-alone file host other a b (inr e) (inl f) differs writes =
+        let k = of-key file other row f.0 in
+        subst (λ x. caches x.mode ≡ false) (sym f.1) (beside.to_it host a (subst (λ i. find_row i host rows ≡ Some a) (sym k.0) e.1) (λ same. differs (sym k.1 ∙ sym same)) writes)
+    put-alone file host other a b (inr e) (inr f) differs writes = t.alone file host other a b e.1 f.1 differs writes
 
 -- a row that does not let its holder cache stands beside any other
 calm-beside : (rows : List Row) (row : Row) → caches row.mode ≡ false → FitsBeside rows row
@@ -165,10 +166,10 @@ calm-beside rows row calm = record {
   to_it = λ other r found differs writes. calm;
 }
   where
-  writes-not : (mode : Mode) → caches mode ≡ false → is_writing mode ≡ true → ⊥
-  writes-not NonCaching c w = cc
-  writes-not Reading c w = cc
-  writes-not Writing c w = cc
+    writes-not : (mode : Mode) → caches mode ≡ false → is_writing mode ≡ true → ⊥
+    writes-not NonCaching c w = cc
+    writes-not Reading c w = cc
+    writes-not Writing c w = cc
 
 -- a kind that is granted where no row conflicts with it stands beside the others
 free-kinds : (write : Bool) (mode other : Mode) → mode_conflicts (access_of_mode write) other ≡ false → is_writing mode ≡ write → (is_writing mode ≡ true → caches other ≡ false) × (is_writing other ≡ true → caches mode ≡ false)
@@ -222,11 +223,11 @@ module _ (files : List File) (table : Table) (q : Question) (want : Want) (kept 
         to_it = λ other r beside differs. (grown k other r beside differs).1;
       })
     where
-    grown : (own.file ≡ q.file) × (own.who.host ≡ q.who.host) → (other : ℕ) (r : Row) → find_row own.file other table.rows ≡ Some r → other ≢ own.who.host → (is_writing (greater_mode own.mode want.mode) ≡ true → caches r.mode ≡ false) × (is_writing r.mode ≡ true → caches (greater_mode own.mode want.mode) ≡ false)
-    grown k other r beside differs =
-        let place : find_row q.file other table.rows ≡ Some r = subst (λ i. find_row i other table.rows ≡ Some r) k.0 beside in
-        let apart : other ≢ q.who.host = λ same. differs (same ∙ sym k.1) in
-        grown-kinds want.mode own.mode r.mode (free-to other r place apart) (t.alone q.file q.who.host other own r found place apart)
+      grown : (own.file ≡ q.file) × (own.who.host ≡ q.who.host) → (other : ℕ) (r : Row) → find_row own.file other table.rows ≡ Some r → other ≢ own.who.host → (is_writing (greater_mode own.mode want.mode) ≡ true → caches r.mode ≡ false) × (is_writing r.mode ≡ true → caches (greater_mode own.mode want.mode) ≡ false)
+      grown k other r beside differs =
+          let place : find_row q.file other table.rows ≡ Some r = subst (λ i. find_row i other table.rows ≡ Some r) k.0 beside in
+          let apart : other ≢ q.who.host = λ same. differs (same ∙ sym k.1) in
+          grown-kinds want.mode own.mode r.mode (free-to other r place apart) (t.alone q.file q.who.host other own r found place apart)
 
   -- the table after a grant
   pub fits-granted : (row : Row) (term : ℕ) → IsGranted table q want row term → TableFits files table.boot (table.drawn + 1) (put_row row table.rows)

@@ -1,1 +1,4 @@
 pub mod CachedInRuns
+pub mod RecoveryWaits
+pub mod RowsApart
+pub mod ServerAlone
