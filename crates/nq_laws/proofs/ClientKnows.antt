@@ -83,7 +83,7 @@ knows-vacates {Given = Given} {line = line} {who = who} {attached = attached} {t
   other : (file : ℕ) (g : Grant) (sent : ℕ) → Given file g sent → (w : Who) (tag : Tag) → Request.Vacated who f v ≡ Request.Vacated w file tag → ⊥
   other file g sent given w tag e = ungiven g sent (subst (λ n. Given n g sent) (sym (same-file w f file v tag e)) given)
   renoticed : {qs : List Packet} → LineFits who attached ticket notices line qs → LineFits who attached ticket (drop_notice f notices) line qs
-  renoticed l = record { past = l.past; current = l.current; told = l.told; above = l.above; waiting = l.waiting; unnoticed = λ e. ap (drop_notice f) (l.unnoticed e); unheard = l.unheard; settled = l.settled; answered = l.answered }
+  renoticed l = record { past = l.past; current = l.current; told = l.told; above = l.above; waiting = l.waiting; unnoticed = λ e. ap (drop_notice f) (l.unnoticed e); evicted_past = l.evicted_past; unheard = l.unheard; settled = l.settled; answered = l.answered }
 
 -- the request under way is sent again
 pub knows-again : {Heard : ℕ → Tag → Type 0} {Given : ℕ → Grant → ℕ → Type 0} {line : HostRow} {s : Server} {events : List Event} {who : Who} {now : ℕ} {attached : Bool} {leases : List Lease} {notices : List Notice} {ps : List Packet} (t : Ticket) → Asked ps who.host t.xid t.request → Knows Heard Given line s events who now attached (Some t) leases notices ps → Knows Heard Given line s events who now attached (Some (record t { last = now })) leases notices (ps ++ from_host who.host (call t.xid t.request) ∷ [])
@@ -135,7 +135,7 @@ knows-cancels {line = line} {who = who} {ticket = ticket} {ps = ps} f m h = reco
 -- a notice waits
 pub knows-notes : {Heard : ℕ → Tag → Type 0} {Given : ℕ → Grant → ℕ → Type 0} {line : HostRow} {s : Server} {events : List Event} {who : Who} {now : ℕ} {attached : Bool} {ticket : Option Ticket} {leases : List Lease} {notices : List Notice} {ps : List Packet} (f : ℕ) (v : Tag) → Heard f v → Knows Heard Given line s events who now attached ticket leases notices ps → Knows Heard Given line s events who now attached ticket leases (record { file = f; tag = noticed_tag v (notice_on f notices) } ∷ drop_notice f notices) ps
 knows-notes {attached = attached} f v heard h = record {
-  lined = let l = h.lined in record { past = l.past; current = l.current; told = l.told; above = l.above; waiting = l.waiting; unnoticed = λ e. absurd (not-false attached (h.heard f v heard).0 e); unheard = l.unheard; settled = l.settled; answered = l.answered };
+  lined = let l = h.lined in record { past = l.past; current = l.current; told = l.told; above = l.above; waiting = l.waiting; unnoticed = λ e. absurd (not-false attached (h.heard f v heard).0 e); evicted_past = l.evicted_past; unheard = l.unheard; settled = l.settled; answered = l.answered };
   tagged = tags-notes f v (h.heard f v heard).1 h.tagged;
   covered = h.covered;
   heard = h.heard;

@@ -38,6 +38,7 @@ pub record LineFits (who : Who) (attached : Bool) (ticket : Option Ticket) (noti
   -- and so it is for a running one that is not attached, which no notice was sent to
   pub waiting : attached ≡ false → (x : ℕ) (r : Request) (w : Who) → Asked ps who.host x r → asker r ≡ Some w → w.inc ≡ who.inc → r ≡ Request.Attach w
   pub unnoticed : attached ≡ false → notices ≡ []
+  pub evicted_past : (x : ℕ) (w : Who) (file : ℕ) (tag : Tag) → Told ps who.host (call x (Request.Evicted w file tag)) → w.inc ≤ who.inc
   pub unheard : attached ≡ false → (x : ℕ) (w : Who) (file : ℕ) (tag : Tag) → Told ps who.host (call x (Request.Evicted w file tag)) → w.inc ≡ who.inc → ⊥
   -- each request of the running incarnation was decided, or is under way
   pub settled : line.inc ≡ who.inc → (x : ℕ) (r : Request) (w : Who) (n : ℕ) → Asked ps who.host x r → asker r ≡ Some w → w.inc ≡ who.inc → seq_of r ≡ Some n → IsSettled ticket line.seq x n
@@ -60,12 +61,16 @@ line-sends {who = who} {attached = attached} {notices = notices} {line = line} {
   above = λ x r w sent by later. above x r w by later (in-last ps mine (from_host who.host (call x r)) sent);
   waiting = λ e. absurd (not-false attached is_attached e);
   unnoticed = h.unnoticed;
+  evicted_past = λ x w file tag sent. h.evicted_past x w file tag (older x w file tag (in-last ps mine (to_host who.host (call x (Request.Evicted w file tag))) sent));
   unheard = λ e. absurd (not-false attached is_attached e);
   settled = λ kept x r w n sent by inc seq. settled kept x r w n by inc seq (in-last ps mine (from_host who.host (call x r)) sent);
   answered = λ x a sent inc u e same n seq. let fresh = (m.replied x a (old x a sent) inc).number in let one : t ≡ u = some-same t u e in let number : t.xid ≡ x = ap (λ z. z.xid) one ∙ same in absurd (omega arith);
 } where
   mine : Packet
   mine = from_host who.host (call xid t.request)
+  older : (x : ℕ) (w : Who) (file : ℕ) (tag : Tag) → In ps (to_host who.host (call x (Request.Evicted w file tag))) ⊎ (mine ≡ to_host who.host (call x (Request.Evicted w file tag))) → In ps (to_host who.host (call x (Request.Evicted w file tag)))
+  older x w file tag (inl there) = there
+  older x w file tag (inr bad) = absurd (not-both who.host who.host (call xid t.request) (call x (Request.Evicted w file tag)) bad)
   old : (x : ℕ) (a : Reply) → In (ps ++ mine ∷ []) (to_host who.host (reply x a)) → In ps (to_host who.host (reply x a))
   old x a sent = step (in-last ps mine (to_host who.host (reply x a)) sent)
     where
@@ -99,12 +104,16 @@ line-adds {who = who} {attached = attached} {ticket = ticket} {notices = notices
   above = λ x r w sent by later. above x r w by later (in-last ps mine (from_host who.host (call x r)) sent);
   waiting = λ e. absurd (not-false attached is_attached e);
   unnoticed = h.unnoticed;
+  evicted_past = λ x w file tag sent. h.evicted_past x w file tag (older x w file tag (in-last ps mine (to_host who.host (call x (Request.Evicted w file tag))) sent));
   unheard = λ e. absurd (not-false attached is_attached e);
   settled = λ kept x r w n sent by inc seq. settled kept x r w n by inc seq (in-last ps mine (from_host who.host (call x r)) sent);
   answered = λ x a sent. h.answered x a (old x a sent);
 } where
   mine : Packet
   mine = from_host who.host (call xid request)
+  older : (x : ℕ) (w : Who) (file : ℕ) (tag : Tag) → In ps (to_host who.host (call x (Request.Evicted w file tag))) ⊎ (mine ≡ to_host who.host (call x (Request.Evicted w file tag))) → In ps (to_host who.host (call x (Request.Evicted w file tag)))
+  older x w file tag (inl there) = there
+  older x w file tag (inr bad) = absurd (not-both who.host who.host (call xid request) (call x (Request.Evicted w file tag)) bad)
   old : (x : ℕ) (a : Reply) → In (ps ++ mine ∷ []) (to_host who.host (reply x a)) → In ps (to_host who.host (reply x a))
   old x a sent = step (in-last ps mine (to_host who.host (reply x a)) sent)
     where
@@ -134,6 +143,7 @@ line-again {who = who} {ps = ps} p there h = record {
   above = λ x r w sent. h.above x r w (old (from_host who.host (call x r)) (in-last ps p (from_host who.host (call x r)) sent));
   waiting = λ e x r w sent. h.waiting e x r w (old (from_host who.host (call x r)) (in-last ps p (from_host who.host (call x r)) sent));
   unnoticed = h.unnoticed;
+  evicted_past = λ x w file tag sent. h.evicted_past x w file tag (old (to_host who.host (call x (Request.Evicted w file tag))) (in-last ps p (to_host who.host (call x (Request.Evicted w file tag))) sent));
   unheard = λ e x w file tag sent. h.unheard e x w file tag (old (to_host who.host (call x (Request.Evicted w file tag))) (in-last ps p (to_host who.host (call x (Request.Evicted w file tag))) sent));
   settled = λ kept x r w n sent. h.settled kept x r w n (old (from_host who.host (call x r)) (in-last ps p (from_host who.host (call x r)) sent));
   answered = λ x a sent. h.answered x a (old (to_host who.host (reply x a)) (in-last ps p (to_host who.host (reply x a)) sent));
@@ -151,6 +161,7 @@ line-ticket less few keeps h = record {
   above = h.above;
   waiting = h.waiting;
   unnoticed = h.unnoticed;
+  evicted_past = h.evicted_past;
   unheard = h.unheard;
   settled = λ kept x r w n sent by inc seq. keeps x n kept (h.settled kept x r w n sent by inc seq) r w sent by inc seq;
   answered = λ x a sent inc t e same n seq. let f = few t e in h.answered x a sent inc f.0 f.1 (f.2 ∙ same) n (ap seq_of f.3 ∙ seq);
