@@ -1,6 +1,7 @@
 -- What a client and the server know of each other is kept by a step of the server.
 use Rattle.std.proofs.Common.{◌≡◌, ◌≢◌, ◌<◌, ◌≤◌, ◌⊎◌, ℕ, ◌+◌, ◌-◌, Bool, true, false, List, [], ◌∷◌, ◌++◌, Option, Some, None, refl, sym, subst, ap, ◌∙◌, arith, inl, inr}
 use Rattle.std.specs.Prelude.{slice_get}
+use Rattle.std.proofs.lemmas.Bool.Decides.{nat_tests}
 use Rattle.nq_base.specs.declared.Event.{Event}
 use Rattle.nq_base.specs.declared.Grant.{Grant}
 use Rattle.nq_base.specs.declared.HostRow.{HostRow}
@@ -174,3 +175,199 @@ module _ (ps : List Packet) (s : Server) (events : List Event) (e : Event) (t : 
     case : In ps (to_host who.host (call x (Request.Evicted w file tag))) ⊎ In t.sends (to_host who.host (call x (Request.Evicted w file tag))) → Told ps who.host (call x (Request.Evicted w file tag)) ⊎ NewNotice w file tag
     case (inl old) = inl old
     case (inr new) = inr (notice-new x w file tag (f.said (to_host who.host (call x (Request.Evicted w file tag))) new))
+
+  -- the kept incarnation never falls
+  line-past : (host_row s.kept who.host).inc ≤ (host_row t.server.kept who.host).inc
+  line-past = case f.line
+    where
+    case : LineMoves ps who.host (host_row s.kept who.host) (host_row t.server.kept who.host) → (host_row s.kept who.host).inc ≤ (host_row t.server.kept who.host).inc
+    case (line_stays same) = let e : (host_row t.server.kept who.host).inc ≡ (host_row s.kept who.host).inc = ap (λ z. z.inc) same in omega arith
+    case (line_decides inc seq) = omega arith
+    case (line_attaches later x w sent inc) = omega arith
+
+  line-below : (host_row t.server.kept who.host).inc ≤ who.inc
+  line-below = case f.line
+    where
+    case : LineMoves ps who.host (host_row s.kept who.host) (host_row t.server.kept who.host) → (host_row t.server.kept who.host).inc ≤ who.inc
+    case (line_stays same) = let e : (host_row t.server.kept who.host).inc ≡ (host_row s.kept who.host).inc = ap (λ z. z.inc) same in let p = h.lined.past in omega arith
+    case (line_decides inc seq) = let p = h.lined.past in omega arith
+    case (line_attaches later x w sent inc) = let k = (m.asked x (Request.Attach w) w sent refl).inc in omega arith
+
+  -- where the running incarnation was the kept one, it stays so, and what was decided stays so
+  pub record Stayed : Type 0 where
+    pub inc : (host_row t.server.kept who.host).inc ≡ who.inc
+    pub seq : (host_row s.kept who.host).seq ≤ (host_row t.server.kept who.host).seq
+
+  stayed : (host_row s.kept who.host).inc ≡ who.inc → Stayed
+  stayed kept = case f.line
+    where
+    case : LineMoves ps who.host (host_row s.kept who.host) (host_row t.server.kept who.host) → Stayed
+    case (line_stays same) = record { inc = ap (λ z. z.inc) same ∙ kept; seq = let e : (host_row t.server.kept who.host).seq ≡ (host_row s.kept who.host).seq = ap (λ z. z.seq) same in omega arith }
+    case (line_decides inc seq) = record { inc = inc ∙ kept; seq = seq }
+    case (line_attaches later x w sent inc) = let k = (m.asked x (Request.Attach w) w sent refl).inc in absurd (omega arith)
+
+  -- a request of an incarnation above the kept one is ATTACH
+  no-seq-above : (x : ℕ) (r : Request) (w : Who) (n : ℕ) → Asked ps who.host x r → asker r ≡ Some w → (host_row s.kept who.host).inc < w.inc → seq_of r ≡ Some n → ⊥
+  no-seq-above x r w n sent by later seq = none-some n (ap seq_of (sym (h.lined.above x r w sent by later)) ∙ seq)
+
+  settled : (host_row t.server.kept who.host).inc ≡ who.inc → (x : ℕ) (r : Request) (w : Who) (n : ℕ) → Asked ps who.host x r → asker r ≡ Some w → w.inc ≡ who.inc → seq_of r ≡ Some n → IsSettled ticket (host_row t.server.kept who.host).seq x n
+  settled kept x r w n sent by inc seq = case f.line
+    where
+    more : (host_row s.kept who.host).inc ≡ who.inc → (host_row s.kept who.host).seq ≤ (host_row t.server.kept who.host).seq → IsSettled ticket (host_row s.kept who.host).seq x n → IsSettled ticket (host_row t.server.kept who.host).seq x n
+    more k up (inl below) = inl (omega arith)
+    more k up (inr u) = inr u
+    case : LineMoves ps who.host (host_row s.kept who.host) (host_row t.server.kept who.host) → IsSettled ticket (host_row t.server.kept who.host).seq x n
+    case (line_stays same) = let k : (host_row s.kept who.host).inc ≡ who.inc = ap (λ z. z.inc) (sym same) ∙ kept in more k (stayed k).seq (h.lined.settled k x r w n sent by inc seq)
+    case (line_decides same up) = let k : (host_row s.kept who.host).inc ≡ who.inc = sym same ∙ kept in more k up (h.lined.settled k x r w n sent by inc seq)
+    case (line_attaches later y v asked same) = absurd (no-seq-above x r w n sent by (omega arith) seq)
+
+  answered-old : (x : ℕ) (a : Reply) → Told ps who.host (reply x a) → inc_of a ≡ who.inc → (u : Ticket) → ticket ≡ Some u → u.xid ≡ x → (n : ℕ) → seq_of u.request ≡ Some n → IsDecidedBy who (host_row t.server.kept who.host) n
+  answered-old x a told inc u is number n seq =
+      let d = h.lined.answered x a told inc u is number n seq in
+      let k = stayed d.inc in
+      record { inc = k.inc; decided = let below = d.decided in let up = k.seq in omega arith }
+
+  answered-new : (x : ℕ) (a : Reply) → IsNewReply ps s t.server who.host x a → inc_of a ≡ who.inc → (u : Ticket) → ticket ≡ Some u → u.xid ≡ x → (n : ℕ) → seq_of u.request ≡ Some n → IsDecidedBy who (host_row t.server.kept who.host) n
+  answered-new x a k inc u is number n seq = case (k.decided n (ap seq_of (sym same) ∙ seq))
+    where
+    running : k.who.inc ≡ who.inc
+    running = sym k.inc ∙ inc
+    same : u.request ≡ k.asks
+    same = (m.asked x k.asks k.who k.sent k.by).same running u is number
+    case : (((host_row t.server.kept who.host).inc ≡ k.who.inc) × (n ≤ (host_row t.server.kept who.host).seq)) ⊎ (((host_row s.kept who.host).inc < k.who.inc) × (is_attach k.asks ≡ false)) → IsDecidedBy who (host_row t.server.kept who.host) n
+    case (inl d) = record { inc = d.0 ∙ running; decided = d.1 }
+    case (inr d) = absurd (no-seq-above x k.asks k.who n k.sent k.by d.0 (ap seq_of (sym same) ∙ seq))
+
+  lined-after : LineFits who attached ticket notices (host_row t.server.kept who.host) (ps ++ t.sends)
+  lined-after = record {
+    past = line-below;
+    current = λ e. (stayed (h.lined.current e)).inc;
+    told = λ x i sent same. told x i same (reply-told x (Reply.Attach i) sent);
+    above = λ x r w sent by later. h.lined.above x r w (asked-before x r sent) by (let p = line-past in omega arith);
+    waiting = λ e x r w sent. h.lined.waiting e x r w (asked-before x r sent);
+    unnoticed = h.lined.unnoticed;
+    evicted_past = λ x w file tag sent. evicted-past x w file tag (notice-told x w file tag sent);
+    unheard = λ e x w file tag sent inc. unheard e x w file tag inc (notice-told x w file tag sent);
+    settled = λ kept x r w n sent. settled kept x r w n (asked-before x r sent);
+    answered = λ x a sent inc u is number n seq. answered x a inc u is number n seq (reply-told x a sent);
+  } where
+    told : (x i : ℕ) → i ≡ who.inc → Told ps who.host (reply x (Reply.Attach i)) ⊎ IsNewReply ps s t.server who.host x (Reply.Attach i) → (host_row t.server.kept who.host).inc ≡ who.inc
+    told x i same (inl old) = (stayed (h.lined.told x i old same)).inc
+    told x i same (inr new) = new.attached i refl ∙ same
+    evicted-past : (x : ℕ) (w : Who) (file : ℕ) (tag : Tag) → Told ps who.host (call x (Request.Evicted w file tag)) ⊎ NewNotice w file tag → w.inc ≤ who.inc
+    evicted-past x w file tag (inl old) = h.lined.evicted_past x w file tag old
+    evicted-past x w file tag (inr new) = let k = new.inc in let p = h.lined.past in omega arith
+    unheard : attached ≡ false → (x : ℕ) (w : Who) (file : ℕ) (tag : Tag) → w.inc ≡ who.inc → Told ps who.host (call x (Request.Evicted w file tag)) ⊎ NewNotice w file tag → ⊥
+    unheard e x w file tag inc (inl old) = h.lined.unheard e x w file tag old inc
+    unheard e x w file tag inc (inr new) = unrowed e file new.row new.stands (ap (λ z. z.inc) new.is_who ∙ inc)
+    answered : (x : ℕ) (a : Reply) → inc_of a ≡ who.inc → (u : Ticket) → ticket ≡ Some u → u.xid ≡ x → (n : ℕ) → seq_of u.request ≡ Some n → Told ps who.host (reply x a) ⊎ IsNewReply ps s t.server who.host x a → IsDecidedBy who (host_row t.server.kept who.host) n
+    answered x a inc u is number n seq (inl old) = answered-old x a old inc u is number n seq
+    answered x a inc u is number n seq (inr new) = answered-new x a new inc u is number n seq
+
+  -- ---- tags
+
+  tagged-after : TagsFit who ticket leases notices (standing t.server).boot (standing t.server).drawn (ps ++ t.sends)
+  tagged-after = record {
+    held = λ file l e. f.grows l.tag (h.tagged.held file l e);
+    noticed = λ file n e. f.grows n.tag (h.tagged.noticed file n e);
+    evicts = λ x w file tag sent. evicts x w file tag (notice-told x w file tag sent);
+    vacates = λ x w file tag sent. f.grows tag (h.tagged.vacates x w file tag (asked-before x (Request.Vacated w file tag) sent));
+    grants = λ x a g sent gives. grants x a g gives (reply-told x a sent);
+    past_held = λ x w file tag l sent. h.tagged.past_held x w file tag l (asked-before x (Request.Vacated w file tag) sent);
+    past_given = λ x w file tag y a g u sent inc told i is number on gives. given x w file tag y a g u (asked-before x (Request.Vacated w file tag) sent) inc i is number on gives (reply-told y a told);
+  } where
+    evicts : (x : ℕ) (w : Who) (file : ℕ) (tag : Tag) → Told ps who.host (call x (Request.Evicted w file tag)) ⊎ NewNotice w file tag → IsDrawn (standing t.server).boot (standing t.server).drawn tag
+    evicts x w file tag (inl old) = f.grows tag (h.tagged.evicts x w file tag old)
+    evicts x w file tag (inr new) = new.drawn
+    grants : (x : ℕ) (a : Reply) (g : Grant) → grant_in a ≡ Some g → Told ps who.host (reply x a) ⊎ IsNewReply ps s t.server who.host x a → IsDrawn (standing t.server).boot (standing t.server).drawn g.tag
+    grants x a g gives (inl old) = f.grows g.tag (h.tagged.grants x a g old gives)
+    grants x a g gives (inr new) = let file = new.files g gives in (new.fresh g gives file.0 file.1).drawn
+    given : (x : ℕ) (w : Who) (file : ℕ) (tag : Tag) (y : ℕ) (a : Reply) (g : Grant) (u : Ticket) → Asked ps who.host x (Request.Vacated w file tag) → w.inc ≡ who.inc → inc_of a ≡ who.inc → ticket ≡ Some u → u.xid ≡ y → requested_file u.request ≡ Some file → grant_in a ≡ Some g → Told ps who.host (reply y a) ⊎ IsNewReply ps s t.server who.host y a → tag_below tag g.tag ≡ true
+    given x w file tag y a g u sent inc i is number on gives (inl old) = h.tagged.past_given x w file tag y a g u sent inc old i is number on gives
+    given x w file tag y a g u sent inc i is number on gives (inr new) = let k = new.files g gives in (new.fresh g gives k.0 k.1).above tag (h.tagged.vacates x w file tag sent)
+
+  -- ---- covers
+
+  same-held : (file : ℕ) (l : Lease) → lease_on file leases ≡ Some l → cover_end who.host (l.expiry - l.term) l.term (e ∷ events) ≡ cover_end who.host (l.expiry - l.term) l.term events
+  same-held file l is = same-cover who.host (l.expiry - l.term) l.term e events (let k = times.leased file l is in let a = k.term in let b = k.past in let c = times.client in omega arith)
+
+  same-asked : (u : Ticket) (term : ℕ) → ticket ≡ Some u → cover_end who.host u.first term (e ∷ events) ≡ cover_end who.host u.first term events
+  same-asked u term is = same-cover who.host u.first term e events (let a = times.asked u is in let c = times.client in omega arith)
+
+  held-after : (file : ℕ) (l : Lease) → lease_on file leases ≡ Some l → caches l.mode ≡ true → IsCoveredWhile t.server (e ∷ events) who now file l.mode l.tag (l.expiry - l.term) l.term
+  held-after file l is c runs =
+      subst (λ n. IsCovered t.server t.server.phase who file l.mode l.tag n) (sym (same-held file l is))
+          (f.covers file l.mode l.tag (cover_end who.host (l.expiry - l.term) l.term events) (inl (l, is, refl)) c (h.covered.held file l is c runs))
+
+  pub data Taken (file : ℕ) (g : Grant) (u : Ticket) : Type 0 where
+    taken_old : IsTakeable ps who ticket file g u → Taken file g u
+    taken_new : (x : ℕ) (a : Reply) → IsNewReply ps s t.server who.host x a → inc_of a ≡ who.inc → ticket ≡ Some u → u.xid ≡ x → requested_file u.request ≡ Some file → grant_in a ≡ Some g → Taken file g u
+
+  taken : (file : ℕ) (g : Grant) (u : Ticket) → IsTakeable (ps ++ t.sends) who ticket file g u → Taken file g u
+  taken file g u k = case (reply-told k.x k.a k.told)
+    where
+    case : Told ps who.host (reply k.x k.a) ⊎ IsNewReply ps s t.server who.host k.x k.a → Taken file g u
+    case (inl old) = taken_old (record { x = k.x; a = k.a; told = old; inc = k.inc; asked = k.asked; number = k.number; on_file = k.on_file; gives = k.gives })
+    case (inr new) = taken_new k.x k.a new k.inc k.asked k.number k.on_file k.gives
+
+  new-grant : (file : ℕ) (g : Grant) (u : Ticket) (x : ℕ) (a : Reply) (n : IsNewReply ps s t.server who.host x a) → inc_of a ≡ who.inc → ticket ≡ Some u → u.xid ≡ x → requested_file u.request ≡ Some file → grant_in a ≡ Some g → IsFreshGrant s t.server n.who file g
+  new-grant file g u x a n inc is number on gives =
+      let same : u.request ≡ n.asks = (m.asked x n.asks n.who n.sent n.by).same (sym n.inc ∙ inc) u is number in
+      n.fresh g gives file (ap requested_file (sym same) ∙ on)
+
+  -- a fresh grant is covered
+  fresh-covered : (file : ℕ) (g : Grant) (u : Ticket) (w : Who) → w ≡ who → ticket ≡ Some u → IsFreshGrant s t.server w file g → caches g.mode ≡ true → IsCovered t.server t.server.phase who file g.mode g.tag (cover_end who.host u.first g.term (e ∷ events))
+  fresh-covered file g u w same is k c =
+      subst (λ p. IsCovered t.server p who file g.mode g.tag (cover_end who.host u.first g.term (e ∷ events))) (sym k.serves)
+          (record {
+            row = k.row;
+            stands = subst (λ z. find_row file z.host t.server.table.rows ≡ Some k.row) same k.stands;
+            fits = record {
+              holder = k.holder c ∙ same;
+              of_file = k.of_file;
+              kind = subst (λ md. is_at_least md g.mode ≡ true) (sym k.mode) (itself g.mode);
+              began = k.began c;
+              goes_on = subst (λ tg. tag_below tg g.tag ≡ false) (sym k.tag) (not-below g.tag);
+              ends = let lasts = k.lasts c in let past = moment-past who.host u.first events (let a = times.asked u is in let b = times.client in omega arith) in let now_is = times.server in let q = same-asked u g.term is in omega arith;
+            };
+          })
+    where
+    itself : (md : Mode) → is_at_least md md ≡ true
+    itself Mode.NonCaching = refl
+    itself Mode.Reading = refl
+    itself Mode.Writing = refl
+    not-below : (tg : Tag) → tag_below tg tg ≡ false
+    not-below tg = grind (arith, nat_tests)
+
+  running-who : (x : ℕ) (a : Reply) (n : IsNewReply ps s t.server who.host x a) → inc_of a ≡ who.inc → n.who ≡ who
+  running-who x a n inc = both-same n.who who n.same_host (sym n.inc ∙ inc)
+    where
+    both-same : (v w : Who) → v.host ≡ w.host → v.inc ≡ w.inc → v ≡ w
+    both-same v w a b = let make : ℕ → ℕ → Who = λ p q. record { host = p; inc = q } in ap (λ p. make p v.inc) a ∙ ap (λ q. make w.host q) b
+
+  given-after : (file : ℕ) (g : Grant) (u : Ticket) → IsTakeable (ps ++ t.sends) who ticket file g u → caches g.mode ≡ true → IsCoveredWhile t.server (e ∷ events) who now file g.mode g.tag u.first g.term
+  given-after file g u k c runs = case (taken file g u k)
+    where
+    case : Taken file g u → IsCovered t.server t.server.phase who file g.mode g.tag (cover_end who.host u.first g.term (e ∷ events))
+    case (taken_old o) =
+        subst (λ n. IsCovered t.server t.server.phase who file g.mode g.tag n) (sym (same-asked u g.term o.asked))
+            (f.covers file g.mode g.tag (cover_end who.host u.first g.term events) (inr (g, u, o, refl)) c (h.covered.given file g u o c runs))
+    case (taken_new x a n inc is number on gives) = fresh-covered file g u n.who (running-who x a n inc) is (new-grant file g u x a n inc is number on gives) c
+
+  given-short-after : (file : ℕ) (g : Grant) (u : Ticket) → IsTakeable (ps ++ t.sends) who ticket file g u → caches g.mode ≡ true → IsShort t.server g.tag g.term
+  given-short-after file g u k c b = case (taken file g u k)
+    where
+    case : Taken file g u → g.term ≤ t.server.kept.longest
+    case (taken_old o) = let short = h.covered.given_short file g u o c (b ∙ f.opened) in let same = f.longest in omega arith
+    case (taken_new x a n inc is number on gives) = let short = (new-grant file g u x a n inc is number on gives).short c in let same = f.longest in omega arith
+
+  covered-after : CoverFits t.server (e ∷ events) who now ticket leases (ps ++ t.sends)
+  covered-after = record {
+    held = held-after;
+    held_short = λ file l is c b. let short = h.covered.held_short file l is c (b ∙ f.opened) in let same = f.longest in omega arith;
+    given = given-after;
+    given_short = given-short-after;
+  }
+
+  pub knows-after : Knows NoneHeard NoneGiven (host_row t.server.kept who.host) t.server (e ∷ events) who now attached ticket leases notices (ps ++ t.sends)
+  knows-after = record { lined = lined-after; tagged = tagged-after; covered = covered-after; heard = λ file tag bad. absurd bad; pending = λ file g sent bad. absurd bad }
