@@ -63,7 +63,7 @@ none-said : (ps : List Packet) → AllSaid ps []
 none-said ps p h = absurd h
 
 -- a kept verdict gives a reply of the incarnation, without a grant
-verdict-inc : (inc : ℕ) (v : Verdict) (value : ℕ) (r : Request) (n : ℕ) → sequence_of r ≡ Some n → inc_of (verdict_reply inc v value r) ≡ inc
+pub verdict-inc : (inc : ℕ) (v : Verdict) (value : ℕ) (r : Request) (n : ℕ) → sequence_of r ≡ Some n → inc_of (verdict_reply inc v value r) ≡ inc
 verdict-inc inc Verdict.Done value (Request.Create w seq name blocks) n e = refl
 verdict-inc inc Verdict.Done value (Request.Write w seq file block first last push body) n e = refl
 verdict-inc inc Verdict.Done value (Request.Resize w seq q file blocks) n e = refl
@@ -76,7 +76,7 @@ verdict-inc inc Verdict.Invalid value r n e = refl
 verdict-inc inc Verdict.Stale value r n e = refl
 verdict-inc inc Verdict.TryLater value r n e = refl
 
-verdict-grant : (inc : ℕ) (v : Verdict) (value : ℕ) (r : Request) → grant_in (verdict_reply inc v value r) ≡ None
+pub verdict-grant : (inc : ℕ) (v : Verdict) (value : ℕ) (r : Request) → grant_in (verdict_reply inc v value r) ≡ None
 verdict-grant inc Verdict.Done value (Request.Create w seq name blocks) = refl
 verdict-grant inc Verdict.Done value (Request.Write w seq file block first last push body) = refl
 verdict-grant inc Verdict.Done value (Request.Resize w seq q file blocks) = refl
@@ -90,7 +90,7 @@ verdict-grant inc Verdict.Stale value r = refl
 verdict-grant inc Verdict.TryLater value r = refl
 
 -- a plain reply is of the asker's incarnation, and brings no grant
-plain-inc : (s : Server) (who : Who) (r : Request) (a : Reply) → IsPlain s who r a → inc_of a ≡ who.inc
+pub plain-inc : (s : Server) (who : Who) (r : Request) (a : Reply) → IsPlain s who r a → inc_of a ≡ who.inc
 plain-inc s who r a (unattached above other e) = ap inc_of e
 plain-inc s who r a (attached_again is same e) = ap inc_of e
 plain-inc s who r a (not_yet same rec only e) = ap inc_of e
@@ -103,7 +103,7 @@ plain-inc s who r a (no_block q file block want f same p is some none e) = ap in
 plain-inc s who r a (decided_again seq same sq eq e) = ap inc_of e ∙ verdict-inc who.inc _ _ r seq sq
 plain-inc s who r a (is_old seq same sq below e) = ap inc_of e
 
-plain-grant : (s : Server) (who : Who) (r : Request) (a : Reply) → IsPlain s who r a → grant_in a ≡ None
+pub plain-grant : (s : Server) (who : Who) (r : Request) (a : Reply) → IsPlain s who r a → grant_in a ≡ None
 plain-grant s who r a (unattached above other e) = ap grant_in e
 plain-grant s who r a (attached_again is same e) = ap grant_in e
 plain-grant s who r a (not_yet same rec only e) = ap grant_in e

@@ -1,0 +1,281 @@
+-- What each outcome of a datagram does to the server, as one client sees it.
+use Rattle.std.proofs.Common.{◌≡◌, ◌≢◌, ◌<◌, ◌≤◌, ◌⊎◌, ℕ, ◌+◌, ◌-◌, ◌%◌, max, min, Bool, true, false, ◌&&◌, ◌||◌, not, ◌==◌, nat_lt, nat_le, List, [], ◌∷◌, ◌++◌, Option, Some, None, is_some, if◌then◌else◌, length, refl, sym, subst, ap, ◌∙◌, arith, inl, inr}
+use Rattle.std.specs.List.{find, filter, list_any}
+use Rattle.std.proofs.lemmas.Bool.Decides.{nat_tests}
+use Rattle.nq_base.specs.declared.Access.{Access}
+use Rattle.nq_base.specs.declared.Event.{Event}
+use Rattle.nq_base.specs.declared.Grant.{Grant}
+use Rattle.nq_base.specs.declared.HostRow.{HostRow}
+use Rattle.nq_base.specs.declared.Mode.{Mode}
+use Rattle.nq_base.specs.declared.PushBase.{PushBase}
+use Rattle.nq_base.specs.declared.Refusal.{Refusal}
+use Rattle.nq_base.specs.declared.Reply.{Reply}
+use Rattle.nq_base.specs.declared.Request.{Request}
+use Rattle.nq_base.specs.declared.Row.{Row}
+use Rattle.nq_base.specs.declared.Tag.{Tag}
+use Rattle.nq_base.specs.declared.Verdict.{Verdict}
+use Rattle.nq_base.specs.declared.Want.{Want}
+use Rattle.nq_base.specs.declared.Who.{Who}
+use Rattle.nq_laws.proofs.AskCases.{clash_in, own_in, has_room, with_marked, with_waiter, IsGranted, shares_again, begins_sharing, begins_caching, renews_row}
+use Rattle.nq_laws.proofs.ClientFacts.{seq_of, changes_file}
+use Rattle.nq_laws.proofs.ClientKnows.{Knows}
+use Rattle.nq_laws.proofs.ClientMoves.{some-same, none-some}
+use Rattle.nq_laws.proofs.CoverFacts.{IsTakeable}
+use Rattle.nq_laws.proofs.Covers.{GoesOn, GoesOnAt, same-goes-on, covered-goes-on, marked-goes-on, granted-goes-on, granted-key, waiting-goes-on, heard-goes-on, AreOfBoot, fitting-goes-on}
+use Rattle.nq_laws.proofs.KeptChanges.{other-line, own-line, no-line}
+use Rattle.nq_laws.proofs.Packets.{In, in-append, Asked, Mail, call-same}
+use Rattle.nq_laws.proofs.RowChanges.{HasUniqueKeys, found-any, found-marked, mark-is, found-put, find-other-host-dropped, find-other-file-dropped, find-not-vacated, of-key, own-key, no-clash, find-row-dropped}
+use Rattle.nq_laws.proofs.Rows.{choice, both-true, same-number, number-same, find-passes, found-row}
+use Rattle.nq_laws.proofs.ServerCases.{server-hears}
+use Rattle.nq_laws.proofs.ServerFacts.{IncsFitOf, IncsFit, AreCurrent}
+use Rattle.nq_laws.proofs.ServerKnows.{NoneHeard, NoneGiven, IsFreshGrant, IsNewReply, IsNew, new_reply, new_error, new_notice, LineMoves, line_stays, line_decides, line_attaches, IsClaimed, Effect}
+use Rattle.nq_laws.proofs.ServerNumbers.{TermsFit, TermsFitOf, LinesFitOf}
+use Rattle.nq_laws.proofs.ServerOutcomes.{sequence_of, error_for, wanted_by, only_asks, line_of, IsFrom, IsCurrent, IsFresh, IsPlain, unattached, attached_again, not_yet, no_entry, entry, no_attributes, attributes, no_file, no_block, decided_again, is_old, IsAsking, IsChanging, clash_with, CanStore, ServerCases}
+use Rattle.nq_laws.proofs.ServerSays.{plain-inc, plain-grant, verdict-inc, verdict-grant}
+use Rattle.nq_laws.proofs.ServerTables.{BootsFitOf, BootsFit, ServesBoot, RecoversBoot, StandingFits, StandingFitsOf}
+use Rattle.nq_laws.proofs.TableFits.{RowFits, TableFits}
+use Rattle.nq_laws.proofs.TagFacts.{IsDrawn}
+use Rattle.nq_model.specs.Ask.{Question, conflicts, marked, grant_of, sharing_row, caching_row, shared_again, renewed_row, term_of}
+use Rattle.nq_model.specs.Client.{Lease, Notice, Ticket, lease_on}
+use Rattle.nq_model.specs.Decide.{Decision, decides, creates, writes_through, stores, wrote, stores_recovering, resizes, removes, puts_off, in_the_way, verdict_reply, row_after, commits}
+use Rattle.nq_model.specs.Hear.{inc_of, wants_of}
+use Rattle.nq_model.specs.Kept.{File, Kept, find_file, replace_file, drop_file, with_files, with_new_file, with_row, host_row}
+use Rattle.nq_model.specs.LeaseInterval.{IsCovered, HasFitting, IsFitting, OutlivedBy, is_at_least, grant_in, requested_file}
+use Rattle.nq_model.specs.Message.{Message, Packet, call, reply, error, RpcError, asker, Reason, Datagram, request, too_long, no_message, no_call, other_rpc, other_program, other_version, unknown_procedure, garbage_vacated, garbage}
+use Rattle.nq_model.specs.Profile.{skew, write_slack, shortest_term, granted_term, xid_end, most_hosts}
+use Rattle.nq_model.specs.Server.{Phase, serving, recovering, Server, ServerStep, standing, to_host, quiet, drops, says, replies, notices, after_notices, keeping, keeping_with, with_table}
+use Rattle.nq_model.specs.ServerStep.{attaches, vacates, vacated_rows, tells_later, serves, leases, to_read, access_of, is_attach, receive}
+use Rattle.nq_model.specs.Table.{Table, caches, is_writing, tag_below, same_tag, is_row_of, find_row, drop_row, drop_host, drop_rows_of, put_row, with_rows, after_draw, next_tag}
+
+-- the sequence of a request is its sequence
+pub same-seq : (r : Request) → seq_of r ≡ sequence_of r
+same-seq (Request.Create w seq name blocks) = refl
+same-seq (Request.Write w seq file block first last push body) = refl
+same-seq (Request.Resize w seq q file blocks) = refl
+same-seq (Request.Remove w seq q file) = refl
+same-seq r = refl
+
+-- rows of a filtered table are found under their keys
+unique-in : (rows : List Row) (r : Row) → HasUniqueKeys rows → In rows r → find_row r.file r.who.host rows ≡ Some r
+unique-in [] r unique h = absurd h
+unique-in (y ∷ rows) r unique (inl e) = subst (λ x. find_row x.file x.who.host (y ∷ rows) ≡ Some x) e (ap (λ b. if b then Some y else find_row y.file y.who.host rows) (own-key y))
+unique-in (y ∷ rows) r unique (inr h) = step (is_row_of r.file r.who.host y) refl (unique-in rows r unique.1 h)
+  where
+  step : (b : Bool) → is_row_of r.file r.who.host y ≡ b → find_row r.file r.who.host rows ≡ Some r → (if b then Some y else find_row r.file r.who.host rows) ≡ Some r
+  step false e f = f
+  step true e f =
+      let k = of-key r.file r.who.host y e in
+      let none : find_row r.file r.who.host rows ≡ None = subst (λ n. find_row n r.who.host rows ≡ None) k.0 (subst (λ g. find_row y.file g rows ≡ None) k.1 unique.0) in
+      none-some r (sym none ∙ f)
+
+in-filter-step : (y r : Row) (rows less : List Row) (b : Bool) → (In less r → In rows r) → In (if b then y ∷ less else less) r → (y ≡ r) ⊎ In rows r
+in-filter-step y r rows less true rest (inl e) = inl e
+in-filter-step y r rows less true rest (inr i) = inr (rest i)
+in-filter-step y r rows less false rest i = inr (rest i)
+
+in-filter : (q : Row → Bool) (rows : List Row) (r : Row) → In (filter q rows) r → In rows r
+in-filter q [] r h = h
+in-filter q (y ∷ rows) r h = in-filter-step y r rows (filter q rows) (q y) (in-filter q rows r) h
+
+-- a tag that was drawn before is drawn after, where the standing table is of the same boot and has drawn no fewer
+pub drawn-more : (boot drawn boot' drawn' : ℕ) → boot' ≡ boot → drawn ≤ drawn' → (tag : Tag) → IsDrawn boot drawn tag → IsDrawn boot' drawn' tag
+drawn-more boot drawn boot' drawn' same more tag (inl earlier) = inl (omega arith)
+drawn-more boot drawn boot' drawn' same more tag (inr d) = inr (d.0 ∙ sym same, omega arith)
+
+pub standing-serving : (s : Server) → s.phase ≡ serving → standing s ≡ s.table
+standing-serving s p = rw p refl
+
+pub drawn-serving : (s t : Server) → s.phase ≡ serving → t.phase ≡ serving → t.table.boot ≡ s.table.boot → s.table.drawn ≤ t.table.drawn → (tag : Tag) → IsDrawn (standing s).boot (standing s).drawn tag → IsDrawn (standing t).boot (standing t).drawn tag
+drawn-serving s t p q same more tag h =
+    subst (λ x. IsDrawn x.boot x.drawn tag) (sym (standing-serving t q))
+        (drawn-more s.table.boot s.table.drawn t.table.boot t.table.drawn same more tag (subst (λ x. IsDrawn x.boot x.drawn tag) (standing-serving s p) h))
+
+-- no verdict is answered as ATTACH is
+verdict-no-attach : (inc : ℕ) (v : Verdict) (value : ℕ) (r : Request) (i : ℕ) → verdict_reply inc v value r ≡ Reply.Attach i → ⊥
+verdict-no-attach inc Verdict.Done value (Request.Create w seq name blocks) i e = cc
+verdict-no-attach inc Verdict.Done value (Request.Write w seq file block first last push body) i e = cc
+verdict-no-attach inc Verdict.Done value (Request.Resize w seq q file blocks) i e = cc
+verdict-no-attach inc Verdict.Done value (Request.Remove w seq q file) i e = cc
+verdict-no-attach inc Verdict.Done value r i e = cc
+verdict-no-attach inc Verdict.Fenced value r i e = cc
+verdict-no-attach inc Verdict.Exist value r i e = cc
+verdict-no-attach inc Verdict.NoSpace value r i e = cc
+verdict-no-attach inc Verdict.Invalid value r i e = cc
+verdict-no-attach inc Verdict.Stale value r i e = cc
+verdict-no-attach inc Verdict.TryLater value r i e = cc
+
+-- a request that only asks has no sequence
+asks-no-seq : (r : Request) → only_asks r ≡ true → seq_of r ≡ None
+asks-no-seq (Request.Lookup w name) e = refl
+asks-no-seq (Request.GetAttr w file) e = refl
+asks-no-seq (Request.Read w q file block want) e = refl
+asks-no-seq (Request.GetLease w file want) e = refl
+asks-no-seq r e = absurd (cc)
+
+reads-no-seq : (r : Request) (file : ℕ) → requested_file r ≡ Some file → seq_of r ≡ None
+reads-no-seq (Request.Read w q f block want) file e = refl
+reads-no-seq (Request.GetLease w f want) file e = refl
+reads-no-seq r file e = none-some file e
+
+-- a plain reply that says that the asker is attached says so of the kept incarnation
+plain-attach : (s : Server) (w : Who) (r : Request) (a : Reply) → IsPlain s w r a → (i : ℕ) → a ≡ Reply.Attach i → (line_of s w).inc ≡ i
+plain-attach s w r a (unattached above other e) i is = absurd (cc)
+plain-attach s w r a (attached_again asks same e) i is = let k : Reply.Attach w.inc ≡ Reply.Attach i = sym e ∙ is in let n : w.inc ≡ i = cc in sym same ∙ n
+plain-attach s w r a (not_yet same rec only e) i is = absurd (cc)
+plain-attach s w r a (no_entry name same p on none e) i is = absurd (cc)
+plain-attach s w r a (entry name f same p on some e) i is = absurd (cc)
+plain-attach s w r a (no_attributes file same p on none e) i is = absurd (cc)
+plain-attach s w r a (attributes file f same p on some e) i is = absurd (cc)
+plain-attach s w r a (no_file file same p on none e) i is = absurd (cc)
+plain-attach s w r a (no_block q file block want f same p on some none e) i is = absurd (cc)
+plain-attach s w r a (decided_again seq same sq eq e) i is = absurd (verdict-no-attach w.inc _ _ r i (sym e ∙ is))
+plain-attach s w r a (is_old seq same sq below e) i is = absurd (cc)
+
+-- a plain reply to a request that is decided once tells that it was, or the asker is not attached
+plain-decided : (s : Server) (w : Who) (r : Request) (a : Reply) → IsPlain s w r a → (n : ℕ) → seq_of r ≡ Some n → (((line_of s w).inc ≡ w.inc) × (n ≤ (line_of s w).seq)) ⊎ (((line_of s w).inc < w.inc) × (is_attach r ≡ false))
+plain-decided s w r a (unattached above other e) n q = inr (above, other)
+plain-decided s w r a (attached_again asks same e) n q = none-some n (ap seq_of (sym asks) ∙ q)
+plain-decided s w r a (not_yet same rec only e) n q = none-some n (sym (asks-no-seq r only) ∙ q)
+plain-decided s w r a (no_entry name same p on none e) n q = none-some n (ap seq_of (sym on) ∙ q)
+plain-decided s w r a (entry name f same p on some e) n q = none-some n (ap seq_of (sym on) ∙ q)
+plain-decided s w r a (no_attributes file same p on none e) n q = none-some n (ap seq_of (sym on) ∙ q)
+plain-decided s w r a (attributes file f same p on some e) n q = none-some n (ap seq_of (sym on) ∙ q)
+plain-decided s w r a (no_file file same p on none e) n q = none-some n (sym (reads-no-seq r file on) ∙ q)
+plain-decided s w r a (no_block q' file block want f same p on some none e) n q = none-some n (ap seq_of (sym on) ∙ q)
+plain-decided s w r a (decided_again seq same sq eq e) n q = let one : seq ≡ n = some-same seq n (sym sq ∙ sym (same-seq r) ∙ q) in inl (sym same, omega arith)
+plain-decided s w r a (is_old seq same sq below e) n q = let one : seq ≡ n = some-same seq n (sym sq ∙ sym (same-seq r) ∙ q) in inl (sym same, omega arith)
+
+-- the term of a grant is no longer than the longest
+term-short : (longest wish : ℕ) → shortest_term ≤ longest → granted_term longest wish ≤ longest
+term-short longest wish few = omega arith
+
+-- the kept line of a host after a line was kept
+line-after : (kept : Kept) (other : ℕ) (row : HostRow) (ps : List Packet) (host : ℕ) → (host ≡ other → LineMoves ps host (host_row kept host) row) → (host ≡ other → host_row (with_row kept other row) host ≡ row) → LineMoves ps host (host_row kept host) (host_row (with_row kept other row) host)
+line-after kept other row ps host own is = step (host == other) refl
+  where
+  step : (b : Bool) → (host == other) ≡ b → LineMoves ps host (host_row kept host) (host_row (with_row kept other row) host)
+  step true e = let same : host ≡ other = same-number host other e in subst (λ l. LineMoves ps host (host_row kept host) l) (sym (is same)) (own same)
+  step false e = line_stays (other-line kept other host row (λ same. let yes : (host == other) ≡ true = number-same host other same in absurd (cc)))
+
+module _ (ps : List Packet) (s : Server) (most sender next : ℕ) (d : Datagram) (was_sent : (x : ℕ) (r : Request) → d ≡ request x r → Asked ps sender x r) (no_null : (x : ℕ) → d ≡ request x Request.Null → ⊥)
+  (boots : BootsFitOf s) (stood : StandingFitsOf s) (incs : IncsFitOf s) (terms : TermsFitOf most s) (lines : LinesFitOf s)
+  (events : List Event) (who : Who) (now xid : ℕ) (attached : Bool) (ticket : Option Ticket) (leased : List Lease) (noticed : List Notice)
+  (m : Mail who xid ticket ps) (h : Knows NoneHeard NoneGiven (host_row s.kept who.host) s events who now attached ticket leased noticed ps)
+  (changing : (t : Ticket) (file : ℕ) → ticket ≡ Some t → changes_file t.request ≡ Some file → lease_on file leased ≡ None)
+  (idle : attached ≡ false → (leased ≡ []) × ((t : Ticket) → ticket ≡ Some t → requested_file t.request ≡ None)) where
+
+  own-fits : s.phase ≡ serving → TableFits s.kept.files s.table.boot s.table.drawn s.table.rows
+  own-fits p = subst (λ q. StandingFits s.kept.files q s.table) p stood
+
+  own-boots : s.phase ≡ serving → AreOfBoot s.table
+  own-boots p = λ file host row found. let k = (own-fits p).fits file host row found in (k.tag_boot, k.drawn_before, k.since_boot, k.in_order)
+
+  own-current : s.phase ≡ serving → AreCurrent s.kept s.table.rows
+  own-current p = subst (λ q. IncsFit s.kept q s.table) p incs
+
+  -- nothing is claimed by a client that is not attached
+  unclaimed : attached ≡ false → (file : ℕ) (tag : Tag) → IsClaimed ps who ticket leased file tag → ⊥
+  unclaimed e file tag (inl c) = none-some c.0 (ap (lease_on file) (sym (idle e).0) ∙ c.1)
+  unclaimed e file tag (inr c) = none-some file (sym ((idle e).1 c.1 c.2.asked) ∙ c.2.on_file)
+
+  -- a claim is of an incarnation that is the kept one
+  claimed-kept : (file : ℕ) (tag : Tag) → IsClaimed ps who ticket leased file tag → (host_row s.kept who.host).inc ≡ who.inc
+  claimed-kept file tag c = step attached refl
+    where
+    step : (b : Bool) → attached ≡ b → (host_row s.kept who.host).inc ≡ who.inc
+    step true e = h.lined.current e
+    step false e = absurd (unclaimed e file tag c)
+
+  -- ---- what is said
+
+  none-new : (t : Server) (q : Packet) → In [] q → IsNew ps s t q
+  none-new t q bad = absurd bad
+
+  one-new : (t : Server) (p : Packet) → IsNew ps s t p → (q : Packet) → In (p ∷ []) q → IsNew ps s t q
+  one-new t p n q (inl e) = subst (λ z. IsNew ps s t z) e n
+  one-new t p n q (inr bad) = absurd bad
+
+  both-new : (t : Server) (xs ys : List Packet) → ((q : Packet) → In xs q → IsNew ps s t q) → ((q : Packet) → In ys q → IsNew ps s t q) → (q : Packet) → In (xs ++ ys) q → IsNew ps s t q
+  both-new t xs ys a b q i = case (in-append xs ys q i)
+    where
+    case : In xs q ⊎ In ys q → IsNew ps s t q
+    case (inl x) = a q x
+    case (inr y) = b q y
+
+  -- notices for rows of the table
+  notices-new : (t : Server) (x : ℕ) (rows : List Row) → ((r : Row) → In rows r → find_row r.file r.who.host s.table.rows ≡ Some r) → ((r : Row) → In rows r → r.who.inc ≡ (host_row s.kept r.who.host).inc) → ((r : Row) → In rows r → IsDrawn (standing t).boot (standing t).drawn r.tag) → (q : Packet) → In (notices x rows) q → IsNew ps s t q
+  notices-new t x [] there inc drawn q bad = absurd bad
+  notices-new t x (row ∷ rows) there inc drawn q (inl e) = new_notice x row (sym e) (there row (inl refl)) (inc row (inl refl)) (drawn row (inl refl))
+  notices-new t x (row ∷ rows) there inc drawn q (inr i) = notices-new t ((x + 1) % xid_end) rows (λ r k. there r (inr k)) (λ r k. inc r (inr k)) (λ r k. drawn r (inr k)) q i
+
+  row-drawn : s.phase ≡ serving → (t : Server) → t.phase ≡ serving → t.table.boot ≡ s.table.boot → s.table.drawn ≤ t.table.drawn → (r : Row) → find_row r.file r.who.host s.table.rows ≡ Some r → IsDrawn (standing t).boot (standing t).drawn r.tag
+  row-drawn p t q same more r found =
+      let k = (own-fits p).fits r.file r.who.host r found in
+      drawn-serving s t p q same more r.tag (subst (λ x. IsDrawn x.boot x.drawn r.tag) (sym (standing-serving s p)) (inr (k.tag_boot, k.drawn_before)))
+
+  -- notices for some rows of the table
+  rows-new : s.phase ≡ serving → (t : Server) → t.phase ≡ serving → t.table.boot ≡ s.table.boot → s.table.drawn ≤ t.table.drawn → (x : ℕ) (rows : List Row) → ((r : Row) → In rows r → In s.table.rows r) → (q : Packet) → In (notices x rows) q → IsNew ps s t q
+  rows-new p t q same more x rows there =
+      notices-new t x rows
+          (λ r k. unique-in s.table.rows r (own-fits p).unique (there r k))
+          (λ r k. own-current p r.file r.who.host r (unique-in s.table.rows r (own-fits p).unique (there r k)))
+          (λ r k. row-drawn p t q same more r (unique-in s.table.rows r (own-fits p).unique (there r k)))
+
+  -- a reply without a grant, to a request of this datagram
+  reply-new : (t : Server) (x : ℕ) (w : Who) (r : Request) (a : Reply) → d ≡ request x r → asker r ≡ Some w → w.host ≡ sender → inc_of a ≡ w.inc → grant_in a ≡ None → ((i : ℕ) → a ≡ Reply.Attach i → (host_row t.kept w.host).inc ≡ i) → ((n : ℕ) → seq_of r ≡ Some n → (((host_row t.kept w.host).inc ≡ w.inc) × (n ≤ (host_row t.kept w.host).seq)) ⊎ (((host_row s.kept w.host).inc < w.inc) × (is_attach r ≡ false))) → IsNew ps s t (to_host w.host (reply x a))
+  reply-new t x w r a e by from inc none att dec = new_reply w.host x a refl (record {
+    asks = r;
+    who = w;
+    sent = subst (λ n. Asked ps n x r) (sym from) (was_sent x r e);
+    by = by;
+    same_host = refl;
+    inc = inc;
+    attached = att;
+    decided = dec;
+    fresh = λ g gives. none-some g (sym none ∙ gives);
+    files = λ g gives. none-some g (sym none ∙ gives);
+  })
+
+  -- ---- outcomes that change nothing
+
+  quiet-effect : Effect ps s (quiet s) who ticket leased
+  unfolding quiet
+  quiet-effect = record { line = line_stays refl; grows = λ tag k. k; opened = refl; longest = refl; covers = λ file mode tag until claim c k. k; said = none-new s }
+
+  drops-effect : (reason : Reason) → Effect ps s (drops s reason) who ticket leased
+  unfolding drops
+  drops-effect reason = record { line = line_stays refl; grows = λ tag k. k; opened = refl; longest = refl; covers = λ file mode tag until claim c k. k; said = none-new s }
+
+  says-effect : (host : ℕ) (n : Message) → IsNew ps s s (to_host host n) → Effect ps s (says s host n) who ticket leased
+  unfolding says
+  says-effect host n new = record { line = line_stays refl; grows = λ tag k. k; opened = refl; longest = refl; covers = λ file mode tag until claim c k. k; said = one-new s (to_host host n) new }
+
+  error-new : (dd : Datagram) (n : Message) → error_for dd ≡ Some n → IsNew ps s s (to_host sender n)
+  error-new too_long n e = none-some n e
+  error-new no_message n e = none-some n e
+  error-new no_call n e = none-some n e
+  error-new (other_rpc x) n e = new_error sender x RpcError.rpc_mismatch (ap (to_host sender) (sym (some-same _ n e)))
+  error-new (other_program x) n e = new_error sender x RpcError.program_unavailable (ap (to_host sender) (sym (some-same _ n e)))
+  error-new (other_version x) n e = new_error sender x RpcError.program_mismatch (ap (to_host sender) (sym (some-same _ n e)))
+  error-new (unknown_procedure x) n e = new_error sender x RpcError.procedure_unavailable (ap (to_host sender) (sym (some-same _ n e)))
+  error-new garbage_vacated n e = none-some n e
+  error-new (garbage x) n e = new_error sender x RpcError.garbage_arguments (ap (to_host sender) (sym (some-same _ n e)))
+  error-new (request x r) n e = none-some n e
+
+  plain-effect : (x : ℕ) (w : Who) (r : Request) (a : Reply) → d ≡ request x r → asker r ≡ Some w → IsFrom sender w → IsPlain s w r a → Effect ps s (replies s w.host x a) who ticket leased
+  plain-effect x w r a e by from plain = says-effect w.host (reply x a) (reply-new s x w r a e by from.host (plain-inc s w r a plain) (plain-grant s w r a plain) (plain-attach s w r a plain) (plain-decided s w r a plain))
+
+  -- ---- outcomes while serving that let the client's rows go on
+
+  goes-effect : (t : ServerStep) → s.phase ≡ serving → t.server.phase ≡ serving → t.server.table.boot ≡ s.table.boot → s.table.drawn ≤ t.server.table.drawn → t.server.kept.opened ≡ s.kept.opened → t.server.kept.longest ≡ s.kept.longest → LineMoves ps who.host (host_row s.kept who.host) (host_row t.server.kept who.host) → ((file : ℕ) → GoesOnAt file who.host s.table.rows t.server.table.rows) → ((q : Packet) → In t.sends q → IsNew ps s t.server q) → Effect ps s t who ticket leased
+  goes-effect t p q same more opened longest line goes said = record {
+    line = line;
+    grows = drawn-serving s t.server p q same more;
+    opened = opened;
+    longest = longest;
+    covers = λ file mode tag until claim c k. covered-goes-on s t.server who file mode tag until c p q (goes file) k;
+    said = said;
+  }
+
+  all-go-on : (file : ℕ) → GoesOnAt file who.host s.table.rows s.table.rows
+  all-go-on file was found c = (was, found, same-goes-on was)
