@@ -24,7 +24,7 @@ use Rattle.nq_laws.proofs.CoverFacts.{IsTakeable}
 use Rattle.nq_laws.proofs.Covers.{GoesOn, GoesOnAt, same-goes-on, covered-goes-on, marked-goes-on, granted-goes-on, granted-key, waiting-goes-on, heard-goes-on, AreOfBoot, fitting-goes-on}
 use Rattle.nq_laws.proofs.KeptChanges.{other-line, own-line, no-line}
 use Rattle.nq_laws.proofs.Packets.{In, in-append, Asked, Mail, call-same}
-use Rattle.nq_laws.proofs.RowChanges.{HasUniqueKeys, found-any, found-marked, mark-is, found-put, find-other-host-dropped, find-other-file-dropped, find-not-vacated, of-key, own-key, no-clash, find-row-dropped}
+use Rattle.nq_laws.proofs.RowChanges.{HasUniqueKeys, found-any, found-marked, mark-is, found-put, find-other-host-dropped, find-other-file-dropped, find-not-vacated, of-key, own-key, no-clash, find-row-dropped, find-put-same}
 use Rattle.nq_laws.proofs.Rows.{choice, both-true, same-number, number-same, find-passes, found-row}
 use Rattle.nq_laws.proofs.ServerCases.{server-hears}
 use Rattle.nq_laws.proofs.ServerFacts.{IncsFitOf, IncsFit, AreCurrent}
@@ -279,3 +279,188 @@ module _ (ps : List Packet) (s : Server) (most sender next : ℕ) (d : Datagram)
 
   all-go-on : (file : ℕ) → GoesOnAt file who.host s.table.rows s.table.rows
   all-go-on file was found c = (was, found, same-goes-on was)
+
+  -- ---- an asker is put off
+
+  later-effect : (x : ℕ) (w : Who) (r : Request) (table : Table) (rows : List Row) → d ≡ request x r → asker r ≡ Some w → w.host ≡ sender → seq_of r ≡ None → s.phase ≡ serving → table.boot ≡ s.table.boot → s.table.drawn ≤ table.drawn → ((file : ℕ) → GoesOnAt file who.host s.table.rows table.rows) → ((k : Row) → In rows k → In s.table.rows k) → Effect ps s (tells_later s w x table rows) who ticket leased
+  unfolding tells_later after_notices
+  later-effect x w r table rows e by from no_seq p same more goes there =
+      goes-effect (tells_later s w x table rows) p p same more refl refl (line_stays refl) goes
+          (both-new (tells_later s w x table rows).server (notices s.notice rows) (to_host w.host (reply x (Reply.Refused w.inc Refusal.TryLater)) ∷ [])
+              (rows-new p (tells_later s w x table rows).server p same more s.notice rows there)
+              (one-new (tells_later s w x table rows).server (to_host w.host (reply x (Reply.Refused w.inc Refusal.TryLater))) (reply-new (tells_later s w x table rows).server x w r (Reply.Refused w.inc Refusal.TryLater) e by from refl refl (λ i bad. absurd (cc)) (λ n q. none-some n (sym no_seq ∙ q)))))
+
+  marked-boot : (q : Question) → (with_marked s.table q).boot ≡ s.table.boot
+  unfolding with_rows
+  marked-boot q = refl
+
+  marked-drawn : (q : Question) → s.table.drawn ≤ (with_marked s.table q).drawn
+  unfolding with_rows
+  marked-drawn q = omega arith
+
+  marked-rows : (q : Question) (file : ℕ) → GoesOnAt file who.host s.table.rows (with_marked s.table q).rows
+  unfolding with_rows
+  marked-rows q file = marked-goes-on file who.host q.file q.who.host q.access s.table.rows
+
+  waiter-boot : (q : Question) (want : Want) → (with_waiter s.table q want).boot ≡ s.table.boot
+  unfolding with_rows after_draw
+  waiter-boot q want = refl
+
+  waiter-drawn : (q : Question) (want : Want) → s.table.drawn ≤ (with_waiter s.table q want).drawn
+  unfolding with_rows after_draw
+  waiter-drawn q want = omega arith
+
+  way-rows : (file host : ℕ) (access : Access) (k : Row) → In (in_the_way s file host access) k → In s.table.rows k
+  way-rows file host access k i = in-filter (conflicts file host access) s.table.rows k i
+
+  -- ---- a block is read, or a lease is asked for, without a grant
+
+  reads-effect : (x : ℕ) (w : Who) (q : ℕ) (f : File) (block : ℕ) (body : List ℕ) (want : Option Want) → d ≡ request x (Request.Read w q f.id block want) → w.host ≡ sender → Effect ps s (serves s w x next q f block body s.table None) who ticket leased
+  unfolding serves with_table
+  reads-effect x w q f block body want e from = record {
+    line = line_stays refl;
+    grows = λ tag k. k;
+    opened = refl;
+    longest = refl;
+    covers = λ file mode tag until claim c k. k;
+    said = one-new s (to_host w.host (reply x (Reply.Read w.inc f.rev body None))) (reply-new s x w (Request.Read w q f.id block want) (Reply.Read w.inc f.rev body None) e refl from refl refl (λ i bad. absurd (cc)) (λ n k. none-some n k));
+  }
+
+  asks-effect : (x : ℕ) (w : Who) (f : File) (want : Want) → d ≡ request x (Request.GetLease w f.id want) → w.host ≡ sender → Effect ps s (leases s w x f.id s.table None) who ticket leased
+  unfolding leases with_table
+  asks-effect x w f want e from = record {
+    line = line_stays refl;
+    grows = λ tag k. k;
+    opened = refl;
+    longest = refl;
+    covers = λ file mode tag until claim c k. k;
+    said = one-new s (to_host w.host (reply x (Reply.GetLease w.inc None))) (reply-new s x w (Request.GetLease w f.id want) (Reply.GetLease w.inc None) e refl from refl refl (λ i bad. absurd (cc)) (λ n k. none-some n k));
+  }
+
+  -- ---- a lease is granted
+
+  -- the table with a granted row
+  granted-table : Row → Table
+  granted-table row = after_draw s.table (put_row row s.table.rows)
+
+  -- the tag of a granted row is the next one, and its chain began no later
+  granted-tag : (q : Question) (want : Want) (row : Row) (term : ℕ) → IsGranted s.table q want row term → row.tag ≡ next_tag s.table
+  unfolding sharing_row caching_row shared_again renewed_row
+  granted-tag q want row term (shares_again own found stays shares is lasts) = ap (λ r. r.tag) is
+  granted-tag q want row term (begins_sharing none room shared is lasts) = ap (λ r. r.tag) is
+  granted-tag q want row term (begins_caching none room shared is lasts) = ap (λ r. r.tag) is
+  granted-tag q want row term (renews_row own found stays caching is lasts) = ap (λ r. r.tag) is
+
+  granted-began : s.phase ≡ serving → (q : Question) (want : Want) (row : Row) (term : ℕ) → IsGranted s.table q want row term → tag_below (next_tag s.table) row.since ≡ false
+  unfolding sharing_row caching_row shared_again renewed_row
+  granted-began p q want row term (shares_again own found stays shares is lasts) = subst (λ r. tag_below (next_tag s.table) r.since ≡ false) (sym is) (not-below (next_tag s.table))
+    where
+    not-below : (t : Tag) → tag_below t t ≡ false
+    not-below t = grind (arith, nat_tests)
+  granted-began p q want row term (begins_sharing none room shared is lasts) = subst (λ r. tag_below (next_tag s.table) r.since ≡ false) (sym is) (grind (arith, nat_tests))
+  granted-began p q want row term (begins_caching none room shared is lasts) = subst (λ r. tag_below (next_tag s.table) r.since ≡ false) (sym is) (grind (arith, nat_tests))
+  granted-began p q want row term (renews_row own found stays caching is lasts) =
+      let b = own-boots p q.file q.who.host own found in
+      subst (λ r. tag_below (next_tag s.table) r.since ≡ false) (sym is) (earlier s.table.boot s.table.drawn own.since own.tag b.0 b.1 b.2 b.3)
+    where
+    earlier : (boot drawn : ℕ) (since tag : Tag) → tag.boot ≡ boot → tag.number ≤ drawn → since.boot ≡ boot → since.number ≤ tag.number → tag_below (record { boot = boot; number = drawn + 1 }) since ≡ false
+    earlier boot drawn since tag a b c e = grind (arith, nat_tests)
+
+  granted-lasts : (q : Question) (want : Want) (row : Row) (term : ℕ) → IsGranted s.table q want row term → caches row.mode ≡ true → q.now + term + skew ≤ row.until
+  unfolding sharing_row caching_row shared_again renewed_row
+  granted-lasts q want row term (shares_again own found stays shares is lasts) c = let no : caches row.mode ≡ false = ap (λ r. caches r.mode) is ∙ shares in absurd (cc)
+  granted-lasts q want row term (begins_sharing none room shared is lasts) c = let no : caches row.mode ≡ false = ap (λ r. caches r.mode) is in absurd (cc)
+  granted-lasts q want row term (begins_caching none room shared is lasts) c = let u : row.until ≡ q.now + term_of q want + skew = ap (λ r. r.until) is in omega arith
+  granted-lasts q want row term (renews_row own found stays caching is lasts) c = let u : row.until ≡ max own.until (q.now + term_of q want + skew) = ap (λ r. r.until) is in omega arith
+
+  granted-short : (q : Question) (want : Want) (row : Row) (term : ℕ) → q.longest ≡ s.longest → IsGranted s.table q want row term → caches row.mode ≡ true → term ≤ s.longest
+  unfolding sharing_row shared_again
+  granted-short q want row term same (shares_again own found stays shares is lasts) c = let no : caches row.mode ≡ false = ap (λ r. caches r.mode) is ∙ shares in absurd (cc)
+  granted-short q want row term same (begins_sharing none room shared is lasts) c = let no : caches row.mode ≡ false = ap (λ r. caches r.mode) is in absurd (cc)
+  granted-short q want row term same (begins_caching none room shared is lasts) c = let t = term-short q.longest want.term (let l = terms.long in omega arith) in omega arith
+  granted-short q want row term same (renews_row own found stays caching is lasts) c = let t = term-short q.longest want.term (let l = terms.long in omega arith) in omega arith
+
+  -- the holder of a granted row that caches is the asker
+  granted-holder : s.phase ≡ serving → (q : Question) (want : Want) (row : Row) (term : ℕ) → q.who.inc ≡ (host_row s.kept q.who.host).inc → IsGranted s.table q want row term → caches row.mode ≡ true → row.who ≡ q.who
+  unfolding sharing_row caching_row shared_again renewed_row
+  granted-holder p q want row term current (shares_again own found stays shares is lasts) c = let no : caches row.mode ≡ false = ap (λ r. caches r.mode) is ∙ shares in absurd (cc)
+  granted-holder p q want row term current (begins_sharing none room shared is lasts) c = let no : caches row.mode ≡ false = ap (λ r. caches r.mode) is in absurd (cc)
+  granted-holder p q want row term current (begins_caching none room shared is lasts) c = ap (λ r. r.who) is
+  granted-holder p q want row term current (renews_row own found stays caching is lasts) c =
+      let k = found-row q.file q.who.host s.table.rows own found in
+      ap (λ r. r.who) is ∙ both-same own.who q.who k.1 (own-current p q.file q.who.host own found ∙ sym current)
+    where
+    both-same : (v w : Who) → v.host ≡ w.host → v.inc ≡ w.inc → v ≡ w
+    both-same v w a b = let make : ℕ → ℕ → Who = λ i j. record { host = i; inc = j } in ap (λ i. make i v.inc) a ∙ ap (λ j. make w.host j) b
+
+  above-drawn : s.phase ≡ serving → (v : Tag) → IsDrawn (standing s).boot (standing s).drawn v → tag_below v (next_tag s.table) ≡ true
+  above-drawn p v k = above s.table.boot s.table.drawn v (subst (λ x. IsDrawn x.boot x.drawn v) (standing-serving s p) k)
+    where
+    above : (boot drawn : ℕ) (v : Tag) → IsDrawn boot drawn v → tag_below v (record { boot = boot; number = drawn + 1 }) ≡ true
+    above boot drawn v (inl e) = grind (arith, nat_tests)
+    above boot drawn v (inr e) = let a = e.0 in let b = e.1 in grind (arith, nat_tests)
+
+  -- the fresh grant, in a server with the granted table
+  fresh-grant : (t : Server) (w : Who) (f : File) (want : Want) (row : Row) (term : ℕ) → s.phase ≡ serving → t.phase ≡ serving → t.table ≡ granted-table row → w.inc ≡ (host_row s.kept w.host).inc → IsGranted s.table (to_read s w f (Some want)) want row term → IsFreshGrant s t w f.id (grant_of (to_read s w f (Some want)) row term)
+  unfolding grant_of after_draw granted-table
+  fresh-grant t w f want row term p q table current g =
+      let question : Question = to_read s w f (Some want) in
+      let key = granted-key s.table question want row term g in
+      let tag = granted-tag question want row term g in
+      record {
+        serves = q;
+        above = λ v k. subst (λ n. tag_below v n ≡ true) (sym tag) (above-drawn p v k);
+        drawn = subst (λ x. IsDrawn x.boot x.drawn row.tag) (sym (standing-serving t q ∙ table)) (inr (ap (λ n. n.boot) tag, let n : row.tag.number ≡ s.table.drawn + 1 = ap (λ n. n.number) tag in omega arith));
+        row = row;
+        stands = subst (λ x. find_row f.id w.host x.rows ≡ Some row) (sym table) (subst (λ n. find_row n w.host (put_row row s.table.rows) ≡ Some row) key.0 (subst (λ n. find_row row.file n (put_row row s.table.rows) ≡ Some row) key.1 (find-put-same row s.table.rows)));
+        holder = λ c. granted-holder p question want row term current g c;
+        of_file = key.0;
+        mode = refl;
+        tag = refl;
+        began = λ c. subst (λ n. tag_below n row.since ≡ false) (sym tag) (granted-began p question want row term g);
+        lasts = λ c. granted-lasts question want row term g c;
+        short = λ c. let a = granted-short question want row term refl g c in let same = terms.same p in omega arith;
+      }
+
+  granted-rows : s.phase ≡ serving → (q : Question) (want : Want) (row : Row) (term : ℕ) → IsGranted s.table q want row term → (file : ℕ) → GoesOnAt file who.host s.table.rows (put_row row s.table.rows)
+  granted-rows p q want row term g file = granted-goes-on s.table q want row term file who.host (own-boots p) g
+
+  reads-granted : (x : ℕ) (w : Who) (q : ℕ) (f : File) (block : ℕ) (body : List ℕ) (want : Want) (row : Row) (term : ℕ) → d ≡ request x (Request.Read w q f.id block (Some want)) → IsAsking s sender w f → IsGranted s.table (to_read s w f (Some want)) want row term → Effect ps s (serves s w x next q f block body (after_draw s.table (put_row row s.table.rows)) (Some (grant_of (to_read s w f (Some want)) row term))) who ticket leased
+  unfolding serves with_table after_draw granted-table
+  reads-granted x w q f block body want row term e asking g =
+      let p = asking.serves in
+      let t : ServerStep = serves s w x next q f block body (after_draw s.table (put_row row s.table.rows)) (Some (grant_of (to_read s w f (Some want)) row term)) in
+      goes-effect t p p refl (omega arith) refl refl (line_stays refl) (granted-rows p (to_read s w f (Some want)) want row term g)
+          (one-new t.server (to_host w.host (reply x (Reply.Read w.inc f.rev body (Some (grant_of (to_read s w f (Some want)) row term)))))
+              (new_reply w.host x (Reply.Read w.inc f.rev body (Some (grant_of (to_read s w f (Some want)) row term))) refl (record {
+                asks = Request.Read w q f.id block (Some want);
+                who = w;
+                sent = subst (λ n. Asked ps n x (Request.Read w q f.id block (Some want))) (sym asking.current.from.host) (was_sent x (Request.Read w q f.id block (Some want)) e);
+                by = refl;
+                same_host = refl;
+                inc = refl;
+                attached = λ i bad. absurd (cc);
+                decided = λ n k. none-some n k;
+                fresh = λ gr gives file on. subst (λ n. IsFreshGrant s t.server w n gr) (some-same f.id file on) (subst (λ n. IsFreshGrant s t.server w f.id n) (some-same _ gr gives) (fresh-grant t.server w f want row term p p refl asking.current.inc g));
+                files = λ gr gives. (f.id, refl);
+              })))
+
+  leases-granted : (x : ℕ) (w : Who) (f : File) (want : Want) (row : Row) (term : ℕ) → d ≡ request x (Request.GetLease w f.id want) → IsAsking s sender w f → IsGranted s.table (to_read s w f (Some want)) want row term → Effect ps s (leases s w x f.id (after_draw s.table (put_row row s.table.rows)) (Some (grant_of (to_read s w f (Some want)) row term))) who ticket leased
+  unfolding leases with_table after_draw granted-table
+  leases-granted x w f want row term e asking g =
+      let p = asking.serves in
+      let t : ServerStep = leases s w x f.id (after_draw s.table (put_row row s.table.rows)) (Some (grant_of (to_read s w f (Some want)) row term)) in
+      goes-effect t p p refl (omega arith) refl refl (line_stays refl) (granted-rows p (to_read s w f (Some want)) want row term g)
+          (one-new t.server (to_host w.host (reply x (Reply.GetLease w.inc (Some (grant_of (to_read s w f (Some want)) row term)))))
+              (new_reply w.host x (Reply.GetLease w.inc (Some (grant_of (to_read s w f (Some want)) row term))) refl (record {
+                asks = Request.GetLease w f.id want;
+                who = w;
+                sent = subst (λ n. Asked ps n x (Request.GetLease w f.id want)) (sym asking.current.from.host) (was_sent x (Request.GetLease w f.id want) e);
+                by = refl;
+                same_host = refl;
+                inc = refl;
+                attached = λ i bad. absurd (cc);
+                decided = λ n k. none-some n k;
+                fresh = λ gr gives file on. subst (λ n. IsFreshGrant s t.server w n gr) (some-same f.id file on) (subst (λ n. IsFreshGrant s t.server w f.id n) (some-same _ gr gives) (fresh-grant t.server w f want row term p p refl asking.current.inc g));
+                files = λ gr gives. (f.id, refl);
+              })))
