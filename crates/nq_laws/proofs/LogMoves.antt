@@ -1,6 +1,6 @@
 -- What a step of the server does to its state and to the entries that tell a time: grants, stored writes, silent ends, and
 -- the ends and the beginnings of recoveries.
-use Rattle.std.proofs.Common.{◌≡◌, ◌<◌, ◌≤◌, ℕ, ◌+◌, Bool, true, false, List, [], ◌∷◌, ◌++◌, Option, Some, None, max, refl}
+use Rattle.std.proofs.Common.{◌≡◌, ◌<◌, ◌≤◌, ℕ, ◌+◌, Bool, true, false, List, ◌∷◌, ◌++◌, Some, None, max, refl}
 use Rattle.std.specs.List.{find, filter}
 use Rattle.nq_base.specs.declared.Access.{Access}
 use Rattle.nq_base.specs.declared.Entry.{Entry}
@@ -22,7 +22,7 @@ use Rattle.nq_model.specs.Table.{Table, find_row, drop_row, put_row, drop_host, 
 use Rattle.nq_laws.proofs.AskCases.{clash_in, own_in, has_room, with_marked, with_waiter, IsGranted}
 use Rattle.nq_laws.proofs.ServerCases.{server-hears, server-ticks}
 use Rattle.nq_laws.proofs.ServerMoves.{first_line, IsKeptInc}
-use Rattle.nq_laws.proofs.ServerOutcomes.{line_of, wanted_by, IsCurrent, IsFresh, IsAsking, IsChanging, CanCreate, CanStore, clash_with, ServerCases, TickCases}
+use Rattle.nq_laws.proofs.ServerOutcomes.{line_of, wanted_by, IsCurrent, IsAsking, CanCreate, CanStore, clash_with, ServerCases}
 
 -- whether an entry is one of the server's that tell a time
 abbrev pub is_timed : Entry → Bool
