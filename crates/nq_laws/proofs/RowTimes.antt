@@ -69,7 +69,7 @@ times-marked longest now rows f h access each = λ file host row found.
       bounded = λ e. omega (arith, r.bounded (subst (λ k. caches k ≡ false) mode e));
     }
 
-term-bounds : (longest wish : ℕ) → shortest_term ≤ longest → (0 < granted_term longest wish) × (granted_term longest wish ≤ longest)
+pub term-bounds : (longest wish : ℕ) → shortest_term ≤ longest → (0 < granted_term longest wish) × (granted_term longest wish ≤ longest)
 term-bounds longest wish long = (omega arith, omega arith)
 
 grown-caches : (held wanted : Mode) → caches held ≡ true → caches (greater_mode held wanted) ≡ true
