@@ -85,8 +85,8 @@ pub fits-start : (most : ℕ) (head : Head) → head.hosts ≤ most_hosts → sh
 unfolding start
 fits-start most head few long most_long = fits-boot most (first_kept head) head.longest 0 (omega arith) long most_long long most_long (subst (IdsFit (first_kept head).files) (next head) (first-ids 1 head.files)) (first-lines head few)
   where
-  next : (head : Head) → 1 + length head.files ≡ (first_kept head).next
-  next head = omega arith
+    next : (head : Head) → 1 + length head.files ≡ (first_kept head).next
+    next head = omega arith
 
 pub log-start : (head : Head) → LogFits 0 (start head).server []
 unfolding start boot empty_table

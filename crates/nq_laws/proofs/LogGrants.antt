@@ -135,9 +135,10 @@ pub grants-crash : (s : Server) (longest : ℕ) (log : List Entry) → BootsFitO
 unfolding crash boot empty_table
 grants-crash s longest log b g = (tt, in-phase (s.kept.opened == 0) refl)
   where
-  opened-before : (phase : Phase) → BootsFit s.kept.boot s.kept.opened phase s.table → s.kept.opened < s.kept.boot + 1
-  opened-before serving b = omega (arith, b.opened_now)
-  opened-before (recovering until heard last) b = omega (arith, b.opened_before)
-  in-phase : (z : Bool) → (s.kept.opened == 0) ≡ z → GrantsFit (if z then record s.kept { boot = s.kept.boot + 1; opened = s.kept.boot + 1; longest = longest } else record s.kept { boot = s.kept.boot + 1 }) (if z then serving else recovering (s.now + s.kept.longest + 8) s.now (standing s)) (empty_table (s.kept.boot + 1)) log
-  in-phase true e = each-entry (IsOfGrants s.kept.opened s.kept.longest (standing s).drawn) (IsOfGrants (s.kept.boot + 1) longest 0) log (later-opened s.kept.opened s.kept.longest (standing s).drawn (s.kept.boot + 1) longest 0 (opened-before s.phase b)) g
-  in-phase false e = g
+    opened-before : (phase : Phase) → BootsFit s.kept.boot s.kept.opened phase s.table → s.kept.opened < s.kept.boot + 1
+    opened-before serving b = omega (arith, b.opened_now)
+    opened-before (recovering until heard last) b = omega (arith, b.opened_before)
+
+    in-phase : (z : Bool) → (s.kept.opened == 0) ≡ z → GrantsFit (if z then record s.kept { boot = s.kept.boot + 1; opened = s.kept.boot + 1; longest = longest } else record s.kept { boot = s.kept.boot + 1 }) (if z then serving else recovering (s.now + s.kept.longest + 8) s.now (standing s)) (empty_table (s.kept.boot + 1)) log
+    in-phase true e = each-entry (IsOfGrants s.kept.opened s.kept.longest (standing s).drawn) (IsOfGrants (s.kept.boot + 1) longest 0) log (later-opened s.kept.opened s.kept.longest (standing s).drawn (s.kept.boot + 1) longest 0 (opened-before s.phase b)) g
+    in-phase false e = g

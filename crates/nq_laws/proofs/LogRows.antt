@@ -93,25 +93,25 @@ each-marked P f h access rows marks each = λ file host row found.
 pub each-put-other : (P R : Row → Type 0) (rows : List Row) (row : Row) → R row → ((r : Row) → is_row_of r.file r.who.host row ≡ false → P r → R r) → EachRow P rows → EachRow R (put_row row rows)
 each-put-other P R rows row holds others each = λ file host r found. by file host r (found-put file host row r rows found)
   where
-  by : (file host : ℕ) (r : Row) → ((is_row_of file host row ≡ true) × (r ≡ row)) ⊎ ((is_row_of file host row ≡ false) × (find_row file host rows ≡ Some r)) → R r
-  by file host r (inl e) = subst R (sym e.1) holds
-  by file host r (inr e) =
-      let k = found-row file host rows r e.1 in
-      others r (subst (λ f. is_row_of f r.who.host row ≡ false) (sym k.0) (subst (λ h. is_row_of file h row ≡ false) (sym k.1) e.0)) (each file host r e.1)
+    by : (file host : ℕ) (r : Row) → ((is_row_of file host row ≡ true) × (r ≡ row)) ⊎ ((is_row_of file host row ≡ false) × (find_row file host rows ≡ Some r)) → R r
+    by file host r (inl e) = subst R (sym e.1) holds
+    by file host r (inr e) =
+        let k = found-row file host rows r e.1 in
+        others r (subst (λ f. is_row_of f r.who.host row ≡ false) (sym k.0) (subst (λ h. is_row_of file h row ≡ false) (sym k.1) e.0)) (each file host r e.1)
 
 -- a grant to one is no grant to the holder of another row
 other-grant : (who : Who) (file : ℕ) (row r : Row) (mode : Mode) (tag : Tag) (term now : ℕ) → row.who ≡ who → row.file ≡ file → is_row_of r.file r.who.host row ≡ false → is_grant_to r.who r.file (Entry.G who file mode tag term now) ≡ false
 other-grant who file row r mode tag term now w f other = by (same_who who r.who && file == r.file) refl
   where
-  by : (b : Bool) → (same_who who r.who && file == r.file) ≡ b → b ≡ false
-  by false e = refl
-  by true e =
-      let a = both-true _ _ e in
-      let c = both-true _ _ a.0 in
-      let host : row.who.host ≡ r.who.host = ap (λ x. x.host) w ∙ same-number _ _ c.0 in
-      let same : row.file ≡ r.file = f ∙ same-number _ _ a.1 in
-      let key : is_row_of r.file r.who.host row ≡ true = has-key r.file r.who.host row same host in
-      absurd (cc)
+    by : (b : Bool) → (same_who who r.who && file == r.file) ≡ b → b ≡ false
+    by false e = refl
+    by true e =
+        let a = both-true _ _ e in
+        let c = both-true _ _ a.0 in
+        let host : row.who.host ≡ r.who.host = ap (λ x. x.host) w ∙ same-number _ _ c.0 in
+        let same : row.file ≡ r.file = f ∙ same-number _ _ a.1 in
+        let key : is_row_of r.file r.who.host row ≡ true = has-key r.file r.who.host row same host in
+        absurd (cc)
 
 own-grant : (who : Who) (file : ℕ) (row : Row) (term now : ℕ) (log : List Entry) → row.who ≡ who → row.file ≡ file → find (is_grant_to row.who row.file) (Entry.G who file row.mode row.tag term now ∷ log) ≡ Some (Entry.G row.who row.file row.mode row.tag term now)
 own-grant who file row term now log w f =
@@ -208,9 +208,9 @@ pub granted-crash : (s : Server) (longest : ℕ) (log : List Entry) → RowsGran
 unfolding crash boot empty_table
 granted-crash s longest log g = in-phase (s.kept.opened == 0)
   where
-  in-phase : (b : Bool) → RowsGranted (if b then serving else recovering (s.now + s.kept.longest + 8) s.now (standing s)) (empty_table (s.kept.boot + 1)) (Entry.X (s.kept.boot + 1) s.now (booted s.kept longest).longest ∷ log)
-  in-phase true = λ file host row found. absurd (cc)
-  in-phase false = granted-more _ log (standing s).rows (λ r. refl) g
+    in-phase : (b : Bool) → RowsGranted (if b then serving else recovering (s.now + s.kept.longest + 8) s.now (standing s)) (empty_table (s.kept.boot + 1)) (Entry.X (s.kept.boot + 1) s.now (booted s.kept longest).longest ∷ log)
+    in-phase true = λ file host row found. absurd (cc)
+    in-phase false = granted-more _ log (standing s).rows (λ r. refl) g
 
 -- a write that was stored for the holder of a row, of its file, was heard by this time
 abbrev pub IsHeardOf : Who → (file heard : ℕ) → Entry → Type 0
@@ -249,9 +249,9 @@ hear-fewer log (recovering until heard last) table rows stood f = tt
 renewed-hears : (held wanted : Mode) (heard now : ℕ) (P : ℕ → Type 0) → (is_writing held ≡ true → P heard) → P now → is_writing (greater_mode held wanted) ≡ true → P (if is_writing wanted && not (is_writing held) then now else heard)
 renewed-hears Writing wanted heard now P before new writes = by (is_writing wanted)
   where
-  by : (b : Bool) → P (if b && false then now else heard)
-  by true = before refl
-  by false = before refl
+    by : (b : Bool) → P (if b && false then now else heard)
+    by true = before refl
+    by false = before refl
 renewed-hears NonCaching NonCaching heard now P before new writes = absurd (cc)
 renewed-hears NonCaching Reading heard now P before new writes = absurd (cc)
 renewed-hears NonCaching Writing heard now P before new writes = new
@@ -286,9 +286,9 @@ module _ (s : Server) (d : Datagram) (log : List Entry) (t : StandingFitsOf s) (
       (λ r other hears writes. ((λ x y. absurd (differs r k other x y)), hears writes))
       (own-hear p)
     where
-    differs : (r : Row) → (row.file ≡ file) × (row.who.host ≡ who.host) → is_row_of r.file r.who.host (record row { heard = s.now }) ≡ false → who ≡ r.who → file ≡ r.file → ⊥
-    differs r k other x y =
-        let key : is_row_of r.file r.who.host (record row { heard = s.now }) ≡ true = has-key r.file r.who.host (record row { heard = s.now }) (k.0 ∙ y) (k.1 ∙ ap (λ w. w.host) x) in cc
+      differs : (r : Row) → (row.file ≡ file) × (row.who.host ≡ who.host) → is_row_of r.file r.who.host (record row { heard = s.now }) ≡ false → who ≡ r.who → file ≡ r.file → ⊥
+      differs r k other x y =
+          let key : is_row_of r.file r.who.host (record row { heard = s.now }) ≡ true = has-key r.file r.who.host (record row { heard = s.now }) (k.0 ∙ y) (k.1 ∙ ap (λ w. w.host) x) in cc
 
   hear-moves : LogMoves s d log (λ kept phase table after. RowsHear phase table after)
   unfolding with_rows after_draw sharing_row
@@ -330,6 +330,6 @@ pub hear-crash : (s : Server) (longest : ℕ) (log : List Entry) → RowsHear (c
 unfolding crash boot empty_table
 hear-crash s longest log = in-phase (s.kept.opened == 0)
   where
-  in-phase : (b : Bool) → RowsHear (if b then serving else recovering (s.now + s.kept.longest + 8) s.now (standing s)) (empty_table (s.kept.boot + 1)) (Entry.X (s.kept.boot + 1) s.now (booted s.kept longest).longest ∷ log)
-  in-phase true = λ file host row found. absurd (cc)
-  in-phase false = tt
+    in-phase : (b : Bool) → RowsHear (if b then serving else recovering (s.now + s.kept.longest + 8) s.now (standing s)) (empty_table (s.kept.boot + 1)) (Entry.X (s.kept.boot + 1) s.now (booted s.kept longest).longest ∷ log)
+    in-phase true = λ file host row found. absurd (cc)
+    in-phase false = tt

@@ -131,9 +131,9 @@ pub heard-crash : (s : Server) (longest : ℕ) (log : List Entry) → LogBy s.no
 unfolding crash boot
 heard-crash s longest log by = in-phase (s.kept.opened == 0)
   where
-  in-phase : (b : Bool) → HeardAll (if b then serving else recovering (s.now + s.kept.longest + 8) s.now (standing s)) (Entry.X (s.kept.boot + 1) s.now (booted s.kept longest).longest ∷ log)
-  in-phase true = tt
-  in-phase false = (tt, heard-by s.now log by)
+    in-phase : (b : Bool) → HeardAll (if b then serving else recovering (s.now + s.kept.longest + 8) s.now (standing s)) (Entry.X (s.kept.boot + 1) s.now (booted s.kept longest).longest ∷ log)
+    in-phase true = tt
+    in-phase false = (tt, heard-by s.now log by)
 
 -- whether an entry tells a boot
 abbrev pub is_boot : Entry → Bool
@@ -180,6 +180,6 @@ pub told-crash : (s : Server) (longest : ℕ) (log : List Entry) → ToldBoot s.
 unfolding crash boot
 told-crash s longest log = in-phase (s.kept.opened == 0)
   where
-  in-phase : (b : Bool) → ToldBoot s.now (if b then record s.kept { boot = s.kept.boot + 1; opened = s.kept.boot + 1; longest = longest } else record s.kept { boot = s.kept.boot + 1 }).boot (if b then record s.kept { boot = s.kept.boot + 1; opened = s.kept.boot + 1; longest = longest } else record s.kept { boot = s.kept.boot + 1 }).longest (if b then serving else recovering (s.now + s.kept.longest + 8) s.now (standing s)) (Entry.X (s.kept.boot + 1) s.now (if b then record s.kept { boot = s.kept.boot + 1; opened = s.kept.boot + 1; longest = longest } else record s.kept { boot = s.kept.boot + 1 }).longest ∷ log)
-  in-phase true = tt
-  in-phase false = refl
+    in-phase : (b : Bool) → ToldBoot s.now (if b then record s.kept { boot = s.kept.boot + 1; opened = s.kept.boot + 1; longest = longest } else record s.kept { boot = s.kept.boot + 1 }).boot (if b then record s.kept { boot = s.kept.boot + 1; opened = s.kept.boot + 1; longest = longest } else record s.kept { boot = s.kept.boot + 1 }).longest (if b then serving else recovering (s.now + s.kept.longest + 8) s.now (standing s)) (Entry.X (s.kept.boot + 1) s.now (if b then record s.kept { boot = s.kept.boot + 1; opened = s.kept.boot + 1; longest = longest } else record s.kept { boot = s.kept.boot + 1 }).longest ∷ log)
+    in-phase true = tt
+    in-phase false = refl

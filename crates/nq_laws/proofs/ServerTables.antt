@@ -108,11 +108,13 @@ boots-boot kept longest now last before same = by (kept.opened == 0) refl
     by true e = record { opened_now = refl; table_boot = refl }
     by false e = record { opened_before = omega arith; table_boot = refl; none_drawn = refl; empty = refl; last_boot = same }
 
-opened-before : (boot opened : ℕ) (phase : Phase) (table : Table) → BootsFit boot opened phase table → opened ≤ boot
+-- the boot that served last is no later than the last boot
+pub opened-before : (boot opened : ℕ) (phase : Phase) (table : Table) → BootsFit boot opened phase table → opened ≤ boot
 opened-before boot opened serving table b = omega (arith, b.opened_now)
 opened-before boot opened (recovering until heard last) table b = omega (arith, b.opened_before)
 
-standing-boot : (boot opened : ℕ) (phase : Phase) (table : Table) → BootsFit boot opened phase table → (standing_in phase table).boot ≡ opened
+-- the standing table is of the boot that served last
+pub standing-boot : (boot opened : ℕ) (phase : Phase) (table : Table) → BootsFit boot opened phase table → (standing_in phase table).boot ≡ opened
 standing-boot boot opened serving table b = b.table_boot ∙ sym b.opened_now
 standing-boot boot opened (recovering until heard last) table b = b.last_boot
 
