@@ -1,9 +1,9 @@
 -- In every run a client that has no call under way has no request of a call under way, so its cached reads are answered at
 -- once.
-use Rattle.std.proofs.Common.{◌≡◌, ℕ, Bool, true, false, Option, Some, None, is_some, refl, sym, ap, ◌∙◌}
+use Rattle.std.proofs.Common.{◌≡◌, Bool, true, false, Option, Some, None, is_some, refl, ap}
 use Rattle.nq_laws.proofs.ClientFacts.{Alone}
 use Rattle.nq_laws.proofs.Worlds.{run-holds}
-use Rattle.nq_laws.specs.CachedInRuns.{IsReady, CachedAtOnceInEveryRun}
+use Rattle.nq_laws.specs.CachedInRuns.{CachedAtOnceInEveryRun}
 use Rattle.nq_model.proofs.CachedReads.{cached-at-once}
 use Rattle.nq_model.specs.Client.{Client, Job, attaching, for_call, renewing, pushing, Ticket}
 use Rattle.nq_model.specs.Settle.{is_for_call, ticket_is_for_call}
@@ -18,24 +18,24 @@ idle : (c : Client) → Alone c → c.call ≡ None → (o : Option Ticket) → 
 idle c a free None is = refl
 idle c a free (Some t) is = step (is_for_call t.job) refl
   where
-  step : (b : Bool) → is_for_call t.job ≡ b → is_for_call t.job ≡ false
-  step false e = e
-  step true e = let called : is_some c.call ≡ true = a.asking.called t is (for-call t.job e) in let none : is_some c.call ≡ false = ap is_some free in cc
+    step : (b : Bool) → is_for_call t.job ≡ b → is_for_call t.job ≡ false
+    step false e = e
+    step true e = let called : is_some c.call ≡ true = a.asking.called t is (for-call t.job e) in let none : is_some c.call ≡ false = ap is_some free in cc
 
 pub cached-in-every-run : CachedAtOnceInEveryRun
 cached-in-every-run head events host c file block lease body is ready =
     cached-at-once
-        c
-        file
-        block
-        lease
-        body
-        (record {
-          attached = ready.attached;
-          free = ready.free;
-          idle = idle c ((run-holds head events).clients host c is).alone ready.free c.ticket refl;
-          held = ready.held;
-          runs = ready.runs;
-          within = ready.within;
-          there = ready.there;
-        })
+    c
+    file
+    block
+    lease
+    body
+    (record {
+      attached = ready.attached;
+      free = ready.free;
+      idle = idle c ((run-holds head events).clients host c is).alone ready.free c.ticket refl;
+      held = ready.held;
+      runs = ready.runs;
+      within = ready.within;
+      there = ready.there;
+    })

@@ -1,11 +1,11 @@
 -- The client's control flow, walked once: what each small change of a client keeps, each step keeps.
-use Rattle.std.proofs.Common.{◌≡◌, ◌≢◌, ◌<◌, ◌≤◌, ◌⊎◌, ℕ, ◌+◌, Bool, true, false, List, [], ◌∷◌, ◌++◌, Option, Some, None}
+use Rattle.std.proofs.Common.{◌≡◌, ◌⊎◌, ℕ, ◌+◌, Bool, true, false, List, [], ◌∷◌, ◌++◌, Option, Some, None}
 use Rattle.nq_base.specs.declared.Grant.{Grant}
 use Rattle.nq_base.specs.declared.Request.{Request}
 use Rattle.nq_base.specs.declared.Tag.{Tag}
 use Rattle.nq_base.specs.declared.Who.{Who}
 use Rattle.nq_laws.proofs.ClientFacts.{Alone, seq_of, changes_file, fits_job}
-use Rattle.nq_model.specs.Client.{Client, ClientStep, Job, attaching, Lease, Notice, Ticket, drop_lease, put_lease, used_lease, notice_on, drop_notice, lease_on}
+use Rattle.nq_model.specs.Client.{ClientStep, Job, attaching, Lease, Notice, Ticket, drop_lease, put_lease, used_lease, notice_on, drop_notice, lease_on}
 use Rattle.nq_model.specs.Hear.{wants_of, cancelled, granted_lease, noticed_tag}
 use Rattle.nq_model.specs.Message.{Message, call, asker}
 

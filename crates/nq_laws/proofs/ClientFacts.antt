@@ -3,9 +3,9 @@ use Rattle.std.proofs.Common.{◌≡◌, ◌<◌, ◌≤◌, ℕ, ◌+◌, Bool,
 use Rattle.std.specs.List.{list_any}
 use Rattle.nq_base.specs.declared.Push.{Push}
 use Rattle.nq_base.specs.declared.Request.{Request}
-use Rattle.nq_base.specs.declared.Request.TheVariants.{Null, Attach, Lookup, Create, GetAttr, Read, Write, GetLease, Vacated, Evicted, Resize, Remove}
+use Rattle.nq_base.specs.declared.Request.TheVariants.{Attach, Lookup, Create, GetAttr, Read, Write, GetLease, Resize, Remove}
 use Rattle.nq_base.specs.declared.Who.{Who}
-use Rattle.nq_model.specs.Client.{Client, ClientStep, Job, attaching, for_call, renewing, pushing, Lease, Notice, Ticket, UnderWay, is_push_of, lease_on, notice_on, push_passes}
+use Rattle.nq_model.specs.Client.{Client, Job, attaching, for_call, renewing, pushing, Lease, Notice, Ticket, UnderWay, is_push_of, lease_on, notice_on, push_passes}
 use Rattle.nq_model.specs.Hear.{wants_of}
 use Rattle.nq_model.specs.Message.{asker}
 

@@ -1,5 +1,5 @@
 -- What a client and the server know of each other, kept by each small change of the client.
-use Rattle.std.proofs.Common.{◌≡◌, ◌≢◌, ◌<◌, ◌≤◌, ◌⊎◌, ℕ, ◌+◌, ◌-◌, Bool, true, false, List, [], ◌∷◌, ◌++◌, Option, Some, None, refl, sym, subst, ap, ◌∙◌, arith, inl, inr}
+use Rattle.std.proofs.Common.{◌≡◌, ◌⊎◌, ℕ, Bool, true, false, List, [], ◌∷◌, ◌++◌, Option, Some, None, refl, sym, subst, ap, ◌∙◌, arith, inl, inr}
 use Rattle.nq_base.specs.declared.Event.{Event}
 use Rattle.nq_base.specs.declared.Grant.{Grant}
 use Rattle.nq_base.specs.declared.HostRow.{HostRow}
@@ -7,19 +7,19 @@ use Rattle.nq_base.specs.declared.Reply.{Reply}
 use Rattle.nq_base.specs.declared.Request.{Request}
 use Rattle.nq_base.specs.declared.Tag.{Tag}
 use Rattle.nq_base.specs.declared.Who.{Who}
-use Rattle.nq_laws.proofs.ClientCases.{Core, core_of, Closed, CanSend, CanVacate, after_request, after_decided, after_vacated, after_again}
+use Rattle.nq_laws.proofs.ClientCases.{Core, Closed, CanSend, CanVacate}
 use Rattle.nq_laws.proofs.ClientFacts.{seq_of, fits_job}
 use Rattle.nq_laws.proofs.ClientMoves.{some-same, none-some, keeps-or-cancels}
 use Rattle.nq_laws.proofs.CoverFacts.{IsCoveredWhile, IsShort, IsTakeable, CoverFits, cover-leases, cover-used, cover-dropped, cover-ticket, cover-holds}
 use Rattle.nq_laws.proofs.HostLine.{LineFits, IsSettled, line-sends, line-adds, line-again, line-ticket, not-false}
-use Rattle.nq_laws.proofs.Mail.{packets_with, packets-last, MailIn}
-use Rattle.nq_laws.proofs.Packets.{In, Asked, Told, Mail, IsOwn}
+use Rattle.nq_laws.proofs.Mail.{packets_with, packets-last}
+use Rattle.nq_laws.proofs.Packets.{Asked, Told, Mail}
 use Rattle.nq_laws.proofs.TagFacts.{IsDrawn, TagsFit, told-before, asked-before, tags-leases, used-from, dropped-from, tags-ticket, tags-adds, tags-vacates, tags-holds, tags-notes}
 use Rattle.nq_laws.proofs.Worlds.{Going, going-closed}
-use Rattle.nq_model.specs.Client.{Lease, Notice, Ticket, Job, lease_on, drop_lease, put_lease, used_lease, notice_on, drop_notice}
+use Rattle.nq_model.specs.Client.{Lease, Notice, Ticket, Job, drop_lease, put_lease, used_lease, notice_on, drop_notice}
 use Rattle.nq_model.specs.Hear.{wants_of, inc_of, cancelled, granted_lease, noticed_tag}
-use Rattle.nq_model.specs.LeaseInterval.{grant_in, requested_file}
-use Rattle.nq_model.specs.Message.{Message, Packet, call, reply, asker}
+use Rattle.nq_model.specs.LeaseInterval.{requested_file}
+use Rattle.nq_model.specs.Message.{Packet, call, reply, asker}
 use Rattle.nq_model.specs.Server.{Server, standing}
 use Rattle.nq_model.specs.Table.{caches, tag_below}
 use Rattle.nq_model.specs.World.{from_host}
@@ -78,10 +78,13 @@ knows-vacates {Given = Given} {line = line} {who = who} {attached = attached} {t
 } where
   not-wanted : (t : Ticket) → wants_of f t.request ≡ false → wants_of f t.request ≡ true → ⊥
   not-wanted t a b = absurd (cc)
+
   same-file : (w : Who) (a b : ℕ) (x y : Tag) → Request.Vacated who a x ≡ Request.Vacated w b y → a ≡ b
   same-file w a b x y e = cc
+
   other : (file : ℕ) (g : Grant) (sent : ℕ) → Given file g sent → (w : Who) (tag : Tag) → Request.Vacated who f v ≡ Request.Vacated w file tag → ⊥
   other file g sent given w tag e = ungiven g sent (subst (λ n. Given n g sent) (sym (same-file w f file v tag e)) given)
+
   renoticed : {qs : List Packet} → LineFits who attached ticket notices line qs → LineFits who attached ticket (drop_notice f notices) line qs
   renoticed l = record { past = l.past; current = l.current; told = l.told; above = l.above; waiting = l.waiting; unnoticed = λ e. ap (drop_notice f) (l.unnoticed e); evicted_past = l.evicted_past; unheard = l.unheard; settled = l.settled; answered = l.answered }
 
@@ -96,11 +99,14 @@ knows-again {line = line} {who = who} {now = now} {ps = ps} t sent h = record {
 } where
   again : Ticket
   again = record t { last = now }
+
   few : (u : Ticket) → Some again ≡ Some u → (v : Ticket) × (Some t ≡ Some v) × (v.xid ≡ u.xid) × (v.request ≡ u.request)
   few u e = let one : again ≡ u = some-same again u e in (t, refl, ap (λ z. z.xid) one, ap (λ z. z.request) one)
+
   keeps : (x n : ℕ) → line.inc ≡ who.inc → IsSettled (Some t) line.seq x n → (r : Request) (w : Who) → Asked (ps ++ from_host who.host (call t.xid t.request) ∷ []) who.host x r → asker r ≡ Some w → w.inc ≡ who.inc → seq_of r ≡ Some n → IsSettled (Some again) line.seq x n
   keeps x n kept (inl below) r w a by inc seq = inl below
   keeps x n kept (inr u) r w a by inc seq = inr (again, refl, ap (λ z. z.xid) (some-same t u.0 u.1) ∙ u.2)
+
   from : (file : ℕ) (g : Grant) (u : Ticket) → IsTakeable (ps ++ from_host who.host (call t.xid t.request) ∷ []) who (Some again) file g u → (v : Ticket) × IsTakeable ps who (Some t) file g v × (v.first ≡ u.first)
   from file g u k =
       let one : again ≡ u = some-same again u k.asked in
@@ -124,8 +130,10 @@ knows-cancels {line = line} {who = who} {ticket = ticket} {ps = ps} f m h = reco
 } where
   few : (u : Ticket) → cancelled f ticket ≡ Some u → (v : Ticket) × (ticket ≡ Some v) × (v.xid ≡ u.xid) × (v.request ≡ u.request)
   few u e = (u, (keeps-or-cancels f ticket u e).0, refl, refl)
+
   stays : (u : Ticket) → ticket ≡ Some u → wants_of f u.request ≡ false → cancelled f ticket ≡ Some u
   stays u e spared = rw (e, spared) refl
+
   keeps : (x n : ℕ) → line.inc ≡ who.inc → IsSettled ticket line.seq x n → (r : Request) (w : Who) → Asked ps who.host x r → asker r ≡ Some w → w.inc ≡ who.inc → seq_of r ≡ Some n → IsSettled (cancelled f ticket) line.seq x n
   keeps x n kept (inl below) r w a by inc seq = inl below
   keeps x n kept (inr u) r w a by inc seq =
@@ -183,40 +191,41 @@ module _ (Heard : ℕ → Tag → Type 0) (Given : ℕ → Grant → ℕ → Typ
   sends-mid k job request no_vacated can h =
       let t : Ticket = record { xid = k.xid; first = k.now; last = k.now; request = request; job = job } in
       subst (λ qs. Knows Heard Given line s events k.who k.now k.attached (Some t) k.leases k.notices qs) (sym (packets-last ps k.who.host k.sends (call k.xid request)))
-          (knows-sends k.xid t refl can.attached can.asks no_vacated
-              (subst (λ o. Mail k.who k.xid o (packets_with ps k.who.host k.sends)) can.free h.going.mail)
-              (subst (λ o. Knows Heard Given line s events k.who k.now k.attached o k.leases k.notices (packets_with ps k.who.host k.sends)) can.free h.knows))
+      (knows-sends k.xid t refl can.attached can.asks no_vacated
+      (subst (λ o. Mail k.who k.xid o (packets_with ps k.who.host k.sends)) can.free h.going.mail)
+      (subst (λ o. Knows Heard Given line s events k.who k.now k.attached o k.leases k.notices (packets_with ps k.who.host k.sends)) can.free h.knows))
 
   -- the notice that a lease is given up for comes only to an attached client, and its tag was drawn
   vacating : (k : Core) (file : ℕ) (tag : Tag) → CanVacate Heard Given k file tag → Knowing Heard Given line s events who ps k → (k.attached ≡ true) × IsDrawn (standing s).boot (standing s).drawn tag
   vacating k file tag can h = case can.source
     where
-    attached : (b : Bool) → k.attached ≡ b → (n : Notice) → notice_on file k.notices ≡ Some n → k.attached ≡ true
-    attached true e n is = e
-    attached false e n is = none-some n (sym (ap (notice_on file) (h.knows.lined.unnoticed e)) ∙ is)
-    case : ((n : Notice) × (notice_on file k.notices ≡ Some n) × (tag ≡ n.tag)) ⊎ Heard file tag → (k.attached ≡ true) × IsDrawn (standing s).boot (standing s).drawn tag
-    case (inl n) = (attached k.attached refl n.0 n.1, subst (λ t. IsDrawn (standing s).boot (standing s).drawn t) (sym n.2) (h.knows.tagged.noticed file n.0 n.1))
-    case (inr heard) = h.knows.heard file tag heard
+      attached : (b : Bool) → k.attached ≡ b → (n : Notice) → notice_on file k.notices ≡ Some n → k.attached ≡ true
+      attached true e n is = e
+      attached false e n is = none-some n (sym (ap (notice_on file) (h.knows.lined.unnoticed e)) ∙ is)
+
+      case : ((n : Notice) × (notice_on file k.notices ≡ Some n) × (tag ≡ n.tag)) ⊎ Heard file tag → (k.attached ≡ true) × IsDrawn (standing s).boot (standing s).drawn tag
+      case (inl n) = (attached k.attached refl n.0 n.1, subst (λ t. IsDrawn (standing s).boot (standing s).drawn t) (sym n.2) (h.knows.tagged.noticed file n.0 n.1))
+      case (inr heard) = h.knows.heard file tag heard
 
   vacates-mid : (k : Core) (file : ℕ) (tag : Tag) → CanVacate Heard Given k file tag → Knowing Heard Given line s events who ps k → Knows Heard Given line s events k.who k.now k.attached k.ticket (drop_lease file k.leases) (drop_notice file k.notices) (packets_with ps k.who.host (k.sends ++ call k.xid (Request.Vacated k.who file tag) ∷ []))
   vacates-mid k file tag can h =
       let v = vacating k file tag can h in
       subst (λ qs. Knows Heard Given line s events k.who k.now k.attached k.ticket (drop_lease file k.leases) (drop_notice file k.notices) qs) (sym (packets-last ps k.who.host k.sends (call k.xid (Request.Vacated k.who file tag))))
-          (knows-vacates k.xid file tag v.0 v.1 can.unwanted can.ungiven h.going.mail h.knows)
+      (knows-vacates k.xid file tag v.0 v.1 can.unwanted can.ungiven h.going.mail h.knows)
 
   again-mid : (k : Core) (t : Ticket) → k.ticket ≡ Some t → Knowing Heard Given line s events who ps k → Knows Heard Given line s events k.who k.now k.attached (Some (record t { last = k.now })) k.leases k.notices (packets_with ps k.who.host (k.sends ++ call t.xid t.request ∷ []))
   again-mid k t is h =
       subst (λ qs. Knows Heard Given line s events k.who k.now k.attached (Some (record t { last = k.now })) k.leases k.notices qs) (sym (packets-last ps k.who.host k.sends (call t.xid t.request)))
-          (knows-again t (h.going.mail.own t is).sent (subst (λ o. Knows Heard Given line s events k.who k.now k.attached o k.leases k.notices (packets_with ps k.who.host k.sends)) is h.knows))
+      (knows-again t (h.going.mail.own t is).sent (subst (λ o. Knows Heard Given line s events k.who k.now k.attached o k.leases k.notices (packets_with ps k.who.host k.sends)) is h.knows))
 
   plain-no-vacated : (k : Core) (job : Job) (request : Request) → CanSend k job request → (w : Who) (file : ℕ) (tag : Tag) → request ≡ Request.Vacated w file tag → ⊥
   plain-no-vacated k job request can w file tag e = fits-no job (ap (fits_job job) (sym e) ∙ can.fits)
     where
-    fits-no : (j : Job) → fits_job j (Request.Vacated w file tag) ≡ true → ⊥
-    fits-no Job.attaching f = absurd (cc)
-    fits-no Job.for_call f = absurd (cc)
-    fits-no Job.renewing f = absurd (cc)
-    fits-no Job.pushing f = absurd (cc)
+      fits-no : (j : Job) → fits_job j (Request.Vacated w file tag) ≡ true → ⊥
+      fits-no Job.attaching f = absurd (cc)
+      fits-no Job.for_call f = absurd (cc)
+      fits-no Job.renewing f = absurd (cc)
+      fits-no Job.pushing f = absurd (cc)
 
   -- each small change of a client keeps it
   pub knowing-closed : Closed Heard Given (Knowing Heard Given line s events who ps)

@@ -1,18 +1,13 @@
 -- What holds of one client alone is kept by each small change of it.
-use Rattle.std.proofs.Common.{◌≡◌, ◌≢◌, ◌<◌, ◌≤◌, ◌⊎◌, ℕ, ◌+◌, Bool, true, false, ◌&&◌, ◌||◌, not, ◌==◌, List, [], ◌∷◌, ◌++◌, Option, Some, None, is_some, if◌then◌else◌, map, option_map, refl, sym, subst, ap, ◌∙◌, arith, inl, inr}
-use Rattle.std.specs.List.{find, filter, list_any}
-use Rattle.nq_base.specs.declared.Grant.{Grant}
-use Rattle.nq_base.specs.declared.Push.{Push}
+use Rattle.std.proofs.Common.{◌≡◌, ◌≢◌, ◌<◌, ◌≤◌, ◌⊎◌, ℕ, ◌+◌, Bool, true, false, List, [], ◌∷◌, Option, Some, None, is_some, if◌then◌else◌, option_map, refl, sym, subst, ap, ◌∙◌, arith, inl, inr}
 use Rattle.nq_base.specs.declared.Request.{Request}
-use Rattle.nq_base.specs.declared.Tag.{Tag}
 use Rattle.nq_base.specs.declared.Who.{Who}
-use Rattle.nq_laws.proofs.ClientFacts.{seq_of, changes_file, push_in, fits_job, is_clean_in, IsTicket, IsWaiting, IsLease, Asking, IsPush, Delaying, AskingOf, DelayingOf, Alone}
-use Rattle.nq_laws.proofs.ClientLists.{Marked, marked-before, marked-term, marked-expiry, lease-before-drop, lease-after-put, dropped-lease, used-lease-found, notice-before-drop, notice-after-put, any-dropped, any-others, any-written, first-is-of, other-number, number-other}
-use Rattle.nq_laws.proofs.Rows.{choice, decided, same-number, number-same, both-true, true-both, not-true, false-not}
-use Rattle.nq_model.specs.Client.{Client, ClientStep, Job, attaching, for_call, renewing, pushing, Lease, Notice, Ticket, UnderWay, is_push_of, lease_on, drop_lease, put_lease, notice_on, drop_notice, push_passes, marked_used, used_lease, first_dirty, drop_dirty, other_dirty, dirty_at}
-use Rattle.nq_model.specs.Hear.{wants_of, cancelled, other_push, granted_lease, with_through}
+use Rattle.nq_laws.proofs.ClientFacts.{seq_of, changes_file, fits_job, IsTicket, IsLease, Asking}
+use Rattle.nq_laws.proofs.ClientLists.{marked-before, marked-term, marked-expiry, lease-before-drop, lease-after-put, used-lease-found, notice-before-drop, notice-after-put}
+use Rattle.nq_model.specs.Client.{Job, attaching, for_call, Lease, Notice, Ticket, UnderWay, lease_on, drop_lease, put_lease, notice_on, drop_notice, marked_used, used_lease}
+use Rattle.nq_model.specs.Hear.{wants_of, cancelled}
 use Rattle.nq_model.specs.Message.{asker}
-use Rattle.nq_model.specs.Settle.{ticket_is_for_call, with_write}
+use Rattle.nq_model.specs.Settle.{ticket_is_for_call}
 
 pub some-same : {A : Type 0} (x y : A) → Some x ≡ Some y → x ≡ y
 some-same x y h = cc
@@ -184,9 +179,9 @@ pub keeps-or-cancels : (f : ℕ) (ticket : Option Ticket) (t : Ticket) → cance
 keeps-or-cancels f None t e = none-some t e
 keeps-or-cancels f (Some s) t e = step (wants_of f s.request) refl e
   where
-  step : (b : Bool) → wants_of f s.request ≡ b → (if b then None else Some s) ≡ Some t → (Some s ≡ Some t) × (wants_of f t.request ≡ false)
-  step true w g = none-some t g
-  step false w g = (g, subst (λ z. wants_of f z.request ≡ false) (some-same s t g) w)
+    step : (b : Bool) → wants_of f s.request ≡ b → (if b then None else Some s) ≡ Some t → (Some s ≡ Some t) × (wants_of f t.request ≡ false)
+    step true w g = none-some t g
+    step false w g = (g, subst (λ z. wants_of f z.request ≡ false) (some-same s t g) w)
 
 attach-wants-none : (f : ℕ) (r : Request) → fits_job attaching r ≡ true → wants_of f r ≡ false
 attach-wants-none f (Request.Attach who) h = refl
@@ -251,13 +246,14 @@ holds {now = now} {ticket = ticket} {leases = leases} l past spared h = record {
   case : (file : ℕ) (m : Lease) → ((file ≡ l.file) × (m ≡ l)) ⊎ ((file ≢ l.file) × (lease_on file leases ≡ Some m)) → IsLease now m
   case file m (inl p) = subst (λ z. IsLease now z) (sym p.1) past
   case file m (inr p) = h.leased file m p.1
+
   none : (file : ℕ) (t : Ticket) → ticket ≡ Some t → changes_file t.request ≡ Some file → (o : Option Lease) → lease_on file (put_lease l leases) ≡ o → lease_on file (put_lease l leases) ≡ None
   none file t e c None f = f
   none file t e c (Some m) f = which (lease-after-put l file leases m f)
     where
-    which : ((file ≡ l.file) × (m ≡ l)) ⊎ ((file ≢ l.file) × (lease_on file leases ≡ Some m)) → lease_on file (put_lease l leases) ≡ None
-    which (inl p) = absurd (spared t e (c ∙ ap Some p.0))
-    which (inr p) = none-some m (sym (h.changed t file e c) ∙ p.1)
+      which : ((file ≡ l.file) × (m ≡ l)) ⊎ ((file ≢ l.file) × (lease_on file leases ≡ Some m)) → lease_on file (put_lease l leases) ≡ None
+      which (inl p) = absurd (spared t e (c ∙ ap Some p.0))
+      which (inr p) = none-some m (sym (h.changed t file e c) ∙ p.1)
 
 -- time passes
 pub passes : {who : Who} {now xid seq : ℕ} {attached : Bool} {call : Option UnderWay} {ticket : Option Ticket} {leases : List Lease} {notices : List Notice} (later : ℕ) → now ≤ later → Asking who now attached call ticket xid seq leases notices → Asking who later attached call ticket xid seq leases notices

@@ -1,5 +1,5 @@
 -- What each small change of a client keeps, each step of it keeps: a call, a tick, a datagram.
-use Rattle.std.proofs.Common.{◌≡◌, ◌≢◌, ◌<◌, ◌≤◌, ◌⊎◌, ℕ, ◌+◌, Bool, true, false, ◌&&◌, ◌||◌, not, ◌==◌, List, [], ◌∷◌, ◌++◌, Option, Some, None, is_some, nat_le, if◌then◌else◌, refl, sym, subst, ap, ◌∙◌, arith, inl, inr}
+use Rattle.std.proofs.Common.{◌≡◌, ◌≤◌, ◌⊎◌, ℕ, ◌+◌, Bool, true, false, ◌||◌, not, List, [], ◌∷◌, Option, Some, None, is_some, nat_le, refl, sym, subst, ap, ◌∙◌, arith, inl, inr}
 use Rattle.std.specs.List.{list_any}
 use Rattle.nq_base.specs.declared.Call.{Call}
 use Rattle.nq_base.specs.declared.Grant.{Grant}
@@ -9,19 +9,18 @@ use Rattle.nq_base.specs.declared.Refusal.{Refusal}
 use Rattle.nq_base.specs.declared.Reply.{Reply}
 use Rattle.nq_base.specs.declared.Request.{Request}
 use Rattle.nq_base.specs.declared.Tag.{Tag}
-use Rattle.nq_base.specs.declared.Who.{Who}
 use Rattle.nq_laws.proofs.ClientCases.{Core, core_of, Closed, Both, CanVacate}
-use Rattle.nq_laws.proofs.ClientFacts.{Alone, Asking, Delaying, AskingOf, DelayingOf, IsTicket, IsPush, push_in, fits_job, is_clean_in}
+use Rattle.nq_laws.proofs.ClientFacts.{Alone, Asking, AskingOf, IsPush, push_in, fits_job}
 use Rattle.nq_laws.proofs.ClientMoves as move
 use Rattle.nq_laws.proofs.ClientMoves.{some-same, none-some, attached-with-ticket, keeps-or-cancels}
 use Rattle.nq_laws.proofs.ClientWrites as writes
-use Rattle.nq_laws.proofs.HearWalk.{IsFree, Brings, answers-call-keeps, pauses-keeps, done-call-keeps, done-renewal-keeps, done-push-keeps, refused-push-keeps, spent-keeps, spent-free, spent-now, spent-notices}
-use Rattle.nq_laws.proofs.Rows.{choice, both-true, not-true, number-same, same-number}
+use Rattle.nq_laws.proofs.HearWalk.{Brings, answers-call-keeps, pauses-keeps, done-call-keeps, done-renewal-keeps, done-push-keeps, refused-push-keeps, spent-keeps, spent-free, spent-now, spent-notices}
+use Rattle.nq_laws.proofs.Rows.{choice}
 use Rattle.nq_laws.proofs.SendWalk.{at-true, from-true, is-none, send-next-keeps}
 use Rattle.nq_laws.proofs.SettleWalk.{begun-call, settle-keeps}
-use Rattle.nq_model.specs.Client.{Client, ClientStep, Job, attaching, for_call, renewing, pushing, begun, Lease, Notice, Ticket, UnderWay, lease_on, drop_lease, notice_on, drop_notice, is_clean, is_push_of, push_passes, losses_of}
+use Rattle.nq_model.specs.Client.{Client, ClientStep, Job, attaching, for_call, renewing, pushing, begun, Notice, Ticket, notice_on, drop_notice, is_clean, is_push_of, push_passes}
 use Rattle.nq_model.specs.ClientStep.{begins_call, is_called, sends_unless_cached, call_freely, tell_losses, call_past_losses, says_busy, losses_for, changed_file, client_call, at_time, sends_again, tick_asking, client_tick}
-use Rattle.nq_model.specs.Hear.{wants_of, vacates_lease, answer_of, puts_off, spends, attached, pauses, answers_call, done_for_call, done, refused, replied, reply_counts, refusal_counts, is_of_procedure, is_reply_to, cancelled, cancels, noticed_tag, notes_notice, evicted, goes_on, hear_reply}
+use Rattle.nq_model.specs.Hear.{wants_of, vacates_lease, answer_of, puts_off, spends, attached, pauses, answers_call, done, refused, replied, reply_counts, refusal_counts, is_of_procedure, cancelled, cancels, noticed_tag, notes_notice, evicted, goes_on}
 use Rattle.nq_model.specs.Send.{send_next}
 use Rattle.nq_model.specs.LeaseInterval.{grant_in, requested_file}
 use Rattle.nq_model.specs.Settle.{answers, settle}
@@ -97,8 +96,8 @@ refused-keeps {P = P} closed c ticket inc status for_call job counts h =
     let is_attached : c.attached ≡ true = job-attached c ticket h.asked h.alone other in
     let kept : Both P (spends (begun c)) = spent-keeps c ticket h.asked is_attached (λ e. absurd (cc)) h.alone (h.spent other) in
     choice (Both P) (puts_off status) (pauses (spends (begun c))) (answers_call (spends (begun c)) (answer_of status) None)
-        (λ e. pauses-keeps (spends (begun c)) (spent-free c is_attached).attached kept)
-        (λ e. answers-call-keeps (spends (begun c)) (answer_of status) None (spent-free c is_attached) kept)
+    (λ e. pauses-keeps (spends (begun c)) (spent-free c is_attached).attached kept)
+    (λ e. answers-call-keeps (spends (begun c)) (answer_of status) None (spent-free c is_attached) kept)
 refused-keeps {P = P} closed c ticket inc status renewing job counts h =
     let other : ticket.job ≡ attaching → ⊥ = λ e. absurd (cc) in
     let is_attached : c.attached ≡ true = job-attached c ticket h.asked h.alone other in
@@ -130,8 +129,8 @@ push-wants-none f r p e = none-some p e
 cancelled-push : (f : ℕ) (ticket : Option Ticket) (p : Push) → IsPush ticket p → IsPush (cancelled f ticket) p
 cancelled-push f ticket p k = record { request = k.request; asks = same; job = k.job; pushes = k.pushes }
   where
-  same : cancelled f ticket ≡ Some k.request
-  same = let spared : wants_of f k.request.request ≡ false = push-wants-none f k.request.request p k.pushes in rw (k.asks, spared) refl
+    same : cancelled f ticket ≡ Some k.request
+    same = let spared : wants_of f k.request.request ≡ false = push-wants-none f k.request.request p k.pushes in rw (k.asks, spared) refl
 
 cancels-keeps : {Heard : ℕ → Tag → Type 0} {Given : ℕ → Grant → ℕ → Type 0} {P : Core → Type 0} → Closed Heard Given P → (c : Client) (file : ℕ) → Alone c → P (core_of (begun c)) → Both P (cancels (begun c) file)
 unfolding cancels
@@ -161,21 +160,23 @@ vacates-keeps closed t file tag can b = record {
 unclean-attached : (c : Client) (file : ℕ) → is_clean c file ≡ false → Alone c → c.attached ≡ true
 unclean-attached c file unclean a = case c.attached refl (writes.has-writes file c.dirty c.push unclean)
   where
-  none : c.attached ≡ false → list_any (is_push_of file) c.dirty ≡ false
-  none e = ap (list_any (is_push_of file)) (a.delaying.empty e)
-  under : c.attached ≡ false → (o : Option Push) → c.push ≡ o → push_passes (is_push_of file) o ≡ true → c.attached ≡ true
-  under e None is some = absurd (cc)
-  under e (Some p) is some =
-      let k = a.delaying.under_way p is in
-      let w = a.asking.waiting e in
-      let one : w.request ≡ k.request = some-same w.request k.request (sym w.asks ∙ k.asks) in
-      let job : k.request.job ≡ attaching = subst (λ z. z.job ≡ attaching) one w.job in
-      let pushes = k.job in
-      absurd (cc)
-  case : (b : Bool) → c.attached ≡ b → (list_any (is_push_of file) c.dirty ≡ true) ⊎ (push_passes (is_push_of file) c.push ≡ true) → c.attached ≡ true
-  case true e some = e
-  case false e (inl some) = let no_writes = none e in absurd (cc)
-  case false e (inr some) = under e c.push refl some
+    none : c.attached ≡ false → list_any (is_push_of file) c.dirty ≡ false
+    none e = ap (list_any (is_push_of file)) (a.delaying.empty e)
+
+    under : c.attached ≡ false → (o : Option Push) → c.push ≡ o → push_passes (is_push_of file) o ≡ true → c.attached ≡ true
+    under e None is some = absurd (cc)
+    under e (Some p) is some =
+        let k = a.delaying.under_way p is in
+        let w = a.asking.waiting e in
+        let one : w.request ≡ k.request = some-same w.request k.request (sym w.asks ∙ k.asks) in
+        let job : k.request.job ≡ attaching = subst (λ z. z.job ≡ attaching) one w.job in
+        let pushes = k.job in
+        absurd (cc)
+
+    case : (b : Bool) → c.attached ≡ b → (list_any (is_push_of file) c.dirty ≡ true) ⊎ (push_passes (is_push_of file) c.push ≡ true) → c.attached ≡ true
+    case true e some = e
+    case false e (inl some) = let no_writes = none e in absurd (cc)
+    case false e (inr some) = under e c.push refl some
 
 notes-keeps : {Heard : ℕ → Tag → Type 0} {Given : ℕ → Grant → ℕ → Type 0} {P : Core → Type 0} → Closed Heard Given P → (t : ClientStep) (file : ℕ) (tag : Tag) → Heard file tag → ((u : Ticket) → t.client.ticket ≡ Some u → wants_of file u.request ≡ false) → is_clean t.client file ≡ false → Both P t → Both P (notes_notice t file tag)
 unfolding notes_notice
@@ -188,21 +189,23 @@ notes-keeps closed t file tag heard spared unclean b = record {
 } where
   c : Client
   c = t.client
+
   notice : Notice
   notice = record { file = file; tag = noticed_tag tag (notice_on file c.notices) }
+
   is_attached : c.attached ≡ true
   is_attached = unclean-attached c file unclean b.alone
 
 evicted-keeps : {Heard : ℕ → Tag → Type 0} {Given : ℕ → Grant → ℕ → Type 0} {P : Core → Type 0} → Closed Heard Given P → (t : ClientStep) (file : ℕ) (tag : Tag) → Heard file tag → ((g : Grant) (sent : ℕ) → Given file g sent → ⊥) → ((u : Ticket) → t.client.ticket ≡ Some u → wants_of file u.request ≡ false) → Both P t → Both P (evicted t file tag)
 evicted-keeps {P = P} closed t file tag heard ungiven spared b =
     choice (Both P) (is_clean t.client file) (vacates_lease t file tag) (notes_notice t file tag)
-        (λ e. vacates-keeps closed t file tag (record { unwanted = spared; ungiven = ungiven; source = inr heard }) b)
-        (λ e. notes-keeps closed t file tag heard spared e b)
+    (λ e. vacates-keeps closed t file tag (record { unwanted = spared; ungiven = ungiven; source = inr heard }) b)
+    (λ e. notes-keeps closed t file tag heard spared e b)
 
 pub notice-keeps : {Heard : ℕ → Tag → Type 0} {Given : ℕ → Grant → ℕ → Type 0} {P : Core → Type 0} → Closed Heard Given P → (c : Client) (file : ℕ) (tag : Tag) → Heard file tag → ((g : Grant) (sent : ℕ) → Given file g sent → ⊥) → Alone c → P (core_of (begun c)) → Both P (goes_on (evicted (cancels (begun c) file) file tag))
 notice-keeps closed c file tag heard ungiven a core =
     goes-on-keeps closed (evicted (cancels (begun c) file) file tag)
-        (evicted-keeps closed (cancels (begun c) file) file tag heard ungiven (cancelled-spared c file) (cancels-keeps closed c file a core))
+    (evicted-keeps closed (cancels (begun c) file) file tag heard ungiven (cancelled-spared c file) (cancels-keeps closed c file a core))
 
 -- ---- calls
 
@@ -252,8 +255,8 @@ neither false false h = absurd (cc)
 pub call-keeps : {Heard : ℕ → Tag → Type 0} {Given : ℕ → Grant → ℕ → Type 0} {P : Core → Type 0} → Closed Heard Given P → (c : Client) (op : Call) → Alone c → P (core_of (begun c)) → Both P (client_call c op)
 call-keeps {P = P} closed c op a core =
     choice (Both P) (is_some c.call || not c.attached) (says_busy (begins_call c op)) (call_past_losses (begins_call c op) op (losses_for (changed_file op) c.losses))
-        (λ e. busy-keeps (begins_call c op) (begins-both c op a core))
-        (λ e. let k = neither (is_some c.call) c.attached e in past-losses-keeps closed (begins_call c op) op (losses_for (changed_file op) c.losses) ((begun-same c op).0 ∙ is-none c.call k.0) ((begun-same c op).1 ∙ k.1) (begins-both c op a core))
+    (λ e. busy-keeps (begins_call c op) (begins-both c op a core))
+    (λ e. let k = neither (is_some c.call) c.attached e in past-losses-keeps closed (begins_call c op) op (losses_for (changed_file op) c.losses) ((begun-same c op).0 ∙ is-none c.call k.0) ((begun-same c op).1 ∙ k.1) (begins-both c op a core))
 
 -- ---- ticks
 

@@ -1,12 +1,12 @@
 -- What holds of a client's delayed writes is kept by each small change of them.
-use Rattle.std.proofs.Common.{◌≡◌, ◌≢◌, ◌<◌, ◌≤◌, ◌⊎◌, ℕ, ◌+◌, Bool, true, false, ◌&&◌, ◌||◌, not, ◌==◌, List, [], ◌∷◌, ◌++◌, Option, Some, None, is_some, if◌then◌else◌, map, refl, sym, subst, ap, ◌∙◌, arith, inl, inr}
-use Rattle.std.specs.List.{find, filter, list_any}
+use Rattle.std.proofs.Common.{◌≡◌, ◌≢◌, ◌⊎◌, ℕ, Bool, true, false, ◌&&◌, not, ◌==◌, List, ◌∷◌, Option, Some, None, if◌then◌else◌, refl, sym, subst, ap, ◌∙◌, inl, inr}
+use Rattle.std.specs.List.{list_any}
 use Rattle.nq_base.specs.declared.Push.{Push}
-use Rattle.nq_laws.proofs.ClientFacts.{push_in, is_clean_in, IsPush, Delaying}
-use Rattle.nq_laws.proofs.ClientLists.{any-dropped, any-others, any-written, first-is-of, notice-before-drop, notice-after-put, other-number, number-other}
-use Rattle.nq_laws.proofs.ClientMoves.{some-same, none-some}
-use Rattle.nq_laws.proofs.Rows.{same-number, number-same, both-true, true-both, not-true, false-not}
-use Rattle.nq_model.specs.Client.{Job, pushing, Notice, Ticket, is_push_of, notice_on, drop_notice, push_passes, first_dirty, drop_dirty, other_dirty, dirty_at}
+use Rattle.nq_laws.proofs.ClientFacts.{push_in, is_clean_in, Delaying}
+use Rattle.nq_laws.proofs.ClientLists.{any-dropped, any-others, any-written, notice-before-drop, notice-after-put, other-number}
+use Rattle.nq_laws.proofs.ClientMoves.{none-some}
+use Rattle.nq_laws.proofs.Rows.{same-number}
+use Rattle.nq_model.specs.Client.{pushing, Notice, Ticket, is_push_of, notice_on, drop_notice, push_passes, drop_dirty, other_dirty}
 use Rattle.nq_model.specs.Hear.{other_push}
 use Rattle.nq_model.specs.Settle.{with_write}
 
@@ -75,34 +75,34 @@ drops-notice {notices = notices} file h = record { noticed = λ f n e. h.noticed
 pub notes : {attached : Bool} {ticket : Option Ticket} {notices : List Notice} {dirty : List Push} {push : Option Push} (n : Notice) → is_clean_in n.file dirty push ≡ false → Delaying attached ticket notices dirty push → Delaying attached ticket (n ∷ drop_notice n.file notices) dirty push
 notes {notices = notices} {dirty = dirty} {push = push} n unclean h = record { noticed = λ f m e. case f m (notice-after-put n f notices m e); under_way = h.under_way; empty = h.empty }
   where
-  case : (f : ℕ) (m : Notice) → ((f ≡ n.file) × (m ≡ n)) ⊎ ((f ≢ n.file) × (notice_on f notices ≡ Some m)) → is_clean_in f dirty push ≡ false
-  case f m (inl p) = subst (λ g. is_clean_in g dirty push ≡ false) (sym p.0) unclean
-  case f m (inr p) = h.noticed f m p.1
+    case : (f : ℕ) (m : Notice) → ((f ≡ n.file) × (m ≡ n)) ⊎ ((f ≢ n.file) × (notice_on f notices ≡ Some m)) → is_clean_in f dirty push ≡ false
+    case f m (inl p) = subst (λ g. is_clean_in g dirty push ≡ false) (sym p.0) unclean
+    case f m (inr p) = h.noticed f m p.1
 
 -- all delayed writes of a file are lost, and its notice is answered
 other-push-passes : (file f : ℕ) (push : Option Push) → f ≢ file → push_passes (is_push_of f) push ≡ true → push_passes (is_push_of f) (other_push file push) ≡ true
 other-push-passes file f None apart h = cc
 other-push-passes file f (Some p) apart h = step (is_push_of file p) refl
   where
-  step : (b : Bool) → is_push_of file p ≡ b → push_passes (is_push_of f) (if b then None else Some p) ≡ true
-  step true e = absurd (apart (sym (same-number p.file f h) ∙ same-number p.file file e))
-  step false e = h
+    step : (b : Bool) → is_push_of file p ≡ b → push_passes (is_push_of f) (if b then None else Some p) ≡ true
+    step true e = absurd (apart (sym (same-number p.file f h) ∙ same-number p.file file e))
+    step false e = h
 
 pub still-unclean : (file f : ℕ) (dirty : List Push) (push : Option Push) → f ≢ file → is_clean_in f dirty push ≡ false → is_clean_in f (other_dirty file dirty) (other_push file push) ≡ false
 still-unclean file f dirty push apart h = case (has-writes f dirty push h)
   where
-  case : (list_any (is_push_of f) dirty ≡ true) ⊎ (push_passes (is_push_of f) push ≡ true) → is_clean_in f (other_dirty file dirty) (other_push file push) ≡ false
-  case (inl some) = writes-in-list f _ (other_push file push) (any-others f file dirty (λ g. apart (sym g)) ∙ some)
-  case (inr some) = writes-under-way f (other_dirty file dirty) _ (other-push-passes file f push apart some)
+    case : (list_any (is_push_of f) dirty ≡ true) ⊎ (push_passes (is_push_of f) push ≡ true) → is_clean_in f (other_dirty file dirty) (other_push file push) ≡ false
+    case (inl some) = writes-in-list f _ (other_push file push) (any-others f file dirty (λ g. apart (sym g)) ∙ some)
+    case (inr some) = writes-under-way f (other_dirty file dirty) _ (other-push-passes file f push apart some)
 
 -- the push that is left is the one that was there
 pub left-push : (file : ℕ) (push : Option Push) (p : Push) → other_push file push ≡ Some p → push ≡ Some p
 left-push file None p h = none-some p h
 left-push file (Some q) p h = step (is_push_of file q) h
   where
-  step : (b : Bool) → (if b then None else Some q) ≡ Some p → Some q ≡ Some p
-  step true e = none-some p e
-  step false e = e
+    step : (b : Bool) → (if b then None else Some q) ≡ Some p → Some q ≡ Some p
+    step true e = none-some p e
+    step false e = e
 
 pub loses : {attached : Bool} {ticket : Option Ticket} {notices : List Notice} {dirty : List Push} {push : Option Push} (file : ℕ) → Delaying attached ticket notices dirty push → Delaying attached ticket (drop_notice file notices) (other_dirty file dirty) (other_push file push)
 loses {notices = notices} {dirty = dirty} {push = push} file h = record {

@@ -1,10 +1,10 @@
 -- Clocks: while a lease runs by its holder's clock, the server's clock has not come to its end, however they are skewed.
-use Rattle.std.proofs.Common.{◌≡◌, ◌<◌, ◌≤◌, ℕ, ◌+◌, Bool, true, false, nat_le, ◌==◌, List, [], ◌∷◌, ◌++◌, if◌then◌else◌, refl, sym, subst, ap, ◌∙◌, arith, append_assoc}
+use Rattle.std.proofs.Common.{◌≡◌, ◌<◌, ◌≤◌, ℕ, ◌+◌, Bool, true, false, nat_le, ◌==◌, List, [], ◌∷◌, ◌++◌, if◌then◌else◌, refl, ap, ◌∙◌, arith}
 use Rattle.std.proofs.lemmas.Bool.Decides.{nat_tests}
 use Rattle.nq_base.specs.declared.Event.{Event}
 use Rattle.nq_model.specs.LeaseInterval.{server_time_when, cover_end}
 use Rattle.nq_model.specs.Profile.{skew}
-use Rattle.nq_model.specs.Skew.{is_server_tick, is_tick_of, server_ticks, ticks_of, IsWithinSkew}
+use Rattle.nq_model.specs.Skew.{is_tick_of, server_ticks, ticks_of, IsWithinSkew}
 
 server-ticks-append : (xs ys : List Event) → server_ticks (xs ++ ys) ≡ server_ticks xs + server_ticks ys
 server-ticks-append [] ys = omega arith
@@ -18,9 +18,9 @@ ticks-append host (e ∷ xs) ys = let h : ticks_of host (xs ++ ys) ≡ ticks_of 
 one-tick : (host : ℕ) (e : Event) → is_tick_of host e ≤ 1
 one-tick host (Event.ClientTick h) = step (h == host)
   where
-  step : (b : Bool) → (if b then 1 else 0) ≤ 1
-  step true = omega arith
-  step false = omega arith
+    step : (b : Bool) → (if b then 1 else 0) ≤ 1
+    step true = omega arith
+    step false = omega arith
 one-tick host (Event.Call h op) = omega arith
 one-tick host (Event.Deliver k) = omega arith
 one-tick host Event.ServerTick = omega arith

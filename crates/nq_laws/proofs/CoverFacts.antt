@@ -1,23 +1,19 @@
 -- The leases of a client, and the grants that it can take, are covered by the server while they run.
-use Rattle.std.proofs.Common.{◌≡◌, ◌≢◌, ◌<◌, ◌≤◌, ◌⊎◌, ℕ, ◌+◌, ◌-◌, Bool, true, false, List, [], ◌∷◌, ◌++◌, Option, Some, None, refl, sym, subst, ap, ◌∙◌, arith, inl, inr}
+use Rattle.std.proofs.Common.{◌≡◌, ◌≢◌, ◌<◌, ◌≤◌, ◌⊎◌, ℕ, ◌+◌, ◌-◌, true, List, Option, Some, refl, sym, subst, ap, ◌∙◌, arith, inl, inr}
 use Rattle.nq_base.specs.declared.Event.{Event}
 use Rattle.nq_base.specs.declared.Grant.{Grant}
 use Rattle.nq_base.specs.declared.Mode.{Mode}
 use Rattle.nq_base.specs.declared.Reply.{Reply}
-use Rattle.nq_base.specs.declared.Request.{Request}
 use Rattle.nq_base.specs.declared.Tag.{Tag}
 use Rattle.nq_base.specs.declared.Who.{Who}
-use Rattle.nq_laws.proofs.ClientLists.{Marked, marked-before, marked-tag, marked-mode, marked-term, marked-expiry, lease-before-drop, lease-after-put}
-use Rattle.nq_laws.proofs.ClientMoves.{some-same, none-some}
-use Rattle.nq_laws.proofs.Packets.{In, Told}
-use Rattle.nq_laws.proofs.TagFacts.{told-before}
-use Rattle.nq_model.specs.Client.{Lease, Ticket, lease_on, drop_lease, put_lease, used_lease, marked_used}
-use Rattle.nq_model.specs.Hear.{inc_of, granted_lease}
+use Rattle.nq_laws.proofs.ClientLists.{marked-before, marked-tag, marked-mode, marked-term, marked-expiry, lease-before-drop, lease-after-put}
+use Rattle.nq_laws.proofs.Packets.{Told}
+use Rattle.nq_model.specs.Client.{Lease, Ticket, lease_on, drop_lease, put_lease, used_lease}
+use Rattle.nq_model.specs.Hear.{inc_of}
 use Rattle.nq_model.specs.LeaseInterval.{IsCovered, cover_end, grant_in, requested_file}
-use Rattle.nq_model.specs.Message.{Message, Packet, call, reply}
+use Rattle.nq_model.specs.Message.{Packet, reply}
 use Rattle.nq_model.specs.Server.{Server}
 use Rattle.nq_model.specs.Table.{caches}
-use Rattle.nq_model.specs.World.{from_host}
 
 -- a lease that was asked for at a time with a term is covered, while the holder's clock is below its end
 abbrev pub IsCoveredWhile : Server → List Event → Who → (now file : ℕ) → Mode → Tag → (asked term : ℕ) → Type 0
@@ -51,10 +47,10 @@ cover-leases {s = s} {events = events} {who = who} {now = now} less from h = rec
   held = λ file l e c.
       let m = from file l e in
       subst (λ mode. IsCoveredWhile s events who now file mode l.tag (l.expiry - l.term) l.term) (sym m.2)
-          (subst (λ tag. IsCoveredWhile s events who now file m.0.mode tag (l.expiry - l.term) l.term) (sym m.3)
-              (subst (λ term. IsCoveredWhile s events who now file m.0.mode m.0.tag (l.expiry - term) term) (sym m.4)
-                  (subst (λ expiry. IsCoveredWhile s events who now file m.0.mode m.0.tag (expiry - m.0.term) m.0.term) (sym m.5)
-                      (h.held file m.0 m.1 (ap caches (sym m.2) ∙ c)))));
+      (subst (λ tag. IsCoveredWhile s events who now file m.0.mode tag (l.expiry - l.term) l.term) (sym m.3)
+      (subst (λ term. IsCoveredWhile s events who now file m.0.mode m.0.tag (l.expiry - term) term) (sym m.4)
+      (subst (λ expiry. IsCoveredWhile s events who now file m.0.mode m.0.tag (expiry - m.0.term) m.0.term) (sym m.5)
+      (h.held file m.0 m.1 (ap caches (sym m.2) ∙ c)))));
   held_short = λ file l e c b. let m = from file l e in let short = h.held_short file m.0 m.1 (ap caches (sym m.2) ∙ c) (ap (λ t. t.boot) (sym m.3) ∙ b) in let same = m.4 in omega arith;
   given = h.given;
   given_short = h.given_short;
@@ -88,6 +84,7 @@ cover-holds {s = s} {events = events} {who = who} {now = now} {leases = leases} 
   case : (file : ℕ) (l : Lease) → ((file ≡ m.file) × (l ≡ m)) ⊎ ((file ≢ m.file) × (lease_on file leases ≡ Some l)) → caches l.mode ≡ true → IsCoveredWhile s events who now file l.mode l.tag (l.expiry - l.term) l.term
   case file l (inl p) c = subst (λ z. IsCoveredWhile s events who now file z.mode z.tag (z.expiry - z.term) z.term) (sym p.1) (subst (λ f. IsCoveredWhile s events who now f m.mode m.tag (m.expiry - m.term) m.term) (sym p.0) (covered (ap (λ z. caches z.mode) (sym p.1) ∙ c)))
   case file l (inr p) c = h.held file l p.1 c
+
   case-short : (file : ℕ) (l : Lease) → ((file ≡ m.file) × (l ≡ m)) ⊎ ((file ≢ m.file) × (lease_on file leases ≡ Some l)) → caches l.mode ≡ true → IsShort s l.tag l.term
   case-short file l (inl p) c = subst (λ z. IsShort s z.tag z.term) (sym p.1) (short (ap (λ z. caches z.mode) (sym p.1) ∙ c))
   case-short file l (inr p) c = h.held_short file l p.1 c

@@ -1,6 +1,5 @@
 -- What a step of the server does to the cover of a lease.
-use Rattle.std.proofs.Common.{◌≡◌, ◌≢◌, ◌<◌, ◌≤◌, ◌⊎◌, ℕ, ◌+◌, ◌-◌, max, Bool, true, false, ◌&&◌, ◌||◌, ◌==◌, nat_lt, not, List, [], ◌∷◌, ◌++◌, Option, Some, None, option_map, if◌then◌else◌, refl, sym, subst, ap, ◌∙◌, arith, inl, inr}
-use Rattle.std.specs.List.{find, filter}
+use Rattle.std.proofs.Common.{◌≡◌, ◌≤◌, ℕ, ◌+◌, Bool, true, false, List, Some, None, option_map, if◌then◌else◌, refl, sym, subst, ap, ◌∙◌, arith}
 use Rattle.std.proofs.lemmas.Bool.Decides.{nat_tests}
 use Rattle.nq_base.specs.declared.Access.{Access}
 use Rattle.nq_base.specs.declared.Mode.{Mode}
@@ -11,14 +10,12 @@ use Rattle.nq_base.specs.declared.Want.{Want}
 use Rattle.nq_base.specs.declared.Who.{Who}
 use Rattle.nq_laws.proofs.AskCases.{own_in, with_marked, with_waiter, IsGranted, shares_again, begins_sharing, begins_caching, renews_row}
 use Rattle.nq_laws.proofs.ClientMoves.{some-same, none-some}
-use Rattle.nq_laws.proofs.RowChanges.{HasUniqueKeys, of-key, find-put, find-other-dropped, find-marked, mark, mark-is}
-use Rattle.nq_laws.proofs.Rows.{both-true, same-number, number-same, found-row}
-use Rattle.nq_laws.proofs.TagFacts.{IsDrawn}
+use Rattle.nq_laws.proofs.RowChanges.{of-key, find-put, find-marked, mark, mark-is}
+use Rattle.nq_laws.proofs.Rows.{found-row}
 use Rattle.nq_model.specs.Ask.{Question, marked, sharing_row, caching_row, shared_again, renewed_row, term_of}
-use Rattle.nq_model.specs.LeaseInterval.{is_at_least, IsFitting, HasFitting, OutlivedBy, IsCovered}
-use Rattle.nq_model.specs.Profile.{skew}
-use Rattle.nq_model.specs.Server.{Phase, serving, recovering, Server}
-use Rattle.nq_model.specs.Table.{Table, caches, is_writing, greater_mode, tag_below, is_row_of, find_row, put_row, with_rows, after_draw, next_tag}
+use Rattle.nq_model.specs.LeaseInterval.{is_at_least, HasFitting, IsCovered}
+use Rattle.nq_model.specs.Server.{serving, Server}
+use Rattle.nq_model.specs.Table.{Table, caches, is_writing, greater_mode, tag_below, is_row_of, find_row, put_row, with_rows, after_draw}
 
 -- a row goes on: the same holder and file, a kind that lets him do no less, a chain that began no later and a tag no
 -- earlier, and it ends no earlier
@@ -86,23 +83,26 @@ covered-goes-on s t who file mode tag until c p q goes h =
 -- marks leave the rest of a row
 pub marked-goes-on : (f h file host : ℕ) (access : Access) (rows : List Row) → GoesOnAt f h rows (marked file host access rows)
 marked-goes-on f h file host access rows was found c =
-    let m = mark-is file host access was in
-    (mark file host access was, find-marked f h file host access rows ∙ ap (option_map (mark file host access)) found, record {
-      holder = m.who;
-      of_file = m.file;
-      kind = λ mode k. subst (λ x. is_at_least x mode ≡ true) (sym m.mode) k;
-      began = m.since;
-      later = λ tag k. subst (λ x. tag_below x tag ≡ false) (sym m.tag) k;
-      ends = let e = m.until in omega arith;
-    })
+    let m = mark-is file host access was in (
+      mark file host access was,
+      find-marked f h file host access rows ∙ ap (option_map (mark file host access)) found,
+      record {
+        holder = m.who;
+        of_file = m.file;
+        kind = λ mode k. subst (λ x. is_at_least x mode ≡ true) (sym m.mode) k;
+        began = m.since;
+        later = λ tag k. subst (λ x. tag_below x tag ≡ false) (sym m.tag) k;
+        ends = let e = m.until in omega arith;
+      },
+    )
 
 -- a row that is put: the others go on as they are
 put-goes-on : (file host : ℕ) (row : Row) (rows : List Row) → ((was : Row) → is_row_of file host row ≡ true → find_row file host rows ≡ Some was → caches was.mode ≡ true → GoesOn was row) → GoesOnAt file host rows (put_row row rows)
 put-goes-on file host row rows own was found c = step (is_row_of file host row) refl
   where
-  step : (b : Bool) → is_row_of file host row ≡ b → (r : Row) × (find_row file host (put_row row rows) ≡ Some r) × GoesOn was r
-  step true e = (row, find-put file host row rows ∙ rw e refl, own was e found c)
-  step false e = (was, find-put file host row rows ∙ rw e found, same-goes-on was)
+    step : (b : Bool) → is_row_of file host row ≡ b → (r : Row) × (find_row file host (put_row row rows) ≡ Some r) × GoesOn was r
+    step true e = (row, find-put file host row rows ∙ rw e refl, own was e found c)
+    step false e = (was, find-put file host row rows ∙ rw e found, same-goes-on was)
 
 at-least-more : (row wanted mode : Mode) → is_at_least row mode ≡ true → is_at_least (greater_mode row wanted) mode ≡ true
 at-least-more row wanted NonCaching h = refl
@@ -110,9 +110,9 @@ at-least-more NonCaching wanted Reading h = cc
 at-least-more NonCaching wanted Writing h = cc
 at-least-more Reading wanted Reading h = step (is_writing wanted)
   where
-  step : (b : Bool) → caches (if b then Writing else Reading) ≡ true
-  step true = refl
-  step false = refl
+    step : (b : Bool) → caches (if b then Writing else Reading) ≡ true
+    step true = refl
+    step false = refl
 at-least-more Reading wanted Writing h = cc
 at-least-more Writing wanted Reading h = refl
 at-least-more Writing wanted Writing h = refl
@@ -157,9 +157,9 @@ granted-key table q want row term (renews_row own found stays caching is lasts) 
 pub granted-goes-on : (table : Table) (q : Question) (want : Want) (row : Row) (term file host : ℕ) → AreOfBoot table → IsGranted table q want row term → GoesOnAt file host table.rows (put_row row table.rows)
 granted-goes-on table q want row term file host boots granted =
     put-goes-on file host row table.rows (λ was e found c.
-      let k = granted-key table q want row term granted in
-      let o = of-key file host row e in
-      granted-own table q want row term was boots granted (subst (λ f. find_row f q.who.host table.rows ≡ Some was) (sym o.0 ∙ k.0) (subst (λ h. find_row file h table.rows ≡ Some was) (sym o.1 ∙ k.1) found)) c)
+    let k = granted-key table q want row term granted in
+    let o = of-key file host row e in
+    granted-own table q want row term was boots granted (subst (λ f. find_row f q.who.host table.rows ≡ Some was) (sym o.0 ∙ k.0) (subst (λ h. find_row file h table.rows ≡ Some was) (sym o.1 ∙ k.1) found)) c)
 
 -- the row that waits is put where none was
 pub waiting-goes-on : (table : Table) (q : Question) (want : Want) (file host : ℕ) → own_in table q ≡ None → GoesOnAt file host table.rows (with_waiter table q want).rows
@@ -169,18 +169,19 @@ waiting-goes-on table q want file host none was found c =
     let p = put-goes-on file host row (marked q.file q.who.host q.access table.rows) (λ r e f d. absurd (no-own r e f)) m.0 m.1 (still-caches was m.0 m.2 c) in
     (p.0, p.1, both-go-on was m.0 p.0 m.2 p.2)
   where
-  row : Row
-  row = sharing_row (with_marked table q) q (term_of q want)
-  no-own : (r : Row) → is_row_of file host row ≡ true → find_row file host (marked q.file q.who.host q.access table.rows) ≡ Some r → ⊥
-  no-own r e f =
-      let o = of-key file host row e in
-      let gone : find_row q.file q.who.host (marked q.file q.who.host q.access table.rows) ≡ None = find-marked q.file q.who.host q.file q.who.host q.access table.rows ∙ ap (option_map (mark q.file q.who.host q.access)) none in
-      none-some r (sym gone ∙ subst (λ h. find_row q.file h (marked q.file q.who.host q.access table.rows) ≡ Some r) (sym o.1) (subst (λ g. find_row g host (marked q.file q.who.host q.access table.rows) ≡ Some r) (sym o.0) f))
+    row : Row
+    row = sharing_row (with_marked table q) q (term_of q want)
+
+    no-own : (r : Row) → is_row_of file host row ≡ true → find_row file host (marked q.file q.who.host q.access table.rows) ≡ Some r → ⊥
+    no-own r e f =
+        let o = of-key file host row e in
+        let gone : find_row q.file q.who.host (marked q.file q.who.host q.access table.rows) ≡ None = find-marked q.file q.who.host q.file q.who.host q.access table.rows ∙ ap (option_map (mark q.file q.who.host q.access)) none in
+        none-some r (sym gone ∙ subst (λ h. find_row q.file h (marked q.file q.who.host q.access table.rows) ≡ Some r) (sym o.1) (subst (λ g. find_row g host (marked q.file q.who.host q.access table.rows) ≡ Some r) (sym o.0) f))
 
 -- a row that was heard goes on
 pub heard-goes-on : (now file host : ℕ) (row : Row) (rows : List Row) → find_row row.file row.who.host rows ≡ Some row → GoesOnAt file host rows (put_row (record row { heard = now }) rows)
 heard-goes-on now file host row rows stands =
     put-goes-on file host (record row { heard = now }) rows (λ was e found c.
-      let o = of-key file host row e in
-      let one : row ≡ was = some-same row was (sym stands ∙ subst (λ f. find_row f row.who.host rows ≡ Some was) (sym o.0) (subst (λ h. find_row file h rows ≡ Some was) (sym o.1) found)) in
-      subst (λ r. GoesOn r (record row { heard = now })) one (record { holder = refl; of_file = refl; kind = λ m h. h; began = refl; later = λ t h. h; ends = omega arith }))
+    let o = of-key file host row e in
+    let one : row ≡ was = some-same row was (sym stands ∙ subst (λ f. find_row f row.who.host rows ≡ Some was) (sym o.0) (subst (λ h. find_row file h rows ≡ Some was) (sym o.1) found)) in
+    subst (λ r. GoesOn r (record row { heard = now })) one (record { holder = refl; of_file = refl; kind = λ m h. h; began = refl; later = λ t h. h; ends = omega arith }))

@@ -1,27 +1,26 @@
 -- What each small change of a client keeps is kept where a client hears a datagram.
-use Rattle.std.proofs.Common.{◌≡◌, ◌≢◌, ◌<◌, ◌≤◌, ◌⊎◌, ℕ, ◌+◌, Bool, true, false, ◌&&◌, ◌||◌, not, ◌==◌, List, [], ◌∷◌, ◌++◌, Option, Some, None, is_some, map, nat_le, nat_lt, if◌then◌else◌, refl, sym, subst, ap, ◌∙◌, arith, inl, inr}
-use Rattle.std.specs.List.{find, filter, list_any}
+use Rattle.std.proofs.Common.{◌≡◌, ◌≢◌, ◌≤◌, ◌⊎◌, ℕ, ◌+◌, Bool, true, false, ◌&&◌, not, ◌==◌, List, Option, Some, None, is_some, if◌then◌else◌, refl, sym, subst, ap, ◌∙◌, arith, inl, inr}
+use Rattle.std.specs.List.{list_any}
 use Rattle.nq_base.specs.declared.Answer.{Answer}
 use Rattle.nq_base.specs.declared.Grant.{Grant}
 use Rattle.nq_base.specs.declared.Push.{Push}
 use Rattle.nq_base.specs.declared.PushBase.{PushBase}
-use Rattle.nq_base.specs.declared.Refusal.{Refusal}
 use Rattle.nq_base.specs.declared.Reply.{Reply}
 use Rattle.nq_base.specs.declared.Request.{Request}
 use Rattle.nq_base.specs.declared.Tag.{Tag}
 use Rattle.nq_base.specs.declared.Value.{Value}
 use Rattle.nq_base.specs.declared.Who.{Who}
-use Rattle.nq_laws.proofs.ClientCases.{Core, core_of, Closed, Both, CanVacate}
-use Rattle.nq_laws.proofs.ClientFacts.{Alone, Asking, Delaying, AskingOf, DelayingOf, IsTicket, IsLease, IsPush, seq_of, changes_file, push_in, fits_job, is_clean_in}
+use Rattle.nq_laws.proofs.ClientCases.{Core, core_of, Closed, Both}
+use Rattle.nq_laws.proofs.ClientFacts.{Alone, Asking, Delaying, AskingOf, DelayingOf, IsLease, push_in, is_clean_in}
 use Rattle.nq_laws.proofs.ClientMoves as move
 use Rattle.nq_laws.proofs.ClientMoves.{some-same, none-some, attached-with-ticket}
 use Rattle.nq_laws.proofs.ClientWrites as writes
 use Rattle.nq_laws.proofs.ClientLists.{notice-before-drop, any-others}
-use Rattle.nq_laws.proofs.Rows.{choice, both-true, not-true, number-same, same-number, find-passes}
-use Rattle.nq_laws.proofs.SendWalk.{at-true, from-true, is-none, send-next-keeps}
-use Rattle.nq_laws.proofs.SettleWalk.{IsIdle, answers-keeps, names-keeps, begun-call, settle-keeps}
-use Rattle.nq_model.specs.Client.{Client, ClientStep, Job, attaching, for_call, renewing, pushing, begun, Lease, Notice, Ticket, UnderWay, in_state, lease_on, drop_lease, put_lease, notice_on, drop_notice, is_clean, is_push_of, other_dirty, push_passes, revision_of, is_revision_before, dirty_at}
-use Rattle.nq_model.specs.Hear.{wants_of, vacates_lease, vacates_noticed, loses, waits_for, reports_to, reports, without_lease, push_refused, granted_lease, breaks, breaks_chain, if_broken, holds, takes_grant, takes_optional, answers_call_of, answers_call, caches_block, purges, knows_revision, grant_caches, then_caches, read_done, with_through, marks_through, lease_done, holds_caching, caches_write, write_done, ends_push, caches_push, vacates_if_clean, push_done, answer_of, puts_off, spends, attached, pauses, done_for_call, done_renewal, done_push, done, refused_push, refused, replied, is_of_procedure, reply_counts, refusal_counts, counts_for_call, cancelled, cancels, noticed_tag, notes_notice, evicted, goes_on, other_push}
+use Rattle.nq_laws.proofs.Rows.{choice, number-same, same-number}
+use Rattle.nq_laws.proofs.SendWalk.{at-true, from-true}
+use Rattle.nq_laws.proofs.SettleWalk.{IsIdle, answers-keeps, names-keeps, begun-call}
+use Rattle.nq_model.specs.Client.{Client, ClientStep, pushing, begun, Notice, Ticket, UnderWay, lease_on, put_lease, notice_on, is_clean, is_push_of, push_passes, revision_of, is_revision_before, dirty_at}
+use Rattle.nq_model.specs.Hear.{vacates_lease, vacates_noticed, loses, waits_for, reports_to, reports, without_lease, push_refused, granted_lease, breaks, breaks_chain, if_broken, holds, takes_grant, takes_optional, answers_call_of, answers_call, caches_block, purges, knows_revision, grant_caches, then_caches, read_done, with_through, marks_through, lease_done, holds_caching, caches_write, write_done, ends_push, caches_push, vacates_if_clean, push_done, spends, attached, pauses, done_for_call, done_renewal, done_push, refused_push, is_of_procedure, other_push}
 use Rattle.nq_model.specs.Settle.{answers, names_losses}
 use Rattle.nq_model.specs.LeaseInterval.{grant_in, requested_file}
 
@@ -95,9 +94,9 @@ unfolding answers
 reports-same t file None = (refl, refl, refl, refl)
 reports-same t file (Some u) = step (waits_for file u.written u.call)
   where
-  step : (b : Bool) → ((if b then names_losses t u.q file else t).client.ticket ≡ t.client.ticket) × ((if b then names_losses t u.q file else t).client.attached ≡ t.client.attached) × ((if b then names_losses t u.q file else t).client.notices ≡ t.client.notices) × ((if b then names_losses t u.q file else t).client.now ≡ t.client.now)
-  step true = (refl, refl, refl, refl)
-  step false = (refl, refl, refl, refl)
+    step : (b : Bool) → ((if b then names_losses t u.q file else t).client.ticket ≡ t.client.ticket) × ((if b then names_losses t u.q file else t).client.attached ≡ t.client.attached) × ((if b then names_losses t u.q file else t).client.notices ≡ t.client.notices) × ((if b then names_losses t u.q file else t).client.now ≡ t.client.now)
+    step true = (refl, refl, refl, refl)
+    step false = (refl, refl, refl, refl)
 
 loses-same : (t : ClientStep) (file : ℕ) → ((loses t file).client.ticket ≡ t.client.ticket) × ((loses t file).client.attached ≡ t.client.attached) × ((loses t file).client.notices ≡ t.client.notices) × ((loses t file).client.now ≡ t.client.now)
 unfolding loses
@@ -183,14 +182,14 @@ then-caches-free t file block body o f = choice IsFree (grant_caches o) (caches_
 read-done-keeps : {Heard : ℕ → Tag → Type 0} {Given : ℕ → Grant → ℕ → Type 0} {P : Core → Type 0} → Closed Heard Given P → (t : ClientStep) (file block : ℕ) (body : List ℕ) (o : Option Grant) (sent number : ℕ) → Brings Given t file o sent → sent ≤ t.client.now → IsFree t → Both P t → Both P (read_done t file block body o sent number)
 read-done-keeps {Given = Given} closed t file block body o sent number brings past f b =
     answers-call-keeps (then_caches (takes_optional t file o sent) file block body o) (Answer.Ok (Value.Body body)) (Some number)
-        (then-caches-free (takes_optional t file o sent) file block body o (optional-free Given t file o sent brings f))
-        (then-caches-keeps (takes_optional t file o sent) file block body o (optional-keeps closed t file o sent brings past f b))
+    (then-caches-free (takes_optional t file o sent) file block body o (optional-free Given t file o sent brings f))
+    (then-caches-keeps (takes_optional t file o sent) file block body o (optional-keeps closed t file o sent brings past f b))
 
 lease-done-keeps : {Heard : ℕ → Tag → Type 0} {Given : ℕ → Grant → ℕ → Type 0} {P : Core → Type 0} → Closed Heard Given P → (t : ClientStep) (file : ℕ) (o : Option Grant) (sent : ℕ) → Brings Given t file o sent → sent ≤ t.client.now → IsFree t → Both P t → Both P (lease_done t file o sent)
 lease-done-keeps {Given = Given} {P = P} closed t file o sent brings past f b =
     choice (Both P) (grant_caches o) (takes_optional t file o sent) (marks_through true (takes_optional t file o sent))
-        (λ e. optional-keeps closed t file o sent brings past f b)
-        (λ e. through-keeps (takes_optional t file o sent) true (optional-free Given t file o sent brings f).attached (optional-keeps closed t file o sent brings past f b))
+    (λ e. optional-keeps closed t file o sent brings past f b)
+    (λ e. through-keeps (takes_optional t file o sent) true (optional-free Given t file o sent brings f).attached (optional-keeps closed t file o sent brings past f b))
 
 -- ---- a write that went through
 
@@ -213,8 +212,8 @@ caches-write-free t file block body rev f =
 write-done-keeps : {P : Core → Type 0} (t : ClientStep) (file block : ℕ) (body : List ℕ) (rev : ℕ) → IsFree t → Both P t → Both P (write_done t file block body rev)
 write-done-keeps t file block body rev f b =
     answers-call-keeps (knows_revision (caches_write t file block body rev) file rev) (Answer.Ok Value.Nothing) None
-        (knows-free (caches_write t file block body rev) file rev (caches-write-free t file block body rev f))
-        (quiet-knows (caches_write t file block body rev) file rev (caches-write-keeps t file block body rev b))
+    (knows-free (caches_write t file block body rev) file rev (caches-write-free t file block body rev f))
+    (quiet-knows (caches_write t file block body rev) file rev (caches-write-keeps t file block body rev b))
 
 -- ---- the call's request was done or refused
 
@@ -300,14 +299,14 @@ ends-none t file rev = refl
 vacates-if-clean-keeps : {Heard : ℕ → Tag → Type 0} {Given : ℕ → Grant → ℕ → Type 0} {P : Core → Type 0} → Closed Heard Given P → (t : ClientStep) (file : ℕ) → ((g : Grant) (sent : ℕ) → Given file g sent → ⊥) → Spent P t file → t.client.push ≡ None → Both P (vacates_if_clean t file)
 vacates-if-clean-keeps {P = P} closed t file ungiven s none =
     choice (Both P) (is_clean t.client file) (vacates_noticed t file (notice_on file t.client.notices)) t
-        (λ e. vacates-spent closed t file (notice_on file t.client.notices) ungiven refl s none)
-        (λ e. both-again t file s none (λ n f. e))
+    (λ e. vacates-spent closed t file (notice_on file t.client.notices) ungiven refl s none)
+    (λ e. both-again t file s none (λ n f. e))
 
 push-done-keeps : {Heard : ℕ → Tag → Type 0} {Given : ℕ → Grant → ℕ → Type 0} {P : Core → Type 0} → Closed Heard Given P → (t : ClientStep) (file block : ℕ) (body : List ℕ) (rev : ℕ) → ((g : Grant) (sent : ℕ) → Given file g sent → ⊥) → Spent P t file → Both P (push_done t file block body rev)
 push-done-keeps closed t file block body rev ungiven s =
     vacates-if-clean-keeps closed (caches_push (knows_revision (ends_push t) file rev) file block body) file ungiven
-        (caches-push-spent (knows_revision (ends_push t) file rev) file block body (ends-spent t file rev s))
-        (caches-push-none (knows_revision (ends_push t) file rev) file block body (ends-none t file rev))
+    (caches-push-spent (knows_revision (ends_push t) file rev) file block body (ends-spent t file rev s))
+    (caches-push-none (knows_revision (ends_push t) file rev) file block body (ends-none t file rev))
 
 -- a push was refused
 loses-spent : {P : Core → Type 0} (t : ClientStep) (file : ℕ) → Spent P t file → Spent P (loses t file) file
@@ -348,17 +347,20 @@ vacated-free t file (Some n) f = record { free = f.free; attached = f.attached }
 push-refused-keeps : {Heard : ℕ → Tag → Type 0} {Given : ℕ → Grant → ℕ → Type 0} {P : Core → Type 0} → Closed Heard Given P → (t : ClientStep) (file : ℕ) → ((g : Grant) (sent : ℕ) → Given file g sent → ⊥) → other_push file t.client.push ≡ None → Spent P t file → Both P (push_refused t file)
 push-refused-keeps {P = P} closed t file ungiven gone s =
     reports-keeps (vacates_noticed third file (notice_on file t.client.notices)) file
-        (vacated-free third file (notice_on file t.client.notices) kept.spent.free)
-        (vacates-spent closed third file (notice_on file t.client.notices) ungiven same kept none)
+    (vacated-free third file (notice_on file t.client.notices) kept.spent.free)
+    (vacates-spent closed third file (notice_on file t.client.notices) ungiven same kept none)
   where
-  third : ClientStep
-  third = without_lease (loses t file) file
-  kept : Spent P third file
-  kept = without-spent closed (loses t file) file (loses-spent t file s)
-  none : third.client.push ≡ None
-  none = (without-same (loses t file) file).0 ∙ loses-none t file gone
-  same : notice_on file third.client.notices ≡ notice_on file t.client.notices
-  same = ap (notice_on file) ((without-same (loses t file) file).1 ∙ loses-notices t file)
+    third : ClientStep
+    third = without_lease (loses t file) file
+
+    kept : Spent P third file
+    kept = without-spent closed (loses t file) file (loses-spent t file s)
+
+    none : third.client.push ≡ None
+    none = (without-same (loses t file) file).0 ∙ loses-none t file gone
+
+    same : notice_on file third.client.notices ≡ notice_on file t.client.notices
+    same = ap (notice_on file) ((without-same (loses t file) file).1 ∙ loses-notices t file)
 
 -- ---- the request under way is spent
 
@@ -410,6 +412,7 @@ spent-push c ticket file is attached of_file a core = record {
       let one : k.request ≡ ticket = some-same k.request ticket (sym k.asks ∙ is) in
       let same : p.file ≡ file = of_file p (subst (λ z. push_in z.request ≡ Some p) one k.pushes) in
       absurd (apart (sym (same-number p.file f some) ∙ same))
+
   case : (f : ℕ) → f ≢ file → (list_any (is_push_of f) c.dirty ≡ true) ⊎ (push_passes (is_push_of f) c.push ≡ true) → list_any (is_push_of f) c.dirty ≡ true
   case f apart (inl some) = some
   case f apart (inr some) = under f apart c.push refl some
@@ -419,14 +422,14 @@ spent-gone : (c : Client) (ticket : Ticket) (file : ℕ) → c.ticket ≡ Some t
 unfolding spends
 spent-gone c ticket file is of_file a = case c.push refl
   where
-  case : (o : Option Push) → c.push ≡ o → other_push file o ≡ None
-  case None e = refl
-  case (Some p) e =
-      let k = a.delaying.under_way p e in
-      let one : k.request ≡ ticket = some-same k.request ticket (sym k.asks ∙ is) in
-      let same : p.file ≡ file = of_file p (subst (λ z. push_in z.request ≡ Some p) one k.pushes) in
-      let yes : (p.file == file) ≡ true = number-same p.file file same in
-      rw yes refl
+    case : (o : Option Push) → c.push ≡ o → other_push file o ≡ None
+    case None e = refl
+    case (Some p) e =
+        let k = a.delaying.under_way p e in
+        let one : k.request ≡ ticket = some-same k.request ticket (sym k.asks ∙ is) in
+        let same : p.file ≡ file = of_file p (subst (λ z. push_in z.request ≡ Some p) one k.pushes) in
+        let yes : (p.file == file) ≡ true = number-same p.file file same in
+        rw yes refl
 
 -- ---- the reply to the request under way
 

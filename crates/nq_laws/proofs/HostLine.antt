@@ -1,19 +1,18 @@
 -- The line of a host's decided calls, and what is under way for it: what holds of both for each client.
-use Rattle.std.proofs.Common.{◌≡◌, ◌≢◌, ◌<◌, ◌≤◌, ◌⊎◌, ℕ, ◌+◌, Bool, true, false, List, [], ◌∷◌, ◌++◌, Option, Some, None, map, refl, sym, subst, ap, ◌∙◌, arith, inl, inr}
-use Rattle.nq_base.specs.declared.Grant.{Grant}
+use Rattle.std.proofs.Common.{◌≡◌, ◌<◌, ◌≤◌, ◌⊎◌, ℕ, Bool, true, false, List, [], ◌∷◌, ◌++◌, Option, Some, None, refl, sym, subst, ap, ◌∙◌, arith, inl, inr}
 use Rattle.nq_base.specs.declared.HostRow.{HostRow}
 use Rattle.nq_base.specs.declared.Reply.{Reply}
 use Rattle.nq_base.specs.declared.Request.{Request}
 use Rattle.nq_base.specs.declared.Tag.{Tag}
 use Rattle.nq_base.specs.declared.Who.{Who}
-use Rattle.nq_laws.proofs.ClientCases.{Core, core_of, Closed, CanSend, CanVacate, after_request, after_decided, after_vacated, after_again}
+use Rattle.nq_laws.proofs.ClientCases.{Core}
 use Rattle.nq_laws.proofs.ClientFacts.{seq_of}
-use Rattle.nq_laws.proofs.ClientMoves.{some-same, none-some, keeps-or-cancels}
-use Rattle.nq_laws.proofs.Mail.{packets_with, packets-last, MailIn, mail-closed}
-use Rattle.nq_laws.proofs.Packets.{In, in-left, in-append, in-last, Asked, Told, message-same, told-same, not-both, call-same, reply-same, Mail}
-use Rattle.nq_model.specs.Client.{Ticket, Job, Notice, notice_on}
-use Rattle.nq_model.specs.Hear.{wants_of, inc_of, cancelled}
-use Rattle.nq_model.specs.Message.{Message, Packet, call, reply, asker}
+use Rattle.nq_laws.proofs.ClientMoves.{some-same, none-some}
+use Rattle.nq_laws.proofs.Mail.{packets_with}
+use Rattle.nq_laws.proofs.Packets.{In, in-last, Asked, Told, message-same, not-both, call-same, Mail}
+use Rattle.nq_model.specs.Client.{Ticket, Notice}
+use Rattle.nq_model.specs.Hear.{inc_of}
+use Rattle.nq_model.specs.Message.{Packet, call, reply, asker}
 use Rattle.nq_model.specs.Server.{to_host}
 use Rattle.nq_model.specs.World.{from_host}
 
@@ -68,15 +67,18 @@ line-sends {who = who} {attached = attached} {notices = notices} {line = line} {
 } where
   mine : Packet
   mine = from_host who.host (call xid t.request)
+
   older : (x : ℕ) (w : Who) (file : ℕ) (tag : Tag) → In ps (to_host who.host (call x (Request.Evicted w file tag))) ⊎ (mine ≡ to_host who.host (call x (Request.Evicted w file tag))) → In ps (to_host who.host (call x (Request.Evicted w file tag)))
   older x w file tag (inl there) = there
   older x w file tag (inr bad) = absurd (not-both who.host who.host (call xid t.request) (call x (Request.Evicted w file tag)) bad)
+
   old : (x : ℕ) (a : Reply) → In (ps ++ mine ∷ []) (to_host who.host (reply x a)) → In ps (to_host who.host (reply x a))
   old x a sent = step (in-last ps mine (to_host who.host (reply x a)) sent)
     where
-    step : In ps (to_host who.host (reply x a)) ⊎ (mine ≡ to_host who.host (reply x a)) → In ps (to_host who.host (reply x a))
-    step (inl there) = there
-    step (inr bad) = absurd (not-both who.host who.host (call xid t.request) (reply x a) bad)
+      step : In ps (to_host who.host (reply x a)) ⊎ (mine ≡ to_host who.host (reply x a)) → In ps (to_host who.host (reply x a))
+      step (inl there) = there
+      step (inr bad) = absurd (not-both who.host who.host (call xid t.request) (reply x a) bad)
+
   above : (x : ℕ) (r : Request) (w : Who) → asker r ≡ Some w → line.inc < w.inc → In ps (from_host who.host (call x r)) ⊎ (mine ≡ from_host who.host (call x r)) → r ≡ Request.Attach w
   above x r w by later (inl there) = h.above x r w there by later
   above x r w by later (inr new) =
@@ -85,12 +87,13 @@ line-sends {who = who} {attached = attached} {notices = notices} {line = line} {
       let inc : who.inc ≡ w.inc = ap (λ z. z.inc) one in
       let kept = h.current is_attached in
       absurd (omega arith)
+
   settled : line.inc ≡ who.inc → (x : ℕ) (r : Request) (w : Who) (n : ℕ) → asker r ≡ Some w → w.inc ≡ who.inc → seq_of r ≡ Some n → In ps (from_host who.host (call x r)) ⊎ (mine ≡ from_host who.host (call x r)) → IsSettled (Some t) line.seq x n
   settled kept x r w n by inc seq (inl there) = case (h.settled kept x r w n there by inc seq)
     where
-    case : IsSettled None line.seq x n → IsSettled (Some t) line.seq x n
-    case (inl below) = inl below
-    case (inr u) = none-some u.0 u.1
+      case : IsSettled None line.seq x n → IsSettled (Some t) line.seq x n
+      case (inl below) = inl below
+      case (inr u) = none-some u.0 u.1
   settled kept x r w n by inc seq (inr new) =
       let c = call-same xid x t.request r (message-same who.host who.host (call xid t.request) (call x r) new).1 in
       inr (t, refl, numbered ∙ c.0)
@@ -111,15 +114,18 @@ line-adds {who = who} {attached = attached} {ticket = ticket} {notices = notices
 } where
   mine : Packet
   mine = from_host who.host (call xid request)
+
   older : (x : ℕ) (w : Who) (file : ℕ) (tag : Tag) → In ps (to_host who.host (call x (Request.Evicted w file tag))) ⊎ (mine ≡ to_host who.host (call x (Request.Evicted w file tag))) → In ps (to_host who.host (call x (Request.Evicted w file tag)))
   older x w file tag (inl there) = there
   older x w file tag (inr bad) = absurd (not-both who.host who.host (call xid request) (call x (Request.Evicted w file tag)) bad)
+
   old : (x : ℕ) (a : Reply) → In (ps ++ mine ∷ []) (to_host who.host (reply x a)) → In ps (to_host who.host (reply x a))
   old x a sent = step (in-last ps mine (to_host who.host (reply x a)) sent)
     where
-    step : In ps (to_host who.host (reply x a)) ⊎ (mine ≡ to_host who.host (reply x a)) → In ps (to_host who.host (reply x a))
-    step (inl there) = there
-    step (inr bad) = absurd (not-both who.host who.host (call xid request) (reply x a) bad)
+      step : In ps (to_host who.host (reply x a)) ⊎ (mine ≡ to_host who.host (reply x a)) → In ps (to_host who.host (reply x a))
+      step (inl there) = there
+      step (inr bad) = absurd (not-both who.host who.host (call xid request) (reply x a) bad)
+
   above : (x : ℕ) (r : Request) (w : Who) → asker r ≡ Some w → line.inc < w.inc → In ps (from_host who.host (call x r)) ⊎ (mine ≡ from_host who.host (call x r)) → r ≡ Request.Attach w
   above x r w by later (inl there) = h.above x r w there by later
   above x r w by later (inr new) =
@@ -128,6 +134,7 @@ line-adds {who = who} {attached = attached} {ticket = ticket} {notices = notices
       let inc : who.inc ≡ w.inc = ap (λ z. z.inc) one in
       let kept = h.current is_attached in
       absurd (omega arith)
+
   settled : line.inc ≡ who.inc → (x : ℕ) (r : Request) (w : Who) (n : ℕ) → asker r ≡ Some w → w.inc ≡ who.inc → seq_of r ≡ Some n → In ps (from_host who.host (call x r)) ⊎ (mine ≡ from_host who.host (call x r)) → IsSettled ticket line.seq x n
   settled kept x r w n by inc seq (inl there) = h.settled kept x r w n there by inc seq
   settled kept x r w n by inc seq (inr new) =

@@ -1,16 +1,15 @@
 -- The mail of one client is kept by each of its steps, and by each step of the server.
-use Rattle.std.proofs.Common.{◌≡◌, ◌≢◌, ◌<◌, ◌≤◌, ◌⊎◌, ℕ, ◌+◌, Bool, true, false, List, [], ◌∷◌, ◌++◌, Option, Some, None, map, refl, sym, subst, ap, ◌∙◌, arith, inl, inr, append_assoc}
+use Rattle.std.proofs.Common.{◌≡◌, ◌≤◌, ◌⊎◌, ℕ, ◌+◌, true, List, [], ◌∷◌, ◌++◌, Option, Some, None, map, refl, sym, subst, ap, ◌∙◌, arith, inl, inr, append_assoc}
 use Rattle.nq_base.specs.declared.Grant.{Grant}
 use Rattle.nq_base.specs.declared.Reply.{Reply}
 use Rattle.nq_base.specs.declared.Request.{Request}
-use Rattle.nq_base.specs.declared.Row.{Row}
 use Rattle.nq_base.specs.declared.Tag.{Tag}
 use Rattle.nq_base.specs.declared.Who.{Who}
-use Rattle.nq_laws.proofs.ClientCases.{Core, core_of, Closed, CanSend, CanVacate, after_request, after_decided, after_vacated, after_again}
+use Rattle.nq_laws.proofs.ClientCases.{Core, Closed, after_request, after_vacated, after_again}
 use Rattle.nq_laws.proofs.ClientMoves.{some-same, none-some, keeps-or-cancels}
-use Rattle.nq_laws.proofs.Packets.{In, in-left, in-append, Asked, Told, message-same, told-same, not-both, reply-same, IsAsked, IsReplied, IsOwn, Mail, IsFewer, fewer, mail-sends, mail-adds, mail-again}
-use Rattle.nq_laws.proofs.ServerSays.{IsReplyTo, IsSaid, said_reply, said_error, said_notice, AllSaid}
-use Rattle.nq_model.specs.Client.{Client, ClientStep, Job, Lease, Notice, Ticket}
+use Rattle.nq_laws.proofs.Packets.{In, in-left, in-append, Asked, message-same, told-same, not-both, reply-same, IsReplied, Mail, IsFewer, fewer, mail-sends, mail-adds, mail-again}
+use Rattle.nq_laws.proofs.ServerSays.{IsSaid, said_reply, said_error, said_notice, AllSaid}
+use Rattle.nq_model.specs.Client.{Job, Ticket}
 use Rattle.nq_model.specs.Hear.{wants_of, inc_of, cancelled}
 use Rattle.nq_model.specs.LeaseInterval.{grant_in, requested_file}
 use Rattle.nq_model.specs.Message.{Message, Packet, call, reply, error, asker}
@@ -46,7 +45,7 @@ asks-mail : (ps : List Packet) (k : Core) (job : Job) (request : Request) → k.
 asks-mail ps k job request free asks m =
     let t : Ticket = record { xid = k.xid; first = k.now; last = k.now; request = request; job = job } in
     subst (λ qs. Mail k.who (k.xid + 1) (Some t) qs) (sym (packets-last ps k.who.host k.sends (call k.xid request)))
-        (mail-sends t refl asks (subst (λ o. Mail k.who k.xid o (packets_with ps k.who.host k.sends)) free m))
+    (mail-sends t refl asks (subst (λ o. Mail k.who k.xid o (packets_with ps k.who.host k.sends)) free m))
 
 vacates-mail : (ps : List Packet) (k : Core) (file : ℕ) (tag : Tag) → MailIn ps k → MailIn ps (after_vacated k file tag)
 vacates-mail ps k file tag m =
@@ -55,7 +54,7 @@ vacates-mail ps k file tag m =
 again-mail : (ps : List Packet) (k : Core) (t : Ticket) → k.ticket ≡ Some t → MailIn ps k → MailIn ps (after_again k t)
 again-mail ps k t is m =
     subst (λ qs. Mail k.who k.xid (Some (record t { last = k.now })) qs) (sym (packets-last ps k.who.host k.sends (call t.xid t.request)))
-        (fewer (Some (record t { last = k.now })) (same-fewer t k.now) (mail-again t refl (subst (λ o. Mail k.who k.xid o (packets_with ps k.who.host k.sends)) is m)))
+    (fewer (Some (record t { last = k.now })) (same-fewer t k.now) (mail-again t refl (subst (λ o. Mail k.who k.xid o (packets_with ps k.who.host k.sends)) is m)))
 
 -- each small change of a client keeps its mail
 pub mail-closed : (ps : List Packet) (Heard : ℕ → Tag → Type 0) (Given : ℕ → Grant → ℕ → Type 0) → Closed Heard Given (MailIn ps)
@@ -86,9 +85,11 @@ server-mail {who = who} {xid = xid} {ticket = ticket} {ps = ps} sends said m = r
   not-said x r (said_reply host xid a e k) = not-both who.host host (call x r) (reply xid a) e
   not-said x r (said_error host xid e is) = not-both who.host host (call x r) (error xid e) is
   not-said x r (said_notice xid row e) = not-both who.host row.who.host (call x r) (call xid (Request.Evicted row.who row.file row.tag)) e
+
   old : (x : ℕ) (r : Request) → In ps (from_host who.host (call x r)) ⊎ In sends (from_host who.host (call x r)) → In ps (from_host who.host (call x r))
   old x r (inl there) = there
   old x r (inr new) = absurd (not-said x r (said (from_host who.host (call x r)) new))
+
   fresh : (x : ℕ) (a : Reply) → inc_of a ≡ who.inc → IsSaid ps (to_host who.host (reply x a)) → IsReplied xid ticket x a
   fresh x a i (said_reply host y b e k) =
       let t = told-same who.host host (reply x a) (reply y b) e in
@@ -102,6 +103,7 @@ server-mail {who = who} {xid = xid} {ticket = ticket} {ps = ps} sends said m = r
       }
   fresh x a i (said_error host y e is) = let t = told-same who.host host (reply x a) (error y e) is in absurd (cc)
   fresh x a i (said_notice y row is) = let t = told-same who.host row.who.host (reply x a) (call y (Request.Evicted row.who row.file row.tag)) is in absurd (cc)
+
   later : (x : ℕ) (a : Reply) → IsSaid ps (to_host who.host (reply x a)) → inc_of a ≤ who.inc
   later x a (said_reply host y b e k) =
       let t = told-same who.host host (reply x a) (reply y b) e in
@@ -112,9 +114,11 @@ server-mail {who = who} {xid = xid} {ticket = ticket} {ps = ps} sends said m = r
       omega arith
   later x a (said_error host y e is) = let t = told-same who.host host (reply x a) (error y e) is in absurd (cc)
   later x a (said_notice y row is) = let t = told-same who.host row.who.host (reply x a) (call y (Request.Evicted row.who row.file row.tag)) is in absurd (cc)
+
   before : (x : ℕ) (a : Reply) → In ps (to_host who.host (reply x a)) ⊎ In sends (to_host who.host (reply x a)) → inc_of a ≤ who.inc
   before x a (inl there) = m.past x a there
   before x a (inr new) = later x a (said (to_host who.host (reply x a)) new)
+
   told : (x : ℕ) (a : Reply) → inc_of a ≡ who.inc → In ps (to_host who.host (reply x a)) ⊎ In sends (to_host who.host (reply x a)) → IsReplied xid ticket x a
   told x a i (inl there) = m.replied x a there i
   told x a i (inr new) = fresh x a i (said (to_host who.host (reply x a)) new)
@@ -131,13 +135,16 @@ other-mail {who = who} {xid = xid} {ticket = ticket} {ps = ps} host sends apart 
   theirs [] x r h = h
   theirs (n ∷ ms) x r (inl e) = apart (sym (message-same host who.host n (call x r) e).0)
   theirs (n ∷ ms) x r (inr h) = theirs ms x r h
+
   no-reply : (ms : List Message) (x : ℕ) (a : Reply) → In (map (from_host host) ms) (to_host who.host (reply x a)) → ⊥
   no-reply [] x a h = h
   no-reply (n ∷ ms) x a (inl e) = not-both host who.host n (reply x a) e
   no-reply (n ∷ ms) x a (inr h) = no-reply ms x a h
+
   old : (x : ℕ) (r : Request) → In ps (from_host who.host (call x r)) ⊎ In (map (from_host host) sends) (from_host who.host (call x r)) → In ps (from_host who.host (call x r))
   old x r (inl there) = there
   old x r (inr new) = absurd (theirs sends x r new)
+
   told : (x : ℕ) (a : Reply) → In ps (to_host who.host (reply x a)) ⊎ In (map (from_host host) sends) (to_host who.host (reply x a)) → In ps (to_host who.host (reply x a))
   told x a (inl there) = there
   told x a (inr new) = absurd (no-reply sends x a new)

@@ -1,18 +1,16 @@
 -- The packets that were sent, and what holds of the mail of one client.
-use Rattle.std.proofs.Common.{◌≡◌, ◌≢◌, ◌<◌, ◌≤◌, ◌⊎◌, ℕ, zero, suc, ◌+◌, Bool, true, false, ◌==◌, List, [], ◌∷◌, ◌++◌, Option, Some, None, map, refl, sym, subst, ap, ◌∙◌, arith, inl, inr, append_assoc}
+use Rattle.std.proofs.Common.{◌≡◌, ◌<◌, ◌≤◌, ◌⊎◌, ℕ, zero, suc, ◌+◌, true, List, [], ◌∷◌, ◌++◌, Option, Some, None, sym, subst, ap, ◌∙◌, arith, inl, inr}
 use Rattle.std.specs.Prelude.{slice_get}
 use Rattle.nq_base.specs.declared.Grant.{Grant}
 use Rattle.nq_base.specs.declared.Party.{Party}
 use Rattle.nq_base.specs.declared.Reply.{Reply}
 use Rattle.nq_base.specs.declared.Request.{Request}
-use Rattle.nq_base.specs.declared.Row.{Row}
-use Rattle.nq_base.specs.declared.Tag.{Tag}
 use Rattle.nq_base.specs.declared.Who.{Who}
 use Rattle.nq_laws.proofs.ClientMoves.{some-same, none-some}
-use Rattle.nq_model.specs.Client.{Ticket, Job}
+use Rattle.nq_model.specs.Client.{Ticket}
 use Rattle.nq_model.specs.Hear.{wants_of, inc_of}
 use Rattle.nq_model.specs.LeaseInterval.{grant_in, requested_file}
-use Rattle.nq_model.specs.Message.{Message, Packet, call, reply, error, RpcError, asker}
+use Rattle.nq_model.specs.Message.{Message, Packet, call, reply, asker}
 use Rattle.nq_model.specs.Server.{to_host}
 use Rattle.nq_model.specs.World.{from_host}
 
@@ -35,17 +33,17 @@ in-append [] ys x h = inr h
 in-append (y ∷ xs) ys x (inl e) = inl (inl e)
 in-append (y ∷ xs) ys x (inr h) = step (in-append xs ys x h)
   where
-  step : In xs x ⊎ In ys x → ((y ≡ x) ⊎ In xs x) ⊎ In ys x
-  step (inl a) = inl (inr a)
-  step (inr b) = inr b
+    step : In xs x ⊎ In ys x → ((y ≡ x) ⊎ In xs x) ⊎ In ys x
+    step (inl a) = inl (inr a)
+    step (inr b) = inr b
 
 pub in-last : {A : Type 0} (xs : List A) (y x : A) → In (xs ++ y ∷ []) x → In xs x ⊎ (y ≡ x)
 in-last xs y x h = step (in-append xs (y ∷ []) x h)
   where
-  step : In xs x ⊎ ((y ≡ x) ⊎ ⊥) → In xs x ⊎ (y ≡ x)
-  step (inl a) = inl a
-  step (inr (inl e)) = inr e
-  step (inr (inr bad)) = absurd bad
+    step : In xs x ⊎ ((y ≡ x) ⊎ ⊥) → In xs x ⊎ (y ≡ x)
+    step (inl a) = inl a
+    step (inr (inl e)) = inr e
+    step (inr (inr bad)) = absurd bad
 
 pub in-get : {A : Type 0} (xs : List A) (k : ℕ) (x : A) → slice_get xs k ≡ Some x → In xs x
 in-get [] k x h = none-some x h
@@ -63,20 +61,20 @@ Told ps host m = In ps (to_host host m)
 pub message-same : (h h' : ℕ) (m m' : Message) → from_host h m ≡ from_host h' m' → (h ≡ h') × (m ≡ m')
 message-same h h' m m' e = (client-same (ap (λ p. p.sender) e), ap (λ p. p.message) e)
   where
-  client-same : Party.Client h ≡ Party.Client h' → h ≡ h'
-  client-same f = cc
+    client-same : Party.Client h ≡ Party.Client h' → h ≡ h'
+    client-same f = cc
 
 pub told-same : (h h' : ℕ) (m m' : Message) → to_host h m ≡ to_host h' m' → (h ≡ h') × (m ≡ m')
 told-same h h' m m' e = (client-same (ap (λ p. p.to) e), ap (λ p. p.message) e)
   where
-  client-same : Party.Client h ≡ Party.Client h' → h ≡ h'
-  client-same f = cc
+    client-same : Party.Client h ≡ Party.Client h' → h ≡ h'
+    client-same f = cc
 
 pub not-both : (h h' : ℕ) (m m' : Message) → from_host h m ≡ to_host h' m' → ⊥
 not-both h h' m m' e = other (ap (λ p. p.sender) e)
   where
-  other : Party.Client h ≡ Party.Server → ⊥
-  other f = cc
+    other : Party.Client h ≡ Party.Server → ⊥
+    other f = cc
 
 pub call-same : (x y : ℕ) (r s : Request) → call x r ≡ call y s → (x ≡ y) × (r ≡ s)
 call-same x y r s e = (cc, cc)
@@ -134,6 +132,7 @@ mail-sends {who = who} {xid = xid} {ps = ps} t numbered asks m = record {
   gone : (x : ℕ) (a : Reply) → In ps (to_host who.host (reply x a)) ⊎ (from_host who.host (call xid t.request) ≡ to_host who.host (reply x a)) → In ps (to_host who.host (reply x a))
   gone x a (inl old) = old
   gone x a (inr bad) = absurd (not-both who.host who.host (call xid t.request) (reply x a) bad)
+
   case : (x : ℕ) (r : Request) (w : Who) → asker r ≡ Some w → In ps (from_host who.host (call x r)) ⊎ (from_host who.host (call xid t.request) ≡ from_host who.host (call x r)) → IsAsked who (xid + 1) (Some t) x r w
   case x r w by (inl old) = let k = m.asked x r w old by in record {
     host = k.host;
@@ -150,6 +149,7 @@ mail-sends {who = who} {xid = xid} {ps = ps} t numbered asks m = record {
         number = λ i. let e = m.0 in omega arith;
         same = λ i u e n. ap (λ z. z.request) (sym (some-same t u e)) ∙ m.1;
       }
+
   told : (x : ℕ) (a : Reply) → inc_of a ≡ who.inc → In ps (to_host who.host (reply x a)) ⊎ (from_host who.host (call xid t.request) ≡ to_host who.host (reply x a)) → IsReplied (xid + 1) (Some t) x a
   told x a i (inl old) = let k = m.replied x a old i in record {
     number = let below = k.number in omega arith;
@@ -168,6 +168,7 @@ mail-adds {who = who} {xid = xid} {ticket = ticket} {ps = ps} request asks m = r
   gone : (x : ℕ) (a : Reply) → In ps (to_host who.host (reply x a)) ⊎ (from_host who.host (call xid request) ≡ to_host who.host (reply x a)) → In ps (to_host who.host (reply x a))
   gone x a (inl old) = old
   gone x a (inr bad) = absurd (not-both who.host who.host (call xid request) (reply x a) bad)
+
   case : (x : ℕ) (r : Request) (w : Who) → asker r ≡ Some w → In ps (from_host who.host (call x r)) ⊎ (from_host who.host (call xid request) ≡ from_host who.host (call x r)) → IsAsked who (xid + 1) ticket x r w
   case x r w by (inl old) = let k = m.asked x r w old by in record { host = k.host; inc = k.inc; number = λ i. let below = k.number i in omega arith; same = k.same }
   case x r w by (inr new) =
@@ -179,6 +180,7 @@ mail-adds {who = who} {xid = xid} {ticket = ticket} {ps = ps} request asks m = r
         number = λ i. let e = c.0 in omega arith;
         same = λ i u e n. let below = (m.own u e).number in let g = c.0 in absurd (omega arith);
       }
+
   told : (x : ℕ) (a : Reply) → inc_of a ≡ who.inc → In ps (to_host who.host (reply x a)) ⊎ (from_host who.host (call xid request) ≡ to_host who.host (reply x a)) → IsReplied (xid + 1) ticket x a
   told x a i (inl old) = let k = m.replied x a old i in record { number = let below = k.number in omega arith; wants = k.wants }
   told x a i (inr bad) = absurd (not-both who.host who.host (call xid request) (reply x a) bad)
@@ -194,9 +196,11 @@ mail-again {who = who} {xid = xid} {ticket = ticket} {ps = ps} t is m = record {
   gone : (x : ℕ) (a : Reply) → In ps (to_host who.host (reply x a)) ⊎ (from_host who.host (call t.xid t.request) ≡ to_host who.host (reply x a)) → In ps (to_host who.host (reply x a))
   gone x a (inl old) = old
   gone x a (inr bad) = absurd (not-both who.host who.host (call t.xid t.request) (reply x a) bad)
+
   case : (x : ℕ) (r : Request) → In ps (from_host who.host (call x r)) ⊎ (from_host who.host (call t.xid t.request) ≡ from_host who.host (call x r)) → In ps (from_host who.host (call x r))
   case x r (inl old) = old
   case x r (inr new) = subst (λ p. In ps p) new (m.own t is).sent
+
   told : (x : ℕ) (a : Reply) → In ps (to_host who.host (reply x a)) ⊎ (from_host who.host (call t.xid t.request) ≡ to_host who.host (reply x a)) → In ps (to_host who.host (reply x a))
   told x a (inl old) = old
   told x a (inr bad) = absurd (not-both who.host who.host (call t.xid t.request) (reply x a) bad)

@@ -1,11 +1,10 @@
 -- Look-ups in lists of rows after each change of the list.
-use Rattle.std.proofs.Common.{◌≡◌, ◌≢◌, ◌<◌, ◌≤◌, ◌⊎◌, ℕ, ◌+◌, Bool, true, false, ◌&&◌, ◌||◌, not, ◌==◌, nat_lt, List, [], ◌∷◌, Option, Some, None, if◌then◌else◌, map, refl, sym, subst, ap, ◌∙◌, arith, inl, inr}
-use Rattle.std.specs.List.{find, filter, list_any}
+use Rattle.std.proofs.Common.{◌≡◌, ◌⊎◌, ℕ, Bool, true, false, ◌&&◌, not, ◌==◌, List, [], ◌∷◌, Some, None, if◌then◌else◌, map, refl, subst, arith, inl, inr}
+use Rattle.std.specs.List.{find, filter}
 use Rattle.std.specs.Option.{option_map}
 use Rattle.std.proofs.lemmas.Bool.Decides.{nat_tests}
 use Rattle.nq_base.specs.declared.Row.{Row}
-use Rattle.nq_base.specs.declared.Who.{Who}
-use Rattle.nq_model.specs.Table.{is_row_of, find_row, drop_row, drop_host, drop_rows_of, row_before, insert_row, put_row}
+use Rattle.nq_model.specs.Table.{is_row_of, find_row, insert_row}
 
 -- two cases of a test, for what a choice by it gives
 pub choice : {A : Type 0} (Q : A → Type 0) (b : Bool) (x y : A) → (b ≡ true → Q x) → (b ≡ false → Q y) → Q (if b then x else y)
@@ -74,9 +73,9 @@ find-filter p q (y ∷ xs) keeps = find-filter-step p q y xs (p y) (q y) (keeps 
 find-dropped-step : {A : Type 0} (p q : A → Bool) (y : A) (xs : List A) (c : Bool) → (p y ≡ true → c ≡ false) → find p (filter q xs) ≡ None → q y ≡ c → find p (if c then y ∷ filter q xs else filter q xs) ≡ None
 find-dropped-step p q y xs true fails rest e = head (p y) refl
   where
-  head : (b : Bool) → p y ≡ b → (if b then Some y else find p (filter q xs)) ≡ None
-  head true f = let bad : true ≡ false = fails f in cc
-  head false f = rest
+    head : (b : Bool) → p y ≡ b → (if b then Some y else find p (filter q xs)) ≡ None
+    head true f = let bad : true ≡ false = fails f in cc
+    head false f = rest
 find-dropped-step p q y xs false fails rest e = rest
 
 pub find-dropped : {A : Type 0} (p q : A → Bool) (xs : List A) → ((x : A) → p x ≡ true → q x ≡ false) → find p (filter q xs) ≡ None
@@ -106,8 +105,8 @@ insert-step : (file host : ℕ) (row r : Row) (rows : List Row) (b : Bool) → f
 insert-step file host row r rows true rest other = refl
 insert-step file host row r rows false rest other = later (is_row_of file host row) (is_row_of file host r) refl refl
   where
-  later : (b c : Bool) → is_row_of file host row ≡ b → is_row_of file host r ≡ c → find_row file host (r ∷ insert_row row rows) ≡ (if is_row_of file host row then Some row else find_row file host (r ∷ rows))
-  later true true e f = let bad : is_row_of file host r ≡ false = other e in cc
-  later true false e f = rw (f, rest, e) refl
-  later false true e f = rw (f, e) refl
-  later false false e f = rw (f, rest, e) refl
+    later : (b c : Bool) → is_row_of file host row ≡ b → is_row_of file host r ≡ c → find_row file host (r ∷ insert_row row rows) ≡ (if is_row_of file host row then Some row else find_row file host (r ∷ rows))
+    later true true e f = let bad : is_row_of file host r ≡ false = other e in cc
+    later true false e f = rw (f, rest, e) refl
+    later false true e f = rw (f, e) refl
+    later false false e f = rw (f, rest, e) refl

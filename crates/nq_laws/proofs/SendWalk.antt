@@ -1,5 +1,5 @@
 -- What each small change of a client keeps is kept where the next request is sent.
-use Rattle.std.proofs.Common.{◌≡◌, ◌≢◌, ◌<◌, ◌≤◌, ◌⊎◌, ℕ, ◌+◌, Bool, true, false, ◌&&◌, ◌||◌, not, ◌==◌, List, [], ◌∷◌, ◌++◌, Option, Some, None, is_some, map, nat_le, nat_lt, if◌then◌else◌, refl, sym, subst, ap, ◌∙◌, arith, inl, inr}
+use Rattle.std.proofs.Common.{◌≡◌, ◌<◌, ◌⊎◌, ℕ, ◌+◌, Bool, true, false, ◌||◌, ◌==◌, List, [], ◌∷◌, Option, Some, None, is_some, map, nat_le, nat_lt, if◌then◌else◌, refl, sym, subst, ap, ◌∙◌, arith, inl, inr}
 use Rattle.std.specs.List.{find, filter, list_any}
 use Rattle.nq_base.specs.declared.Call.{Call}
 use Rattle.nq_base.specs.declared.Grant.{Grant}
@@ -9,7 +9,7 @@ use Rattle.nq_base.specs.declared.Request.{Request}
 use Rattle.nq_base.specs.declared.Tag.{Tag}
 use Rattle.nq_base.specs.declared.Who.{Who}
 use Rattle.nq_laws.proofs.ClientCases.{Core, core_of, Closed, Both, CanSend}
-use Rattle.nq_laws.proofs.ClientFacts.{Alone, Asking, Delaying, AskingOf, DelayingOf, seq_of, changes_file, push_in, fits_job, is_clean_in}
+use Rattle.nq_laws.proofs.ClientFacts.{Asking, Delaying, AskingOf, DelayingOf, seq_of, changes_file, fits_job}
 use Rattle.nq_laws.proofs.ClientLists.{dropped-lease, number-other}
 use Rattle.nq_laws.proofs.ClientMoves.{some-same, none-some, attached-with-call, IsNext, draws, sends, drops}
 use Rattle.nq_laws.proofs.ClientWrites.{has-writes, pushes as pushes_write, asks as asks_delaying, no-push}
@@ -56,18 +56,25 @@ sent-push {P = P} closed t file p free first b = record {
 } where
   c : Client
   c = t.client
+
   request : Request
   request = Request.Write c.who c.seq p.file p.block p.first p.last (Some (base_of c p.file)) p.body
+
   ticket : Ticket
   ticket = record { xid = c.xid; first = c.now; last = c.now; request = request; job = pushing }
+
   attached : c.attached ≡ true
   attached = attached-with-writes b.alone.delaying file p first
+
   drawn : (n : ℕ) → Some c.seq ≡ Some n → n < c.seq + 1
   drawn n e = let same : c.seq ≡ n = some-same c.seq n e in omega arith
+
   next : IsNext c.who c.call (c.seq + 1) c.leases c.notices pushing request
   next = record { asks = refl; fits = refl; drawn = drawn; no_attach = λ e. cc; called = λ e. absurd (cc); unwanted = λ f n e. refl; changed = λ f e. none-some f e }
+
   can : CanSend (core_of t) pushing request
   can = record { free = free; attached = attached; asks = refl; fits = refl; no_attach = λ e. cc; unwanted = λ f n e. refl; changed = λ f e. none-some f e }
+
   before : Delaying true None c.notices c.dirty None
   before = at-true (λ a. Delaying a None c.notices c.dirty None) c.attached attached (subst (λ o. Delaying c.attached None c.notices c.dirty o) (free-push c free b.alone.delaying) (subst (λ o. Delaying c.attached o c.notices c.dirty c.push) free b.alone.delaying))
 
@@ -82,14 +89,15 @@ pushes-keeps closed t file free b = these-keep closed t file (first_dirty file t
 sent-delaying : (c : Client) (ticket : Ticket) → c.ticket ≡ None → c.attached ≡ true → DelayingOf c → Delaying c.attached (Some ticket) c.notices c.dirty c.push
 sent-delaying c ticket free attached h =
     subst
-        (λ o. Delaying c.attached (Some ticket) c.notices c.dirty o)
-        (sym none)
-        (from-true (λ a. Delaying a (Some ticket) c.notices c.dirty None) c.attached attached (asks_delaying before))
+    (λ o. Delaying c.attached (Some ticket) c.notices c.dirty o)
+    (sym none)
+    (from-true (λ a. Delaying a (Some ticket) c.notices c.dirty None) c.attached attached (asks_delaying before))
   where
-  none : c.push ≡ None
-  none = free-push c free h
-  before : Delaying true None c.notices c.dirty None
-  before = at-true (λ a. Delaying a None c.notices c.dirty None) c.attached attached (subst (λ o. Delaying c.attached None c.notices c.dirty o) none (subst (λ o. Delaying c.attached o c.notices c.dirty c.push) free h))
+    none : c.push ≡ None
+    none = free-push c free h
+
+    before : Delaying true None c.notices c.dirty None
+    before = at-true (λ a. Delaying a None c.notices c.dirty None) c.attached attached (subst (λ o. Delaying c.attached None c.notices c.dirty o) none (subst (λ o. Delaying c.attached o c.notices c.dirty c.push) free h))
 
 -- a request that is not decided once is sent by the call or for a renewal
 pub record IsPlain (t : ClientStep) (job : Job) (request : Request) : Type 0 where
@@ -110,10 +118,13 @@ plain-keeps {P = P} closed t job request free unwanted attached no_seq plain b =
 } where
   c : Client
   c = t.client
+
   ticket : Ticket
   ticket = record { xid = c.xid; first = c.now; last = c.now; request = request; job = job }
+
   next : IsNext c.who c.call c.seq c.leases c.notices job request
   next = record { asks = plain.asks; fits = plain.fits; drawn = λ n e. none-some n (sym no_seq ∙ e); no_attach = plain.no_attach; called = plain.called; unwanted = unwanted; changed = λ f e. none-some f (sym plain.changes ∙ e) }
+
   can : CanSend (core_of t) job request
   can = record { free = free; attached = attached; asks = plain.asks; fits = plain.fits; no_attach = plain.no_attach; unwanted = unwanted; changed = λ f e. none-some f (sym plain.changes ∙ e) }
 
@@ -143,10 +154,11 @@ decided-asking : (t : ClientStep) (request : Request) → t.client.attached ≡ 
 decided-asking t request attached called d h =
     from-true (λ a. Asking c.who c.now a c.call (Some ticket) (c.xid + 1) (c.seq + 1) c.leases c.notices) c.attached attached (sends for_call request (draws c.xid (c.seq + 1) (omega arith) (omega arith) (at-true (λ a. Asking c.who c.now a c.call c.ticket c.xid c.seq c.leases c.notices) c.attached attached h)) (decided-next t request called d))
   where
-  c : Client
-  c = t.client
-  ticket : Ticket
-  ticket = record { xid = c.xid; first = c.now; last = c.now; request = request; job = for_call }
+    c : Client
+    c = t.client
+
+    ticket : Ticket
+    ticket = record { xid = c.xid; first = c.now; last = c.now; request = request; job = for_call }
 
 pub decided-keeps : {Heard : ℕ → Tag → Type 0} {Given : ℕ → Grant → ℕ → Type 0} {P : Core → Type 0} → Closed Heard Given P → (t : ClientStep) (request : Request) → t.client.ticket ≡ None → t.client.attached ≡ true → is_some t.client.call ≡ true → IsDecided t request → Both P t → Both P (sends_request (after_seq t) for_call request)
 unfolding sends_request after_seq
@@ -188,19 +200,20 @@ pub record IsChange (t : ClientStep) (file : ℕ) (request : Request) : Type 0 w
 change-keeps : {Heard : ℕ → Tag → Type 0} {Given : ℕ → Grant → ℕ → Type 0} {P : Core → Type 0} → Closed Heard Given P → (t : ClientStep) (may_ask : Bool) (file : ℕ) (request : Request) → t.client.ticket ≡ None → t.client.attached ≡ true → is_some t.client.call ≡ true → IsChange t file request → Both P t → Both P (next_change t may_ask file request)
 change-keeps {P = P} closed t may_ask file request free attached called d b =
     choice (Both P) (is_clean t.client file) (if may_ask then sends_request (after_seq (gives_up t file)) for_call request else t) (pushes t file)
-        (λ e. choice (Both P) may_ask (sends_request (after_seq (gives_up t file)) for_call request) t (λ f. sent) (λ f. b))
-        (λ e. pushes-keeps closed t file free b)
+    (λ e. choice (Both P) may_ask (sends_request (after_seq (gives_up t file)) for_call request) t (λ f. sent) (λ f. b))
+    (λ e. pushes-keeps closed t file free b)
   where
-  goes : IsDecided (gives_up t file) request
-  goes = record {
-    asks = d.asks ∙ ap Some (sym (gives-up-same t file).3);
-    fits = d.fits;
-    numbered = d.numbered ∙ ap Some (sym (gives-up-same t file).4);
-    wants = d.wants;
-    changed = λ f e. let one : file ≡ f = some-same file f (sym d.changes ∙ e) in ap (lease_on f) (gives-up-same t file).5 ∙ subst (λ g. lease_on g (drop_lease file t.client.leases) ≡ None) one (dropped-lease file t.client.leases);
-  }
-  sent : Both P (sends_request (after_seq (gives_up t file)) for_call request)
-  sent = decided-keeps closed (gives_up t file) request ((gives-up-same t file).0 ∙ free) ((gives-up-same t file).1 ∙ attached) (ap is_some (gives-up-same t file).2 ∙ called) goes (gives-up-keeps closed t file b)
+    goes : IsDecided (gives_up t file) request
+    goes = record {
+      asks = d.asks ∙ ap Some (sym (gives-up-same t file).3);
+      fits = d.fits;
+      numbered = d.numbered ∙ ap Some (sym (gives-up-same t file).4);
+      wants = d.wants;
+      changed = λ f e. let one : file ≡ f = some-same file f (sym d.changes ∙ e) in ap (lease_on f) (gives-up-same t file).5 ∙ subst (λ g. lease_on g (drop_lease file t.client.leases) ≡ None) one (dropped-lease file t.client.leases);
+    }
+
+    sent : Both P (sends_request (after_seq (gives_up t file)) for_call request)
+    sent = decided-keeps closed (gives_up t file) request ((gives-up-same t file).0 ∙ free) ((gives-up-same t file).1 ∙ attached) (ap is_some (gives-up-same t file).2 ∙ called) goes (gives-up-keeps closed t file b)
 
 write-sent : {Heard : ℕ → Tag → Type 0} {Given : ℕ → Grant → ℕ → Type 0} {P : Core → Type 0} → Closed Heard Given P → (t : ClientStep) (file block : ℕ) (body : List ℕ) → t.client.ticket ≡ None → t.client.attached ≡ true → is_some t.client.call ≡ true → Both P t → Both P (sends_write t file block body)
 write-sent closed t file block body free attached called b =
@@ -209,8 +222,8 @@ write-sent closed t file block body free attached called b =
 next-write-keeps : {Heard : ℕ → Tag → Type 0} {Given : ℕ → Grant → ℕ → Type 0} {P : Core → Type 0} → Closed Heard Given P → (t : ClientStep) (u : UnderWay) (file block : ℕ) (body : List ℕ) → t.client.ticket ≡ None → NoNotice t → t.client.attached ≡ true → is_some t.client.call ≡ true → Both P t → Both P (next_write t u file block body)
 next-write-keeps {P = P} closed t u file block body free quiet attached called b =
     choice (Both P) (u.through || shares_live t.client.now (lease_on file t.client.leases)) (sends_write t file block body) (sends_request t for_call (Request.GetLease t.client.who file (want_of t.client Mode.Writing)))
-        (λ e. write-sent closed t file block body free attached called b)
-        (λ e. plain-keeps closed t for_call (Request.GetLease t.client.who file (want_of t.client Mode.Writing)) free (λ f n e. absurd (quiet free f n e)) attached refl (record { asks = refl; fits = refl; no_attach = λ f. cc; called = λ f. called; changes = refl }) b)
+    (λ e. write-sent closed t file block body free attached called b)
+    (λ e. plain-keeps closed t for_call (Request.GetLease t.client.who file (want_of t.client Mode.Writing)) free (λ f n e. absurd (quiet free f n e)) attached refl (record { asks = refl; fits = refl; no_attach = λ f. cc; called = λ f. called; changes = refl }) b)
 
 next-put-keeps : {Heard : ℕ → Tag → Type 0} {Given : ℕ → Grant → ℕ → Type 0} {P : Core → Type 0} → Closed Heard Given P → (t : ClientStep) (written may_ask : Bool) (file block : ℕ) (body : List ℕ) → t.client.ticket ≡ None → t.client.attached ≡ true → is_some t.client.call ≡ true → Both P t → Both P (next_put t written may_ask file block body)
 next-put-keeps closed t true may_ask file block body free attached called b = pushes-keeps closed t file free b
@@ -264,19 +277,19 @@ least-with-one : (n : ℕ) (o : Option ℕ) (k : ℕ) → least_with n o ≡ Som
 least-with-one n None k h = inl (some-same n k h)
 least-with-one n (Some m) k h = step (nat_lt m n) h
   where
-  step : (b : Bool) → Some (if b then m else n) ≡ Some k → (n ≡ k) ⊎ (Some m ≡ Some k)
-  step true e = inr e
-  step false e = inl (some-same n k e)
+    step : (b : Bool) → Some (if b then m else n) ≡ Some k → (n ≡ k) ⊎ (Some m ≡ Some k)
+    step true e = inr e
+    step false e = inl (some-same n k e)
 
 -- a file for which a notice waits has one
 noticed-one : (notices : List Notice) (file : ℕ) → least (map file_of_notice notices) ≡ Some file → (n : Notice) × (notice_on file notices ≡ Some n)
 noticed-one [] file h = none-some file h
 noticed-one (n ∷ notices) file h = step (n.file == file) refl (least-with-one n.file (least (map file_of_notice notices)) file h) (noticed-one notices file)
   where
-  step : (b : Bool) → (n.file == file) ≡ b → (n.file ≡ file) ⊎ (least (map file_of_notice notices) ≡ Some file) → (least (map file_of_notice notices) ≡ Some file → (m : Notice) × (notice_on file notices ≡ Some m)) → (m : Notice) × ((if b then Some n else notice_on file notices) ≡ Some m)
-  step true e which rest = (n, refl)
-  step false e (inl same) rest = let is : (n.file == file) ≡ true = number-same n.file file same in absurd (cc)
-  step false e (inr less) rest = rest less
+    step : (b : Bool) → (n.file == file) ≡ b → (n.file ≡ file) ⊎ (least (map file_of_notice notices) ≡ Some file) → (least (map file_of_notice notices) ≡ Some file → (m : Notice) × (notice_on file notices ≡ Some m)) → (m : Notice) × ((if b then Some n else notice_on file notices) ≡ Some m)
+    step true e which rest = (n, refl)
+    step false e (inl same) rest = let is : (n.file == file) ≡ true = number-same n.file file same in absurd (cc)
+    step false e (inr less) rest = rest less
 
 no-noticed : (notices : List Notice) → least (map file_of_notice notices) ≡ None → (file : ℕ) (n : Notice) → notice_on file notices ≡ Some n → ⊥
 no-noticed [] h file n e = none-some n e
@@ -287,17 +300,17 @@ any-found : (p : Push → Bool) (xs : List Push) → list_any p xs ≡ true → 
 any-found p [] h = absurd (cc)
 any-found p (y ∷ xs) h = step (p y) h (any-found p xs)
   where
-  step : (b : Bool) → (b || list_any p xs) ≡ true → (list_any p xs ≡ true → (x : Push) × (find p xs ≡ Some x)) → (x : Push) × ((if b then Some y else find p xs) ≡ Some x)
-  step true e rest = (y, refl)
-  step false e rest = rest e
+    step : (b : Bool) → (b || list_any p xs) ≡ true → (list_any p xs ≡ true → (x : Push) × (find p xs ≡ Some x)) → (x : Push) × ((if b then Some y else find p xs) ≡ Some x)
+    step true e rest = (y, refl)
+    step false e rest = rest e
 
 -- a file for which a notice waits has delayed writes to push, where no request is under way
 to-push : (c : Client) (file : ℕ) (n : Notice) → c.ticket ≡ None → notice_on file c.notices ≡ Some n → DelayingOf c → (p : Push) × (first_dirty file c.dirty ≡ Some p)
 to-push c file n free waits h = case (has-writes file c.dirty c.push (h.noticed file n waits))
   where
-  case : (list_any (is_push_of file) c.dirty ≡ true) ⊎ (push_passes (is_push_of file) c.push ≡ true) → (p : Push) × (first_dirty file c.dirty ≡ Some p)
-  case (inl some) = any-found (is_push_of file) c.dirty some
-  case (inr some) = let none : push_passes (is_push_of file) c.push ≡ false = rw (free-push c free h) refl in absurd (cc)
+    case : (list_any (is_push_of file) c.dirty ≡ true) ⊎ (push_passes (is_push_of file) c.push ≡ true) → (p : Push) × (first_dirty file c.dirty ≡ Some p)
+    case (inl some) = any-found (is_push_of file) c.dirty some
+    case (inr some) = let none : push_passes (is_push_of file) c.push ≡ false = rw (free-push c free h) refl in absurd (cc)
 
 -- after a push is sent a request is under way
 pushed-asks : (t : ClientStep) (p : Push) → is_some (pushes_these t (Some p)).client.ticket ≡ true
@@ -345,13 +358,13 @@ renewed-one : (c : Client) (leases : List Lease) (file : ℕ) → least (map fil
 renewed-one c [] file h = none-some file h
 renewed-one c (l ∷ leases) file h = step (is_to_renew c l) refl h (renewed-one c leases file)
   where
-  step : (b : Bool) → is_to_renew c l ≡ b → least (map file_of_lease (if b then l ∷ filter (is_to_renew c) leases else filter (is_to_renew c) leases)) ≡ Some file → (least (map file_of_lease (filter (is_to_renew c) leases)) ≡ Some file → notice_on file c.notices ≡ None) → notice_on file c.notices ≡ None
-  step true e g rest = which (least-with-one l.file (least (map file_of_lease (filter (is_to_renew c) leases))) file g)
-    where
-    which : (l.file ≡ file) ⊎ (least (map file_of_lease (filter (is_to_renew c) leases)) ≡ Some file) → notice_on file c.notices ≡ None
-    which (inl same) = subst (λ f. notice_on f c.notices ≡ None) same (is-none (notice_on l.file c.notices) (not-true _ (both-true _ _ e).1))
-    which (inr less) = rest less
-  step false e g rest = rest g
+    step : (b : Bool) → is_to_renew c l ≡ b → least (map file_of_lease (if b then l ∷ filter (is_to_renew c) leases else filter (is_to_renew c) leases)) ≡ Some file → (least (map file_of_lease (filter (is_to_renew c) leases)) ≡ Some file → notice_on file c.notices ≡ None) → notice_on file c.notices ≡ None
+    step true e g rest = which (least-with-one l.file (least (map file_of_lease (filter (is_to_renew c) leases))) file g)
+      where
+        which : (l.file ≡ file) ⊎ (least (map file_of_lease (filter (is_to_renew c) leases)) ≡ Some file) → notice_on file c.notices ≡ None
+        which (inl same) = subst (λ f. notice_on f c.notices ≡ None) same (is-none (notice_on l.file c.notices) (not-true _ (both-true _ _ e).1))
+        which (inr less) = rest less
+    step false e g rest = rest g
 
 -- a client with a lease is attached
 attached-with-lease : {who : Who} {now xid seq : ℕ} {attached : Bool} {call : Option UnderWay} {ticket : Option Ticket} {leases : List Lease} {notices : List Notice} → Asking who now attached call ticket xid seq leases notices → (file : ℕ) (l : Lease) → lease_on file leases ≡ Some l → attached ≡ true
@@ -363,10 +376,11 @@ renews-one closed t file None is free unnoticed b = b
 renews-one closed t file (Some l) is free unnoticed b =
     plain-keeps closed t renewing (Request.GetLease t.client.who l.file (want_of t.client l.mode)) free unwanted (attached-with-lease b.alone.asking file l is) refl (record { asks = refl; fits = refl; no_attach = λ f. cc; called = λ f. absurd (cc); changes = refl }) b
   where
-  of_file : l.file ≡ file
-  of_file = same-number l.file file (find-passes (λ m. m.file == file) l t.client.leases is)
-  unwanted : (f : ℕ) (n : Notice) → notice_on f t.client.notices ≡ Some n → (l.file == f) ≡ false
-  unwanted f n e = number-other l.file f (λ same. none-some n (sym unnoticed ∙ subst (λ g. notice_on g t.client.notices ≡ Some n) (sym same ∙ of_file) e))
+    of_file : l.file ≡ file
+    of_file = same-number l.file file (find-passes (λ m. m.file == file) l t.client.leases is)
+
+    unwanted : (f : ℕ) (n : Notice) → notice_on f t.client.notices ≡ Some n → (l.file == f) ≡ false
+    unwanted f n e = number-other l.file f (λ same. none-some n (sym unnoticed ∙ subst (λ g. notice_on g t.client.notices ≡ Some n) (sym same ∙ of_file) e))
 
 renews-keeps : {Heard : ℕ → Tag → Type 0} {Given : ℕ → Grant → ℕ → Type 0} {P : Core → Type 0} → Closed Heard Given P → (t : ClientStep) (o : Option ℕ) → renewed_file t.client ≡ o → t.client.ticket ≡ None → Both P t → Both P (renews t o)
 renews-keeps closed t None is free b = b
@@ -376,19 +390,22 @@ then-renews-keeps : {Heard : ℕ → Tag → Type 0} {Given : ℕ → Grant → 
 then-renews-keeps closed false t b = b
 then-renews-keeps {P = P} closed true t b =
     choice (Both P) (is_asking t) t (if nat_le t.client.pause t.client.now then renews t (renewed_file t.client) else t)
-        (λ e. b)
-        (λ e. choice (Both P) (nat_le t.client.pause t.client.now) (renews t (renewed_file t.client)) t (λ f. renews-keeps closed t (renewed_file t.client) refl (is-none t.client.ticket e) b) (λ f. b))
+    (λ e. b)
+    (λ e. choice (Both P) (nat_le t.client.pause t.client.now) (renews t (renewed_file t.client)) t (λ f. renews-keeps closed t (renewed_file t.client) refl (is-none t.client.ticket e) b) (λ f. b))
 
 -- the next request
 pub send-next-keeps : {Heard : ℕ → Tag → Type 0} {Given : ℕ → Grant → ℕ → Type 0} {P : Core → Type 0} → Closed Heard Given P → (in_tick : Bool) (t : ClientStep) → Both P t → Both P (send_next in_tick t)
 send-next-keeps {P = P} closed in_tick t b =
     then-renews-keeps closed in_tick (then_calls third) (then-calls-keeps closed third quiet kept)
   where
-  second : ClientStep
-  second = then_pushes t (noticed_file t.client)
-  third : ClientStep
-  third = then_ending second
-  quiet : NoNotice third
-  quiet = then-ending-quiet second (then-noticed-quiet t b.alone.delaying)
-  kept : Both P third
-  kept = then-pushes-keeps closed second (ending_file second.client) (then-pushes-keeps closed t (noticed_file t.client) b)
+    second : ClientStep
+    second = then_pushes t (noticed_file t.client)
+
+    third : ClientStep
+    third = then_ending second
+
+    quiet : NoNotice third
+    quiet = then-ending-quiet second (then-noticed-quiet t b.alone.delaying)
+
+    kept : Both P third
+    kept = then-pushes-keeps closed second (ending_file second.client) (then-pushes-keeps closed t (noticed_file t.client) b)

@@ -1,13 +1,10 @@
 -- What each outcome of a datagram does to the server, as one client sees it.
-use Rattle.std.proofs.Common.{◌≡◌, ◌≢◌, ◌<◌, ◌≤◌, ◌⊎◌, ℕ, ◌+◌, ◌-◌, ◌%◌, max, min, Bool, true, false, ◌&&◌, ◌||◌, not, ◌==◌, nat_lt, nat_le, List, [], ◌∷◌, ◌++◌, Option, Some, None, is_some, if◌then◌else◌, length, refl, sym, subst, ap, ◌∙◌, arith, inl, inr}
-use Rattle.std.specs.List.{find, filter, list_any}
+use Rattle.std.proofs.Common.{◌≡◌, ◌<◌, ◌≤◌, ◌⊎◌, ℕ, ◌+◌, ◌%◌, max, Bool, true, false, ◌==◌, List, [], ◌∷◌, ◌++◌, Option, Some, None, if◌then◌else◌, refl, sym, subst, ap, ◌∙◌, arith, inl, inr}
+use Rattle.std.specs.List.{filter}
 use Rattle.std.proofs.lemmas.Bool.Decides.{nat_tests}
 use Rattle.nq_base.specs.declared.Access.{Access}
 use Rattle.nq_base.specs.declared.Event.{Event}
-use Rattle.nq_base.specs.declared.Grant.{Grant}
 use Rattle.nq_base.specs.declared.HostRow.{HostRow}
-use Rattle.nq_base.specs.declared.Mode.{Mode}
-use Rattle.nq_base.specs.declared.PushBase.{PushBase}
 use Rattle.nq_base.specs.declared.Refusal.{Refusal}
 use Rattle.nq_base.specs.declared.Reply.{Reply}
 use Rattle.nq_base.specs.declared.Request.{Request}
@@ -16,36 +13,34 @@ use Rattle.nq_base.specs.declared.Tag.{Tag}
 use Rattle.nq_base.specs.declared.Verdict.{Verdict}
 use Rattle.nq_base.specs.declared.Want.{Want}
 use Rattle.nq_base.specs.declared.Who.{Who}
-use Rattle.nq_laws.proofs.AskCases.{clash_in, own_in, has_room, with_marked, with_waiter, IsGranted, shares_again, begins_sharing, begins_caching, renews_row}
+use Rattle.nq_laws.proofs.AskCases.{with_marked, with_waiter, IsGranted, shares_again, begins_sharing, begins_caching, renews_row}
 use Rattle.nq_laws.proofs.ClientFacts.{seq_of, changes_file}
 use Rattle.nq_laws.proofs.ClientKnows.{Knows}
 use Rattle.nq_laws.proofs.ClientMoves.{some-same, none-some}
-use Rattle.nq_laws.proofs.CoverFacts.{IsTakeable}
-use Rattle.nq_laws.proofs.Covers.{GoesOn, GoesOnAt, same-goes-on, covered-goes-on, marked-goes-on, granted-goes-on, granted-key, waiting-goes-on, heard-goes-on, AreOfBoot, fitting-goes-on}
-use Rattle.nq_laws.proofs.KeptChanges.{other-line, own-line, no-line}
-use Rattle.nq_laws.proofs.Packets.{In, in-append, Asked, Mail, call-same}
-use Rattle.nq_laws.proofs.RowChanges.{HasUniqueKeys, found-any, found-marked, mark-is, found-put, find-other-host-dropped, find-other-file-dropped, find-not-vacated, of-key, own-key, no-clash, find-row-dropped, find-put-same}
-use Rattle.nq_laws.proofs.Rows.{choice, both-true, same-number, number-same, find-passes, found-row}
-use Rattle.nq_laws.proofs.ServerCases.{server-hears}
+use Rattle.nq_laws.proofs.Covers.{GoesOnAt, same-goes-on, covered-goes-on, marked-goes-on, granted-goes-on, granted-key, AreOfBoot}
+use Rattle.nq_laws.proofs.KeptChanges.{other-line}
+use Rattle.nq_laws.proofs.Packets.{In, in-append, Asked, Mail}
+use Rattle.nq_laws.proofs.RowChanges.{HasUniqueKeys, of-key, own-key, find-put-same}
+use Rattle.nq_laws.proofs.Rows.{same-number, number-same, found-row}
 use Rattle.nq_laws.proofs.ServerFacts.{IncsFitOf, IncsFit, AreCurrent}
-use Rattle.nq_laws.proofs.ServerKnows.{NoneHeard, NoneGiven, IsFreshGrant, IsNewReply, IsNew, new_reply, new_error, new_notice, LineMoves, line_stays, line_decides, line_attaches, IsClaimed, Effect}
-use Rattle.nq_laws.proofs.ServerNumbers.{TermsFit, TermsFitOf, LinesFitOf}
-use Rattle.nq_laws.proofs.ServerOutcomes.{sequence_of, error_for, wanted_by, only_asks, line_of, IsFrom, IsCurrent, IsFresh, IsPlain, unattached, attached_again, not_yet, no_entry, entry, no_attributes, attributes, no_file, no_block, decided_again, is_old, IsAsking, IsChanging, clash_with, CanStore, ServerCases}
-use Rattle.nq_laws.proofs.ServerSays.{plain-inc, plain-grant, verdict-inc, verdict-grant}
-use Rattle.nq_laws.proofs.ServerTables.{BootsFitOf, BootsFit, ServesBoot, RecoversBoot, StandingFits, StandingFitsOf}
-use Rattle.nq_laws.proofs.TableFits.{RowFits, TableFits}
+use Rattle.nq_laws.proofs.ServerKnows.{NoneHeard, NoneGiven, IsFreshGrant, IsNew, new_reply, new_error, new_notice, LineMoves, line_stays, IsClaimed, Effect}
+use Rattle.nq_laws.proofs.ServerNumbers.{TermsFitOf, LinesFitOf}
+use Rattle.nq_laws.proofs.ServerOutcomes.{sequence_of, error_for, only_asks, line_of, IsFrom, IsPlain, unattached, attached_again, not_yet, no_entry, entry, no_attributes, attributes, no_file, no_block, decided_again, is_old, IsAsking}
+use Rattle.nq_laws.proofs.ServerSays.{plain-inc, plain-grant}
+use Rattle.nq_laws.proofs.ServerTables.{BootsFitOf, StandingFits, StandingFitsOf}
+use Rattle.nq_laws.proofs.TableFits.{TableFits}
 use Rattle.nq_laws.proofs.TagFacts.{IsDrawn}
-use Rattle.nq_model.specs.Ask.{Question, conflicts, marked, grant_of, sharing_row, caching_row, shared_again, renewed_row, term_of}
+use Rattle.nq_model.specs.Ask.{Question, conflicts, grant_of, sharing_row, caching_row, shared_again, renewed_row, term_of}
 use Rattle.nq_model.specs.Client.{Lease, Notice, Ticket, lease_on}
-use Rattle.nq_model.specs.Decide.{Decision, decides, creates, writes_through, stores, wrote, stores_recovering, resizes, removes, puts_off, in_the_way, verdict_reply, row_after, commits}
-use Rattle.nq_model.specs.Hear.{inc_of, wants_of}
-use Rattle.nq_model.specs.Kept.{File, Kept, find_file, replace_file, drop_file, with_files, with_new_file, with_row, host_row}
-use Rattle.nq_model.specs.LeaseInterval.{IsCovered, HasFitting, IsFitting, OutlivedBy, is_at_least, grant_in, requested_file}
-use Rattle.nq_model.specs.Message.{Message, Packet, call, reply, error, RpcError, asker, Reason, Datagram, request, too_long, no_message, no_call, other_rpc, other_program, other_version, unknown_procedure, garbage_vacated, garbage}
-use Rattle.nq_model.specs.Profile.{skew, write_slack, shortest_term, granted_term, xid_end, most_hosts}
-use Rattle.nq_model.specs.Server.{Phase, serving, recovering, Server, ServerStep, standing, to_host, quiet, drops, says, replies, notices, after_notices, keeping, keeping_with, with_table}
-use Rattle.nq_model.specs.ServerStep.{attaches, vacates, vacated_rows, tells_later, serves, leases, to_read, access_of, is_attach, receive}
-use Rattle.nq_model.specs.Table.{Table, caches, is_writing, tag_below, same_tag, is_row_of, find_row, drop_row, drop_host, drop_rows_of, put_row, with_rows, after_draw, next_tag}
+use Rattle.nq_model.specs.Decide.{in_the_way, verdict_reply}
+use Rattle.nq_model.specs.Hear.{inc_of}
+use Rattle.nq_model.specs.Kept.{File, Kept, with_row, host_row}
+use Rattle.nq_model.specs.LeaseInterval.{grant_in, requested_file}
+use Rattle.nq_model.specs.Message.{Message, Packet, reply, RpcError, asker, Reason, Datagram, request, too_long, no_message, no_call, other_rpc, other_program, other_version, unknown_procedure, garbage_vacated, garbage}
+use Rattle.nq_model.specs.Profile.{skew, shortest_term, granted_term, xid_end}
+use Rattle.nq_model.specs.Server.{serving, Server, ServerStep, standing, to_host, quiet, drops, says, replies, notices, after_notices, with_table}
+use Rattle.nq_model.specs.ServerStep.{tells_later, serves, leases, to_read, is_attach}
+use Rattle.nq_model.specs.Table.{Table, caches, tag_below, is_row_of, find_row, put_row, with_rows, after_draw, next_tag}
 
 -- the sequence of a request is its sequence
 pub same-seq : (r : Request) → seq_of r ≡ sequence_of r
@@ -61,12 +56,12 @@ unique-in [] r unique h = absurd h
 unique-in (y ∷ rows) r unique (inl e) = subst (λ x. find_row x.file x.who.host (y ∷ rows) ≡ Some x) e (ap (λ b. if b then Some y else find_row y.file y.who.host rows) (own-key y))
 unique-in (y ∷ rows) r unique (inr h) = step (is_row_of r.file r.who.host y) refl (unique-in rows r unique.1 h)
   where
-  step : (b : Bool) → is_row_of r.file r.who.host y ≡ b → find_row r.file r.who.host rows ≡ Some r → (if b then Some y else find_row r.file r.who.host rows) ≡ Some r
-  step false e f = f
-  step true e f =
-      let k = of-key r.file r.who.host y e in
-      let none : find_row r.file r.who.host rows ≡ None = subst (λ n. find_row n r.who.host rows ≡ None) k.0 (subst (λ g. find_row y.file g rows ≡ None) k.1 unique.0) in
-      none-some r (sym none ∙ f)
+    step : (b : Bool) → is_row_of r.file r.who.host y ≡ b → find_row r.file r.who.host rows ≡ Some r → (if b then Some y else find_row r.file r.who.host rows) ≡ Some r
+    step false e f = f
+    step true e f =
+        let k = of-key r.file r.who.host y e in
+        let none : find_row r.file r.who.host rows ≡ None = subst (λ n. find_row n r.who.host rows ≡ None) k.0 (subst (λ g. find_row y.file g rows ≡ None) k.1 unique.0) in
+        none-some r (sym none ∙ f)
 
 in-filter-step : (y r : Row) (rows less : List Row) (b : Bool) → (In less r → In rows r) → In (if b then y ∷ less else less) r → (y ≡ r) ⊎ In rows r
 in-filter-step y r rows less true rest (inl e) = inl e
@@ -88,7 +83,7 @@ standing-serving s p = rw p refl
 pub drawn-serving : (s t : Server) → s.phase ≡ serving → t.phase ≡ serving → t.table.boot ≡ s.table.boot → s.table.drawn ≤ t.table.drawn → (tag : Tag) → IsDrawn (standing s).boot (standing s).drawn tag → IsDrawn (standing t).boot (standing t).drawn tag
 drawn-serving s t p q same more tag h =
     subst (λ x. IsDrawn x.boot x.drawn tag) (sym (standing-serving t q))
-        (drawn-more s.table.boot s.table.drawn t.table.boot t.table.drawn same more tag (subst (λ x. IsDrawn x.boot x.drawn tag) (standing-serving s p) h))
+    (drawn-more s.table.boot s.table.drawn t.table.boot t.table.drawn same more tag (subst (λ x. IsDrawn x.boot x.drawn tag) (standing-serving s p) h))
 
 -- no verdict is answered as ATTACH is
 verdict-no-attach : (inc : ℕ) (v : Verdict) (value : ℕ) (r : Request) (i : ℕ) → verdict_reply inc v value r ≡ Reply.Attach i → ⊥
@@ -153,17 +148,16 @@ term-short longest wish few = omega arith
 line-after : (kept : Kept) (other : ℕ) (row : HostRow) (ps : List Packet) (host : ℕ) → (host ≡ other → LineMoves ps host (host_row kept host) row) → (host ≡ other → host_row (with_row kept other row) host ≡ row) → LineMoves ps host (host_row kept host) (host_row (with_row kept other row) host)
 line-after kept other row ps host own is = step (host == other) refl
   where
-  step : (b : Bool) → (host == other) ≡ b → LineMoves ps host (host_row kept host) (host_row (with_row kept other row) host)
-  step true e = let same : host ≡ other = same-number host other e in subst (λ l. LineMoves ps host (host_row kept host) l) (sym (is same)) (own same)
-  step false e = line_stays (other-line kept other host row (λ same. let yes : (host == other) ≡ true = number-same host other same in absurd (cc)))
+    step : (b : Bool) → (host == other) ≡ b → LineMoves ps host (host_row kept host) (host_row (with_row kept other row) host)
+    step true e = let same : host ≡ other = same-number host other e in subst (λ l. LineMoves ps host (host_row kept host) l) (sym (is same)) (own same)
+    step false e = line_stays (other-line kept other host row (λ same. let yes : (host == other) ≡ true = number-same host other same in absurd (cc)))
 
 module _ (ps : List Packet) (s : Server) (most sender next : ℕ) (d : Datagram) (was_sent : (x : ℕ) (r : Request) → d ≡ request x r → Asked ps sender x r) (no_null : (x : ℕ) → d ≡ request x Request.Null → ⊥)
-  (boots : BootsFitOf s) (stood : StandingFitsOf s) (incs : IncsFitOf s) (terms : TermsFitOf most s) (lines : LinesFitOf s)
-  (events : List Event) (who : Who) (now xid : ℕ) (attached : Bool) (ticket : Option Ticket) (leased : List Lease) (noticed : List Notice)
-  (m : Mail who xid ticket ps) (h : Knows NoneHeard NoneGiven (host_row s.kept who.host) s events who now attached ticket leased noticed ps)
-  (changing : (t : Ticket) (file : ℕ) → ticket ≡ Some t → changes_file t.request ≡ Some file → lease_on file leased ≡ None)
-  (idle : attached ≡ false → (leased ≡ []) × ((t : Ticket) → ticket ≡ Some t → requested_file t.request ≡ None)) where
-
+    (boots : BootsFitOf s) (stood : StandingFitsOf s) (incs : IncsFitOf s) (terms : TermsFitOf most s) (lines : LinesFitOf s)
+    (events : List Event) (who : Who) (now xid : ℕ) (attached : Bool) (ticket : Option Ticket) (leased : List Lease) (noticed : List Notice)
+    (m : Mail who xid ticket ps) (h : Knows NoneHeard NoneGiven (host_row s.kept who.host) s events who now attached ticket leased noticed ps)
+    (changing : (t : Ticket) (file : ℕ) → ticket ≡ Some t → changes_file t.request ≡ Some file → lease_on file leased ≡ None)
+    (idle : attached ≡ false → (leased ≡ []) × ((t : Ticket) → ticket ≡ Some t → requested_file t.request ≡ None)) where
   own-fits : s.phase ≡ serving → TableFits s.kept.files s.table.boot s.table.drawn s.table.rows
   own-fits p = subst (λ q. StandingFits s.kept.files q s.table) p stood
 
@@ -182,9 +176,9 @@ module _ (ps : List Packet) (s : Server) (most sender next : ℕ) (d : Datagram)
   claimed-kept : (file : ℕ) (tag : Tag) → IsClaimed ps who ticket leased file tag → (host_row s.kept who.host).inc ≡ who.inc
   claimed-kept file tag c = step attached refl
     where
-    step : (b : Bool) → attached ≡ b → (host_row s.kept who.host).inc ≡ who.inc
-    step true e = h.lined.current e
-    step false e = absurd (unclaimed e file tag c)
+      step : (b : Bool) → attached ≡ b → (host_row s.kept who.host).inc ≡ who.inc
+      step true e = h.lined.current e
+      step false e = absurd (unclaimed e file tag c)
 
   -- ---- what is said
 
@@ -198,9 +192,9 @@ module _ (ps : List Packet) (s : Server) (most sender next : ℕ) (d : Datagram)
   both-new : (t : Server) (xs ys : List Packet) → ((q : Packet) → In xs q → IsNew ps s t q) → ((q : Packet) → In ys q → IsNew ps s t q) → (q : Packet) → In (xs ++ ys) q → IsNew ps s t q
   both-new t xs ys a b q i = case (in-append xs ys q i)
     where
-    case : In xs q ⊎ In ys q → IsNew ps s t q
-    case (inl x) = a q x
-    case (inr y) = b q y
+      case : In xs q ⊎ In ys q → IsNew ps s t q
+      case (inl x) = a q x
+      case (inr y) = b q y
 
   -- notices for rows of the table
   notices-new : (t : Server) (x : ℕ) (rows : List Row) → ((r : Row) → In rows r → find_row r.file r.who.host s.table.rows ≡ Some r) → ((r : Row) → In rows r → r.who.inc ≡ (host_row s.kept r.who.host).inc) → ((r : Row) → In rows r → IsDrawn (standing t).boot (standing t).drawn r.tag) → (q : Packet) → In (notices x rows) q → IsNew ps s t q
@@ -217,9 +211,9 @@ module _ (ps : List Packet) (s : Server) (most sender next : ℕ) (d : Datagram)
   rows-new : s.phase ≡ serving → (t : Server) → t.phase ≡ serving → t.table.boot ≡ s.table.boot → s.table.drawn ≤ t.table.drawn → (x : ℕ) (rows : List Row) → ((r : Row) → In rows r → In s.table.rows r) → (q : Packet) → In (notices x rows) q → IsNew ps s t q
   rows-new p t q same more x rows there =
       notices-new t x rows
-          (λ r k. unique-in s.table.rows r (own-fits p).unique (there r k))
-          (λ r k. own-current p r.file r.who.host r (unique-in s.table.rows r (own-fits p).unique (there r k)))
-          (λ r k. row-drawn p t q same more r (unique-in s.table.rows r (own-fits p).unique (there r k)))
+      (λ r k. unique-in s.table.rows r (own-fits p).unique (there r k))
+      (λ r k. own-current p r.file r.who.host r (unique-in s.table.rows r (own-fits p).unique (there r k)))
+      (λ r k. row-drawn p t q same more r (unique-in s.table.rows r (own-fits p).unique (there r k)))
 
   -- a reply without a grant, to a request of this datagram
   reply-new : (t : Server) (x : ℕ) (w : Who) (r : Request) (a : Reply) → d ≡ request x r → asker r ≡ Some w → w.host ≡ sender → inc_of a ≡ w.inc → grant_in a ≡ None → ((i : ℕ) → a ≡ Reply.Attach i → (host_row t.kept w.host).inc ≡ i) → ((n : ℕ) → seq_of r ≡ Some n → (((host_row t.kept w.host).inc ≡ w.inc) × (n ≤ (host_row t.kept w.host).seq)) ⊎ (((host_row s.kept w.host).inc < w.inc) × (is_attach r ≡ false))) → IsNew ps s t (to_host w.host (reply x a))
@@ -286,9 +280,9 @@ module _ (ps : List Packet) (s : Server) (most sender next : ℕ) (d : Datagram)
   unfolding tells_later after_notices
   later-effect x w r table rows e by from no_seq p same more goes there =
       goes-effect (tells_later s w x table rows) p p same more refl refl (line_stays refl) goes
-          (both-new (tells_later s w x table rows).server (notices s.notice rows) (to_host w.host (reply x (Reply.Refused w.inc Refusal.TryLater)) ∷ [])
-              (rows-new p (tells_later s w x table rows).server p same more s.notice rows there)
-              (one-new (tells_later s w x table rows).server (to_host w.host (reply x (Reply.Refused w.inc Refusal.TryLater))) (reply-new (tells_later s w x table rows).server x w r (Reply.Refused w.inc Refusal.TryLater) e by from refl refl (λ i bad. absurd (cc)) (λ n q. none-some n (sym no_seq ∙ q)))))
+      (both-new (tells_later s w x table rows).server (notices s.notice rows) (to_host w.host (reply x (Reply.Refused w.inc Refusal.TryLater)) ∷ [])
+      (rows-new p (tells_later s w x table rows).server p same more s.notice rows there)
+      (one-new (tells_later s w x table rows).server (to_host w.host (reply x (Reply.Refused w.inc Refusal.TryLater))) (reply-new (tells_later s w x table rows).server x w r (Reply.Refused w.inc Refusal.TryLater) e by from refl refl (λ i bad. absurd (cc)) (λ n q. none-some n (sym no_seq ∙ q)))))
 
   marked-boot : (q : Question) → (with_marked s.table q).boot ≡ s.table.boot
   unfolding with_rows
@@ -355,16 +349,16 @@ module _ (ps : List Packet) (s : Server) (most sender next : ℕ) (d : Datagram)
   unfolding sharing_row caching_row shared_again renewed_row
   granted-began p q want row term (shares_again own found stays shares is lasts) = subst (λ r. tag_below (next_tag s.table) r.since ≡ false) (sym is) (not-below (next_tag s.table))
     where
-    not-below : (t : Tag) → tag_below t t ≡ false
-    not-below t = grind (arith, nat_tests)
+      not-below : (t : Tag) → tag_below t t ≡ false
+      not-below t = grind (arith, nat_tests)
   granted-began p q want row term (begins_sharing none room shared is lasts) = subst (λ r. tag_below (next_tag s.table) r.since ≡ false) (sym is) (grind (arith, nat_tests))
   granted-began p q want row term (begins_caching none room shared is lasts) = subst (λ r. tag_below (next_tag s.table) r.since ≡ false) (sym is) (grind (arith, nat_tests))
   granted-began p q want row term (renews_row own found stays caching is lasts) =
       let b = own-boots p q.file q.who.host own found in
       subst (λ r. tag_below (next_tag s.table) r.since ≡ false) (sym is) (earlier s.table.boot s.table.drawn own.since own.tag b.0 b.1 b.2 b.3)
     where
-    earlier : (boot drawn : ℕ) (since tag : Tag) → tag.boot ≡ boot → tag.number ≤ drawn → since.boot ≡ boot → since.number ≤ tag.number → tag_below (record { boot = boot; number = drawn + 1 }) since ≡ false
-    earlier boot drawn since tag a b c e = grind (arith, nat_tests)
+      earlier : (boot drawn : ℕ) (since tag : Tag) → tag.boot ≡ boot → tag.number ≤ drawn → since.boot ≡ boot → since.number ≤ tag.number → tag_below (record { boot = boot; number = drawn + 1 }) since ≡ false
+      earlier boot drawn since tag a b c e = grind (arith, nat_tests)
 
   granted-lasts : (q : Question) (want : Want) (row : Row) (term : ℕ) → IsGranted s.table q want row term → caches row.mode ≡ true → q.now + term + skew ≤ row.until
   unfolding sharing_row caching_row shared_again renewed_row
@@ -390,15 +384,15 @@ module _ (ps : List Packet) (s : Server) (most sender next : ℕ) (d : Datagram)
       let k = found-row q.file q.who.host s.table.rows own found in
       ap (λ r. r.who) is ∙ both-same own.who q.who k.1 (own-current p q.file q.who.host own found ∙ sym current)
     where
-    both-same : (v w : Who) → v.host ≡ w.host → v.inc ≡ w.inc → v ≡ w
-    both-same v w a b = let make : ℕ → ℕ → Who = λ i j. record { host = i; inc = j } in ap (λ i. make i v.inc) a ∙ ap (λ j. make w.host j) b
+      both-same : (v w : Who) → v.host ≡ w.host → v.inc ≡ w.inc → v ≡ w
+      both-same v w a b = let make : ℕ → ℕ → Who = λ i j. record { host = i; inc = j } in ap (λ i. make i v.inc) a ∙ ap (λ j. make w.host j) b
 
   above-drawn : s.phase ≡ serving → (v : Tag) → IsDrawn (standing s).boot (standing s).drawn v → tag_below v (next_tag s.table) ≡ true
   above-drawn p v k = above s.table.boot s.table.drawn v (subst (λ x. IsDrawn x.boot x.drawn v) (standing-serving s p) k)
     where
-    above : (boot drawn : ℕ) (v : Tag) → IsDrawn boot drawn v → tag_below v (record { boot = boot; number = drawn + 1 }) ≡ true
-    above boot drawn v (inl e) = grind (arith, nat_tests)
-    above boot drawn v (inr e) = let a = e.0 in let b = e.1 in grind (arith, nat_tests)
+      above : (boot drawn : ℕ) (v : Tag) → IsDrawn boot drawn v → tag_below v (record { boot = boot; number = drawn + 1 }) ≡ true
+      above boot drawn v (inl e) = grind (arith, nat_tests)
+      above boot drawn v (inr e) = let a = e.0 in let b = e.1 in grind (arith, nat_tests)
 
   -- the fresh grant, in a server with the granted table
   fresh-grant : (t : Server) (w : Who) (f : File) (want : Want) (row : Row) (term : ℕ) → s.phase ≡ serving → t.phase ≡ serving → t.table ≡ granted-table row → w.inc ≡ (host_row s.kept w.host).inc → IsGranted s.table (to_read s w f (Some want)) want row term → IsFreshGrant s t w f.id (grant_of (to_read s w f (Some want)) row term)
@@ -431,19 +425,19 @@ module _ (ps : List Packet) (s : Server) (most sender next : ℕ) (d : Datagram)
       let p = asking.serves in
       let t : ServerStep = serves s w x next q f block body (after_draw s.table (put_row row s.table.rows)) (Some (grant_of (to_read s w f (Some want)) row term)) in
       goes-effect t p p refl (omega arith) refl refl (line_stays refl) (granted-rows p (to_read s w f (Some want)) want row term g)
-          (one-new t.server (to_host w.host (reply x (Reply.Read w.inc f.rev body (Some (grant_of (to_read s w f (Some want)) row term)))))
-              (new_reply w.host x (Reply.Read w.inc f.rev body (Some (grant_of (to_read s w f (Some want)) row term))) refl (record {
-                asks = Request.Read w q f.id block (Some want);
-                who = w;
-                sent = subst (λ n. Asked ps n x (Request.Read w q f.id block (Some want))) (sym asking.current.from.host) (was_sent x (Request.Read w q f.id block (Some want)) e);
-                by = refl;
-                same_host = refl;
-                inc = refl;
-                attached = λ i bad. absurd (cc);
-                decided = λ n k. none-some n k;
-                fresh = λ gr gives file on. subst (λ n. IsFreshGrant s t.server w n gr) (some-same f.id file on) (subst (λ n. IsFreshGrant s t.server w f.id n) (some-same _ gr gives) (fresh-grant t.server w f want row term p p refl asking.current.inc g));
-                files = λ gr gives. (f.id, refl);
-              })))
+      (one-new t.server (to_host w.host (reply x (Reply.Read w.inc f.rev body (Some (grant_of (to_read s w f (Some want)) row term)))))
+      (new_reply w.host x (Reply.Read w.inc f.rev body (Some (grant_of (to_read s w f (Some want)) row term))) refl (record {
+        asks = Request.Read w q f.id block (Some want);
+        who = w;
+        sent = subst (λ n. Asked ps n x (Request.Read w q f.id block (Some want))) (sym asking.current.from.host) (was_sent x (Request.Read w q f.id block (Some want)) e);
+        by = refl;
+        same_host = refl;
+        inc = refl;
+        attached = λ i bad. absurd (cc);
+        decided = λ n k. none-some n k;
+        fresh = λ gr gives file on. subst (λ n. IsFreshGrant s t.server w n gr) (some-same f.id file on) (subst (λ n. IsFreshGrant s t.server w f.id n) (some-same _ gr gives) (fresh-grant t.server w f want row term p p refl asking.current.inc g));
+        files = λ gr gives. (f.id, refl);
+      })))
 
   leases-granted : (x : ℕ) (w : Who) (f : File) (want : Want) (row : Row) (term : ℕ) → d ≡ request x (Request.GetLease w f.id want) → IsAsking s sender w f → IsGranted s.table (to_read s w f (Some want)) want row term → Effect ps s (leases s w x f.id (after_draw s.table (put_row row s.table.rows)) (Some (grant_of (to_read s w f (Some want)) row term))) who ticket leased
   unfolding leases with_table after_draw granted-table
@@ -451,16 +445,16 @@ module _ (ps : List Packet) (s : Server) (most sender next : ℕ) (d : Datagram)
       let p = asking.serves in
       let t : ServerStep = leases s w x f.id (after_draw s.table (put_row row s.table.rows)) (Some (grant_of (to_read s w f (Some want)) row term)) in
       goes-effect t p p refl (omega arith) refl refl (line_stays refl) (granted-rows p (to_read s w f (Some want)) want row term g)
-          (one-new t.server (to_host w.host (reply x (Reply.GetLease w.inc (Some (grant_of (to_read s w f (Some want)) row term)))))
-              (new_reply w.host x (Reply.GetLease w.inc (Some (grant_of (to_read s w f (Some want)) row term))) refl (record {
-                asks = Request.GetLease w f.id want;
-                who = w;
-                sent = subst (λ n. Asked ps n x (Request.GetLease w f.id want)) (sym asking.current.from.host) (was_sent x (Request.GetLease w f.id want) e);
-                by = refl;
-                same_host = refl;
-                inc = refl;
-                attached = λ i bad. absurd (cc);
-                decided = λ n k. none-some n k;
-                fresh = λ gr gives file on. subst (λ n. IsFreshGrant s t.server w n gr) (some-same f.id file on) (subst (λ n. IsFreshGrant s t.server w f.id n) (some-same _ gr gives) (fresh-grant t.server w f want row term p p refl asking.current.inc g));
-                files = λ gr gives. (f.id, refl);
-              })))
+      (one-new t.server (to_host w.host (reply x (Reply.GetLease w.inc (Some (grant_of (to_read s w f (Some want)) row term)))))
+      (new_reply w.host x (Reply.GetLease w.inc (Some (grant_of (to_read s w f (Some want)) row term))) refl (record {
+        asks = Request.GetLease w f.id want;
+        who = w;
+        sent = subst (λ n. Asked ps n x (Request.GetLease w f.id want)) (sym asking.current.from.host) (was_sent x (Request.GetLease w f.id want) e);
+        by = refl;
+        same_host = refl;
+        inc = refl;
+        attached = λ i bad. absurd (cc);
+        decided = λ n k. none-some n k;
+        fresh = λ gr gives file on. subst (λ n. IsFreshGrant s t.server w n gr) (some-same f.id file on) (subst (λ n. IsFreshGrant s t.server w f.id n) (some-same _ gr gives) (fresh-grant t.server w f want row term p p refl asking.current.inc g));
+        files = λ gr gives. (f.id, refl);
+      })))

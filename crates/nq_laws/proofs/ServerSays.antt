@@ -1,5 +1,5 @@
 -- What the server says in a step: each reply answers a request that was sent, and a grant comes only where one was wanted.
-use Rattle.std.proofs.Common.{◌≡◌, ◌≢◌, ◌<◌, ◌≤◌, ◌⊎◌, ℕ, ◌+◌, ◌%◌, Bool, true, false, List, [], ◌∷◌, ◌++◌, Option, Some, None, is_some, if◌then◌else◌, refl, sym, subst, ap, ◌∙◌, arith, inl, inr}
+use Rattle.std.proofs.Common.{◌≡◌, ◌⊎◌, ℕ, ◌+◌, ◌%◌, true, List, [], ◌∷◌, ◌++◌, Option, Some, None, refl, sym, subst, ap, ◌∙◌, inl, inr}
 use Rattle.nq_base.specs.declared.Grant.{Grant}
 use Rattle.nq_base.specs.declared.Refusal.{Refusal}
 use Rattle.nq_base.specs.declared.Reply.{Reply}
@@ -13,14 +13,14 @@ use Rattle.nq_laws.proofs.ClientMoves.{some-same, none-some}
 use Rattle.nq_laws.proofs.Packets.{In, in-append, Asked}
 use Rattle.nq_laws.proofs.Rows.{number-same, true-both}
 use Rattle.nq_laws.proofs.ServerCases.{server-hears}
-use Rattle.nq_laws.proofs.ServerOutcomes.{sequence_of, error_for, IsFrom, IsPlain, unattached, attached_again, not_yet, no_entry, entry, no_attributes, attributes, no_file, no_block, decided_again, is_old, ServerCases}
-use Rattle.nq_model.specs.Decide.{Decision, decides, creates, writes_through, stores, stores_recovering, resizes, removes, puts_off, verdict_reply, done_reply, commits}
+use Rattle.nq_laws.proofs.ServerOutcomes.{sequence_of, error_for, IsPlain, unattached, attached_again, not_yet, no_entry, entry, no_attributes, attributes, no_file, no_block, decided_again, is_old}
+use Rattle.nq_model.specs.Decide.{Decision, decides, creates, writes_through, stores, stores_recovering, resizes, removes, puts_off, verdict_reply, commits}
 use Rattle.nq_model.specs.Kept.{File}
 use Rattle.nq_model.specs.Hear.{wants_of, inc_of}
 use Rattle.nq_model.specs.LeaseInterval.{grant_in, requested_file}
 use Rattle.nq_model.specs.Message.{Message, Packet, call, reply, error, RpcError, asker, Reason, Datagram, request, too_long, no_message, no_call, other_rpc, other_program, other_version, unknown_procedure, garbage_vacated, garbage}
 use Rattle.nq_model.specs.Profile.{xid_end}
-use Rattle.nq_model.specs.Server.{Server, ServerStep, to_host, says, quiet, drops, notices}
+use Rattle.nq_model.specs.Server.{Server, to_host, says, quiet, drops, notices}
 use Rattle.nq_model.specs.ServerStep.{attaches, vacates, tells_later, serves, leases, receive}
 use Rattle.nq_model.specs.Table.{Table}
 
@@ -55,9 +55,9 @@ one-said ps q s p (inr bad) = absurd bad
 both-said : (ps xs ys : List Packet) → AllSaid ps xs → AllSaid ps ys → AllSaid ps (xs ++ ys)
 both-said ps xs ys a b p h = step (in-append xs ys p h)
   where
-  step : In xs p ⊎ In ys p → IsSaid ps p
-  step (inl x) = a p x
-  step (inr y) = b p y
+    step : In xs p ⊎ In ys p → IsSaid ps p
+    step (inl x) = a p x
+    step (inr y) = b p y
 
 none-said : (ps : List Packet) → AllSaid ps []
 none-said ps p h = absurd h
@@ -137,7 +137,7 @@ module _ (ps : List Packet) (s : Server) (sender next : ℕ) (d : Datagram) (was
   unfolding commits
   committed xid who seq r c e by sq from notes =
       both-said ps c.sends (to_host who.host (reply xid (verdict_reply who.inc c.verdict c.value r)) ∷ []) notes
-          (one-said ps (to_host who.host (reply xid (verdict_reply who.inc c.verdict c.value r))) (answered xid who r (verdict_reply who.inc c.verdict c.value r) e by from (verdict-inc who.inc c.verdict c.value r seq sq) (λ g grants file on. none-some g (sym (verdict-grant who.inc c.verdict c.value r) ∙ grants))))
+      (one-said ps (to_host who.host (reply xid (verdict_reply who.inc c.verdict c.value r))) (answered xid who r (verdict_reply who.inc c.verdict c.value r) e by from (verdict-inc who.inc c.verdict c.value r seq sq) (λ g grants file on. none-some g (sym (verdict-grant who.inc c.verdict c.value r) ∙ grants))))
 
   says-one : (host : ℕ) (m : Message) → IsSaid ps (to_host host m) → AllSaid ps (says s host m).sends
   unfolding says
@@ -147,20 +147,20 @@ module _ (ps : List Packet) (s : Server) (sender next : ℕ) (d : Datagram) (was
   unfolding tells_later
   later xid who r table rows e by from =
       both-said ps (notices s.notice rows) (to_host who.host (reply xid (Reply.Refused who.inc Refusal.TryLater)) ∷ []) (notices-said ps s.notice rows)
-          (one-said ps (to_host who.host (reply xid (Reply.Refused who.inc Refusal.TryLater))) (answered xid who r (Reply.Refused who.inc Refusal.TryLater) e by from refl (λ g grants file on. none-some g grants)))
+      (one-said ps (to_host who.host (reply xid (Reply.Refused who.inc Refusal.TryLater))) (answered xid who r (Reply.Refused who.inc Refusal.TryLater) e by from refl (λ g grants file on. none-some g grants)))
 
   -- a block is read, or a lease is given, for one who may have wanted a lease
   serving-said : (xid : ℕ) (who : Who) (q : ℕ) (f : File) (block : ℕ) (body : List ℕ) (table : Table) (grant : Option Grant) (want : Option Want) → d ≡ request xid (Request.Read who q f.id block want) → who.host ≡ sender → ((g : Grant) → grant ≡ Some g → wants_of f.id (Request.Read who q f.id block want) ≡ true) → AllSaid ps (serves s who xid next q f block body table grant).sends
   unfolding serves
   serving-said xid who q f block body table grant want e from wants =
       one-said ps (to_host who.host (reply xid (Reply.Read who.inc f.rev body grant)))
-          (answered xid who (Request.Read who q f.id block want) (Reply.Read who.inc f.rev body grant) e refl from refl (λ g grants file on. let same : f.id ≡ file = some-same f.id file on in subst (λ n. wants_of n (Request.Read who q f.id block want) ≡ true) same (wants g grants)))
+      (answered xid who (Request.Read who q f.id block want) (Reply.Read who.inc f.rev body grant) e refl from refl (λ g grants file on. let same : f.id ≡ file = some-same f.id file on in subst (λ n. wants_of n (Request.Read who q f.id block want) ≡ true) same (wants g grants)))
 
   leasing-said : (xid : ℕ) (who : Who) (f : File) (table : Table) (grant : Option Grant) (want : Want) → d ≡ request xid (Request.GetLease who f.id want) → who.host ≡ sender → AllSaid ps (leases s who xid f.id table grant).sends
   unfolding leases
   leasing-said xid who f table grant want e from =
       one-said ps (to_host who.host (reply xid (Reply.GetLease who.inc grant)))
-          (answered xid who (Request.GetLease who f.id want) (Reply.GetLease who.inc grant) e refl from refl (λ g grants file on. number-same f.id file (some-same f.id file on)))
+      (answered xid who (Request.GetLease who f.id want) (Reply.GetLease who.inc grant) e refl from refl (λ g grants file on. number-same f.id file (some-same f.id file on)))
 
   attaching-said : (xid : ℕ) (who : Who) → d ≡ request xid (Request.Attach who) → who.host ≡ sender → AllSaid ps (attaches s who xid).sends
   unfolding attaches

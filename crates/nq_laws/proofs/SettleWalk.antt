@@ -1,17 +1,16 @@
 -- What each small change of a client keeps is kept where a call is settled without a packet.
-use Rattle.std.proofs.Common.{◌≡◌, ◌≢◌, ◌<◌, ◌≤◌, ◌⊎◌, ℕ, ◌+◌, Bool, true, false, ◌&&◌, ◌||◌, not, List, [], ◌∷◌, ◌++◌, Option, Some, None, is_some, nat_le, if◌then◌else◌, refl, sym, subst, ap, ◌∙◌, arith, inl, inr}
+use Rattle.std.proofs.Common.{◌≡◌, ℕ, Bool, true, false, ◌&&◌, not, List, Option, Some, None, is_some, nat_le, if◌then◌else◌, refl, sym, subst}
 use Rattle.nq_base.specs.declared.Answer.{Answer}
 use Rattle.nq_base.specs.declared.Call.{Call}
-use Rattle.nq_base.specs.declared.Entry.{Entry}
 use Rattle.nq_base.specs.declared.Grant.{Grant}
 use Rattle.nq_base.specs.declared.Tag.{Tag}
 use Rattle.nq_base.specs.declared.Value.{Value}
 use Rattle.nq_laws.proofs.ClientCases.{Core, core_of, Closed, Both}
-use Rattle.nq_laws.proofs.ClientFacts.{Alone, Asking, Delaying, AskingOf}
-use Rattle.nq_laws.proofs.ClientMoves.{none-some, attached-with-call, ends-call, begins, uses}
+use Rattle.nq_laws.proofs.ClientFacts.{Asking, AskingOf}
+use Rattle.nq_laws.proofs.ClientMoves.{attached-with-call, ends-call, begins, uses}
 use Rattle.nq_laws.proofs.ClientWrites.{delays as delays_write}
-use Rattle.nq_laws.proofs.Rows.{choice, both-true}
-use Rattle.nq_model.specs.Client.{Client, ClientStep, Lease, Ticket, UnderWay, in_state, noting, lease_on, lets_read, lets_write, notice_on, is_clean, dirty_at}
+use Rattle.nq_laws.proofs.Rows.{choice}
+use Rattle.nq_model.specs.Client.{Client, ClientStep, Lease, UnderWay, lease_on, lets_read, lets_write, notice_on, is_clean, dirty_at}
 use Rattle.nq_model.specs.Settle.{answers, names_losses, after_read, reads_cached, settle_body, cached_body, settle_read, after_write, delays, marks_written, after_delay, settle_write_in, settle_write, settle_sync, settle_put, settle_call, ticket_is_for_call, settle_under_way, settle, is_full}
 
 -- whether the call's own request is under way
@@ -44,8 +43,8 @@ read-keeps : {Heard : ℕ → Tag → Type 0} {Given : ℕ → Grant → ℕ →
 read-keeps closed t u file block None idle b = b
 read-keeps {P = P} closed t u file block (Some lease) idle b =
     choice (Both P) (lets_read t.client.now lease) (if nat_le lease.blocks block then answers t u.q Answer.Range None else settle_body t u file block (cached_body t.client file block)) t
-        (λ e. choice (Both P) (nat_le lease.blocks block) (answers t u.q Answer.Range None) (settle_body t u file block (cached_body t.client file block)) (λ f. answers-keeps t u.q Answer.Range None idle b) (λ f. body-keeps closed t u file block (cached_body t.client file block) idle b))
-        (λ e. b)
+    (λ e. choice (Both P) (nat_le lease.blocks block) (answers t u.q Answer.Range None) (settle_body t u file block (cached_body t.client file block)) (λ f. answers-keeps t u.q Answer.Range None idle b) (λ f. body-keeps closed t u file block (cached_body t.client file block) idle b))
+    (λ e. b)
 
 -- a write is delayed
 pub delay-keeps : {Heard : ℕ → Tag → Type 0} {Given : ℕ → Grant → ℕ → Type 0} {P : Core → Type 0} → Closed Heard Given P → (t : ClientStep) (file block : ℕ) (body : List ℕ) → t.client.attached ≡ true → Both P t → Both P (delays t file block body)
@@ -81,17 +80,17 @@ after-delay-keeps t u false idle attached b = answers-keeps t u.q (Answer.Ok Val
 write-in-keeps : {Heard : ℕ → Tag → Type 0} {Given : ℕ → Grant → ℕ → Type 0} {P : Core → Type 0} → Closed Heard Given P → (t : ClientStep) (u : UnderWay) (sync : Bool) (file block : ℕ) (body : List ℕ) (lease : Lease) → IsIdle t → t.client.attached ≡ true → Both P t → Both P (settle_write_in t u sync file block body lease)
 write-in-keeps {P = P} closed t u sync file block body lease idle attached b =
     choice (Both P) (nat_le lease.blocks block) (answers t u.q Answer.Range None) (if is_full t.client file block then answers t u.q Answer.DirtyFull None else after_delay (delays t file block body) u sync)
-        (λ e. answers-keeps t u.q Answer.Range None idle b)
-        (λ e. choice (Both P) (is_full t.client file block) (answers t u.q Answer.DirtyFull None) (after_delay (delays t file block body) u sync)
-            (λ f. answers-keeps t u.q Answer.DirtyFull None idle b)
-            (λ f. after-delay-keeps (delays t file block body) u sync (delayed-idle t file block body idle) (delayed-attached t file block body attached) (delay-keeps closed t file block body attached b)))
+    (λ e. answers-keeps t u.q Answer.Range None idle b)
+    (λ e. choice (Both P) (is_full t.client file block) (answers t u.q Answer.DirtyFull None) (after_delay (delays t file block body) u sync)
+    (λ f. answers-keeps t u.q Answer.DirtyFull None idle b)
+    (λ f. after-delay-keeps (delays t file block body) u sync (delayed-idle t file block body idle) (delayed-attached t file block body attached) (delay-keeps closed t file block body attached b)))
 
 write-keeps : {Heard : ℕ → Tag → Type 0} {Given : ℕ → Grant → ℕ → Type 0} {P : Core → Type 0} → Closed Heard Given P → (t : ClientStep) (u : UnderWay) (sync : Bool) (file block : ℕ) (body : List ℕ) (o : Option Lease) → IsIdle t → t.client.attached ≡ true → Both P t → Both P (settle_write t u sync file block body o)
 write-keeps closed t u sync file block body None idle attached b = b
 write-keeps {P = P} closed t u sync file block body (Some lease) idle attached b =
     choice (Both P) (lets_write t.client.now lease && not (is_some (notice_on file t.client.notices)) && not u.through) (settle_write_in t u sync file block body lease) t
-        (λ e. write-in-keeps closed t u sync file block body lease idle attached b)
-        (λ e. b)
+    (λ e. write-in-keeps closed t u sync file block body lease idle attached b)
+    (λ e. b)
 
 sync-keeps : {P : Core → Type 0} (t : ClientStep) (u : UnderWay) (file : ℕ) → IsIdle t → Both P t → Both P (settle_sync t u file)
 sync-keeps {P = P} t u file idle b = choice (Both P) (is_clean t.client file) (answers t u.q (Answer.Ok Value.Nothing) None) t (λ e. answers-keeps t u.q (Answer.Ok Value.Nothing) None idle b) (λ e. b)

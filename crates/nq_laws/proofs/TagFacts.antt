@@ -1,20 +1,16 @@
 -- The tags that a client and its mail know: each was drawn, and what was given up is past.
-use Rattle.std.proofs.Common.{◌≡◌, ◌≢◌, ◌<◌, ◌≤◌, ◌⊎◌, ℕ, ◌+◌, Bool, true, false, ◌&&◌, ◌||◌, ◌==◌, nat_lt, List, [], ◌∷◌, ◌++◌, Option, Some, None, map, if◌then◌else◌, refl, sym, subst, ap, ◌∙◌, arith, inl, inr}
-use Rattle.std.proofs.lemmas.Bool.Decides.{nat_tests}
+use Rattle.std.proofs.Common.{◌≡◌, ◌≢◌, ◌<◌, ◌≤◌, ◌⊎◌, ℕ, Bool, true, false, List, [], ◌∷◌, ◌++◌, Option, Some, None, if◌then◌else◌, refl, sym, subst, ap, ◌∙◌, inl, inr}
 use Rattle.nq_base.specs.declared.Grant.{Grant}
 use Rattle.nq_base.specs.declared.Reply.{Reply}
 use Rattle.nq_base.specs.declared.Request.{Request}
 use Rattle.nq_base.specs.declared.Tag.{Tag}
 use Rattle.nq_base.specs.declared.Who.{Who}
-use Rattle.nq_laws.proofs.ClientCases.{Core, CanVacate, after_vacated}
-use Rattle.nq_laws.proofs.ClientLists.{Marked, marked-before, marked-tag, lease-before-drop, lease-after-put, dropped-lease, notice-before-drop, notice-after-put, other-number, number-other}
-use Rattle.nq_laws.proofs.ClientMoves.{some-same, none-some}
-use Rattle.nq_laws.proofs.Packets.{In, in-last, Asked, Told, message-same, not-both, call-same, Mail}
-use Rattle.nq_laws.proofs.Rows.{same-number, number-same}
-use Rattle.nq_model.specs.Client.{Lease, Notice, Ticket, lease_on, drop_lease, put_lease, used_lease, marked_used, notice_on, drop_notice}
-use Rattle.nq_model.specs.Hear.{wants_of, inc_of, granted_lease, noticed_tag}
+use Rattle.nq_laws.proofs.ClientLists.{marked-before, marked-tag, lease-before-drop, lease-after-put, notice-before-drop, notice-after-put}
+use Rattle.nq_laws.proofs.Packets.{In, in-last, Asked, Told, message-same, not-both, call-same}
+use Rattle.nq_model.specs.Client.{Lease, Notice, Ticket, lease_on, drop_lease, put_lease, used_lease, notice_on, drop_notice}
+use Rattle.nq_model.specs.Hear.{inc_of, noticed_tag}
 use Rattle.nq_model.specs.LeaseInterval.{grant_in, requested_file}
-use Rattle.nq_model.specs.Message.{Message, Packet, call, reply, asker}
+use Rattle.nq_model.specs.Message.{Message, Packet, call, reply}
 use Rattle.nq_model.specs.Server.{to_host}
 use Rattle.nq_model.specs.Table.{tag_below, later_tag}
 use Rattle.nq_model.specs.World.{from_host}
@@ -39,17 +35,17 @@ pub record TagsFit (who : Who) (ticket : Option Ticket) (leases : List Lease) (n
 pub told-before : (ps : List Packet) (host h : ℕ) (m n : Message) → Told (ps ++ from_host host m ∷ []) h n → Told ps h n
 told-before ps host h m n sent = step (in-last ps (from_host host m) (to_host h n) sent)
   where
-  step : In ps (to_host h n) ⊎ (from_host host m ≡ to_host h n) → In ps (to_host h n)
-  step (inl there) = there
-  step (inr bad) = absurd (not-both host h m n bad)
+    step : In ps (to_host h n) ⊎ (from_host host m ≡ to_host h n) → In ps (to_host h n)
+    step (inl there) = there
+    step (inr bad) = absurd (not-both host h m n bad)
 
 -- what was asked before one more message, if it is another
 pub asked-before : (ps : List Packet) (host x y : ℕ) (r s : Request) → Asked (ps ++ from_host host (call x r) ∷ []) host y s → Asked ps host y s ⊎ ((x ≡ y) × (r ≡ s))
 asked-before ps host x y r s sent = step (in-last ps (from_host host (call x r)) (from_host host (call y s)) sent)
   where
-  step : In ps (from_host host (call y s)) ⊎ (from_host host (call x r) ≡ from_host host (call y s)) → Asked ps host y s ⊎ ((x ≡ y) × (r ≡ s))
-  step (inl there) = inl there
-  step (inr new) = inr (call-same x y r s (message-same host host (call x r) (call y s) new).1)
+    step : In ps (from_host host (call y s)) ⊎ (from_host host (call x r) ≡ from_host host (call y s)) → Asked ps host y s ⊎ ((x ≡ y) × (r ≡ s))
+    step (inl there) = inl there
+    step (inr new) = inr (call-same x y r s (message-same host host (call x r) (call y s) new).1)
 
 -- leases may go, or be marked
 pub tags-leases : {who : Who} {ticket : Option Ticket} {leases : List Lease} {notices : List Notice} {boot drawn : ℕ} {ps : List Packet} (less : List Lease) → ((file : ℕ) (l : Lease) → lease_on file less ≡ Some l → (m : Lease) × (lease_on file leases ≡ Some m) × (l.tag ≡ m.tag)) → TagsFit who ticket leases notices boot drawn ps → TagsFit who ticket less notices boot drawn ps
@@ -109,14 +105,18 @@ tags-vacates {who = who} {ticket = ticket} {leases = leases} {notices = notices}
 } where
   mine : Message
   mine = call xid (Request.Vacated who f v)
+
   same-tag : (w w' : Who) (a b : ℕ) (s t : Tag) → Request.Vacated w a s ≡ Request.Vacated w' b t → (a ≡ b) × (s ≡ t)
   same-tag w w' a b s t e = (cc, cc)
+
   drawn-one : (x : ℕ) (w : Who) (file : ℕ) (tag : Tag) → Asked ps who.host x (Request.Vacated w file tag) ⊎ ((xid ≡ x) × (Request.Vacated who f v ≡ Request.Vacated w file tag)) → IsDrawn boot drawn tag
   drawn-one x w file tag (inl there) = h.vacates x w file tag there
   drawn-one x w file tag (inr new) = subst (λ t. IsDrawn boot drawn t) (same-tag who w f file v tag new.1).1 is_drawn
+
   past : (x : ℕ) (w : Who) (file : ℕ) (tag : Tag) (l : Lease) → Asked ps who.host x (Request.Vacated w file tag) ⊎ ((xid ≡ x) × (Request.Vacated who f v ≡ Request.Vacated w file tag)) → w.inc ≡ who.inc → (file ≢ f) × (lease_on file leases ≡ Some l) → tag_below tag l.tag ≡ true
   past x w file tag l (inl there) inc e = h.past_held x w file tag l there inc e.1
   past x w file tag l (inr new) inc e = absurd (e.0 (sym (same-tag who w f file v tag new.1).0))
+
   given : (x : ℕ) (w : Who) (file : ℕ) (tag : Tag) (y : ℕ) (a : Reply) (g : Grant) (t : Ticket) → Asked ps who.host x (Request.Vacated w file tag) ⊎ ((xid ≡ x) × (Request.Vacated who f v ≡ Request.Vacated w file tag)) → w.inc ≡ who.inc → Told ps who.host (reply y a) → inc_of a ≡ who.inc → ticket ≡ Some t → t.xid ≡ y → requested_file t.request ≡ Some file → grant_in a ≡ Some g → tag_below tag g.tag ≡ true
   given x w file tag y a g t (inl there) inc told i e n on gives = h.past_given x w file tag y a g t there inc told i e n on gives
   given x w file tag y a g t (inr new) inc told i e n on gives = absurd (ungiven t y a g e told i n (on ∙ ap Some (sym (same-tag who w f file v tag new.1).0)) gives)
@@ -135,6 +135,7 @@ tags-holds {who = who} {leases = leases} {boot = boot} {drawn = drawn} {ps = ps}
   case : (file : ℕ) (l : Lease) → ((file ≡ m.file) × (l ≡ m)) ⊎ ((file ≢ m.file) × (lease_on file leases ≡ Some l)) → IsDrawn boot drawn l.tag
   case file l (inl p) = subst (λ z. IsDrawn boot drawn z.tag) (sym p.1) is_drawn
   case file l (inr p) = h.held file l p.1
+
   past : (x : ℕ) (w : Who) (file : ℕ) (tag : Tag) (l : Lease) → Asked ps who.host x (Request.Vacated w file tag) → w.inc ≡ who.inc → ((file ≡ m.file) × (l ≡ m)) ⊎ ((file ≢ m.file) × (lease_on file leases ≡ Some l)) → tag_below tag l.tag ≡ true
   past x w file tag l sent inc (inl p) = subst (λ z. tag_below tag z.tag ≡ true) (sym p.1) (above x w tag (subst (λ f. Asked ps who.host x (Request.Vacated w f tag)) p.0 sent) inc)
   past x w file tag l sent inc (inr p) = h.past_held x w file tag l sent inc p.1
@@ -143,9 +144,9 @@ tags-holds {who = who} {leases = leases} {boot = boot} {drawn = drawn} {ps = ps}
 pub later-drawn : (boot drawn : ℕ) (a b : Tag) → IsDrawn boot drawn a → IsDrawn boot drawn b → IsDrawn boot drawn (later_tag a b)
 later-drawn boot drawn a b x y = step (tag_below a b)
   where
-  step : (c : Bool) → IsDrawn boot drawn (if c then b else a)
-  step true = y
-  step false = x
+    step : (c : Bool) → IsDrawn boot drawn (if c then b else a)
+    step true = y
+    step false = x
 
 -- a notice waits
 pub tags-notes : {who : Who} {ticket : Option Ticket} {leases : List Lease} {notices : List Notice} {boot drawn : ℕ} {ps : List Packet} (f : ℕ) (v : Tag) → IsDrawn boot drawn v → TagsFit who ticket leases notices boot drawn ps → TagsFit who ticket leases (record { file = f; tag = noticed_tag v (notice_on f notices) } ∷ drop_notice f notices) boot drawn ps
@@ -161,6 +162,7 @@ tags-notes {notices = notices} {boot = boot} {drawn = drawn} f v is_drawn h = re
   new : (o : Option Notice) → notice_on f notices ≡ o → IsDrawn boot drawn (noticed_tag v o)
   new None e = is_drawn
   new (Some n) e = later-drawn boot drawn n.tag v (h.noticed f n e) is_drawn
+
   case : (file : ℕ) (n : Notice) → ((file ≡ f) × (n ≡ record { file = f; tag = noticed_tag v (notice_on f notices) })) ⊎ ((file ≢ f) × (notice_on file notices ≡ Some n)) → IsDrawn boot drawn n.tag
   case file n (inl p) = subst (λ z. IsDrawn boot drawn z.tag) (sym p.1) (new (notice_on f notices) refl)
   case file n (inr p) = h.noticed file n p.1

@@ -1,5 +1,5 @@
 -- In every run: what holds of each client alone, and of its mail.
-use Rattle.std.proofs.Common.{◌≡◌, ◌≢◌, ◌<◌, ◌≤◌, ◌⊎◌, ℕ, zero, suc, ◌+◌, Bool, true, false, not, ◌&&◌, ◌==◌, List, [], ◌∷◌, ◌++◌, Option, Some, None, is_some, map, if◌then◌else◌, refl, sym, subst, ap, ◌∙◌, arith, inl, inr, append_assoc, append-nil, length}
+use Rattle.std.proofs.Common.{◌≡◌, ◌≢◌, ◌≤◌, ◌⊎◌, ℕ, zero, suc, ◌+◌, Bool, true, false, not, ◌&&◌, ◌==◌, List, [], ◌∷◌, ◌++◌, Option, Some, None, is_some, map, refl, sym, subst, ap, ◌∙◌, arith, inl, inr, append-nil, length}
 use Rattle.std.specs.Prelude.{slice_get, slice_set}
 use Rattle.nq_base.specs.declared.Call.{Call}
 use Rattle.nq_base.specs.declared.Event.{Event}
@@ -10,24 +10,24 @@ use Rattle.nq_base.specs.declared.Request.{Request}
 use Rattle.nq_base.specs.declared.Row.{Row}
 use Rattle.nq_base.specs.declared.Tag.{Tag}
 use Rattle.nq_base.specs.declared.Who.{Who}
-use Rattle.nq_laws.proofs.ClientCases.{Core, core_of, Closed, Both, CanSend, CanVacate, after_request, after_decided, after_vacated, after_again}
-use Rattle.nq_laws.proofs.ClientFacts.{Alone, Asking, Delaying}
+use Rattle.nq_laws.proofs.ClientCases.{Core, core_of, Closed, Both}
+use Rattle.nq_laws.proofs.ClientFacts.{Alone}
 use Rattle.nq_laws.proofs.ClientMoves as move
 use Rattle.nq_laws.proofs.ClientMoves.{some-same, none-some}
 use Rattle.nq_laws.proofs.ClientWalk.{Replying, reply-keeps, notice-keeps, call-keeps, tick-keeps}
 use Rattle.nq_laws.proofs.Mail.{packets_with, MailIn, mail-closed, spent-mail, server-mail, other-mail}
-use Rattle.nq_laws.proofs.Packets.{In, in-left, in-right, in-append, in-last, in-get, Asked, Told, message-same, told-same, not-both, call-same, reply-same, IsAsked, IsReplied, IsOwn, Mail, fewer}
+use Rattle.nq_laws.proofs.Packets.{In, in-right, in-append, in-last, in-get, Asked, Told, message-same, not-both, call-same, IsAsked, IsOwn, Mail}
 use Rattle.nq_laws.proofs.Rows.{choice, both-true, same-number, number-same}
 use Rattle.nq_laws.proofs.ServerCases.{request-sent, server-ticks}
-use Rattle.nq_laws.proofs.ServerSays.{IsReplyTo, IsSaid, said_reply, said_error, said_notice, AllSaid, all-said}
-use Rattle.nq_model.specs.Client.{Client, ClientStep, begun, Job, attaching, Ticket, Lease, Notice, lease_on}
+use Rattle.nq_laws.proofs.ServerSays.{IsSaid, said_reply, said_error, said_notice, AllSaid, all-said}
+use Rattle.nq_model.specs.Client.{Client, ClientStep, begun, attaching, Ticket, lease_on}
 use Rattle.nq_model.specs.ClientStep.{client_call, client_tick, at_time, restart, starts, fresh_client, attached_client, next_incarnation}
-use Rattle.nq_model.specs.Hear.{wants_of, inc_of, is_reply_to, reply_counts, hear, hear_reply, hear_notice, hear_call, goes_on, replied, holds_later, evicted, cancels}
-use Rattle.nq_model.specs.LeaseInterval.{grant_in, requested_file}
-use Rattle.nq_model.specs.Message.{Message, Packet, call, reply, error, asker, Datagram, request, datagram_of}
+use Rattle.nq_model.specs.Hear.{inc_of, is_reply_to, reply_counts, hear, hear_reply, hear_notice, hear_call, goes_on, replied, holds_later, evicted, cancels}
+use Rattle.nq_model.specs.LeaseInterval.{requested_file}
+use Rattle.nq_model.specs.Message.{Message, Packet, call, reply, error, asker, request, datagram_of}
 use Rattle.nq_model.specs.Server.{Server, ServerStep, to_host, quiet}
 use Rattle.nq_model.specs.ServerStep.{receive, tick, crash, opens, ends_writing, at_time as at_server_time}
-use Rattle.nq_model.specs.Table.{same_who, same_tag}
+use Rattle.nq_model.specs.Table.{same_who}
 use Rattle.nq_model.specs.World.{Head, World, from_host, after_server, after_client, at_client, after_hearing, sending_host, deliver_to_client, deliver_to, deliver, step, first_clients, start, run}
 
 -- ---- lists by place
@@ -59,9 +59,9 @@ AllCalls sends = (m : Message) → In sends m → IsCall m
 one-more : (sends : List Message) (m : Message) → IsCall m → AllCalls sends → AllCalls (sends ++ m ∷ [])
 one-more sends m c all n h = step (in-last sends m n h)
   where
-  step : In sends n ⊎ (m ≡ n) → IsCall n
-  step (inl old) = all n old
-  step (inr e) = subst (λ z. IsCall z) e c
+    step : In sends n ⊎ (m ≡ n) → IsCall n
+    step (inl old) = all n old
+    step (inr e) = subst (λ z. IsCall z) e c
 
 -- in the middle of a client's step: it is the same incarnation, its mail, and that it sends calls
 pub record Going (who : Who) (ps : List Packet) (k : Core) : Type 0 where
@@ -140,6 +140,7 @@ client-holds w host t m h = record {
       let apart : other ≢ host = λ same. let is : (other == host) ≡ true = number-same other host same in absurd (cc) in
       let a = h.clients other c (sym (get-set-other w.clients host other t.client apart) ∙ e) in
       record { here = a.here; alone = a.alone; mail = other-mail host t.sends (λ same. apart (sym a.here ∙ same)) a.mail }
+
   from : (p : Packet) → In w.packets p ⊎ In (map (from_host host) t.sends) p → IsSent p
   from p (inl old) = h.sent p old
   from p (inr new) = sent-calls host t.sends m.calls p new
@@ -177,10 +178,13 @@ restarted host c ps a = record {
 } where
   who : Who
   who = next_incarnation c.who
+
   ticket : Ticket
   ticket = record { xid = 1; first = c.now; last = c.now; request = Request.Attach who; job = attaching }
+
   mine : Packet
   mine = from_host c.who.host (call 1 (Request.Attach who))
+
   asked : (x : ℕ) (r : Request) (w : Who) → asker r ≡ Some w → In ps (from_host c.who.host (call x r)) ⊎ (mine ≡ from_host c.who.host (call x r)) → IsAsked who 2 (Some ticket) x r w
   asked x r w by (inl old) = let k = a.mail.asked x r w old by in record {
     host = k.host;
@@ -197,9 +201,11 @@ restarted host c ps a = record {
         number = λ i. let e = m.0 in omega arith;
         same = λ i t e n. ap (λ z. z.request) (sym (some-same ticket t e)) ∙ m.1;
       }
+
   told : (x : ℕ) (b : Reply) → In ps (to_host c.who.host (reply x b)) ⊎ (mine ≡ to_host c.who.host (reply x b)) → inc_of b ≤ c.who.inc
   told x b (inl old) = a.mail.past x b old
   told x b (inr bad) = absurd (not-both c.who.host c.who.host (call 1 (Request.Attach who)) (reply x b) bad)
+
   mail : Mail who 2 (Some ticket) (ps ++ mine ∷ [])
   mail = record {
     asked = λ x r w sent by. asked x r w by (in-last ps mine (from_host c.who.host (call x r)) sent);
@@ -207,6 +213,7 @@ restarted host c ps a = record {
     past = λ x b sent. let below = told x b (in-last ps mine (to_host c.who.host (reply x b)) sent) in omega arith;
     own = λ t e. subst (λ z. IsOwn who 2 (ps ++ mine ∷ []) z) (some-same ticket t e) (record { number = omega arith; asks = refl; sent = in-right ps (mine ∷ []) mine (inl refl) });
   }
+
   case : (m : Message) → (call 1 (Request.Attach who) ≡ m) ⊎ ⊥ → IsCall m
   case m (inl e) = record { xid = 1; asks = Request.Attach who; who = who; is = sym e; by = refl }
   case m (inr bad) = absurd bad
@@ -227,29 +234,31 @@ heard-reply : (host : ℕ) (c : Client) (ps : List Packet) (number xid : ℕ) (r
 heard-reply host c ps number xid r None is a sent = tt
 heard-reply host c ps number xid r (Some ticket) is a sent =
     choice (MovedIf host ps) (is_reply_to c xid r ticket) (Some (goes_on (replied (begun c) number ticket r))) None
-        (λ e. let k = both-true _ _ e in let l = both-true _ _ k.0 in moved host c.who ps (goes_on (replied (begun c) number ticket r)) a.here (reply-keeps (going-closed c.who ps nothing-heard (given-by ticket)) c number ticket r (replying k.1 (same-number _ _ l.0) (same-number _ _ l.1))))
-        (λ e. tt)
+    (λ e. let k = both-true _ _ e in let l = both-true _ _ k.0 in moved host c.who ps (goes_on (replied (begun c) number ticket r)) a.here (reply-keeps (going-closed c.who ps nothing-heard (given-by ticket)) c number ticket r (replying k.1 (same-number _ _ l.0) (same-number _ _ l.1))))
+    (λ e. tt)
   where
-  before : Going c.who ps (core_of (begun c))
-  before = begun-going host c ps a
-  spent : MailIn ps (record (core_of (begun c)) { ticket = None })
-  spent = spent-mail (packets_with ps c.who.host []) c.who c.xid c.ticket before.mail
-  replying : reply_counts r ticket ≡ true → xid ≡ ticket.xid → inc_of r ≡ c.who.inc → Replying (given-by ticket) (Going c.who ps) c ticket r
-  replying counts same inc = record {
-    asked = is;
-    counts = counts;
-    alone = a.alone;
-    spent = λ other. record { same = refl; mail = spent; calls = before.calls };
-    attached = λ job. record { same = refl; mail = spent; calls = before.calls };
-    brings = λ file on g grants. (on, (a.mail.replied xid r (subst (λ h. Told ps h (reply xid r)) (sym a.here) sent) inc).wants ticket is (sym same) g grants file on);
-    only = λ file g at given. given;
-  }
+    before : Going c.who ps (core_of (begun c))
+    before = begun-going host c ps a
+
+    spent : MailIn ps (record (core_of (begun c)) { ticket = None })
+    spent = spent-mail (packets_with ps c.who.host []) c.who c.xid c.ticket before.mail
+
+    replying : reply_counts r ticket ≡ true → xid ≡ ticket.xid → inc_of r ≡ c.who.inc → Replying (given-by ticket) (Going c.who ps) c ticket r
+    replying counts same inc = record {
+      asked = is;
+      counts = counts;
+      alone = a.alone;
+      spent = λ other. record { same = refl; mail = spent; calls = before.calls };
+      attached = λ job. record { same = refl; mail = spent; calls = before.calls };
+      brings = λ file on g grants. (on, (a.mail.replied xid r (subst (λ h. Told ps h (reply xid r)) (sym a.here) sent) inc).wants ticket is (sym same) g grants file on);
+      only = λ file g at given. given;
+    }
 
 heard-notice : (host : ℕ) (c : Client) (ps : List Packet) (who : Who) (file : ℕ) (tag : Tag) → IsAt host c ps → MovedIf host ps (hear_notice c who file tag)
 heard-notice host c ps who file tag a =
     choice (MovedIf host ps) (same_who who c.who && not (holds_later tag (lease_on file c.leases))) (Some (goes_on (evicted (cancels (begun c) file) file tag))) None
-        (λ e. moved host c.who ps (goes_on (evicted (cancels (begun c) file) file tag)) a.here (notice-keeps (going-closed c.who ps something-heard nothing-given) c file tag tt (λ g sent bad. bad) a.alone (begun-going host c ps a)))
-        (λ e. tt)
+    (λ e. moved host c.who ps (goes_on (evicted (cancels (begun c) file) file tag)) a.here (notice-keeps (going-closed c.who ps something-heard nothing-given) c file tag tt (λ g sent bad. bad) a.alone (begun-going host c ps a)))
+    (λ e. tt)
 
 heard-call : (host : ℕ) (c : Client) (ps : List Packet) (r : Request) → IsAt host c ps → MovedIf host ps (hear_call c r)
 heard-call host c ps (Request.Evicted who file tag) a = heard-notice host c ps who file tag a
@@ -280,6 +289,7 @@ server-holds w t said h = record {
   is-sent p (said_reply host xid a e k) = by_server host (reply xid a) e
   is-sent p (said_error host xid er e) = by_server host (error xid er) e
   is-sent p (said_notice xid row e) = by_server row.who.host (call xid (Request.Evicted row.who row.file row.tag)) e
+
   from : (p : Packet) → In w.packets p ⊎ In t.sends p → IsSent p
   from p (inl old) = h.sent p old
   from p (inr new) = is-sent p (said p new)
@@ -296,8 +306,8 @@ to-server ps p (by_server host m e) to i xid r d = let other : Party.Client host
 received-said : (w : World) (p : Packet) → In w.packets p → p.to ≡ Party.Server → Holds w → AllSaid w.packets (receive w.server (sending_host p.sender) (length w.packets) (datagram_of p.message)).sends
 received-said w p i to h =
     all-said w.packets w.server (sending_host p.sender) (length w.packets) (datagram_of p.message)
-        (λ xid r d. (to-server w.packets p (h.sent p i) to i xid r d).0)
-        (λ xid d. let some = (to-server w.packets p (h.sent p i) to i xid Request.Null d).1 in absurd (cc))
+    (λ xid r d. (to-server w.packets p (h.sent p i) to i xid r d).0)
+    (λ xid d. let some = (to-server w.packets p (h.sent p i) to i xid Request.Null d).1 in absurd (cc))
 
 -- a packet to a client is a message of the server
 to-told : (ps : List Packet) (p : Packet) (host : ℕ) → IsSent p → p.to ≡ Party.Client host → In ps p → Told ps host p.message
@@ -306,8 +316,8 @@ to-told ps p host (by_server h m e) to i =
     let same : h ≡ host = client-same h host (ap (λ q. q.to) (sym e) ∙ to) in
     subst (λ z. In ps z) (e ∙ ap (to_host h) (ap (λ q. q.message) (sym e)) ∙ ap (λ n. to_host n p.message) same) i
   where
-  client-same : (a b : ℕ) → Party.Client a ≡ Party.Client b → a ≡ b
-  client-same a b f = cc
+    client-same : (a b : ℕ) → Party.Client a ≡ Party.Client b → a ≡ b
+    client-same a b f = cc
 
 delivered-holds : (w : World) (k : ℕ) (p : Packet) (to : Party) → p.to ≡ to → In w.packets p → Holds w → Holds (deliver_to w k p to)
 delivered-holds w k p Party.Server to i h = server-holds w (receive w.server (sending_host p.sender) (length w.packets) (datagram_of p.message)) (received-said w p i to h) h

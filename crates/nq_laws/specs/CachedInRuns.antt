@@ -1,5 +1,5 @@
 -- Cached at once, in every run.
-use Rattle.std.specs.Prelude.{◌≡◌, ◌<◌, ℕ, true, List, Option, Some, None, slice_get}
+use Rattle.std.specs.Prelude.{◌≡◌, ◌<◌, ℕ, true, List, Some, None, slice_get}
 use Rattle.nq_base.specs.declared.Call.{Call}
 use Rattle.nq_base.specs.declared.Event.{Event}
 use Rattle.nq_model.specs.CachedAtOnce.{AnswersAtOnce}
@@ -26,4 +26,4 @@ CachedAtOnceInEveryRun =
     → slice_get (run head events).clients host ≡ Some c
     → IsReady c file block lease body
     → AnswersAtOnce c (Call.Read file block) file block body (client_call c (Call.Read file block))
-      × AnswersAtOnce c (Call.Fetch file block) file block body (client_call c (Call.Fetch file block))
+    × AnswersAtOnce c (Call.Fetch file block) file block body (client_call c (Call.Fetch file block))

@@ -6,5 +6,4 @@ ghost use Rattle.nq_laws.specs.CachedInRuns.{CachedAtOnceInEveryRun};
 /// own step and sends no packet, where no other call of that client is under way (Macklem 1994).
 pub fn cached_at_once_in_every_run()
     ensures { CachedAtOnceInEveryRun }
-{
-}
+{}
