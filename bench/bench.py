@@ -1,0 +1,107 @@
+#!/usr/bin/env python3
+"""Times `nqnfs replay` on inputs that it makes, and prints events per second and peak memory.
+
+    bench/bench.py PROGRAM [--words WORD ...]
+
+PROGRAM is the built program (`rt run nqnfs` builds it, and says where). Each input is run three times; the fastest run
+counts. The words are `replay` where none are given.
+"""
+import argparse
+import itertools
+import os
+import subprocess
+import sys
+import tempfile
+import time
+
+HEAD = "nqnfs-schedule 1\nhosts 2\nterm 30\nfile a 64\nbegin\n"
+MOST_INPUT = 16 * 1024 * 1024
+
+
+def lines():
+    """Puts by host 0 and fetches by host 1 in turns, each carried there and back: six events a round."""
+    packet = 0
+    turn = 0
+    while True:
+        block = turn % 64
+        for call in (f"call 0 put 1 {block} {turn % 4294967296}", f"call 1 fetch 1 {block}"):
+            yield call
+            yield f"deliver {packet}"
+            yield f"deliver {packet + 1}"
+            packet += 2
+        turn += 1
+
+
+def of_events(count):
+    return itertools.islice(lines(), count)
+
+
+def of_bytes(size):
+    """The most whole lines for which the text stays within the size."""
+    left = size - len(HEAD) - len("end\n")
+    for line in lines():
+        left -= len(line) + 1
+        if left < 0:
+            return
+        yield line
+
+
+def of_repeats(count):
+    """One request, delivered again and again."""
+    yield "call 0 put 1 0 7"
+    yield from itertools.repeat("deliver 0", count - 1)
+
+
+def write(events):
+    """A file with a schedule of these events, and how many they are. Nothing is kept here, so that what is measured of the
+    program is not what this script has in memory."""
+    count = 0
+    with tempfile.NamedTemporaryFile("w", suffix=".schedule", delete=False) as made:
+        made.write(HEAD)
+        for line in events:
+            made.write(line + "\n")
+            count += 1
+        made.write("end\n")
+    return made.name, count
+
+
+def run(program, words, path):
+    """Seconds, peak memory in MB, status and bytes written of one run."""
+    with open(path, "rb") as source, tempfile.TemporaryFile() as out:
+        began = time.perf_counter()
+        child = subprocess.Popen([program, *words], stdin=source, stdout=out, stderr=subprocess.DEVNULL)
+        _, status, used = os.wait4(child.pid, 0)
+        took = time.perf_counter() - began
+        child.returncode = os.waitstatus_to_exitcode(status)
+        return took, used.ru_maxrss / 1024, child.returncode, out.seek(0, os.SEEK_END)
+
+
+def main():
+    parser = argparse.ArgumentParser(description="Times nqnfs replay.")
+    parser.add_argument("program")
+    parser.add_argument("--words", nargs="*", default=["replay"])
+    asked = parser.parse_args()
+    inputs = [
+        ("10,000 events", of_events(10_000)),
+        ("100,000 events", of_events(100_000)),
+        ("100,000 deliveries of one request", of_repeats(100_000)),
+        ("16 MiB", of_bytes(MOST_INPUT)),
+    ]
+    print(f"{'input':36} {'bytes':>10} {'events':>9} {'seconds':>8} {'events/s':>10} {'MB':>6} status  printed")
+    failed = False
+    for name, made in inputs:
+        path, events = write(made)
+        size = os.path.getsize(path)
+        try:
+            runs = [run(asked.program, asked.words, path) for _ in range(3)]
+        finally:
+            os.unlink(path)
+        took, _, status, printed = min(runs)
+        memory = max(one[1] for one in runs)
+        print(f"{name:36} {size:10,} {events:9,} {took:8.3f} {events / took:10,.0f} {memory:6.0f} {status:6}  {printed:,}")
+        failed = failed or status not in (0, 9)
+    return 1 if failed else 0
+
+
+if __name__ == "__main__":
+    sys.exit(main())
