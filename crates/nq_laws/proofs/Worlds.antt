@@ -145,7 +145,7 @@ client-holds w host t m h = record {
   from p (inl old) = h.sent p old
   from p (inr new) = sent-calls host t.sends m.calls p new
 
-begun-going : (host : ℕ) (c : Client) (ps : List Packet) → IsAt host c ps → Going c.who ps (core_of (begun c))
+pub begun-going : (host : ℕ) (c : Client) (ps : List Packet) → IsAt host c ps → Going c.who ps (core_of (begun c))
 begun-going host c ps a = record { same = refl; mail = subst (λ qs. Mail c.who c.xid c.ticket qs) (sym (append-nil ps)) a.mail; calls = λ m i. absurd i }
 
 abbrev nothing-heard : ℕ → Tag → Type 0
@@ -157,7 +157,7 @@ nothing-given file g sent = ⊥
 called : (host : ℕ) (c : Client) (ps : List Packet) (op : Call) → IsAt host c ps → Moved host ps (client_call c op)
 called host c ps op a = moved host c.who ps (client_call c op) a.here (call-keeps (going-closed c.who ps nothing-heard nothing-given) c op a.alone (begun-going host c ps a))
 
-timed-going : (host : ℕ) (c : Client) (ps : List Packet) (now : ℕ) → IsAt host c ps → Going c.who ps (core_of (begun (at_time c now)))
+pub timed-going : (host : ℕ) (c : Client) (ps : List Packet) (now : ℕ) → IsAt host c ps → Going c.who ps (core_of (begun (at_time c now)))
 unfolding at_time
 timed-going host c ps now a = record { same = refl; mail = subst (λ qs. Mail c.who c.xid c.ticket qs) (sym (append-nil ps)) a.mail; calls = λ m i. absurd i }
 
@@ -310,7 +310,7 @@ received-said w p i to h =
     (λ xid d. let some = (to-server w.packets p (h.sent p i) to i xid Request.Null d).1 in absurd (cc))
 
 -- a packet to a client is a message of the server
-to-told : (ps : List Packet) (p : Packet) (host : ℕ) → IsSent p → p.to ≡ Party.Client host → In ps p → Told ps host p.message
+pub to-told : (ps : List Packet) (p : Packet) (host : ℕ) → IsSent p → p.to ≡ Party.Client host → In ps p → Told ps host p.message
 to-told ps p host (by_host h x s w e by) to i = let other : Party.Server ≡ Party.Client host = ap (λ q. q.to) (sym e) ∙ to in absurd (cc)
 to-told ps p host (by_server h m e) to i =
     let same : h ≡ host = client-same h host (ap (λ q. q.to) (sym e) ∙ to) in
