@@ -223,7 +223,7 @@ restarted host c ps a = record {
 abbrev something-heard : ℕ → Tag → Type 0
 something-heard file tag = Unit {0}
 
-abbrev given-by : Ticket → ℕ → Grant → ℕ → Type 0
+abbrev pub given-by : Ticket → ℕ → Grant → ℕ → Type 0
 given-by ticket file g sent = requested_file ticket.request ≡ Some file
 
 abbrev MovedIf : (host : ℕ) → List Packet → Option ClientStep → Type 0
@@ -366,7 +366,7 @@ step-holds w (Event.Crash longest) h = server-holds w (crash w.server longest) (
 
 -- ---- the start
 
-first-client : (term first count host : ℕ) (c : Client) → slice_get (first_clients term first count) host ≡ Some c → c ≡ attached_client (record { host = first + host; inc = 1 }) term 0
+pub first-client : (term first count host : ℕ) (c : Client) → slice_get (first_clients term first count) host ≡ Some c → c ≡ attached_client (record { host = first + host; inc = 1 }) term 0
 first-client term first zero host c e = none-some c e
 first-client term first (suc count) zero c e = some-same c _ (sym e) ∙ ap (λ n. attached_client (record { host = n; inc = 1 }) term 0) (omega arith)
 first-client term first (suc count) (suc host) c e = first-client term (first + 1) count host c e ∙ ap (λ n. attached_client (record { host = n; inc = 1 }) term 0) (omega arith)
