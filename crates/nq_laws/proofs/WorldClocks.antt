@@ -1,6 +1,7 @@
 -- In every run: the clocks of the server and of the clients show how often they ticked.
 use Rattle.std.proofs.Common.{◌≡◌, ◌≢◌, ◌≤◌, ℕ, zero, suc, ◌+◌, Bool, true, false, not, ◌&&◌, ◌==◌, List, [], ◌∷◌, Option, Some, None, if◌then◌else◌, refl, sym, subst, ap, ◌∙◌, arith, length}
 use Rattle.std.specs.Prelude.{slice_get, slice_set}
+use Rattle.nq_base.specs.declared.Call.{Call}
 use Rattle.nq_base.specs.declared.Event.{Event}
 use Rattle.nq_base.specs.declared.Grant.{Grant}
 use Rattle.nq_base.specs.declared.Party.{Party}
@@ -43,7 +44,7 @@ time-closed now Heard Given = record {
   notes = λ k file tag heard t. t;
 }
 
-call-time : (host : ℕ) (c : Client) (ps : List Packet) (op : _) → IsAt host c ps → (client_call c op).client.now ≡ c.now
+call-time : (host : ℕ) (c : Client) (ps : List Packet) (op : Call) → IsAt host c ps → (client_call c op).client.now ≡ c.now
 call-time host c ps op a = (call-keeps (time-closed c.now NoneHeard NoneGiven) c op a.alone refl).core
 
 tick-core : (c : Client) (now : ℕ) → IsTime now (core_of (begun (at_time c now)))
