@@ -1,7 +1,6 @@
 -- What a client and the server know of each other is kept by a restart of the client, and by what other hosts send.
-use Rattle.std.proofs.Common.{◌≡◌, ◌<◌, ◌≤◌, ◌⊎◌, ℕ, ◌+◌, Bool, false, List, [], ◌∷◌, ◌++◌, Option, Some, None, map, refl, sym, subst, ap, ◌∙◌, arith, inl, inr}
+use Rattle.std.proofs.Common.{◌≡◌, ◌<◌, ◌≤◌, ◌⊎◌, ℕ, ◌+◌, Bool, false, List, [], ◌∷◌, ◌++◌, Option, Some, map, refl, sym, subst, ap, ◌∙◌, arith, inl, inr}
 use Rattle.nq_base.specs.declared.Event.{Event}
-use Rattle.nq_base.specs.declared.Grant.{Grant}
 use Rattle.nq_base.specs.declared.HostRow.{HostRow}
 use Rattle.nq_base.specs.declared.Reply.{Reply}
 use Rattle.nq_base.specs.declared.Request.{Request}
@@ -11,7 +10,7 @@ use Rattle.nq_laws.proofs.ClientFacts.{Alone}
 use Rattle.nq_laws.proofs.ClientKnows.{Knows}
 use Rattle.nq_laws.proofs.ClientMoves.{some-same, none-some}
 use Rattle.nq_laws.proofs.ClientSteps.{KnowsOf, knows-passes}
-use Rattle.nq_laws.proofs.CoverFacts.{IsTakeable, CoverFits, cover-ticket}
+use Rattle.nq_laws.proofs.CoverFacts.{CoverFits, cover-ticket}
 use Rattle.nq_laws.proofs.HostLine.{LineFits}
 use Rattle.nq_laws.proofs.Mail.{packets_with}
 use Rattle.nq_laws.proofs.Packets.{In, in-append, Asked, Told, message-same, not-both, Mail}

@@ -1,5 +1,5 @@
 -- What a client and the server know of each other is kept by each step of the client.
-use Rattle.std.proofs.Common.{◌≡◌, ◌<◌, ◌≤◌, ◌⊎◌, ℕ, ◌+◌, ◌-◌, Bool, true, false, not, ◌&&◌, ◌==◌, List, [], ◌∷◌, ◌++◌, Option, Some, None, map, refl, sym, subst, ap, ◌∙◌, arith, inl, inr, append-nil}
+use Rattle.std.proofs.Common.{◌≡◌, ◌≤◌, ℕ, ◌+◌, ◌-◌, Bool, true, false, not, ◌&&◌, List, [], ◌∷◌, ◌++◌, Option, Some, None, refl, sym, subst, ap, ◌∙◌, arith, inl, inr, append-nil}
 use Rattle.nq_base.specs.declared.Call.{Call}
 use Rattle.nq_base.specs.declared.Event.{Event}
 use Rattle.nq_base.specs.declared.Grant.{Grant}
@@ -8,28 +8,28 @@ use Rattle.nq_base.specs.declared.Reply.{Reply}
 use Rattle.nq_base.specs.declared.Request.{Request}
 use Rattle.nq_base.specs.declared.Tag.{Tag}
 use Rattle.nq_base.specs.declared.Who.{Who}
-use Rattle.nq_laws.proofs.ClientCases.{Core, core_of, Both}
+use Rattle.nq_laws.proofs.ClientCases.{core_of, Both}
 use Rattle.nq_laws.proofs.ClientFacts.{Alone, IsLease, seq_of, fits_job}
 use Rattle.nq_laws.proofs.ClientKnows.{IsPending, Knows, Knowing, knowing-closed}
-use Rattle.nq_laws.proofs.ClientMoves.{some-same, none-some, attached-with-ticket}
+use Rattle.nq_laws.proofs.ClientMoves.{some-same, none-some}
 use Rattle.nq_laws.proofs.ClientWalk.{Replying, reply-keeps, notice-keeps, call-keeps, tick-keeps}
 use Rattle.nq_laws.proofs.Clocks.{same-cover}
 use Rattle.nq_laws.proofs.CoverFacts.{IsCoveredWhile, IsTakeable, CoverFits, cover-ticket}
-use Rattle.nq_laws.proofs.HostLine.{LineFits, IsSettled, line-ticket, not-false}
+use Rattle.nq_laws.proofs.HostLine.{IsSettled, line-ticket, not-false}
 use Rattle.nq_laws.proofs.Mail.{packets_with, spent-mail}
 use Rattle.nq_laws.proofs.Packets.{Asked, Told, Mail}
 use Rattle.nq_laws.proofs.Rows.{choice, both-true, same-number}
 use Rattle.nq_laws.proofs.ServerKnows.{NoneHeard, NoneGiven}
-use Rattle.nq_laws.proofs.TagFacts.{IsDrawn, TagsFit, tags-ticket}
+use Rattle.nq_laws.proofs.TagFacts.{IsDrawn, tags-ticket}
 use Rattle.nq_laws.proofs.Worlds.{Going, IsAt, begun-going, timed-going}
 use Rattle.nq_model.specs.Client.{Client, ClientStep, begun, attaching, Lease, Notice, Ticket, lease_on}
 use Rattle.nq_model.specs.ClientStep.{client_call, client_tick, at_time}
 use Rattle.nq_model.specs.Hear.{inc_of, is_of_procedure, refusal_counts, is_reply_to, reply_counts, hear, hear_reply, hear_notice, hear_call, goes_on, replied, holds_later, evicted, cancels}
-use Rattle.nq_model.specs.LeaseInterval.{IsCovered, cover_end, grant_in, requested_file}
+use Rattle.nq_model.specs.LeaseInterval.{IsCovered}
 use Rattle.nq_model.specs.Message.{Message, Packet, call, reply, error, asker}
 use Rattle.nq_model.specs.Server.{Server, standing}
 use Rattle.nq_model.specs.Skew.{ticks_of}
-use Rattle.nq_model.specs.Table.{caches, same_who, tag_below}
+use Rattle.nq_model.specs.Table.{same_who}
 
 -- between the steps of a client
 abbrev pub KnowsOf : HostRow → Server → List Event → Client → List Packet → Type 0

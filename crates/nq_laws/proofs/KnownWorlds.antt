@@ -1,11 +1,12 @@
 -- What the server and each client of a world know of each other, kept by each event; and what it says of their leases.
-use Rattle.std.proofs.Common.{◌≡◌, ◌≢◌, ◌<◌, ◌≤◌, ℕ, ◌+◌, ◌-◌, Bool, true, false, ◌==◌, List, ◌∷◌, Option, Some, None, refl, sym, subst, ap, ◌∙◌, arith}
-use Rattle.std.specs.Prelude.{slice_get, slice_set}
+use Rattle.std.proofs.Common.{◌≡◌, ◌≢◌, ◌<◌, ℕ, zero, suc, ◌+◌, ◌-◌, Bool, true, false, ◌==◌, List, [], ◌∷◌, ◌++◌, Option, Some, None, refl, sym, subst, ap, ◌∙◌, arith}
+use Rattle.std.specs.Prelude.{slice_get, slice_set, replicate, unwrap_or}
 use Rattle.nq_base.specs.declared.Call.{Call}
 use Rattle.nq_base.specs.declared.Event.{Event}
 use Rattle.nq_base.specs.declared.Grant.{Grant}
+use Rattle.nq_base.specs.declared.HostRow.{HostRow}
 use Rattle.nq_base.specs.declared.Row.{Row}
-use Rattle.nq_laws.proofs.ClientKnows.{Knows}
+use Rattle.nq_laws.proofs.ClientMoves.{none-some}
 use Rattle.nq_laws.proofs.ClientRestarts.{restart-knows, other-knows}
 use Rattle.nq_laws.proofs.ClientSteps.{KnowsOf, KnowsIf, knows-passes, call-knows, tick-knows, hear-knows}
 use Rattle.nq_laws.proofs.CoverFacts.{IsTakeable}
@@ -14,17 +15,19 @@ use Rattle.nq_laws.proofs.Packets.{In, Told, in-get}
 use Rattle.nq_laws.proofs.Rows.{both-true, same-number, number-same}
 use Rattle.nq_laws.proofs.ServerKnows.{Effect, Timely, knows-after}
 use Rattle.nq_laws.proofs.WorldClocks.{Clocked}
-use Rattle.nq_laws.proofs.Worlds.{IsAt, Holds, get-set-same, get-set-other, to-told}
-use Rattle.nq_model.specs.Client.{Client, ClientStep, Lease, Ticket}
-use Rattle.nq_model.specs.ClientStep.{client_call, client_tick, restart}
+use Rattle.nq_laws.proofs.Worlds.{IsAt, Holds, get-set-same, get-set-other, first-client, to-told}
+use Rattle.nq_model.specs.Client.{Client, ClientStep, Ticket}
+use Rattle.nq_model.specs.ClientStep.{client_call, client_tick, restart, fresh_client, attached_client}
 use Rattle.nq_model.specs.Hear.{inc_of, hear}
-use Rattle.nq_model.specs.Kept.{host_row}
-use Rattle.nq_model.specs.LeaseInterval.{IsCovered, cover_end, CanTake, HeldAreCovered, TakeableAreCovered, KeepsLeaseInterval, requested_file}
-use Rattle.nq_model.specs.Message.{Message, Packet, reply}
-use Rattle.nq_model.specs.Server.{ServerStep}
+use Rattle.nq_model.specs.Kept.{fresh_row, host_row}
+use Rattle.nq_model.specs.LeaseInterval.{IsCovered, cover_end, CanTake, HeldAreCovered, TakeableAreCovered, KeepsLeaseInterval}
+use Rattle.nq_model.specs.Message.{Message, reply}
+use Rattle.nq_model.specs.Server.{Server, ServerStep}
+use Rattle.nq_model.specs.ServerStep.{boot}
+use Rattle.nq_model.specs.Profile.{most_hosts}
 use Rattle.nq_model.specs.Skew.{ticks_of}
-use Rattle.nq_model.specs.Table.{caches, find_row}
-use Rattle.nq_model.specs.World.{World, after_server, after_client, at_client, after_hearing, deliver_to_client}
+use Rattle.nq_model.specs.Table.{find_row}
+use Rattle.nq_model.specs.World.{Head, World, after_server, after_client, at_client, after_hearing, deliver_to_client, first_row, first_clients, start}
 
 -- ---- what each client and the server know
 
@@ -144,3 +147,62 @@ takeable-covered w events held h host c t file g is can caching runs =
 -- what each client and the server know of each other keeps the lease interval
 pub known-covers : (w : World) (events : List Event) → Holds w → Known w events → KeepsLeaseInterval w events
 known-covers w events held h = record { held = held-covered w events held h; takeable = takeable-covered w events held h }
+
+-- ---- the start
+
+first-there : (term first count host : ℕ) (c : Client) → slice_get (first_clients term first count) host ≡ Some c → host < count
+first-there term first zero host c e = none-some c e
+first-there term first (suc count) zero c e = omega arith
+first-there term first (suc count) (suc host) c e = let h = first-there term (first + 1) count host c e in omega arith
+
+replicated : (count host : ℕ) (line : HostRow) (more : List HostRow) → host < count → slice_get (replicate count line ++ more) host ≡ Some line
+replicated zero host line more h = absurd (omega arith)
+replicated (suc count) zero line more h = refl
+replicated (suc count) (suc host) line more h = replicated count host line more (omega arith)
+
+first-line : (head : Head) (host : ℕ) → host < head.hosts → host_row (start head).server.kept host ≡ first_row
+unfolding start boot
+first-line head host there = ap (λ o. unwrap_or o fresh_row) (replicated head.hosts host first_row (replicate (most_hosts - head.hosts) fresh_row) there)
+
+-- a client that is attached from the start, over a line of its incarnation
+knows-starts : (line : HostRow) (s : Server) (host term : ℕ) → line.inc ≡ 1 → KnowsOf line s [] (attached_client (record { host = host; inc = 1 }) term 0) []
+unfolding attached_client fresh_client
+knows-starts line s host term one = record {
+  lined = record {
+    past = omega arith;
+    current = λ e. one;
+    told = λ x inc sent. absurd sent;
+    above = λ x r w sent. absurd sent;
+    waiting = λ e. absurd (cc);
+    unnoticed = λ e. refl;
+    evicted_past = λ x w file tag sent. absurd sent;
+    unheard = λ e. absurd (cc);
+    settled = λ kept x r w n sent. absurd sent;
+    answered = λ x a sent. absurd sent;
+  };
+  tagged = record {
+    held = λ file l e. none-some l e;
+    noticed = λ file n e. none-some n e;
+    evicts = λ x w file tag sent. absurd sent;
+    vacates = λ x w file tag sent. absurd sent;
+    grants = λ x a g sent. absurd sent;
+    past_held = λ x w file tag l sent. absurd sent;
+    past_given = λ x w file tag y a g t sent. absurd sent;
+  };
+  covered = record {
+    held = λ file l e. none-some l e;
+    held_short = λ file l e. none-some l e;
+    given = λ file g t k. absurd k.told;
+    given_short = λ file g t k. absurd k.told;
+  };
+  heard = λ file tag bad. absurd bad;
+  pending = λ file g sent bad. absurd bad;
+}
+
+pub start-known : (head : Head) → Known (start head) []
+unfolding start
+start-known head = record { clients = λ host c is. starts host c is } where
+  starts : (host : ℕ) (c : Client) → slice_get (start head).clients host ≡ Some c → KnowsOf (host_row (start head).server.kept host) (start head).server [] c []
+  starts host c is =
+      subst (λ z. KnowsOf (host_row (start head).server.kept host) (start head).server [] z []) (sym (first-client head.term 0 head.hosts host c is ∙ ap (λ n. attached_client (record { host = n; inc = 1 }) head.term 0) (omega arith)))
+      (knows-starts (host_row (start head).server.kept host) (start head).server host head.term (ap (λ l. l.inc) (first-line head host (first-there head.term 0 head.hosts host c is))))

@@ -1,5 +1,5 @@
 -- In every run: the clocks of the server and of the clients show how often they ticked.
-use Rattle.std.proofs.Common.{◌≡◌, ◌≢◌, ◌≤◌, ℕ, zero, suc, ◌+◌, Bool, true, false, not, ◌&&◌, ◌==◌, List, [], ◌∷◌, Option, Some, None, if◌then◌else◌, refl, sym, subst, ap, ◌∙◌, arith, length}
+use Rattle.std.proofs.Common.{◌≡◌, ◌≢◌, ℕ, ◌+◌, Bool, true, false, not, ◌&&◌, ◌==◌, List, [], ◌∷◌, Option, Some, None, if◌then◌else◌, refl, sym, subst, ap, ◌∙◌, arith, length}
 use Rattle.std.specs.Prelude.{slice_get, slice_set}
 use Rattle.nq_base.specs.declared.Call.{Call}
 use Rattle.nq_base.specs.declared.Event.{Event}
@@ -9,7 +9,7 @@ use Rattle.nq_base.specs.declared.Reply.{Reply}
 use Rattle.nq_base.specs.declared.Request.{Request}
 use Rattle.nq_base.specs.declared.Tag.{Tag}
 use Rattle.nq_base.specs.declared.Who.{Who}
-use Rattle.nq_laws.proofs.ClientCases.{Core, core_of, Closed, Both}
+use Rattle.nq_laws.proofs.ClientCases.{Core, core_of, Closed}
 use Rattle.nq_laws.proofs.ClientWalk.{Replying, reply-keeps, notice-keeps, call-keeps, tick-keeps}
 use Rattle.nq_laws.proofs.Packets.{Told, in-get}
 use Rattle.nq_laws.proofs.Rows.{choice, both-true, same-number, number-same}
@@ -26,74 +26,84 @@ use Rattle.nq_model.specs.Skew.{is_server_tick, is_tick_of, server_ticks, ticks_
 use Rattle.nq_model.specs.Table.{same_who}
 use Rattle.nq_model.specs.World.{Head, World, after_server, after_client, at_client, after_hearing, sending_host, deliver_to_client, deliver_to, deliver, step, start, run}
 
--- ---- a client's time in the middle of a step
+-- ---- a client in the middle of a step
 
-abbrev IsTime : ℕ → Core → Type 0
-IsTime now k = k.now ≡ now
+-- it is the same incarnation, its clock shows this time, and if it was attached it still is
+pub record IsStill (who : Who) (now : ℕ) (attached : Bool) (k : Core) : Type 0 where
+  pub same : k.who ≡ who
+  pub time : k.now ≡ now
+  pub stays : k.attached ≡ false → attached ≡ false
 
-time-closed : (now : ℕ) (Heard : ℕ → Tag → Type 0) (Given : ℕ → Grant → ℕ → Type 0) → Closed Heard Given (IsTime now)
-time-closed now Heard Given = record {
-  uses = λ k file t. t;
-  drops = λ k file t. t;
-  vacates = λ k file tag can t. t;
-  asks = λ k job request no_seq can t. t;
-  decides = λ k job request seq can t. t;
-  again = λ k ticket is t. t;
-  holds = λ k file g sent given free unnoticed t. t;
-  cancels = λ k file t. t;
-  notes = λ k file tag heard t. t;
+still-closed : (who : Who) (now : ℕ) (attached : Bool) (Heard : ℕ → Tag → Type 0) (Given : ℕ → Grant → ℕ → Type 0) → Closed Heard Given (IsStill who now attached)
+still-closed who now attached Heard Given = record {
+  uses = λ k file h. record { same = h.same; time = h.time; stays = h.stays };
+  drops = λ k file h. record { same = h.same; time = h.time; stays = h.stays };
+  vacates = λ k file tag can h. record { same = h.same; time = h.time; stays = h.stays };
+  asks = λ k job request no_seq can h. record { same = h.same; time = h.time; stays = h.stays };
+  decides = λ k job request seq can h. record { same = h.same; time = h.time; stays = h.stays };
+  again = λ k ticket is h. record { same = h.same; time = h.time; stays = h.stays };
+  holds = λ k file g sent given free unnoticed h. record { same = h.same; time = h.time; stays = h.stays };
+  cancels = λ k file h. record { same = h.same; time = h.time; stays = h.stays };
+  notes = λ k file tag heard h. record { same = h.same; time = h.time; stays = h.stays };
 }
 
-call-time : (host : ℕ) (c : Client) (ps : List Packet) (op : Call) → IsAt host c ps → (client_call c op).client.now ≡ c.now
-call-time host c ps op a = (call-keeps (time-closed c.now NoneHeard NoneGiven) c op a.alone refl).core
+-- a client after its step, at this time
+abbrev pub StillOf : (now : ℕ) → Client → ClientStep → Type 0
+StillOf now c t = IsStill c.who now c.attached (core_of t)
 
-tick-core : (c : Client) (now : ℕ) → IsTime now (core_of (begun (at_time c now)))
+begun-still : (c : Client) → StillOf c.now c (begun c)
+begun-still c = record { same = refl; time = refl; stays = λ e. e }
+
+pub call-still : (host : ℕ) (c : Client) (ps : List Packet) (op : Call) → IsAt host c ps → StillOf c.now c (client_call c op)
+call-still host c ps op a = (call-keeps (still-closed c.who c.now c.attached NoneHeard NoneGiven) c op a.alone (begun-still c)).core
+
+timed-still : (c : Client) (now : ℕ) → StillOf now c (begun (at_time c now))
 unfolding at_time
-tick-core c now = refl
+timed-still c now = record { same = refl; time = refl; stays = λ e. e }
 
-tick-time : (host : ℕ) (c : Client) (ps : List Packet) → IsAt host c ps → (client_tick c (c.now + 1)).client.now ≡ c.now + 1
-tick-time host c ps a = (tick-keeps (time-closed (c.now + 1) NoneHeard NoneGiven) c (c.now + 1) (omega arith) a.alone (tick-core c (c.now + 1))).core
+pub tick-still : (host : ℕ) (c : Client) (ps : List Packet) → IsAt host c ps → StillOf (c.now + 1) c (client_tick c (c.now + 1))
+tick-still host c ps a = (tick-keeps (still-closed c.who (c.now + 1) c.attached NoneHeard NoneGiven) c (c.now + 1) (omega arith) a.alone (timed-still c (c.now + 1))).core
 
 restart-time : (c : Client) → (restart c).client.now ≡ c.now
 unfolding starts fresh_client
 restart-time c = refl
 
-abbrev TimedIf : (now : ℕ) → Option ClientStep → Type 0
-TimedIf now None = Unit {0}
-TimedIf now (Some t) = t.client.now ≡ now
+abbrev pub StillIf : Client → Option ClientStep → Type 0
+StillIf c None = Unit {0}
+StillIf c (Some t) = StillOf c.now c t
 
-reply-time : (host : ℕ) (c : Client) (ps : List Packet) (number xid : ℕ) (r : Reply) (o : Option Ticket) → c.ticket ≡ o → Told ps host (reply xid r) → IsAt host c ps → TimedIf c.now (hear_reply c number xid r o)
-reply-time host c ps number xid r None is sent a = tt
-reply-time host c ps number xid r (Some t) is sent a =
-    choice (TimedIf c.now) (is_reply_to c xid r t) (Some (goes_on (replied (begun c) number t r))) None
-    (λ e. let k = both-true _ _ e in let l = both-true _ _ k.0 in (reply-keeps (time-closed c.now NoneHeard (given-by t)) c number t r (replying k.1 (same-number _ _ l.0) (same-number _ _ l.1))).core)
+reply-still : (host : ℕ) (c : Client) (ps : List Packet) (number xid : ℕ) (r : Reply) (o : Option Ticket) → c.ticket ≡ o → Told ps host (reply xid r) → IsAt host c ps → StillIf c (hear_reply c number xid r o)
+reply-still host c ps number xid r None is sent a = tt
+reply-still host c ps number xid r (Some t) is sent a =
+    choice (StillIf c) (is_reply_to c xid r t) (Some (goes_on (replied (begun c) number t r))) None
+    (λ e. let k = both-true _ _ e in let l = both-true _ _ k.0 in (reply-keeps (still-closed c.who c.now c.attached NoneHeard (given-by t)) c number t r (replying k.1 (same-number _ _ l.0) (same-number _ _ l.1))).core)
     (λ e. tt)
   where
-    replying : reply_counts r t ≡ true → xid ≡ t.xid → inc_of r ≡ c.who.inc → Replying (given-by t) (IsTime c.now) c t r
+    replying : reply_counts r t ≡ true → xid ≡ t.xid → inc_of r ≡ c.who.inc → Replying (given-by t) (IsStill c.who c.now c.attached) c t r
     replying counts same inc = record {
       asked = is;
       counts = counts;
       alone = a.alone;
-      spent = λ other. refl;
-      attached = λ job. refl;
+      spent = λ other. record { same = refl; time = refl; stays = λ e. e };
+      attached = λ job. record { same = refl; time = refl; stays = λ e. absurd (cc) };
       brings = λ file on g grants. (on, (a.mail.replied xid r (subst (λ h. Told ps h (reply xid r)) (sym a.here) sent) inc).wants t is (sym same) g grants file on);
       only = λ file g at given. given;
     }
 
-notice-time : (host : ℕ) (c : Client) (ps : List Packet) (w : Who) (file : ℕ) (tag : Tag) → IsAt host c ps → TimedIf c.now (hear_notice c w file tag)
-notice-time host c ps w file tag a =
-    choice (TimedIf c.now) (same_who w c.who && not (holds_later tag (lease_on file c.leases))) (Some (goes_on (evicted (cancels (begun c) file) file tag))) None
-    (λ e. (notice-keeps (time-closed c.now (λ f v. Unit {0}) NoneGiven) c file tag tt (λ g at bad. bad) a.alone refl).core)
+notice-still : (host : ℕ) (c : Client) (ps : List Packet) (w : Who) (file : ℕ) (tag : Tag) → IsAt host c ps → StillIf c (hear_notice c w file tag)
+notice-still host c ps w file tag a =
+    choice (StillIf c) (same_who w c.who && not (holds_later tag (lease_on file c.leases))) (Some (goes_on (evicted (cancels (begun c) file) file tag))) None
+    (λ e. (notice-keeps (still-closed c.who c.now c.attached (λ f v. Unit {0}) NoneGiven) c file tag tt (λ g at bad. bad) a.alone (begun-still c)).core)
     (λ e. tt)
 
-called-time : (host : ℕ) (c : Client) (ps : List Packet) (r : Request) → IsAt host c ps → TimedIf c.now (hear_call c r)
-called-time host c ps (Request.Evicted w file tag) a = notice-time host c ps w file tag a
-called-time host c ps other a = tt
+called-still : (host : ℕ) (c : Client) (ps : List Packet) (r : Request) → IsAt host c ps → StillIf c (hear_call c r)
+called-still host c ps (Request.Evicted w file tag) a = notice-still host c ps w file tag a
+called-still host c ps other a = tt
 
-hear-time : (host : ℕ) (c : Client) (ps : List Packet) (number : ℕ) (m : Message) → Told ps host m → IsAt host c ps → TimedIf c.now (hear c number m)
-hear-time host c ps number (reply xid r) sent a = reply-time host c ps number xid r c.ticket refl sent a
-hear-time host c ps number (call xid r) sent a = called-time host c ps r a
-hear-time host c ps number (error xid er) sent a = tt
+pub hear-still : (host : ℕ) (c : Client) (ps : List Packet) (number : ℕ) (m : Message) → Told ps host m → IsAt host c ps → StillIf c (hear c number m)
+hear-still host c ps number (reply xid r) sent a = reply-still host c ps number xid r c.ticket refl sent a
+hear-still host c ps number (call xid r) sent a = called-still host c ps r a
+hear-still host c ps number (error xid er) sent a = tt
 
 -- ---- the clocks of a world
 
@@ -140,13 +150,13 @@ at-client-clocked : (w : World) (e : Event) (events : List Event) (host : ℕ) (
 at-client-clocked w e events host f None is none time others held h = quiet-clocked w e events none (λ other c there. others other (λ same. let found : None ≡ Some c = sym is ∙ ap (slice_get w.clients) (sym same) ∙ there in absurd (cc))) h
 at-client-clocked w e events host f (Some c) is none time others held h = client-clocked w e events host c (f c) is none (time c (held.clients host c is)) others h
 
-hearing-clocked : (w : World) (k : ℕ) (events : List Event) (host : ℕ) (c : Client) (o : Option ClientStep) → slice_get w.clients host ≡ Some c → TimedIf c.now o → Clocked w events → Clocked (after_hearing w host o) (Event.Deliver k ∷ events)
+hearing-clocked : (w : World) (k : ℕ) (events : List Event) (host : ℕ) (c : Client) (o : Option ClientStep) → slice_get w.clients host ≡ Some c → StillIf c o → Clocked w events → Clocked (after_hearing w host o) (Event.Deliver k ∷ events)
 hearing-clocked w k events host c None is time h = quiet-clocked w (Event.Deliver k) events refl (λ other d there. refl) h
-hearing-clocked w k events host c (Some t) is time h = client-clocked w (Event.Deliver k) events host c t is refl (omega arith) (λ other apart. refl) h
+hearing-clocked w k events host c (Some t) is time h = client-clocked w (Event.Deliver k) events host c t is refl (time.time ∙ omega arith) (λ other apart. refl) h
 
 to-client-clocked : (w : World) (k : ℕ) (events : List Event) (host : ℕ) (m : Message) (o : Option Client) → slice_get w.clients host ≡ o → Told w.packets host m → Holds w → Clocked w events → Clocked (deliver_to_client w k host m o) (Event.Deliver k ∷ events)
 to-client-clocked w k events host m None is sent held h = quiet-clocked w (Event.Deliver k) events refl (λ other d there. refl) h
-to-client-clocked w k events host m (Some c) is sent held h = hearing-clocked w k events host c (hear c k m) is (hear-time host c w.packets k m sent (held.clients host c is)) h
+to-client-clocked w k events host m (Some c) is sent held h = hearing-clocked w k events host c (hear c k m) is (hear-still host c w.packets k m sent (held.clients host c is)) h
 
 delivered-clocked : (w : World) (k : ℕ) (events : List Event) (p : Packet) (to : Party) → p.to ≡ to → slice_get w.packets k ≡ Some p → Holds w → Clocked w events → Clocked (deliver_to w k p to) (Event.Deliver k ∷ events)
 delivered-clocked w k events p Party.Server to is held h = server-clocked w (Event.Deliver k) events (receive w.server (sending_host p.sender) (length w.packets) (datagram_of p.message)) ((receive-keeps w.server (sending_host p.sender) (length w.packets) (datagram_of p.message)).1 ∙ omega arith) (λ host. refl) h
@@ -172,10 +182,10 @@ unfolding crash boot
 crash-time w longest = refl
 
 step-clocked : (w : World) (e : Event) (events : List Event) → Holds w → Clocked w events → Clocked (step w e) (e ∷ events)
-step-clocked w (Event.Call host op) events held h = at-client-clocked w (Event.Call host op) events host (λ c. client_call c op) (slice_get w.clients host) refl refl (λ c a. call-time host c w.packets op a ∙ omega arith) (λ other apart. refl) held h
+step-clocked w (Event.Call host op) events held h = at-client-clocked w (Event.Call host op) events host (λ c. client_call c op) (slice_get w.clients host) refl refl (λ c a. (call-still host c w.packets op a).time ∙ omega arith) (λ other apart. refl) held h
 step-clocked w (Event.Deliver k) events held h = deliver-clocked w k events (slice_get w.packets k) refl held h
 step-clocked w Event.ServerTick events held h = server-clocked w Event.ServerTick events (tick w.server (w.server.now + 1)) (server-tick-keeps w.server (w.server.now + 1)).1 (λ host. refl) h
-step-clocked w (Event.ClientTick host) events held h = at-client-clocked w (Event.ClientTick host) events host (λ c. client_tick c (c.now + 1)) (slice_get w.clients host) refl refl (λ c a. let one = ticks-own host in let t = tick-time host c w.packets a in omega arith) (λ other apart. ticks-no-other host other apart) held h
+step-clocked w (Event.ClientTick host) events held h = at-client-clocked w (Event.ClientTick host) events host (λ c. client_tick c (c.now + 1)) (slice_get w.clients host) refl refl (λ c a. let one = ticks-own host in let t = (tick-still host c w.packets a).time in omega arith) (λ other apart. ticks-no-other host other apart) held h
 step-clocked w (Event.Restart host) events held h = at-client-clocked w (Event.Restart host) events host restart (slice_get w.clients host) refl refl (λ c a. restart-time c ∙ omega arith) (λ other apart. refl) held h
 step-clocked w (Event.Crash longest) events held h = server-clocked w (Event.Crash longest) events (crash w.server longest) (crash-time w longest ∙ omega arith) (λ host. refl) h
 
