@@ -51,7 +51,7 @@ same-seq (Request.Remove w seq q file) = refl
 same-seq r = refl
 
 -- rows of a filtered table are found under their keys
-unique-in : (rows : List Row) (r : Row) → HasUniqueKeys rows → In rows r → find_row r.file r.who.host rows ≡ Some r
+pub unique-in : (rows : List Row) (r : Row) → HasUniqueKeys rows → In rows r → find_row r.file r.who.host rows ≡ Some r
 unique-in [] r unique h = absurd h
 unique-in (y ∷ rows) r unique (inl e) = subst (λ x. find_row x.file x.who.host (y ∷ rows) ≡ Some x) e (ap (λ b. if b then Some y else find_row y.file y.who.host rows) (own-key y))
 unique-in (y ∷ rows) r unique (inr h) = step (is_row_of r.file r.who.host y) refl (unique-in rows r unique.1 h)
@@ -68,7 +68,7 @@ in-filter-step y r rows less true rest (inl e) = inl e
 in-filter-step y r rows less true rest (inr i) = inr (rest i)
 in-filter-step y r rows less false rest i = inr (rest i)
 
-in-filter : (q : Row → Bool) (rows : List Row) (r : Row) → In (filter q rows) r → In rows r
+pub in-filter : (q : Row → Bool) (rows : List Row) (r : Row) → In (filter q rows) r → In rows r
 in-filter q [] r h = h
 in-filter q (y ∷ rows) r h = in-filter-step y r rows (filter q rows) (q y) (in-filter q rows r) h
 
@@ -86,7 +86,7 @@ drawn-serving s t p q same more tag h =
     (drawn-more s.table.boot s.table.drawn t.table.boot t.table.drawn same more tag (subst (λ x. IsDrawn x.boot x.drawn tag) (standing-serving s p) h))
 
 -- no verdict is answered as ATTACH is
-verdict-no-attach : (inc : ℕ) (v : Verdict) (value : ℕ) (r : Request) (i : ℕ) → verdict_reply inc v value r ≡ Reply.Attach i → ⊥
+pub verdict-no-attach : (inc : ℕ) (v : Verdict) (value : ℕ) (r : Request) (i : ℕ) → verdict_reply inc v value r ≡ Reply.Attach i → ⊥
 verdict-no-attach inc Verdict.Done value (Request.Create w seq name blocks) i e = cc
 verdict-no-attach inc Verdict.Done value (Request.Write w seq file block first last push body) i e = cc
 verdict-no-attach inc Verdict.Done value (Request.Resize w seq q file blocks) i e = cc
@@ -107,7 +107,7 @@ asks-no-seq (Request.Read w q file block want) e = refl
 asks-no-seq (Request.GetLease w file want) e = refl
 asks-no-seq r e = absurd (cc)
 
-reads-no-seq : (r : Request) (file : ℕ) → requested_file r ≡ Some file → seq_of r ≡ None
+pub reads-no-seq : (r : Request) (file : ℕ) → requested_file r ≡ Some file → seq_of r ≡ None
 reads-no-seq (Request.Read w q f block want) file e = refl
 reads-no-seq (Request.GetLease w f want) file e = refl
 reads-no-seq r file e = none-some file e
@@ -145,7 +145,7 @@ term-short : (longest wish : ℕ) → shortest_term ≤ longest → granted_term
 term-short longest wish few = omega arith
 
 -- the kept line of a host after a line was kept
-line-after : (kept : Kept) (other : ℕ) (row : HostRow) (ps : List Packet) (host : ℕ) → (host ≡ other → LineMoves ps host (host_row kept host) row) → (host ≡ other → host_row (with_row kept other row) host ≡ row) → LineMoves ps host (host_row kept host) (host_row (with_row kept other row) host)
+pub line-after : (kept : Kept) (other : ℕ) (row : HostRow) (ps : List Packet) (host : ℕ) → (host ≡ other → LineMoves ps host (host_row kept host) row) → (host ≡ other → host_row (with_row kept other row) host ≡ row) → LineMoves ps host (host_row kept host) (host_row (with_row kept other row) host)
 line-after kept other row ps host own is = step (host == other) refl
   where
     step : (b : Bool) → (host == other) ≡ b → LineMoves ps host (host_row kept host) (host_row (with_row kept other row) host)
@@ -158,22 +158,22 @@ module _ (ps : List Packet) (s : Server) (most sender next : ℕ) (d : Datagram)
     (m : Mail who xid ticket ps) (h : Knows NoneHeard NoneGiven (host_row s.kept who.host) s events who now attached ticket leased noticed ps)
     (changing : (t : Ticket) (file : ℕ) → ticket ≡ Some t → changes_file t.request ≡ Some file → lease_on file leased ≡ None)
     (idle : attached ≡ false → (leased ≡ []) × ((t : Ticket) → ticket ≡ Some t → requested_file t.request ≡ None)) where
-  own-fits : s.phase ≡ serving → TableFits s.kept.files s.table.boot s.table.drawn s.table.rows
+  pub own-fits : s.phase ≡ serving → TableFits s.kept.files s.table.boot s.table.drawn s.table.rows
   own-fits p = subst (λ q. StandingFits s.kept.files q s.table) p stood
 
-  own-boots : s.phase ≡ serving → AreOfBoot s.table
+  pub own-boots : s.phase ≡ serving → AreOfBoot s.table
   own-boots p = λ file host row found. let k = (own-fits p).fits file host row found in (k.tag_boot, k.drawn_before, k.since_boot, k.in_order)
 
-  own-current : s.phase ≡ serving → AreCurrent s.kept s.table.rows
+  pub own-current : s.phase ≡ serving → AreCurrent s.kept s.table.rows
   own-current p = subst (λ q. IncsFit s.kept q s.table) p incs
 
   -- nothing is claimed by a client that is not attached
-  unclaimed : attached ≡ false → (file : ℕ) (tag : Tag) → IsClaimed ps who ticket leased file tag → ⊥
+  pub unclaimed : attached ≡ false → (file : ℕ) (tag : Tag) → IsClaimed ps who ticket leased file tag → ⊥
   unclaimed e file tag (inl c) = none-some c.0 (ap (lease_on file) (sym (idle e).0) ∙ c.1)
   unclaimed e file tag (inr c) = none-some file (sym ((idle e).1 c.1 c.2.asked) ∙ c.2.on_file)
 
   -- a claim is of an incarnation that is the kept one
-  claimed-kept : (file : ℕ) (tag : Tag) → IsClaimed ps who ticket leased file tag → (host_row s.kept who.host).inc ≡ who.inc
+  pub claimed-kept : (file : ℕ) (tag : Tag) → IsClaimed ps who ticket leased file tag → (host_row s.kept who.host).inc ≡ who.inc
   claimed-kept file tag c = step attached refl
     where
       step : (b : Bool) → attached ≡ b → (host_row s.kept who.host).inc ≡ who.inc
@@ -182,14 +182,14 @@ module _ (ps : List Packet) (s : Server) (most sender next : ℕ) (d : Datagram)
 
   -- ---- what is said
 
-  none-new : (t : Server) (q : Packet) → In [] q → IsNew ps s t q
+  pub none-new : (t : Server) (q : Packet) → In [] q → IsNew ps s t q
   none-new t q bad = absurd bad
 
-  one-new : (t : Server) (p : Packet) → IsNew ps s t p → (q : Packet) → In (p ∷ []) q → IsNew ps s t q
+  pub one-new : (t : Server) (p : Packet) → IsNew ps s t p → (q : Packet) → In (p ∷ []) q → IsNew ps s t q
   one-new t p n q (inl e) = subst (λ z. IsNew ps s t z) e n
   one-new t p n q (inr bad) = absurd bad
 
-  both-new : (t : Server) (xs ys : List Packet) → ((q : Packet) → In xs q → IsNew ps s t q) → ((q : Packet) → In ys q → IsNew ps s t q) → (q : Packet) → In (xs ++ ys) q → IsNew ps s t q
+  pub both-new : (t : Server) (xs ys : List Packet) → ((q : Packet) → In xs q → IsNew ps s t q) → ((q : Packet) → In ys q → IsNew ps s t q) → (q : Packet) → In (xs ++ ys) q → IsNew ps s t q
   both-new t xs ys a b q i = case (in-append xs ys q i)
     where
       case : In xs q ⊎ In ys q → IsNew ps s t q
@@ -197,18 +197,18 @@ module _ (ps : List Packet) (s : Server) (most sender next : ℕ) (d : Datagram)
       case (inr y) = b q y
 
   -- notices for rows of the table
-  notices-new : (t : Server) (x : ℕ) (rows : List Row) → ((r : Row) → In rows r → find_row r.file r.who.host s.table.rows ≡ Some r) → ((r : Row) → In rows r → r.who.inc ≡ (host_row s.kept r.who.host).inc) → ((r : Row) → In rows r → IsDrawn (standing t).boot (standing t).drawn r.tag) → (q : Packet) → In (notices x rows) q → IsNew ps s t q
+  pub notices-new : (t : Server) (x : ℕ) (rows : List Row) → ((r : Row) → In rows r → find_row r.file r.who.host s.table.rows ≡ Some r) → ((r : Row) → In rows r → r.who.inc ≡ (host_row s.kept r.who.host).inc) → ((r : Row) → In rows r → IsDrawn (standing t).boot (standing t).drawn r.tag) → (q : Packet) → In (notices x rows) q → IsNew ps s t q
   notices-new t x [] there inc drawn q bad = absurd bad
   notices-new t x (row ∷ rows) there inc drawn q (inl e) = new_notice x row (sym e) (there row (inl refl)) (inc row (inl refl)) (drawn row (inl refl))
   notices-new t x (row ∷ rows) there inc drawn q (inr i) = notices-new t ((x + 1) % xid_end) rows (λ r k. there r (inr k)) (λ r k. inc r (inr k)) (λ r k. drawn r (inr k)) q i
 
-  row-drawn : s.phase ≡ serving → (t : Server) → t.phase ≡ serving → t.table.boot ≡ s.table.boot → s.table.drawn ≤ t.table.drawn → (r : Row) → find_row r.file r.who.host s.table.rows ≡ Some r → IsDrawn (standing t).boot (standing t).drawn r.tag
+  pub row-drawn : s.phase ≡ serving → (t : Server) → t.phase ≡ serving → t.table.boot ≡ s.table.boot → s.table.drawn ≤ t.table.drawn → (r : Row) → find_row r.file r.who.host s.table.rows ≡ Some r → IsDrawn (standing t).boot (standing t).drawn r.tag
   row-drawn p t q same more r found =
       let k = (own-fits p).fits r.file r.who.host r found in
       drawn-serving s t p q same more r.tag (subst (λ x. IsDrawn x.boot x.drawn r.tag) (sym (standing-serving s p)) (inr (k.tag_boot, k.drawn_before)))
 
   -- notices for some rows of the table
-  rows-new : s.phase ≡ serving → (t : Server) → t.phase ≡ serving → t.table.boot ≡ s.table.boot → s.table.drawn ≤ t.table.drawn → (x : ℕ) (rows : List Row) → ((r : Row) → In rows r → In s.table.rows r) → (q : Packet) → In (notices x rows) q → IsNew ps s t q
+  pub rows-new : s.phase ≡ serving → (t : Server) → t.phase ≡ serving → t.table.boot ≡ s.table.boot → s.table.drawn ≤ t.table.drawn → (x : ℕ) (rows : List Row) → ((r : Row) → In rows r → In s.table.rows r) → (q : Packet) → In (notices x rows) q → IsNew ps s t q
   rows-new p t q same more x rows there =
       notices-new t x rows
       (λ r k. unique-in s.table.rows r (own-fits p).unique (there r k))
@@ -216,7 +216,7 @@ module _ (ps : List Packet) (s : Server) (most sender next : ℕ) (d : Datagram)
       (λ r k. row-drawn p t q same more r (unique-in s.table.rows r (own-fits p).unique (there r k)))
 
   -- a reply without a grant, to a request of this datagram
-  reply-new : (t : Server) (x : ℕ) (w : Who) (r : Request) (a : Reply) → d ≡ request x r → asker r ≡ Some w → w.host ≡ sender → inc_of a ≡ w.inc → grant_in a ≡ None → ((i : ℕ) → a ≡ Reply.Attach i → (host_row t.kept w.host).inc ≡ i) → ((n : ℕ) → seq_of r ≡ Some n → (((host_row t.kept w.host).inc ≡ w.inc) × (n ≤ (host_row t.kept w.host).seq)) ⊎ (((host_row s.kept w.host).inc < w.inc) × (is_attach r ≡ false))) → IsNew ps s t (to_host w.host (reply x a))
+  pub reply-new : (t : Server) (x : ℕ) (w : Who) (r : Request) (a : Reply) → d ≡ request x r → asker r ≡ Some w → w.host ≡ sender → inc_of a ≡ w.inc → grant_in a ≡ None → ((i : ℕ) → a ≡ Reply.Attach i → (host_row t.kept w.host).inc ≡ i) → ((n : ℕ) → seq_of r ≡ Some n → (((host_row t.kept w.host).inc ≡ w.inc) × (n ≤ (host_row t.kept w.host).seq)) ⊎ (((host_row s.kept w.host).inc < w.inc) × (is_attach r ≡ false))) → IsNew ps s t (to_host w.host (reply x a))
   reply-new t x w r a e by from inc none att dec = new_reply w.host x a refl (record {
     asks = r;
     who = w;
@@ -232,19 +232,19 @@ module _ (ps : List Packet) (s : Server) (most sender next : ℕ) (d : Datagram)
 
   -- ---- outcomes that change nothing
 
-  quiet-effect : Effect ps s (quiet s) who ticket leased
+  pub quiet-effect : Effect ps s (quiet s) who ticket leased
   unfolding quiet
   quiet-effect = record { line = line_stays refl; grows = λ tag k. k; opened = refl; longest = refl; covers = λ file mode tag until claim c k. k; said = none-new s }
 
-  drops-effect : (reason : Reason) → Effect ps s (drops s reason) who ticket leased
+  pub drops-effect : (reason : Reason) → Effect ps s (drops s reason) who ticket leased
   unfolding drops
   drops-effect reason = record { line = line_stays refl; grows = λ tag k. k; opened = refl; longest = refl; covers = λ file mode tag until claim c k. k; said = none-new s }
 
-  says-effect : (host : ℕ) (n : Message) → IsNew ps s s (to_host host n) → Effect ps s (says s host n) who ticket leased
+  pub says-effect : (host : ℕ) (n : Message) → IsNew ps s s (to_host host n) → Effect ps s (says s host n) who ticket leased
   unfolding says
   says-effect host n new = record { line = line_stays refl; grows = λ tag k. k; opened = refl; longest = refl; covers = λ file mode tag until claim c k. k; said = one-new s (to_host host n) new }
 
-  error-new : (dd : Datagram) (n : Message) → error_for dd ≡ Some n → IsNew ps s s (to_host sender n)
+  pub error-new : (dd : Datagram) (n : Message) → error_for dd ≡ Some n → IsNew ps s s (to_host sender n)
   error-new too_long n e = none-some n e
   error-new no_message n e = none-some n e
   error-new no_call n e = none-some n e
@@ -256,12 +256,12 @@ module _ (ps : List Packet) (s : Server) (most sender next : ℕ) (d : Datagram)
   error-new (garbage x) n e = new_error sender x RpcError.garbage_arguments (ap (to_host sender) (sym (some-same _ n e)))
   error-new (request x r) n e = none-some n e
 
-  plain-effect : (x : ℕ) (w : Who) (r : Request) (a : Reply) → d ≡ request x r → asker r ≡ Some w → IsFrom sender w → IsPlain s w r a → Effect ps s (replies s w.host x a) who ticket leased
+  pub plain-effect : (x : ℕ) (w : Who) (r : Request) (a : Reply) → d ≡ request x r → asker r ≡ Some w → IsFrom sender w → IsPlain s w r a → Effect ps s (replies s w.host x a) who ticket leased
   plain-effect x w r a e by from plain = says-effect w.host (reply x a) (reply-new s x w r a e by from.host (plain-inc s w r a plain) (plain-grant s w r a plain) (plain-attach s w r a plain) (plain-decided s w r a plain))
 
   -- ---- outcomes while serving that let the client's rows go on
 
-  goes-effect : (t : ServerStep) → s.phase ≡ serving → t.server.phase ≡ serving → t.server.table.boot ≡ s.table.boot → s.table.drawn ≤ t.server.table.drawn → t.server.kept.opened ≡ s.kept.opened → t.server.kept.longest ≡ s.kept.longest → LineMoves ps who.host (host_row s.kept who.host) (host_row t.server.kept who.host) → ((file : ℕ) → GoesOnAt file who.host s.table.rows t.server.table.rows) → ((q : Packet) → In t.sends q → IsNew ps s t.server q) → Effect ps s t who ticket leased
+  pub goes-effect : (t : ServerStep) → s.phase ≡ serving → t.server.phase ≡ serving → t.server.table.boot ≡ s.table.boot → s.table.drawn ≤ t.server.table.drawn → t.server.kept.opened ≡ s.kept.opened → t.server.kept.longest ≡ s.kept.longest → LineMoves ps who.host (host_row s.kept who.host) (host_row t.server.kept who.host) → ((file : ℕ) → GoesOnAt file who.host s.table.rows t.server.table.rows) → ((q : Packet) → In t.sends q → IsNew ps s t.server q) → Effect ps s t who ticket leased
   goes-effect t p q same more opened longest line goes said = record {
     line = line;
     grows = drawn-serving s t.server p q same more;
@@ -271,12 +271,12 @@ module _ (ps : List Packet) (s : Server) (most sender next : ℕ) (d : Datagram)
     said = said;
   }
 
-  all-go-on : (file : ℕ) → GoesOnAt file who.host s.table.rows s.table.rows
+  pub all-go-on : (file : ℕ) → GoesOnAt file who.host s.table.rows s.table.rows
   all-go-on file was found c = (was, found, same-goes-on was)
 
   -- ---- an asker is put off
 
-  later-effect : (x : ℕ) (w : Who) (r : Request) (table : Table) (rows : List Row) → d ≡ request x r → asker r ≡ Some w → w.host ≡ sender → seq_of r ≡ None → s.phase ≡ serving → table.boot ≡ s.table.boot → s.table.drawn ≤ table.drawn → ((file : ℕ) → GoesOnAt file who.host s.table.rows table.rows) → ((k : Row) → In rows k → In s.table.rows k) → Effect ps s (tells_later s w x table rows) who ticket leased
+  pub later-effect : (x : ℕ) (w : Who) (r : Request) (table : Table) (rows : List Row) → d ≡ request x r → asker r ≡ Some w → w.host ≡ sender → seq_of r ≡ None → s.phase ≡ serving → table.boot ≡ s.table.boot → s.table.drawn ≤ table.drawn → ((file : ℕ) → GoesOnAt file who.host s.table.rows table.rows) → ((k : Row) → In rows k → In s.table.rows k) → Effect ps s (tells_later s w x table rows) who ticket leased
   unfolding tells_later after_notices
   later-effect x w r table rows e by from no_seq p same more goes there =
       goes-effect (tells_later s w x table rows) p p same more refl refl (line_stays refl) goes
@@ -284,32 +284,32 @@ module _ (ps : List Packet) (s : Server) (most sender next : ℕ) (d : Datagram)
       (rows-new p (tells_later s w x table rows).server p same more s.notice rows there)
       (one-new (tells_later s w x table rows).server (to_host w.host (reply x (Reply.Refused w.inc Refusal.TryLater))) (reply-new (tells_later s w x table rows).server x w r (Reply.Refused w.inc Refusal.TryLater) e by from refl refl (λ i bad. absurd (cc)) (λ n q. none-some n (sym no_seq ∙ q)))))
 
-  marked-boot : (q : Question) → (with_marked s.table q).boot ≡ s.table.boot
+  pub marked-boot : (q : Question) → (with_marked s.table q).boot ≡ s.table.boot
   unfolding with_rows
   marked-boot q = refl
 
-  marked-drawn : (q : Question) → s.table.drawn ≤ (with_marked s.table q).drawn
+  pub marked-drawn : (q : Question) → s.table.drawn ≤ (with_marked s.table q).drawn
   unfolding with_rows
   marked-drawn q = omega arith
 
-  marked-rows : (q : Question) (file : ℕ) → GoesOnAt file who.host s.table.rows (with_marked s.table q).rows
+  pub marked-rows : (q : Question) (file : ℕ) → GoesOnAt file who.host s.table.rows (with_marked s.table q).rows
   unfolding with_rows
   marked-rows q file = marked-goes-on file who.host q.file q.who.host q.access s.table.rows
 
-  waiter-boot : (q : Question) (want : Want) → (with_waiter s.table q want).boot ≡ s.table.boot
+  pub waiter-boot : (q : Question) (want : Want) → (with_waiter s.table q want).boot ≡ s.table.boot
   unfolding with_rows after_draw
   waiter-boot q want = refl
 
-  waiter-drawn : (q : Question) (want : Want) → s.table.drawn ≤ (with_waiter s.table q want).drawn
+  pub waiter-drawn : (q : Question) (want : Want) → s.table.drawn ≤ (with_waiter s.table q want).drawn
   unfolding with_rows after_draw
   waiter-drawn q want = omega arith
 
-  way-rows : (file host : ℕ) (access : Access) (k : Row) → In (in_the_way s file host access) k → In s.table.rows k
+  pub way-rows : (file host : ℕ) (access : Access) (k : Row) → In (in_the_way s file host access) k → In s.table.rows k
   way-rows file host access k i = in-filter (conflicts file host access) s.table.rows k i
 
   -- ---- a block is read, or a lease is asked for, without a grant
 
-  reads-effect : (x : ℕ) (w : Who) (q : ℕ) (f : File) (block : ℕ) (body : List ℕ) (want : Option Want) → d ≡ request x (Request.Read w q f.id block want) → w.host ≡ sender → Effect ps s (serves s w x next q f block body s.table None) who ticket leased
+  pub reads-effect : (x : ℕ) (w : Who) (q : ℕ) (f : File) (block : ℕ) (body : List ℕ) (want : Option Want) → d ≡ request x (Request.Read w q f.id block want) → w.host ≡ sender → Effect ps s (serves s w x next q f block body s.table None) who ticket leased
   unfolding serves with_table
   reads-effect x w q f block body want e from = record {
     line = line_stays refl;
@@ -320,7 +320,7 @@ module _ (ps : List Packet) (s : Server) (most sender next : ℕ) (d : Datagram)
     said = one-new s (to_host w.host (reply x (Reply.Read w.inc f.rev body None))) (reply-new s x w (Request.Read w q f.id block want) (Reply.Read w.inc f.rev body None) e refl from refl refl (λ i bad. absurd (cc)) (λ n k. none-some n k));
   }
 
-  asks-effect : (x : ℕ) (w : Who) (f : File) (want : Want) → d ≡ request x (Request.GetLease w f.id want) → w.host ≡ sender → Effect ps s (leases s w x f.id s.table None) who ticket leased
+  pub asks-effect : (x : ℕ) (w : Who) (f : File) (want : Want) → d ≡ request x (Request.GetLease w f.id want) → w.host ≡ sender → Effect ps s (leases s w x f.id s.table None) who ticket leased
   unfolding leases with_table
   asks-effect x w f want e from = record {
     line = line_stays refl;
@@ -375,7 +375,7 @@ module _ (ps : List Packet) (s : Server) (most sender next : ℕ) (d : Datagram)
   granted-short q want row term same (renews_row own found stays caching is lasts) c = let t = term-short q.longest want.term (let l = terms.long in omega arith) in omega arith
 
   -- the holder of a granted row that caches is the asker
-  granted-holder : s.phase ≡ serving → (q : Question) (want : Want) (row : Row) (term : ℕ) → q.who.inc ≡ (host_row s.kept q.who.host).inc → IsGranted s.table q want row term → caches row.mode ≡ true → row.who ≡ q.who
+  pub granted-holder : s.phase ≡ serving → (q : Question) (want : Want) (row : Row) (term : ℕ) → q.who.inc ≡ (host_row s.kept q.who.host).inc → IsGranted s.table q want row term → caches row.mode ≡ true → row.who ≡ q.who
   unfolding sharing_row caching_row shared_again renewed_row
   granted-holder p q want row term current (shares_again own found stays shares is lasts) c = let no : caches row.mode ≡ false = ap (λ r. caches r.mode) is ∙ shares in absurd (cc)
   granted-holder p q want row term current (begins_sharing none room shared is lasts) c = let no : caches row.mode ≡ false = ap (λ r. caches r.mode) is in absurd (cc)
@@ -419,7 +419,7 @@ module _ (ps : List Packet) (s : Server) (most sender next : ℕ) (d : Datagram)
   granted-rows : s.phase ≡ serving → (q : Question) (want : Want) (row : Row) (term : ℕ) → IsGranted s.table q want row term → (file : ℕ) → GoesOnAt file who.host s.table.rows (put_row row s.table.rows)
   granted-rows p q want row term g file = granted-goes-on s.table q want row term file who.host (own-boots p) g
 
-  reads-granted : (x : ℕ) (w : Who) (q : ℕ) (f : File) (block : ℕ) (body : List ℕ) (want : Want) (row : Row) (term : ℕ) → d ≡ request x (Request.Read w q f.id block (Some want)) → IsAsking s sender w f → IsGranted s.table (to_read s w f (Some want)) want row term → Effect ps s (serves s w x next q f block body (after_draw s.table (put_row row s.table.rows)) (Some (grant_of (to_read s w f (Some want)) row term))) who ticket leased
+  pub reads-granted : (x : ℕ) (w : Who) (q : ℕ) (f : File) (block : ℕ) (body : List ℕ) (want : Want) (row : Row) (term : ℕ) → d ≡ request x (Request.Read w q f.id block (Some want)) → IsAsking s sender w f → IsGranted s.table (to_read s w f (Some want)) want row term → Effect ps s (serves s w x next q f block body (after_draw s.table (put_row row s.table.rows)) (Some (grant_of (to_read s w f (Some want)) row term))) who ticket leased
   unfolding serves with_table after_draw granted-table
   reads-granted x w q f block body want row term e asking g =
       let p = asking.serves in
@@ -439,7 +439,7 @@ module _ (ps : List Packet) (s : Server) (most sender next : ℕ) (d : Datagram)
         files = λ gr gives. (f.id, refl);
       })))
 
-  leases-granted : (x : ℕ) (w : Who) (f : File) (want : Want) (row : Row) (term : ℕ) → d ≡ request x (Request.GetLease w f.id want) → IsAsking s sender w f → IsGranted s.table (to_read s w f (Some want)) want row term → Effect ps s (leases s w x f.id (after_draw s.table (put_row row s.table.rows)) (Some (grant_of (to_read s w f (Some want)) row term))) who ticket leased
+  pub leases-granted : (x : ℕ) (w : Who) (f : File) (want : Want) (row : Row) (term : ℕ) → d ≡ request x (Request.GetLease w f.id want) → IsAsking s sender w f → IsGranted s.table (to_read s w f (Some want)) want row term → Effect ps s (leases s w x f.id (after_draw s.table (put_row row s.table.rows)) (Some (grant_of (to_read s w f (Some want)) row term))) who ticket leased
   unfolding leases with_table after_draw granted-table
   leases-granted x w f want row term e asking g =
       let p = asking.serves in
