@@ -190,3 +190,177 @@ module _ (ps : List Packet) (s : Server) (most sender next : ℕ) (d : Datagram)
       let p = changing.serves in
       goes t p p refl (omega arith) refl refl (commit-line w seq x r k changing.fresh refl) same-rows
       (commit-said w seq x r k e refl refl changing.fresh refl (nothing-said t.server))
+
+  -- delayed writes are stored while the server recovers
+  pub stores-recovering-effect : (x : ℕ) (w : Who) (seq block first final : ℕ) (base : PushBase) (body : List ℕ) (f : File) (until heard : ℕ) (last : Table) → d ≡ request x (Request.Write w seq f.id block first final (Some base) body) → IsFresh s sender w seq → s.phase ≡ recovering until heard last → Effect ps s (commits w seq x (Request.Write w seq f.id block first final (Some base) body) (stores_recovering s until last w f block first final body)) who ticket leased
+  unfolding commits keeping stores_recovering wrote with_row with_files
+  stores-recovering-effect x w seq block first final base body f until heard last e fresh p =
+      let r : Request = Request.Write w seq f.id block first final (Some base) body in
+      let k : Decision = stores_recovering s until last w f block first final body in
+      let t : ServerStep = commits w seq x r k in
+      record {
+        line = commit-line w seq x r k fresh refl;
+        grows = λ tag drawn. subst (λ n. IsDrawn (standing_in n s.table).boot (standing_in n s.table).drawn tag) p drawn;
+        opened = refl;
+        longest = refl;
+        covers = λ file mode tag end claim caching cover. longer file mode tag end (subst (λ n. IsCovered s n who file mode tag end) p cover);
+        said = commit-said w seq x r k e refl refl fresh refl (nothing-said t.server);
+      }
+    where
+      longer : (file : ℕ) (mode : Mode) (tag : Tag) (end : ℕ) → IsCovered s (recovering until heard last) who file mode tag end → IsCovered (commits w seq x (Request.Write w seq f.id block first final (Some base) body) (stores_recovering s until last w f block first final body)).server (recovering (max until (s.now + write_slack)) s.now last) who file mode tag end
+      longer file mode tag end cover = record { of_last_boot = cover.of_last_boot; fitting = cover.fitting; waits = let before = cover.waits in omega arith }
+
+  -- ---- a file is taken away
+
+  -- a claim on a file that the running incarnation asks to change: there is none
+  own-change : (x : ℕ) (w : Who) (seq file : ℕ) (r : Request) → d ≡ request x r → asker r ≡ Some w → sequence_of r ≡ Some seq → IsFresh s sender w seq → changes_file r ≡ Some file → requested_file r ≡ None → who.host ≡ w.host → (tag : Tag) → IsClaimed ps who ticket leased file tag → ⊥
+  own-change x w seq file r e by sq fresh changes no_grant own tag claim =
+      let kept : (host_row s.kept who.host).inc ≡ who.inc = kept-inc file tag claim in
+      let inc : w.inc ≡ who.inc = fresh.current.inc ∙ ap (λ n. (host_row s.kept n).inc) (sym own) ∙ kept in
+      let sent : Asked ps who.host x r = subst (λ n. Asked ps n x r) (sym (own ∙ fresh.current.from.host)) (c.was_sent x r e) in
+      settled inc sent (c.knows.lined.settled kept x r w seq sent by inc (same-seq r ∙ sq))
+    where
+      settled : w.inc ≡ who.inc → Asked ps who.host x r → IsSettled ticket (host_row s.kept who.host).seq x seq → ⊥
+      settled inc sent (inl below) = let above = fresh.above in let same : (host_row s.kept who.host).seq ≡ (host_row s.kept w.host).seq = ap (λ n. (host_row s.kept n).seq) own in absurd (omega arith)
+      settled inc sent (inr u) = claimed (((c.mail.asked x r w sent by).same) inc u.0 u.1 u.2) claim
+        where
+          claimed : u.0.request ≡ r → IsClaimed ps who ticket leased file tag → ⊥
+          claimed same (inl held) = none-some held.0 (sym (c.changing u.0 file u.1 (ap changes_file same ∙ changes)) ∙ held.1)
+          claimed same (inr given) =
+              let one : u.0 ≡ given.1 = some-same u.0 given.1 (sym u.1 ∙ given.2.asked) in
+              none-some file (sym no_grant ∙ ap requested_file (sym same) ∙ ap (λ t. requested_file t.request) one ∙ given.2.on_file)
+
+  caching-row : (row mode : Mode) → caches mode ≡ true → is_at_least row mode ≡ true → caches row ≡ true
+  caching-row row Mode.NonCaching k h = cc
+  caching-row row Mode.Reading k h = h
+  caching-row Mode.NonCaching Mode.Writing k h = cc
+  caching-row Mode.Reading Mode.Writing k h = refl
+  caching-row Mode.Writing Mode.Writing k h = refl
+
+  both-false : (b : Bool) → b ≡ true → b ≡ false → ⊥
+  both-false b is isnt = absurd (cc)
+
+  -- where no row of another host is in the way of a change of a file, the others have no caching row of it
+  other-change : (w : Who) (f : File) → clash_with s f.id w.host ≡ None → who.host ≢ w.host → (mode : Mode) (tag : Tag) (until : ℕ) → caches mode ≡ true → HasFitting who f.id mode tag until s.table → ⊥
+  other-change w f none other mode tag until caching k =
+      both-false (caches k.row.mode) (caching-row k.row.mode mode caching k.fits.kind) (no-clash f.id w.host Access.Write who.host s.table.rows k.row none k.stands other)
+
+  removed-covers : (x : ℕ) (w : Who) (seq q : ℕ) (f : File) → d ≡ request x (Request.Remove w seq q f.id) → IsFresh s sender w seq → clash_with s f.id w.host ≡ None → (after : Table) → after.rows ≡ drop_rows_of f.id s.table.rows → (file : ℕ) (mode : Mode) (tag : Tag) (until : ℕ) → IsClaimed ps who ticket leased file tag → caches mode ≡ true → HasFitting who file mode tag until s.table → HasFitting who file mode tag until after
+  removed-covers x w seq q f e fresh none after rows file mode tag until claim caching k = step (file == f.id) refl (who.host == w.host) refl
+    where
+      step : (b : Bool) → (file == f.id) ≡ b → (own : Bool) → (who.host == w.host) ≡ own → HasFitting who file mode tag until after
+      step false differs own g = record {
+        row = k.row;
+        stands = ap (find_row file who.host) rows ∙ find-other-file-dropped f.id who.host file s.table.rows (λ same. both-false (file == f.id) (number-same file f.id same) differs) ∙ k.stands;
+        fits = k.fits;
+      }
+      step true same true g =
+          let one : file ≡ f.id = same-number file f.id same in
+          absurd (own-change x w seq f.id (Request.Remove w seq q f.id) e refl refl fresh refl refl (same-number who.host w.host g) tag (subst (λ n. IsClaimed ps who ticket leased n tag) one claim))
+      step true same false g =
+          let one : file ≡ f.id = same-number file f.id same in
+          absurd (other-change w f none (λ own. both-false (who.host == w.host) (number-same who.host w.host own) g) mode tag until caching (subst (λ n. HasFitting who n mode tag until s.table) one k))
+
+  pub removes-effect : (x : ℕ) (w : Who) (seq q : ℕ) (f : File) → d ≡ request x (Request.Remove w seq q f.id) → IsChanging s sender w seq f → clash_with s f.id w.host ≡ None → Effect ps s (commits w seq x (Request.Remove w seq q f.id) (removes s w q f)) who ticket leased
+  unfolding commits keeping keeping_with removes with_row with_files with_rows
+  removes-effect x w seq q f e changing none =
+      let r : Request = Request.Remove w seq q f.id in
+      let k : Decision = removes s w q f in
+      let t : ServerStep = commits w seq x r k in
+      record {
+        line = commit-line w seq x r k changing.fresh refl;
+        grows = λ tag drawn. drawn-rows s.phase s.table t.server.table tag refl refl drawn;
+        opened = refl;
+        longest = refl;
+        covers = λ file mode tag until claim caching cover. covered-tables s t.server s.phase who file mode tag until refl (λ p. removed-covers x w seq q f e changing.fresh none t.server.table refl file mode tag until claim caching) cover;
+        said = commit-said w seq x r k e refl refl changing.fresh refl (nothing-said t.server);
+      }
+
+  -- ---- a later incarnation begins
+
+  attached-line : (w : Who) → IsFrom sender w → host_row (with_row s.kept w.host (first_line w)) w.host ≡ first_line w
+  attached-line w from = own-line s.kept w.host (first_line w) (let few = from.possible in let all = c.lines in omega arith)
+
+  attached-covers : (x : ℕ) (w : Who) → d ≡ request x (Request.Attach w) → IsFrom sender w → (line_of s w).inc < w.inc → (after : Table) → after.rows ≡ drop_host w.host s.table.rows → (file : ℕ) (mode : Mode) (tag : Tag) (until : ℕ) → IsClaimed ps who ticket leased file tag → HasFitting who file mode tag until s.table → HasFitting who file mode tag until after
+  attached-covers x w e from later after rows file mode tag until claim k = step (who.host == w.host) refl
+    where
+      step : (own : Bool) → (who.host == w.host) ≡ own → HasFitting who file mode tag until after
+      step true g =
+          let own : who.host ≡ w.host = same-number who.host w.host g in
+          let kept : (host_row s.kept who.host).inc ≡ who.inc = kept-inc file tag claim in
+          let same : (host_row s.kept who.host).inc ≡ (host_row s.kept w.host).inc = ap (λ n. (host_row s.kept n).inc) own in
+          let sent : Asked ps who.host x (Request.Attach w) = subst (λ n. Asked ps n x (Request.Attach w)) (sym (own ∙ from.host)) (c.was_sent x (Request.Attach w) e) in
+          let past = (c.mail.asked x (Request.Attach w) w sent refl).inc in
+          absurd (omega arith)
+      step false g = record {
+        row = k.row;
+        stands = ap (find_row file who.host) rows ∙ find-other-host-dropped file w.host who.host s.table.rows (λ own. both-false (who.host == w.host) (number-same who.host w.host own) g) ∙ k.stands;
+        fits = k.fits;
+      }
+
+  pub attaches-effect : (x : ℕ) (w : Who) → d ≡ request x (Request.Attach w) → IsFrom sender w → (line_of s w).inc < w.inc → Effect ps s (attaches s w x) who ticket leased
+  unfolding attaches keeping_with with_row with_rows
+  attaches-effect x w e from later =
+      let t : ServerStep = attaches s w x in
+      let line : host_row t.server.kept w.host ≡ first_line w = attached-line w from in
+      record {
+        line = line-after s.kept w.host (first_line w) ps who.host
+            (λ own. line_attaches (let same : (host_row s.kept who.host).inc ≡ (host_row s.kept w.host).inc = ap (λ n. (host_row s.kept n).inc) own in omega arith) x w (subst (λ n. Asked ps n x (Request.Attach w)) (sym (own ∙ from.host)) (c.was_sent x (Request.Attach w) e)) refl)
+            (λ own. ap (host_row t.server.kept) own ∙ line);
+        grows = λ tag drawn. drawn-rows s.phase s.table t.server.table tag refl refl drawn;
+        opened = refl;
+        longest = refl;
+        covers = λ file mode tag until claim caching cover. covered-tables s t.server s.phase who file mode tag until refl (λ p. attached-covers x w e from later t.server.table refl file mode tag until claim) cover;
+        said = one-new ps s most sender next d c.was_sent c.no_null c.boots c.stood c.incs c.terms c.lines events who now xid attached ticket leased noticed c.mail c.knows c.changing c.idle
+            t.server (to_host w.host (reply x (Reply.Attach w.inc)))
+            (reply-new ps s most sender next d c.was_sent c.no_null c.boots c.stood c.incs c.terms c.lines events who now xid attached ticket leased noticed c.mail c.knows c.changing c.idle
+            t.server x w (Request.Attach w) (Reply.Attach w.inc) e refl from.host refl refl
+            (λ i is. ap (λ l. l.inc) line ∙ attach-inc w.inc i is)
+            (λ n bad. none-some n bad));
+      }
+    where
+      attach-inc : (a i : ℕ) → Reply.Attach a ≡ Reply.Attach i → a ≡ i
+      attach-inc a i is = cc
+
+  -- ---- a lease was given up
+
+  -- a tag that the running incarnation gave up is below each that it claims
+  below-claimed : (x : ℕ) (w : Who) (file : ℕ) (given claimed : Tag) → Asked ps who.host x (Request.Vacated w file given) → w.inc ≡ who.inc → IsClaimed ps who ticket leased file claimed → tag_below given claimed ≡ true
+  below-claimed x w file given claimed sent inc (inl held) = subst (λ t. tag_below given t ≡ true) held.2 (c.knows.tagged.past_held x w file given held.0 sent inc held.1)
+  below-claimed x w file given claimed sent inc (inr k) =
+      let t = k.2 in
+      subst (λ z. tag_below given z ≡ true) k.3 (c.knows.tagged.past_given x w file given t.x t.a k.0 k.1 sent inc t.told t.inc t.asked t.number t.on_file t.gives)
+
+  not-given-up : (row given claimed : Tag) → same_tag row given ≡ true → tag_below given claimed ≡ true → tag_below row claimed ≡ false → ⊥
+  not-given-up row given claimed same below goes_on = absurd (grind (arith, nat_tests))
+
+  vacated-stands : (x : ℕ) (w : Who) (f : ℕ) (given : Tag) → d ≡ request x (Request.Vacated w f given) → IsCurrent s sender w → (file : ℕ) (mode : Mode) (tag : Tag) (until : ℕ) → IsClaimed ps who ticket leased file tag → (k : HasFitting who file mode tag until s.table) → (o : Option Row) → find_row f w.host s.table.rows ≡ o → find_row file who.host (vacated_rows w f given s.table.rows o) ≡ Some k.row
+  vacated-stands x w f given e current file mode tag until claim k None found = k.stands
+  vacated-stands x w f given e current file mode tag until claim k (Some row) found = step (row.who.inc == w.inc && same_tag row.tag given) refl
+    where
+      mine : (row.who.inc == w.inc && same_tag row.tag given) ≡ true → file ≡ f → who.host ≡ w.host → ⊥
+      mine match on own =
+          let b = both-true _ _ match in
+          let stands : find_row f w.host s.table.rows ≡ Some k.row = ap (λ n. find_row n w.host s.table.rows) (sym on) ∙ ap (λ n. find_row file n s.table.rows) (sym own) ∙ k.stands in
+          let one : row ≡ k.row = some-same row k.row (sym found ∙ stands) in
+          let inc : w.inc ≡ who.inc = sym (same-number row.who.inc w.inc b.0) ∙ ap (λ r. r.who.inc) one ∙ ap (λ z. z.inc) k.fits.holder in
+          let sent : Asked ps who.host x (Request.Vacated w file given) = subst (λ n. Asked ps who.host x (Request.Vacated w n given)) (sym on) (subst (λ n. Asked ps n x (Request.Vacated w f given)) (sym (own ∙ current.from.host)) (c.was_sent x (Request.Vacated w f given) e)) in
+          not-given-up k.row.tag given tag (subst (λ r. same_tag r.tag given ≡ true) one b.1) (below-claimed x w file given tag sent inc claim) k.fits.goes_on
+
+      step : (b : Bool) → (row.who.inc == w.inc && same_tag row.tag given) ≡ b → find_row file who.host (if b then drop_row f w.host s.table.rows else s.table.rows) ≡ Some k.row
+      step false match = k.stands
+      step true match = find-other-dropped f w.host file who.host s.table.rows (λ on own. mine match on own) ∙ k.stands
+
+  pub vacates-effect : (x : ℕ) (w : Who) (f : ℕ) (given : Tag) → d ≡ request x (Request.Vacated w f given) → IsCurrent s sender w → Effect ps s (vacates s w f given) who ticket leased
+  unfolding vacates quiet with_table with_rows
+  vacates-effect x w f given e current =
+      let t : ServerStep = vacates s w f given in
+      record {
+        line = line_stays refl;
+        grows = λ tag drawn. drawn-rows s.phase s.table t.server.table tag refl refl drawn;
+        opened = refl;
+        longest = refl;
+        covers = λ file mode tag until claim caching cover. covered-tables s t.server s.phase who file mode tag until refl
+            (λ p k. record { row = k.row; stands = vacated-stands x w f given e current file mode tag until claim k (find_row f w.host s.table.rows) refl; fits = k.fits }) cover;
+        said = nothing-said t.server;
+      }
