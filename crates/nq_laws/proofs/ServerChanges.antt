@@ -59,11 +59,11 @@ pub record Hearing (ps : List Packet) (s : Server) (most sender : ℕ) (d : Data
   pub idle : attached ≡ false → (leased ≡ []) × ((t : Ticket) → ticket ≡ Some t → requested_file t.request ≡ None)
 
 -- a cover stays where it does in the table, and the boot that served last is the same
-covered-tables : (s t : Server) (phase : Phase) (who : Who) (file : ℕ) (mode : Mode) (tag : Tag) (until : ℕ) → t.kept.opened ≡ s.kept.opened → (phase ≡ serving → HasFitting who file mode tag until s.table → HasFitting who file mode tag until t.table) → IsCovered s phase who file mode tag until → IsCovered t phase who file mode tag until
+pub covered-tables : (s t : Server) (phase : Phase) (who : Who) (file : ℕ) (mode : Mode) (tag : Tag) (until : ℕ) → t.kept.opened ≡ s.kept.opened → (phase ≡ serving → HasFitting who file mode tag until s.table → HasFitting who file mode tag until t.table) → IsCovered s phase who file mode tag until → IsCovered t phase who file mode tag until
 covered-tables s t serving who file mode tag until same table c = table refl c
 covered-tables s t (recovering end heard last) who file mode tag until same table c = record { of_last_boot = c.of_last_boot ∙ sym same; fitting = c.fitting; waits = c.waits }
 
-same-cover-table : (s t : Server) (phase : Phase) (who : Who) (file : ℕ) (mode : Mode) (tag : Tag) (until : ℕ) → t.kept.opened ≡ s.kept.opened → t.table ≡ s.table → IsCovered s phase who file mode tag until → IsCovered t phase who file mode tag until
+pub same-cover-table : (s t : Server) (phase : Phase) (who : Who) (file : ℕ) (mode : Mode) (tag : Tag) (until : ℕ) → t.kept.opened ≡ s.kept.opened → t.table ≡ s.table → IsCovered s phase who file mode tag until → IsCovered t phase who file mode tag until
 same-cover-table s t phase who file mode tag until same table c = covered-tables s t phase who file mode tag until same (λ p k. subst (HasFitting who file mode tag until) (sym table) k) c
 
 -- a change of rows leaves the drawn tags

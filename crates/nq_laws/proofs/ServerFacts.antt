@@ -121,7 +121,7 @@ module _ (s : Server) (d : Datagram) (t : StandingFitsOf s) (f : IncsFitOf s) wh
 pub incs-receive : (s : Server) (sender next : ℕ) (d : Datagram) → StandingFitsOf s → IncsFitOf s → IncsFitOf (receive s sender next d).server
 incs-receive s sender next d t f = server-moves s sender next d IncsFit (incs-moves s d t f)
 
-fence-lines : (kept : Kept) (o : Option File) (host : ℕ) → host_row (fence kept o) host ≡ host_row kept host
+pub fence-lines : (kept : Kept) (o : Option File) (host : ℕ) → host_row (fence kept o) host ≡ host_row kept host
 unfolding with_files
 fence-lines kept None host = refl
 fence-lines kept (Some f) host = refl
