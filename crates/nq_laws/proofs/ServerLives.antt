@@ -15,7 +15,7 @@ use Rattle.nq_laws.proofs.Clocks.{runs-below, same-cover, moment-past}
 use Rattle.nq_laws.proofs.CoverFacts.{IsCoveredWhile, IsShort, IsTakeable, CoverFits}
 use Rattle.nq_laws.proofs.HostLine.{LineFits}
 use Rattle.nq_laws.proofs.RowChanges.{kept_if, find-kept, found-any, unique-filtered, has-key, find-other-dropped}
-use Rattle.nq_laws.proofs.Rows.{both-true, find-passes, found-row}
+use Rattle.nq_laws.proofs.Rows.{both-true, same-number, find-passes, found-row}
 use Rattle.nq_laws.proofs.ServerCases.{server-ticks}
 use Rattle.nq_laws.proofs.ServerChanges.{same-cover-table}
 use Rattle.nq_laws.proofs.ServerEffects.{drawn-more}
@@ -26,7 +26,7 @@ use Rattle.nq_laws.proofs.ServerTables.{BootsFit, BootsFitOf, ServesBoot, Recove
 use Rattle.nq_laws.proofs.TableFits.{TableFits}
 use Rattle.nq_laws.proofs.TagFacts.{IsDrawn, TagsFit}
 use Rattle.nq_model.specs.Client.{Lease, Notice, Ticket, lease_on}
-use Rattle.nq_model.specs.Kept.{Kept, host_row, find_file, with_files}
+use Rattle.nq_model.specs.Kept.{File, Kept, host_row, find_file, with_files}
 use Rattle.nq_model.specs.LeaseInterval.{IsFitting, HasFitting, OutlivedBy, IsCovered, cover_end, server_time_when}
 use Rattle.nq_model.specs.Message.{Packet}
 use Rattle.nq_model.specs.Profile.{skew, write_slack}
@@ -75,6 +75,12 @@ covered-boot s serving who file mode tag until boots stood c =
     let k = stood.fits file who.host c.row c.stands in
     between s.table.boot c.row.since tag c.row.tag k.since_boot k.tag_boot c.fits.began c.fits.goes_on ∙ boots.table_boot ∙ sym boots.opened_now
 covered-boot s (recovering end heard last) who file mode tag until boots stood c = c.of_last_boot
+
+-- the kept terms of a fenced file's server are the same
+fence-terms : (kept : Kept) (o : Option File) → ((fence kept o).opened ≡ kept.opened) × ((fence kept o).longest ≡ kept.longest)
+unfolding with_files
+fence-terms kept None = (refl, refl)
+fence-terms kept (Some f) = (refl, refl)
 
 -- ---- a tick
 
@@ -144,5 +150,142 @@ module _ (s : Server) (hosts most : ℕ) (events : List Event) (who : Who) (now 
       subst (λ n. IsDrawn (standing_in n t.table).boot (standing_in n t.table).drawn tag) (sym q)
       (drawn-more s.table.boot s.table.drawn t.table.boot t.table.drawn boot (omega arith) tag (subst (λ n. IsDrawn (standing_in n s.table).boot (standing_in n s.table).drawn tag) p k))
 
-  ticks : ServerStep → Type 0
-  ticks t = Lives s t.server Event.ServerTick events who now
+  -- the recovery goes on
+  waits-lives : (until heard : ℕ) (last : Table) → s.phase ≡ recovering until heard last → Lives s (quiet (at_time s (s.now + 1))).server Event.ServerTick events who now
+  unfolding quiet at_time
+  waits-lives until heard last p = record {
+    line = refl;
+    grows = λ tag k. k;
+    short = λ tag term k short. short;
+    covers = λ file mode tag asked term caching past runs short c.
+        subst (λ n. IsCovered (quiet (at_time s (s.now + 1))).server s.phase who file mode tag n) (sym (same-end asked term past))
+        (same-cover-table s (quiet (at_time s (s.now + 1))).server s.phase who file mode tag (cover_end who.host asked term events) refl refl c);
+  }
+
+  -- the recovery ends: no lease runs any more, and no tag of this boot was drawn
+  earlier-boot : (boot opened drawn : ℕ) (tag : Tag) → opened < boot → IsDrawn opened drawn tag → tag.boot ≡ boot → ⊥
+  earlier-boot boot opened drawn tag before (inl earlier) same = absurd (omega arith)
+  earlier-boot boot opened drawn tag before (inr of_last) same = let k = of_last.0 in absurd (omega arith)
+
+  opens-lives : (until heard : ℕ) (last : Table) → s.phase ≡ recovering until heard last → until ≤ s.now + 1 → Lives s (opens (at_time s (s.now + 1)) until heard).server Event.ServerTick events who now
+  unfolding opens at_time
+  opens-lives until heard last p over =
+      let r : RecoversBoot s.kept.boot s.kept.opened s.table last = subst (λ n. BootsFit s.kept.boot s.kept.opened n s.table) p boots in
+      record {
+        line = refl;
+        grows = λ tag k. grown tag (of-last tag k r);
+        short = λ tag term k short same. absurd (earlier-boot s.kept.boot s.kept.opened last.drawn tag r.opened_before (of-last tag k r) same);
+        covers = λ file mode tag asked term caching past runs short c.
+            let o : OutlivedBy who file mode tag (cover_end who.host asked term events) s.kept.opened until last = subst (λ n. IsCovered s n who file mode tag (cover_end who.host asked term events)) p c in
+            let later : s.now + 1 < cover_end who.host asked term events = live tag asked term past runs short o.of_last_boot in
+            let ends = o.waits in
+            absurd (omega arith);
+      }
+    where
+      of-last : (tag : Tag) → IsDrawn (standing s).boot (standing s).drawn tag → RecoversBoot s.kept.boot s.kept.opened s.table last → IsDrawn s.kept.opened last.drawn tag
+      of-last tag k r = subst (λ n. IsDrawn n last.drawn tag) r.last_boot (subst (λ n. IsDrawn (standing_in n s.table).boot (standing_in n s.table).drawn tag) p k)
+
+      grown : (tag : Tag) → IsDrawn s.kept.opened last.drawn tag → IsDrawn s.table.boot s.table.drawn tag
+      grown tag k =
+          let r : RecoversBoot s.kept.boot s.kept.opened s.table last = subst (λ n. BootsFit s.kept.boot s.kept.opened n s.table) p boots in
+          earlier k r.opened_before r.table_boot
+        where
+          earlier : IsDrawn s.kept.opened last.drawn tag → s.kept.opened < s.kept.boot → s.table.boot ≡ s.kept.boot → IsDrawn s.table.boot s.table.drawn tag
+          earlier (inl before) a b = inl (omega arith)
+          earlier (inr same) a b = let e = same.0 in inl (omega arith)
+
+  -- no writing row ends
+  ends-reading-lives : s.phase ≡ serving → Lives s (quiet (with_table (at_time s (s.now + 1)) (with_rows s.table (end_reading (s.now + 1) s.table.rows)))).server Event.ServerTick events who now
+  unfolding quiet at_time with_table with_rows
+  ends-reading-lives p =
+      let t : Server = (quiet (with_table (at_time s (s.now + 1)) (with_rows s.table (end_reading (s.now + 1) s.table.rows)))).server in
+      record {
+        line = refl;
+        grows = drawn-same t p p refl refl;
+        short = λ tag term k short. short;
+        covers = serves-on t p p (stays-reading p);
+      }
+
+  -- a writing row ends in silence
+  ends-writing-lives : (due : Row) → s.phase ≡ serving → find (is_due (s.now + 1)) (end_reading (s.now + 1) s.table.rows) ≡ Some due → Lives s (ends_writing (at_time s (s.now + 1)) (end_reading (s.now + 1) s.table.rows) due).server Event.ServerTick events who now
+  unfolding ends_writing at_time keeping_with with_rows
+  ends-writing-lives due p ends =
+      let t : Server = (ends_writing (at_time s (s.now + 1)) (end_reading (s.now + 1) s.table.rows) due).server in
+      let same = fence-terms s.kept (find_file due.file s.kept.files) in
+      record {
+        line = fence-lines s.kept (find_file due.file s.kept.files) who.host;
+        grows = drawn-same t p p refl refl;
+        short = λ tag term k short on. let few = short (on ∙ same.0) in let long = same.1 in omega arith;
+        covers = serves-on t p p (stays-writing p due ends);
+      }
+
+  tick-lives : Lives s (tick s (s.now + 1)).server Event.ServerTick events who now
+  tick-lives = server-ticks s (s.now + 1) (λ t. Lives s t.server Event.ServerTick events who now) (record {
+    waits = λ until heard last p goes_on. waits-lives until heard last p;
+    opening = λ until heard last p over. opens-lives until heard last p over;
+    ends_reading = λ p none. ends-reading-lives p;
+    ending_writing = λ due p ends. ends-writing-lives due p ends;
+  })
+
+  -- a tick keeps what a client and the server know of each other
+  pub knows-tick : (attached : Bool) (ticket : Option Ticket) (leases : List Lease) (notices : List Notice) (ps : List Packet) → Timely s events who now ticket leases → Knows NoneHeard NoneGiven (host_row s.kept who.host) s events who now attached ticket leases notices ps → Knows NoneHeard NoneGiven (host_row (tick s (s.now + 1)).server.kept who.host) (tick s (s.now + 1)).server (Event.ServerTick ∷ events) who now attached ticket leases notices ps
+  knows-tick attached ticket leases notices ps times h = lives-knows s (tick s (s.now + 1)).server Event.ServerTick events who now attached ticket leases notices ps times tick-lives h
+
+-- ---- a crash
+
+-- some boot served
+pub record HasServed (kept : Kept) : Type 0 where
+  pub opened : 0 < kept.opened
+  pub booted : 0 < kept.boot
+
+booted-kept : (kept : Kept) (longest : ℕ) → HasServed kept → booted kept longest ≡ record kept { boot = kept.boot + 1 }
+booted-kept kept longest served = by (kept.opened == 0) refl
+  where
+    by : (b : Bool) → (kept.opened == 0) ≡ b → (if b then record kept { boot = kept.boot + 1; opened = kept.boot + 1; longest = longest } else record kept { boot = kept.boot + 1 }) ≡ record kept { boot = kept.boot + 1 }
+    by true e = let some = served.opened in let none : kept.opened ≡ 0 = same-number kept.opened 0 e in absurd (omega arith)
+    by false e = refl
+
+booted-phase : (opened longest now : ℕ) (last : Table) → 0 < opened → boot_phase opened longest now last ≡ recovering (now + longest + (skew + write_slack)) now last
+booted-phase opened longest now last served = by (opened == 0) refl
+  where
+    by : (b : Bool) → (opened == 0) ≡ b → (if b then serving else recovering (now + longest + (skew + write_slack)) now last) ≡ recovering (now + longest + (skew + write_slack)) now last
+    by true e = let none : opened ≡ 0 = same-number opened 0 e in absurd (omega arith)
+    by false e = refl
+
+module _ (s : Server) (longest : ℕ) (events : List Event) (who : Who) (now : ℕ) (boots : BootsFitOf s) (stood : StandingFitsOf s) (served : HasServed s.kept) (client : now ≡ ticks_of who.host events) (clock : s.now ≡ server_ticks events) where
+  -- what is covered stands in the standing table
+  standing-fitting : (phase : Phase) (file : ℕ) (mode : Mode) (tag : Tag) (until : ℕ) → IsCovered s phase who file mode tag until → HasFitting who file mode tag until (standing_in phase s.table)
+  standing-fitting serving file mode tag until c = c
+  standing-fitting (recovering end heard last) file mode tag until c = c.fitting
+
+  outlived : (t : Server) (file : ℕ) (mode : Mode) (tag : Tag) (until : ℕ) → t.phase ≡ recovering (s.now + s.kept.longest + (skew + write_slack)) s.now (standing s) → t.kept.opened ≡ s.kept.opened → until ≤ s.now + s.kept.longest + (skew + write_slack) → IsCovered s s.phase who file mode tag until → IsCovered t t.phase who file mode tag until
+  outlived t file mode tag until p same waits c =
+      subst (λ n. IsCovered t n who file mode tag until) (sym p)
+      (record {
+        of_last_boot = covered-boot s s.phase who file mode tag until boots stood c ∙ sym same;
+        fitting = standing-fitting s.phase file mode tag until c;
+        waits = waits;
+      })
+
+  crash-lives : Lives s (crash s longest).server (Event.Crash longest) events who now
+  unfolding crash boot
+  crash-lives =
+      let t : Server = (crash s longest).server in
+      let kept : t.kept ≡ record s.kept { boot = s.kept.boot + 1 } = booted-kept s.kept longest served in
+      let p : t.phase ≡ recovering (s.now + s.kept.longest + (skew + write_slack)) s.now (standing s) = booted-phase s.kept.opened s.kept.longest s.now (standing s) served.opened in
+      let same : t.kept.opened ≡ s.kept.opened = ap (λ k. k.opened) kept in
+      let terms : t.kept.longest ≡ s.kept.longest = ap (λ k. k.longest) kept in
+      record {
+        line = ap (λ k. host_row k who.host) kept;
+        grows = λ tag k. subst (λ n. IsDrawn (standing_in n t.table).boot (standing_in n t.table).drawn tag) (sym p) k;
+        short = λ tag term k short on. let few = short (on ∙ same) in omega arith;
+        covers = λ file mode tag asked term caching past runs short c.
+            let few = short (covered-boot s s.phase who file mode tag (cover_end who.host asked term events) boots stood c) in
+            let before = moment-past who.host asked events (omega arith) in
+            subst (λ n. IsCovered t t.phase who file mode tag n) (sym (same-cover who.host asked term (Event.Crash longest) events (omega arith)))
+            (outlived t file mode tag (cover_end who.host asked term events) p same (omega arith) c);
+      }
+
+  -- a crash keeps what a client and the server know of each other
+  pub knows-crash : (attached : Bool) (ticket : Option Ticket) (leases : List Lease) (notices : List Notice) (ps : List Packet) → Timely s events who now ticket leases → Knows NoneHeard NoneGiven (host_row s.kept who.host) s events who now attached ticket leases notices ps → Knows NoneHeard NoneGiven (host_row (crash s longest).server.kept who.host) (crash s longest).server (Event.Crash longest ∷ events) who now attached ticket leases notices ps
+  knows-crash attached ticket leases notices ps times h = lives-knows s (crash s longest).server (Event.Crash longest) events who now attached ticket leases notices ps times crash-lives h
