@@ -203,11 +203,11 @@ reply-knows host c ps number xid r None is sent a h = tt
 reply-knows {line = line} {s = s} {events = events} host c ps number xid r (Some t) is sent a h =
     choice (KnowsIf line s events host ps) (is_reply_to c xid r t) (Some (goes_on (replied (begun c) number t r))) None
     (λ e.
-        let k = both-true _ _ e in
-        let l = both-true _ _ k.0 in
-        let told : Told ps c.who.host (reply xid r) = subst (λ n. Told ps n (reply xid r)) (sym a.here) sent in
-        knows-ends host (goes_on (replied (begun c) number t r)) a.here
-        (reply-keeps (knowing-closed NoneHeard (GivenTo ps c.who t) line s events c.who ps) c number t r (replying-knows host c ps xid r t is k.1 (same-number _ _ l.0) (same-number _ _ l.1) told a h)))
+    let k = both-true _ _ e in
+    let l = both-true _ _ k.0 in
+    let told : Told ps c.who.host (reply xid r) = subst (λ n. Told ps n (reply xid r)) (sym a.here) sent in
+    knows-ends host (goes_on (replied (begun c) number t r)) a.here
+    (reply-keeps (knowing-closed NoneHeard (GivenTo ps c.who t) line s events c.who ps) c number t r (replying-knows host c ps xid r t is k.1 (same-number _ _ l.0) (same-number _ _ l.1) told a h)))
     (λ e. tt)
 
 -- ---- a notice
@@ -224,9 +224,9 @@ notice-knows : {line : HostRow} {s : Server} {events : List Event} (host : ℕ) 
 notice-knows {line = line} {s = s} {events = events} host c ps x w file tag sent a h =
     choice (KnowsIf line s events host ps) (same_who w c.who && not (holds_later tag (lease_on file c.leases))) (Some (goes_on (evicted (cancels (begun c) file) file tag))) None
     (λ e.
-        knows-ends host (goes_on (evicted (cancels (begun c) file) file tag)) a.here
-        (notice-keeps (knowing-closed (IsNoticed file tag) NoneGiven line s events c.who ps) c file tag (refl, refl) (λ g at bad. bad) a.alone
-        (record { going = begun-going host c ps a; knows = knows-begins (heard (same-number _ _ (both-true _ _ (both-true _ _ e).0).1)) (λ f g at bad. absurd bad) h })))
+    knows-ends host (goes_on (evicted (cancels (begun c) file) file tag)) a.here
+    (notice-keeps (knowing-closed (IsNoticed file tag) NoneGiven line s events c.who ps) c file tag (refl, refl) (λ g at bad. bad) a.alone
+    (record { going = begun-going host c ps a; knows = knows-begins (heard (same-number _ _ (both-true _ _ (both-true _ _ e).0).1)) (λ f g at bad. absurd bad) h })))
     (λ e. tt)
   where
     told : Told ps c.who.host (call x (Request.Evicted w file tag))

@@ -35,7 +35,7 @@ pub record Known (w : World) (events : List Event) : Type 0 where
   pub clients : (host : ℕ) (c : Client) → slice_get w.clients host ≡ Some c → KnowsOf (host_row w.server.kept host) w.server events c w.packets
 
 -- the clock of a client shows how often it ticked
-at-clock : (w : World) (events : List Event) (host : ℕ) (c : Client) → slice_get w.clients host ≡ Some c → Holds w → Clocked w events → c.now ≡ ticks_of c.who.host events
+pub at-clock : (w : World) (events : List Event) (host : ℕ) (c : Client) → slice_get w.clients host ≡ Some c → Holds w → Clocked w events → c.now ≡ ticks_of c.who.host events
 at-clock w events host c is held clocked = clocked.clients host c is ∙ ap (λ n. ticks_of n events) (sym (held.clients host c is).here)
 
 -- an event that does nothing
@@ -92,7 +92,7 @@ pub record Seen (w : World) (t : ServerStep) : Type 0 where
   pub unrowed : (host : ℕ) (c : Client) → slice_get w.clients host ≡ Some c → c.attached ≡ false → (file : ℕ) (row : Row) → find_row file c.who.host w.server.table.rows ≡ Some row → row.who.inc ≡ c.who.inc → ⊥
 
 -- when a client asked
-timely : (w : World) (events : List Event) (host : ℕ) (c : Client) → slice_get w.clients host ≡ Some c → Holds w → Clocked w events → Timely w.server events c.who c.now c.ticket c.leases
+pub timely : (w : World) (events : List Event) (host : ℕ) (c : Client) → slice_get w.clients host ≡ Some c → Holds w → Clocked w events → Timely w.server events c.who c.now c.ticket c.leases
 timely w events host c is held clocked =
     let a = (held.clients host c is).alone.asking in
     record {
@@ -150,7 +150,7 @@ known-covers w events held h = record { held = held-covered w events held h; tak
 
 -- ---- the start
 
-first-there : (term first count host : ℕ) (c : Client) → slice_get (first_clients term first count) host ≡ Some c → host < count
+pub first-there : (term first count host : ℕ) (c : Client) → slice_get (first_clients term first count) host ≡ Some c → host < count
 first-there term first zero host c e = none-some c e
 first-there term first (suc count) zero c e = omega arith
 first-there term first (suc count) (suc host) c e = let h = first-there term (first + 1) count host c e in omega arith

@@ -1,11 +1,10 @@
 -- What a decision, ATTACH and VACATED do to the server, as one client sees it.
-use Rattle.std.proofs.Common.{◌≡◌, ◌≢◌, ◌<◌, ◌≤◌, ◌⊎◌, ℕ, ◌+◌, Bool, true, false, ◌==◌, ◌&&◌, List, [], ◌∷◌, ◌++◌, Option, Some, None, if◌then◌else◌, length, max, refl, sym, subst, ap, ◌∙◌, arith, inl, inr}
+use Rattle.std.proofs.Common.{◌≡◌, ◌≢◌, ◌<◌, ◌≤◌, ℕ, ◌+◌, Bool, true, false, ◌==◌, ◌&&◌, List, [], ◌∷◌, Option, Some, None, if◌then◌else◌, length, max, refl, sym, subst, ap, ◌∙◌, arith, inl, inr}
 use Rattle.std.specs.Option.{unwrap_or}
 use Rattle.std.specs.Prelude.{slice_get}
 use Rattle.std.proofs.lemmas.Bool.Decides.{nat_tests}
 use Rattle.nq_base.specs.declared.Access.{Access}
 use Rattle.nq_base.specs.declared.Event.{Event}
-use Rattle.nq_base.specs.declared.HostRow.{HostRow}
 use Rattle.nq_base.specs.declared.Mode.{Mode}
 use Rattle.nq_base.specs.declared.PushBase.{PushBase}
 use Rattle.nq_base.specs.declared.Reply.{Reply}
@@ -14,17 +13,16 @@ use Rattle.nq_base.specs.declared.Row.{Row}
 use Rattle.nq_base.specs.declared.Tag.{Tag}
 use Rattle.nq_base.specs.declared.Verdict.{Verdict}
 use Rattle.nq_base.specs.declared.Who.{Who}
-use Rattle.nq_laws.proofs.ClientFacts.{seq_of, changes_file}
+use Rattle.nq_laws.proofs.ClientFacts.{changes_file}
 use Rattle.nq_laws.proofs.ClientKnows.{Knows}
 use Rattle.nq_laws.proofs.ClientMoves.{some-same, none-some}
-use Rattle.nq_laws.proofs.CoverFacts.{IsTakeable}
-use Rattle.nq_laws.proofs.Covers.{GoesOnAt, same-goes-on, marked-goes-on, heard-goes-on, fitting-goes-on}
+use Rattle.nq_laws.proofs.Covers.{GoesOnAt, marked-goes-on, heard-goes-on}
 use Rattle.nq_laws.proofs.HostLine.{IsSettled}
 use Rattle.nq_laws.proofs.KeptChanges.{own-line}
 use Rattle.nq_laws.proofs.Packets.{In, Asked, Mail}
 use Rattle.nq_laws.proofs.RowChanges.{no-clash, find-other-dropped, find-other-host-dropped, find-other-file-dropped}
 use Rattle.nq_laws.proofs.Rows.{both-true, same-number, number-same, found-row}
-use Rattle.nq_laws.proofs.ServerEffects.{same-seq, verdict-no-attach, line-after, drawn-more, standing-serving, own-fits, claimed-kept, none-new, one-new, both-new, rows-new, reply-new, goes-effect, all-go-on, way-rows}
+use Rattle.nq_laws.proofs.ServerEffects.{same-seq, verdict-no-attach, line-after, drawn-more, claimed-kept, one-new, both-new, rows-new, reply-new, goes-effect, all-go-on, way-rows}
 use Rattle.nq_laws.proofs.ServerFacts.{IncsFitOf}
 use Rattle.nq_laws.proofs.ServerKnows.{NoneHeard, NoneGiven, IsNew, LineMoves, line_stays, line_decides, line_attaches, IsClaimed, Effect}
 use Rattle.nq_laws.proofs.ServerMoves.{first_line}
@@ -33,16 +31,16 @@ use Rattle.nq_laws.proofs.ServerOutcomes.{sequence_of, line_of, IsFrom, IsCurren
 use Rattle.nq_laws.proofs.ServerSays.{verdict-inc, verdict-grant}
 use Rattle.nq_laws.proofs.ServerTables.{BootsFitOf, StandingFitsOf}
 use Rattle.nq_laws.proofs.TagFacts.{IsDrawn}
-use Rattle.nq_model.specs.Ask.{conflicts, marked}
+use Rattle.nq_model.specs.Ask.{marked}
 use Rattle.nq_model.specs.Client.{Lease, Notice, Ticket, lease_on}
 use Rattle.nq_model.specs.Decide.{Decision, decides, creates, writes_through, stores, wrote, stores_recovering, resizes, removes, puts_off, in_the_way, verdict_reply, commits, row_after}
-use Rattle.nq_model.specs.Kept.{File, Kept, fresh_row, host_row, replace_file, with_row, with_files, with_new_file}
+use Rattle.nq_model.specs.Kept.{File, Kept, fresh_row, host_row, with_row, with_files, with_new_file}
 use Rattle.nq_model.specs.LeaseInterval.{is_at_least, HasFitting, IsCovered, requested_file}
 use Rattle.nq_model.specs.Message.{Packet, reply, asker, Datagram, request}
 use Rattle.nq_model.specs.Profile.{write_slack, most_hosts}
-use Rattle.nq_model.specs.Server.{Phase, serving, recovering, Server, ServerStep, standing, standing_in, to_host, notices, quiet, after_notices, keeping, keeping_with, with_table}
-use Rattle.nq_model.specs.ServerStep.{attaches, vacates, vacated_rows, is_attach}
-use Rattle.nq_model.specs.Table.{Table, caches, is_writing, same_tag, tag_below, find_row, put_row, drop_row, drop_host, drop_rows_of, with_rows}
+use Rattle.nq_model.specs.Server.{Phase, serving, recovering, Server, ServerStep, standing_in, to_host, quiet, after_notices, keeping, keeping_with, with_table}
+use Rattle.nq_model.specs.ServerStep.{attaches, vacates, vacated_rows}
+use Rattle.nq_model.specs.Table.{Table, caches, same_tag, tag_below, find_row, drop_row, drop_host, drop_rows_of, with_rows}
 
 -- what is known of the server, of one client and of the packets when the server hears a datagram
 pub record Hearing (ps : List Packet) (s : Server) (most sender : ℕ) (d : Datagram) (events : List Event) (who : Who) (now xid : ℕ) (attached : Bool) (ticket : Option Ticket) (leased : List Lease) (noticed : List Notice) : Type 0 where

@@ -1,10 +1,9 @@
 -- Ticks of the server's clock and crashes keep what a client and the server know of each other: a lease that runs by its
 -- holder's clock stays covered.
-use Rattle.std.proofs.Common.{◌≡◌, ◌≢◌, ◌<◌, ◌≤◌, ◌⊎◌, ℕ, ◌+◌, ◌-◌, ◌==◌, ◌&&◌, Bool, true, false, not, nat_le, nat_lt, List, [], ◌∷◌, ◌++◌, Option, Some, None, if◌then◌else◌, max, refl, sym, subst, ap, ◌∙◌, arith, inl, inr}
+use Rattle.std.proofs.Common.{◌≡◌, ◌≢◌, ◌<◌, ◌≤◌, ℕ, ◌+◌, ◌-◌, ◌==◌, ◌&&◌, Bool, true, false, not, nat_le, List, ◌∷◌, Option, Some, None, if◌then◌else◌, max, refl, sym, subst, ap, ◌∙◌, arith, inl, inr}
 use Rattle.std.specs.List.{find}
 use Rattle.std.proofs.lemmas.Bool.Decides.{nat_tests}
 use Rattle.nq_base.specs.declared.Event.{Event}
-use Rattle.nq_base.specs.declared.Grant.{Grant}
 use Rattle.nq_base.specs.declared.Mode.{Mode}
 use Rattle.nq_base.specs.declared.Row.{Row}
 use Rattle.nq_base.specs.declared.Tag.{Tag}
@@ -12,28 +11,28 @@ use Rattle.nq_base.specs.declared.Who.{Who}
 use Rattle.nq_laws.proofs.ClientKnows.{Knows}
 use Rattle.nq_laws.proofs.ClientMoves.{some-same}
 use Rattle.nq_laws.proofs.Clocks.{runs-below, same-cover, moment-past}
-use Rattle.nq_laws.proofs.CoverFacts.{IsCoveredWhile, IsShort, IsTakeable, CoverFits}
+use Rattle.nq_laws.proofs.CoverFacts.{IsShort}
 use Rattle.nq_laws.proofs.HostLine.{LineFits}
-use Rattle.nq_laws.proofs.RowChanges.{kept_if, find-kept, found-any, unique-filtered, has-key, find-other-dropped}
-use Rattle.nq_laws.proofs.Rows.{both-true, same-number, find-passes, found-row}
+use Rattle.nq_laws.proofs.RowChanges.{kept_if, find-kept, found-any, unique-filtered, find-other-dropped}
+use Rattle.nq_laws.proofs.Rows.{both-true, same-number, find-passes}
 use Rattle.nq_laws.proofs.ServerCases.{server-ticks}
 use Rattle.nq_laws.proofs.ServerChanges.{same-cover-table}
 use Rattle.nq_laws.proofs.ServerEffects.{drawn-more}
 use Rattle.nq_laws.proofs.ServerFacts.{fence-lines}
 use Rattle.nq_laws.proofs.ServerKnows.{NoneHeard, NoneGiven, Timely}
 use Rattle.nq_laws.proofs.ServerNumbers.{TermsFitOf}
-use Rattle.nq_laws.proofs.ServerTables.{BootsFit, BootsFitOf, ServesBoot, RecoversBoot, StandingFits, StandingFitsOf}
+use Rattle.nq_laws.proofs.ServerTables.{BootsFit, BootsFitOf, RecoversBoot, StandingFits, StandingFitsOf}
 use Rattle.nq_laws.proofs.TableFits.{TableFits}
-use Rattle.nq_laws.proofs.TagFacts.{IsDrawn, TagsFit}
-use Rattle.nq_model.specs.Client.{Lease, Notice, Ticket, lease_on}
+use Rattle.nq_laws.proofs.TagFacts.{IsDrawn}
+use Rattle.nq_model.specs.Client.{Lease, Notice, Ticket}
 use Rattle.nq_model.specs.Kept.{File, Kept, host_row, find_file, with_files}
-use Rattle.nq_model.specs.LeaseInterval.{IsFitting, HasFitting, OutlivedBy, IsCovered, cover_end, server_time_when}
+use Rattle.nq_model.specs.LeaseInterval.{HasFitting, OutlivedBy, IsCovered, cover_end}
 use Rattle.nq_model.specs.Message.{Packet}
 use Rattle.nq_model.specs.Profile.{skew, write_slack}
-use Rattle.nq_model.specs.Server.{Phase, serving, recovering, Server, ServerStep, standing, standing_in, quiet, keeping_with, with_table}
+use Rattle.nq_model.specs.Server.{Phase, serving, recovering, Server, standing, standing_in, quiet, keeping_with, with_table}
 use Rattle.nq_model.specs.ServerStep.{is_over, is_due, end_reading, fence, at_time, opens, ends_writing, tick, boot, booted, boot_phase, crash}
 use Rattle.nq_model.specs.Skew.{server_ticks, ticks_of, IsWithinSkew}
-use Rattle.nq_model.specs.Table.{Table, caches, is_writing, tag_below, is_row_of, find_row, drop_row, with_rows, empty_table}
+use Rattle.nq_model.specs.Table.{Table, caches, is_writing, tag_below, find_row, drop_row, with_rows}
 
 -- what a step of the server alone does to what runs by a client's clock
 pub record Lives (s t : Server) (e : Event) (events : List Event) (who : Who) (now : ℕ) : Type 0 where

@@ -1,13 +1,12 @@
 -- A host's running incarnation that is not attached has no row in the lease table, after each step of the server.
-use Rattle.std.proofs.Common.{◌≡◌, ◌⊎◌, ℕ, ◌+◌, ◌==◌, Bool, true, false, not, List, [], Option, Some, None, if◌then◌else◌, refl, sym, subst, ap, ◌∙◌, inl, inr}
+use Rattle.std.proofs.Common.{◌≡◌, ◌⊎◌, ℕ, ◌==◌, Bool, true, false, not, List, Option, Some, refl, sym, subst, ap, ◌∙◌, inl, inr}
 use Rattle.nq_base.specs.declared.Access.{Access}
 use Rattle.nq_base.specs.declared.Event.{Event}
 use Rattle.nq_base.specs.declared.Request.{Request}
 use Rattle.nq_base.specs.declared.Row.{Row}
-use Rattle.nq_base.specs.declared.Tag.{Tag}
 use Rattle.nq_base.specs.declared.Want.{Want}
 use Rattle.nq_base.specs.declared.Who.{Who}
-use Rattle.nq_laws.proofs.AskCases.{own_in, with_marked, with_waiter, IsGranted, shares_again, begins_sharing, begins_caching, renews_row}
+use Rattle.nq_laws.proofs.AskCases.{own_in, with_marked, IsGranted, shares_again, begins_sharing, begins_caching, renews_row}
 use Rattle.nq_laws.proofs.ClientMoves.{none-some}
 use Rattle.nq_laws.proofs.Packets.{Asked}
 use Rattle.nq_laws.proofs.RowChanges.{HasUniqueKeys, of-key, found-put, found-kept, found-vacated, found-marked, mark-is, unique-filtered}
@@ -15,7 +14,7 @@ use Rattle.nq_laws.proofs.Rows.{found-row}
 use Rattle.nq_laws.proofs.ServerCases.{server-hears, server-ticks}
 use Rattle.nq_laws.proofs.ServerChanges.{Hearing}
 use Rattle.nq_laws.proofs.ServerOutcomes.{wanted_by, ServerCases, IsAsking}
-use Rattle.nq_laws.proofs.ServerTables.{StandingFits, StandingFitsOf, BootsFitOf, NoneRecovering, NoneRecoveringOf, none-of-boots}
+use Rattle.nq_laws.proofs.ServerTables.{StandingFits, StandingFitsOf, NoneRecovering, none-of-boots}
 use Rattle.nq_laws.proofs.TableFits.{TableFits}
 use Rattle.nq_model.specs.Ask.{Question, marked, sharing_row, caching_row, shared_again, renewed_row, term_of}
 use Rattle.nq_model.specs.Client.{Lease, Notice, Ticket}
@@ -23,7 +22,7 @@ use Rattle.nq_model.specs.Decide.{decides, creates, writes_through, stores, wrot
 use Rattle.nq_model.specs.Kept.{File}
 use Rattle.nq_model.specs.LeaseInterval.{requested_file}
 use Rattle.nq_model.specs.Message.{Packet, asker, Datagram, request}
-use Rattle.nq_model.specs.Server.{Phase, serving, recovering, Server, ServerStep, quiet, drops, says, after_notices, keeping, keeping_with, with_table}
+use Rattle.nq_model.specs.Server.{Phase, serving, recovering, Server, quiet, drops, says, after_notices, keeping, keeping_with, with_table}
 use Rattle.nq_model.specs.ServerStep.{attaches, vacates, tells_later, serves, leases, to_read, access_of, receive, is_over, end_reading, at_time, opens, ends_writing, tick, boot, crash}
 use Rattle.nq_model.specs.Table.{Table, is_row_of, find_row, put_row, drop_row, with_rows, after_draw, empty_table}
 

@@ -295,7 +295,7 @@ server-holds w t said h = record {
   from p (inr new) = is-sent p (said p new)
 
 -- a packet to the server is a call of the host that sent it
-to-server : (ps : List Packet) (p : Packet) → IsSent p → p.to ≡ Party.Server → In ps p → (xid : ℕ) (r : Request) → datagram_of p.message ≡ request xid r → Asked ps (sending_host p.sender) xid r × (is_some (asker r) ≡ true)
+pub to-server : (ps : List Packet) (p : Packet) → IsSent p → p.to ≡ Party.Server → In ps p → (xid : ℕ) (r : Request) → datagram_of p.message ≡ request xid r → Asked ps (sending_host p.sender) xid r × (is_some (asker r) ≡ true)
 to-server ps p (by_host host x s w e by) to i xid r d =
     let m : call x s ≡ call xid r = ap (λ q. q.message) (sym e) ∙ request-sent p.message xid r d in
     let c = call-same x xid s r m in

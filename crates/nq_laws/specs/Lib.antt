@@ -1,4 +1,5 @@
 pub mod CachedInRuns
+pub mod LeaseIntervalInRuns
 pub mod RecoveryWaits
 pub mod RowsApart
 pub mod ServerAlone

@@ -3,7 +3,9 @@
 #![tactic(auto)]
 
 mod cached;
+mod intervals;
 mod server;
 
 pub use cached::cached_at_once_in_every_run;
+pub use intervals::{lease_interval_in_every_run, lease_interval_is_met};
 pub use server::{recovery_waits, rows_stand_apart};
