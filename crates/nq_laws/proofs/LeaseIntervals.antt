@@ -10,11 +10,11 @@ use Rattle.nq_laws.proofs.ClientFacts.{fits_job}
 use Rattle.nq_laws.proofs.ClientMoves.{some-same, none-some}
 use Rattle.nq_laws.proofs.ClientSteps.{KnowsOf}
 use Rattle.nq_laws.proofs.Clocks.{within-before}
+use Rattle.nq_laws.proofs.Hearing.{Hearing}
 use Rattle.nq_laws.proofs.KnownWorlds.{Known, at-clock, timely, to-client-known, call-known, tick-known, restart-known, lost-known, server-known, known-covers, start-known, first-there}
 use Rattle.nq_laws.proofs.LogFits.{fits-start}
 use Rattle.nq_laws.proofs.Packets.{In, in-get, Told}
 use Rattle.nq_laws.proofs.Rows.{same-number, number-same}
-use Rattle.nq_laws.proofs.ServerChanges.{Hearing}
 use Rattle.nq_laws.proofs.ServerFacts.{IncsFit, IncsFitOf, incs-receive, incs-tick, incs-crash}
 use Rattle.nq_laws.proofs.ServerHears.{hears-effect}
 use Rattle.nq_laws.proofs.ClientKnows.{Knows}

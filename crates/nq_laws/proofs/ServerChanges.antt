@@ -14,25 +14,22 @@ use Rattle.nq_base.specs.declared.Tag.{Tag}
 use Rattle.nq_base.specs.declared.Verdict.{Verdict}
 use Rattle.nq_base.specs.declared.Who.{Who}
 use Rattle.nq_laws.proofs.ClientFacts.{changes_file}
-use Rattle.nq_laws.proofs.ClientKnows.{Knows}
 use Rattle.nq_laws.proofs.ClientMoves.{some-same, none-some}
 use Rattle.nq_laws.proofs.Covers.{GoesOnAt, marked-goes-on, heard-goes-on}
+use Rattle.nq_laws.proofs.Hearing.{Hearing}
 use Rattle.nq_laws.proofs.HostLine.{IsSettled}
 use Rattle.nq_laws.proofs.KeptChanges.{own-line}
-use Rattle.nq_laws.proofs.Packets.{In, Asked, Mail}
+use Rattle.nq_laws.proofs.Packets.{In, Asked}
 use Rattle.nq_laws.proofs.RowChanges.{no-clash, find-other-dropped, find-other-host-dropped, find-other-file-dropped}
 use Rattle.nq_laws.proofs.Rows.{both-true, same-number, number-same, found-row}
 use Rattle.nq_laws.proofs.ServerEffects.{same-seq, verdict-no-attach, line-after, drawn-more, claimed-kept, one-new, both-new, rows-new, reply-new, goes-effect, all-go-on, way-rows}
-use Rattle.nq_laws.proofs.ServerFacts.{IncsFitOf}
-use Rattle.nq_laws.proofs.ServerKnows.{NoneHeard, NoneGiven, IsNew, LineMoves, line_stays, line_decides, line_attaches, IsClaimed, Effect}
+use Rattle.nq_laws.proofs.ServerKnows.{IsNew, LineMoves, line_stays, line_decides, line_attaches, IsClaimed, Effect}
 use Rattle.nq_laws.proofs.ServerMoves.{first_line}
-use Rattle.nq_laws.proofs.ServerNumbers.{TermsFitOf, LinesFitOf}
 use Rattle.nq_laws.proofs.ServerOutcomes.{sequence_of, line_of, IsFrom, IsCurrent, IsFresh, IsChanging, CanStore, clash_with}
 use Rattle.nq_laws.proofs.ServerSays.{verdict-inc, verdict-grant}
-use Rattle.nq_laws.proofs.ServerTables.{BootsFitOf, StandingFitsOf}
 use Rattle.nq_laws.proofs.TagFacts.{IsDrawn}
 use Rattle.nq_model.specs.Ask.{marked}
-use Rattle.nq_model.specs.Client.{Lease, Notice, Ticket, lease_on}
+use Rattle.nq_model.specs.Client.{Lease, Notice, Ticket}
 use Rattle.nq_model.specs.Decide.{Decision, decides, creates, writes_through, stores, wrote, stores_recovering, resizes, removes, puts_off, in_the_way, verdict_reply, commits, row_after}
 use Rattle.nq_model.specs.Kept.{File, Kept, fresh_row, host_row, with_row, with_files, with_new_file}
 use Rattle.nq_model.specs.LeaseInterval.{is_at_least, HasFitting, IsCovered, requested_file}
@@ -41,20 +38,6 @@ use Rattle.nq_model.specs.Profile.{write_slack, most_hosts}
 use Rattle.nq_model.specs.Server.{Phase, serving, recovering, Server, ServerStep, standing_in, to_host, quiet, after_notices, keeping, keeping_with, with_table}
 use Rattle.nq_model.specs.ServerStep.{attaches, vacates, vacated_rows}
 use Rattle.nq_model.specs.Table.{Table, caches, same_tag, tag_below, find_row, drop_row, drop_host, drop_rows_of, with_rows}
-
--- what is known of the server, of one client and of the packets when the server hears a datagram
-pub record Hearing (ps : List Packet) (s : Server) (most sender : ℕ) (d : Datagram) (events : List Event) (who : Who) (now xid : ℕ) (attached : Bool) (ticket : Option Ticket) (leased : List Lease) (noticed : List Notice) : Type 0 where
-  pub was_sent : (x : ℕ) (r : Request) → d ≡ request x r → Asked ps sender x r
-  pub no_null : (x : ℕ) → d ≡ request x Request.Null → ⊥
-  pub boots : BootsFitOf s
-  pub stood : StandingFitsOf s
-  pub incs : IncsFitOf s
-  pub terms : TermsFitOf most s
-  pub lines : LinesFitOf s
-  pub mail : Mail who xid ticket ps
-  pub knows : Knows NoneHeard NoneGiven (host_row s.kept who.host) s events who now attached ticket leased noticed ps
-  pub changing : (t : Ticket) (file : ℕ) → ticket ≡ Some t → changes_file t.request ≡ Some file → lease_on file leased ≡ None
-  pub idle : attached ≡ false → (leased ≡ []) × ((t : Ticket) → ticket ≡ Some t → requested_file t.request ≡ None)
 
 -- a cover stays where it does in the table, and the boot that served last is the same
 pub covered-tables : (s t : Server) (phase : Phase) (who : Who) (file : ℕ) (mode : Mode) (tag : Tag) (until : ℕ) → t.kept.opened ≡ s.kept.opened → (phase ≡ serving → HasFitting who file mode tag until s.table → HasFitting who file mode tag until t.table) → IsCovered s phase who file mode tag until → IsCovered t phase who file mode tag until
@@ -74,13 +57,13 @@ same-lines kept after host same = ap (λ hosts. unwrap_or (slice_get hosts host)
 
 module _ (ps : List Packet) (s : Server) (most sender next : ℕ) (d : Datagram) (events : List Event) (who : Who) (now xid : ℕ) (attached : Bool) (ticket : Option Ticket) (leased : List Lease) (noticed : List Notice) (c : Hearing ps s most sender d events who now xid attached ticket leased noticed) where
   goes : (t : ServerStep) → s.phase ≡ serving → t.server.phase ≡ serving → t.server.table.boot ≡ s.table.boot → s.table.drawn ≤ t.server.table.drawn → t.server.kept.opened ≡ s.kept.opened → t.server.kept.longest ≡ s.kept.longest → LineMoves ps who.host (host_row s.kept who.host) (host_row t.server.kept who.host) → ((file : ℕ) → GoesOnAt file who.host s.table.rows t.server.table.rows) → ((q : Packet) → In t.sends q → IsNew ps s t.server q) → Effect ps s t who ticket leased
-  goes = goes-effect ps s most sender next d c.was_sent c.no_null c.boots c.stood c.incs c.terms c.lines events who now xid attached ticket leased noticed c.mail c.knows c.changing c.idle
+  goes = goes-effect ps s most sender next d events who now xid attached ticket leased noticed c
 
   same-rows : (file : ℕ) → GoesOnAt file who.host s.table.rows s.table.rows
-  same-rows = all-go-on ps s most sender next d c.was_sent c.no_null c.boots c.stood c.incs c.terms c.lines events who now xid attached ticket leased noticed c.mail c.knows c.changing c.idle
+  same-rows = all-go-on ps s most sender next d events who now xid attached ticket leased noticed c
 
   kept-inc : (file : ℕ) (tag : Tag) → IsClaimed ps who ticket leased file tag → (host_row s.kept who.host).inc ≡ who.inc
-  kept-inc = claimed-kept ps s most sender next d c.was_sent c.no_null c.boots c.stood c.incs c.terms c.lines events who now xid attached ticket leased noticed c.mail c.knows c.changing c.idle
+  kept-inc = claimed-kept ps s most sender next d events who now xid attached ticket leased noticed c
 
   -- ---- a request is decided
 
@@ -101,7 +84,7 @@ module _ (ps : List Packet) (s : Server) (most sender next : ℕ) (d : Datagram)
   commit-reply w seq x r k e by sq fresh same =
       let t : Server = (commits w seq x r k).server in
       let line : host_row t.kept w.host ≡ row_after w seq k = decided-line w seq k fresh same in
-      reply-new ps s most sender next d c.was_sent c.no_null c.boots c.stood c.incs c.terms c.lines events who now xid attached ticket leased noticed c.mail c.knows c.changing c.idle
+      reply-new ps s most sender next d events who now xid attached ticket leased noticed c
       t x w r (verdict_reply w.inc k.verdict k.value r) e by fresh.current.from.host (verdict-inc w.inc k.verdict k.value r seq sq) (verdict-grant w.inc k.verdict k.value r)
       (λ i bad. absurd (verdict-no-attach w.inc k.verdict k.value r i bad))
       (λ n q. let one : seq ≡ n = some-same seq n (sym sq ∙ sym (same-seq r) ∙ q) in let at : (host_row t.kept w.host).seq ≡ seq = ap (λ l. l.seq) line in inl (ap (λ l. l.inc) line, omega arith))
@@ -109,9 +92,9 @@ module _ (ps : List Packet) (s : Server) (most sender next : ℕ) (d : Datagram)
   commit-said : (w : Who) (seq x : ℕ) (r : Request) (k : Decision) → d ≡ request x r → asker r ≡ Some w → sequence_of r ≡ Some seq → IsFresh s sender w seq → k.server.kept.hosts ≡ s.kept.hosts → ((q : Packet) → In k.sends q → IsNew ps s (commits w seq x r k).server q) → (q : Packet) → In (commits w seq x r k).sends q → IsNew ps s (commits w seq x r k).server q
   unfolding commits
   commit-said w seq x r k e by sq fresh same said =
-      both-new ps s most sender next d c.was_sent c.no_null c.boots c.stood c.incs c.terms c.lines events who now xid attached ticket leased noticed c.mail c.knows c.changing c.idle
+      both-new ps s most sender next d events who now xid attached ticket leased noticed c
       (commits w seq x r k).server k.sends (to_host w.host (reply x (verdict_reply w.inc k.verdict k.value r)) ∷ []) said
-      (one-new ps s most sender next d c.was_sent c.no_null c.boots c.stood c.incs c.terms c.lines events who now xid attached ticket leased noticed c.mail c.knows c.changing c.idle
+      (one-new ps s most sender next d events who now xid attached ticket leased noticed c
       (commits w seq x r k).server (to_host w.host (reply x (verdict_reply w.inc k.verdict k.value r))) (commit-reply w seq x r k e by sq fresh same))
 
   nothing-said : (t : Server) (q : Packet) → In [] q → IsNew ps s t q
@@ -140,9 +123,9 @@ module _ (ps : List Packet) (s : Server) (most sender next : ℕ) (d : Datagram)
       (commit-line w seq x r k changing.fresh refl)
       (λ file. marked-goes-on file who.host f.id w.host Access.Write s.table.rows)
       (commit-said w seq x r k e by sq changing.fresh refl
-      (rows-new ps s most sender next d c.was_sent c.no_null c.boots c.stood c.incs c.terms c.lines events who now xid attached ticket leased noticed c.mail c.knows c.changing c.idle
+      (rows-new ps s most sender next d events who now xid attached ticket leased noticed c
       p t.server p refl (omega arith) s.notice (in_the_way s f.id w.host Access.Write)
-      (way-rows ps s most sender next d c.was_sent c.no_null c.boots c.stood c.incs c.terms c.lines events who now xid attached ticket leased noticed c.mail c.knows c.changing c.idle f.id w.host Access.Write)))
+      (way-rows ps s most sender next d events who now xid attached ticket leased noticed c f.id w.host Access.Write)))
 
   -- a file is made
   pub creates-effect : (x : ℕ) (w : Who) (seq blocks : ℕ) (name : List ℕ) → d ≡ request x (Request.Create w seq name blocks) → IsFresh s sender w seq → s.phase ≡ serving → Effect ps s (commits w seq x (Request.Create w seq name blocks) (creates s name blocks)) who ticket leased
@@ -309,9 +292,9 @@ module _ (ps : List Packet) (s : Server) (most sender next : ℕ) (d : Datagram)
         opened = refl;
         longest = refl;
         covers = λ file mode tag until claim caching cover. covered-tables s t.server s.phase who file mode tag until refl (λ p. attached-covers x w e from later t.server.table refl file mode tag until claim) cover;
-        said = one-new ps s most sender next d c.was_sent c.no_null c.boots c.stood c.incs c.terms c.lines events who now xid attached ticket leased noticed c.mail c.knows c.changing c.idle
+        said = one-new ps s most sender next d events who now xid attached ticket leased noticed c
             t.server (to_host w.host (reply x (Reply.Attach w.inc)))
-            (reply-new ps s most sender next d c.was_sent c.no_null c.boots c.stood c.incs c.terms c.lines events who now xid attached ticket leased noticed c.mail c.knows c.changing c.idle
+            (reply-new ps s most sender next d events who now xid attached ticket leased noticed c
             t.server x w (Request.Attach w) (Reply.Attach w.inc) e refl from.host refl refl
             (λ i is. ap (λ l. l.inc) line ∙ attach-inc w.inc i is)
             (λ n bad. none-some n bad));

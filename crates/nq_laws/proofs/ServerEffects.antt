@@ -14,20 +14,19 @@ use Rattle.nq_base.specs.declared.Verdict.{Verdict}
 use Rattle.nq_base.specs.declared.Want.{Want}
 use Rattle.nq_base.specs.declared.Who.{Who}
 use Rattle.nq_laws.proofs.AskCases.{with_marked, with_waiter, IsGranted, shares_again, begins_sharing, begins_caching, renews_row}
-use Rattle.nq_laws.proofs.ClientFacts.{seq_of, changes_file}
-use Rattle.nq_laws.proofs.ClientKnows.{Knows}
+use Rattle.nq_laws.proofs.ClientFacts.{seq_of}
 use Rattle.nq_laws.proofs.ClientMoves.{some-same, none-some}
 use Rattle.nq_laws.proofs.Covers.{GoesOnAt, same-goes-on, covered-goes-on, marked-goes-on, granted-goes-on, granted-key, AreOfBoot}
+use Rattle.nq_laws.proofs.Hearing.{Hearing}
 use Rattle.nq_laws.proofs.KeptChanges.{other-line}
-use Rattle.nq_laws.proofs.Packets.{In, in-append, Asked, Mail}
+use Rattle.nq_laws.proofs.Packets.{In, in-append, Asked}
 use Rattle.nq_laws.proofs.RowChanges.{HasUniqueKeys, of-key, own-key, find-put-same}
 use Rattle.nq_laws.proofs.Rows.{same-number, number-same, found-row}
-use Rattle.nq_laws.proofs.ServerFacts.{IncsFitOf, IncsFit, AreCurrent}
-use Rattle.nq_laws.proofs.ServerKnows.{NoneHeard, NoneGiven, IsFreshGrant, IsNew, new_reply, new_error, new_notice, LineMoves, line_stays, IsClaimed, Effect}
-use Rattle.nq_laws.proofs.ServerNumbers.{TermsFitOf, LinesFitOf}
+use Rattle.nq_laws.proofs.ServerFacts.{IncsFit, AreCurrent}
+use Rattle.nq_laws.proofs.ServerKnows.{IsFreshGrant, IsNew, new_reply, new_error, new_notice, LineMoves, line_stays, IsClaimed, Effect}
 use Rattle.nq_laws.proofs.ServerOutcomes.{sequence_of, error_for, only_asks, line_of, IsFrom, IsPlain, unattached, attached_again, not_yet, no_entry, entry, no_attributes, attributes, no_file, no_block, decided_again, is_old, IsAsking}
 use Rattle.nq_laws.proofs.ServerSays.{plain-inc, plain-grant}
-use Rattle.nq_laws.proofs.ServerTables.{BootsFitOf, StandingFits, StandingFitsOf}
+use Rattle.nq_laws.proofs.ServerTables.{StandingFits}
 use Rattle.nq_laws.proofs.TableFits.{TableFits}
 use Rattle.nq_laws.proofs.TagFacts.{IsDrawn}
 use Rattle.nq_model.specs.Ask.{Question, conflicts, grant_of, sharing_row, caching_row, shared_again, renewed_row, term_of}
@@ -152,32 +151,27 @@ line-after kept other row ps host own is = step (host == other) refl
     step true e = let same : host ≡ other = same-number host other e in subst (λ l. LineMoves ps host (host_row kept host) l) (sym (is same)) (own same)
     step false e = line_stays (other-line kept other host row (λ same. let yes : (host == other) ≡ true = number-same host other same in absurd (cc)))
 
-module _ (ps : List Packet) (s : Server) (most sender next : ℕ) (d : Datagram) (was_sent : (x : ℕ) (r : Request) → d ≡ request x r → Asked ps sender x r) (no_null : (x : ℕ) → d ≡ request x Request.Null → ⊥)
-    (boots : BootsFitOf s) (stood : StandingFitsOf s) (incs : IncsFitOf s) (terms : TermsFitOf most s) (lines : LinesFitOf s)
-    (events : List Event) (who : Who) (now xid : ℕ) (attached : Bool) (ticket : Option Ticket) (leased : List Lease) (noticed : List Notice)
-    (m : Mail who xid ticket ps) (h : Knows NoneHeard NoneGiven (host_row s.kept who.host) s events who now attached ticket leased noticed ps)
-    (changing : (t : Ticket) (file : ℕ) → ticket ≡ Some t → changes_file t.request ≡ Some file → lease_on file leased ≡ None)
-    (idle : attached ≡ false → (leased ≡ []) × ((t : Ticket) → ticket ≡ Some t → requested_file t.request ≡ None)) where
+module _ (ps : List Packet) (s : Server) (most sender next : ℕ) (d : Datagram) (events : List Event) (who : Who) (now xid : ℕ) (attached : Bool) (ticket : Option Ticket) (leased : List Lease) (noticed : List Notice) (hearing : Hearing ps s most sender d events who now xid attached ticket leased noticed) where
   pub own-fits : s.phase ≡ serving → TableFits s.kept.files s.table.boot s.table.drawn s.table.rows
-  own-fits p = subst (λ q. StandingFits s.kept.files q s.table) p stood
+  own-fits p = subst (λ q. StandingFits s.kept.files q s.table) p hearing.stood
 
   pub own-boots : s.phase ≡ serving → AreOfBoot s.table
   own-boots p = λ file host row found. let k = (own-fits p).fits file host row found in (k.tag_boot, k.drawn_before, k.since_boot, k.in_order)
 
   pub own-current : s.phase ≡ serving → AreCurrent s.kept s.table.rows
-  own-current p = subst (λ q. IncsFit s.kept q s.table) p incs
+  own-current p = subst (λ q. IncsFit s.kept q s.table) p hearing.incs
 
   -- nothing is claimed by a client that is not attached
   pub unclaimed : attached ≡ false → (file : ℕ) (tag : Tag) → IsClaimed ps who ticket leased file tag → ⊥
-  unclaimed e file tag (inl c) = none-some c.0 (ap (lease_on file) (sym (idle e).0) ∙ c.1)
-  unclaimed e file tag (inr c) = none-some file (sym ((idle e).1 c.1 c.2.asked) ∙ c.2.on_file)
+  unclaimed e file tag (inl c) = none-some c.0 (ap (lease_on file) (sym (hearing.idle e).0) ∙ c.1)
+  unclaimed e file tag (inr c) = none-some file (sym ((hearing.idle e).1 c.1 c.2.asked) ∙ c.2.on_file)
 
   -- a claim is of an incarnation that is the kept one
   pub claimed-kept : (file : ℕ) (tag : Tag) → IsClaimed ps who ticket leased file tag → (host_row s.kept who.host).inc ≡ who.inc
   claimed-kept file tag c = step attached refl
     where
       step : (b : Bool) → attached ≡ b → (host_row s.kept who.host).inc ≡ who.inc
-      step true e = h.lined.current e
+      step true e = hearing.knows.lined.current e
       step false e = absurd (unclaimed e file tag c)
 
   -- ---- what is said
@@ -220,7 +214,7 @@ module _ (ps : List Packet) (s : Server) (most sender next : ℕ) (d : Datagram)
   reply-new t x w r a e by from inc none att dec = new_reply w.host x a refl (record {
     asks = r;
     who = w;
-    sent = subst (λ n. Asked ps n x r) (sym from) (was_sent x r e);
+    sent = subst (λ n. Asked ps n x r) (sym from) (hearing.was_sent x r e);
     by = by;
     same_host = refl;
     inc = inc;
@@ -371,8 +365,8 @@ module _ (ps : List Packet) (s : Server) (most sender next : ℕ) (d : Datagram)
   unfolding sharing_row shared_again
   granted-short q want row term same (shares_again own found stays shares is lasts) c = let no : caches row.mode ≡ false = ap (λ r. caches r.mode) is ∙ shares in absurd (cc)
   granted-short q want row term same (begins_sharing none room shared is lasts) c = let no : caches row.mode ≡ false = ap (λ r. caches r.mode) is in absurd (cc)
-  granted-short q want row term same (begins_caching none room shared is lasts) c = let t = term-short q.longest want.term (let l = terms.long in omega arith) in omega arith
-  granted-short q want row term same (renews_row own found stays caching is lasts) c = let t = term-short q.longest want.term (let l = terms.long in omega arith) in omega arith
+  granted-short q want row term same (begins_caching none room shared is lasts) c = let t = term-short q.longest want.term (let l = hearing.terms.long in omega arith) in omega arith
+  granted-short q want row term same (renews_row own found stays caching is lasts) c = let t = term-short q.longest want.term (let l = hearing.terms.long in omega arith) in omega arith
 
   -- the holder of a granted row that caches is the asker
   pub granted-holder : s.phase ≡ serving → (q : Question) (want : Want) (row : Row) (term : ℕ) → q.who.inc ≡ (host_row s.kept q.who.host).inc → IsGranted s.table q want row term → caches row.mode ≡ true → row.who ≡ q.who
@@ -413,7 +407,7 @@ module _ (ps : List Packet) (s : Server) (most sender next : ℕ) (d : Datagram)
         tag = refl;
         began = λ c. subst (λ n. tag_below n row.since ≡ false) (sym tag) (granted-began p question want row term g);
         lasts = λ c. granted-lasts question want row term g c;
-        short = λ c. let a = granted-short question want row term refl g c in let same = terms.same p in omega arith;
+        short = λ c. let a = granted-short question want row term refl g c in let same = hearing.terms.same p in omega arith;
       }
 
   granted-rows : s.phase ≡ serving → (q : Question) (want : Want) (row : Row) (term : ℕ) → IsGranted s.table q want row term → (file : ℕ) → GoesOnAt file who.host s.table.rows (put_row row s.table.rows)
@@ -429,7 +423,7 @@ module _ (ps : List Packet) (s : Server) (most sender next : ℕ) (d : Datagram)
       (new_reply w.host x (Reply.Read w.inc f.rev body (Some (grant_of (to_read s w f (Some want)) row term))) refl (record {
         asks = Request.Read w q f.id block (Some want);
         who = w;
-        sent = subst (λ n. Asked ps n x (Request.Read w q f.id block (Some want))) (sym asking.current.from.host) (was_sent x (Request.Read w q f.id block (Some want)) e);
+        sent = subst (λ n. Asked ps n x (Request.Read w q f.id block (Some want))) (sym asking.current.from.host) (hearing.was_sent x (Request.Read w q f.id block (Some want)) e);
         by = refl;
         same_host = refl;
         inc = refl;
@@ -449,7 +443,7 @@ module _ (ps : List Packet) (s : Server) (most sender next : ℕ) (d : Datagram)
       (new_reply w.host x (Reply.GetLease w.inc (Some (grant_of (to_read s w f (Some want)) row term))) refl (record {
         asks = Request.GetLease w f.id want;
         who = w;
-        sent = subst (λ n. Asked ps n x (Request.GetLease w f.id want)) (sym asking.current.from.host) (was_sent x (Request.GetLease w f.id want) e);
+        sent = subst (λ n. Asked ps n x (Request.GetLease w f.id want)) (sym asking.current.from.host) (hearing.was_sent x (Request.GetLease w f.id want) e);
         by = refl;
         same_host = refl;
         inc = refl;

@@ -8,11 +8,11 @@ use Rattle.nq_base.specs.declared.Want.{Want}
 use Rattle.nq_base.specs.declared.Who.{Who}
 use Rattle.nq_laws.proofs.AskCases.{own_in, with_marked, IsGranted, shares_again, begins_sharing, begins_caching, renews_row}
 use Rattle.nq_laws.proofs.ClientMoves.{none-some}
+use Rattle.nq_laws.proofs.Hearing.{Hearing}
 use Rattle.nq_laws.proofs.Packets.{Asked}
 use Rattle.nq_laws.proofs.RowChanges.{HasUniqueKeys, of-key, found-put, found-kept, found-vacated, found-marked, mark-is, unique-filtered}
 use Rattle.nq_laws.proofs.Rows.{found-row}
 use Rattle.nq_laws.proofs.ServerCases.{server-hears, server-ticks}
-use Rattle.nq_laws.proofs.ServerChanges.{Hearing}
 use Rattle.nq_laws.proofs.ServerOutcomes.{wanted_by, ServerCases, IsAsking}
 use Rattle.nq_laws.proofs.ServerTables.{StandingFits, StandingFitsOf, NoneRecovering, none-of-boots}
 use Rattle.nq_laws.proofs.TableFits.{TableFits}
