@@ -1,0 +1,18 @@
+-- Words and lines.
+use Rattle.std.specs.Prelude.{◌≢◌, ℕ, List, [], ◌∷◌, ◌++◌}
+
+-- words with one blank between two of them
+abbrev pub spaced : List (List ℕ) → List ℕ
+spaced [] = []
+spaced (word ∷ []) = word
+spaced (word ∷ next ∷ words) = word ++ 32 ∷ spaced (next ∷ words)
+
+-- the byte stands nowhere in the text
+abbrev pub Lacks : (byte : ℕ) → List ℕ → Type 0
+Lacks byte [] = Unit {0}
+Lacks byte (b ∷ text) = (b ≢ byte) × Lacks byte text
+
+-- lines, each with a line feed at its end
+abbrev pub text_of : List (List ℕ) → List ℕ
+text_of [] = []
+text_of (line ∷ lines) = line ++ 10 ∷ text_of lines

@@ -1,0 +1,11 @@
+//! The text of schedules: its grammar, read and written.
+#![tactic(auto)]
+
+mod calls;
+mod faults;
+mod lines;
+mod words;
+
+pub use calls::parse_call;
+pub use faults::ScriptFault;
+pub use lines::{Line, parse_line};
