@@ -97,3 +97,18 @@ told_line hosts text =
     either (after (codes "call ") text) (call_line hosts)
     (either (after (codes "deliver ") text) deliver_line
     (if bytes_eq text (codes "end") then Some ToldLine.End else None))
+
+-- a number from `least` to `most` behind a prefix
+unfoldable pub ranged_of : (prefix : List ℕ) → (least most : ℕ) → List ℕ → Option ℕ
+ranged_of prefix least most line = do
+  word ← after prefix line
+  value ← number_of most word
+  if nat_le least value then Some value else None
+
+-- the name and the length in the line of a file, whatever bytes the name has
+unfoldable pub file_of : List ℕ → Option (List ℕ × ℕ)
+file_of line = do
+  words ← after (codes "file ") line
+  parts ← cut_at 32 words
+  blocks ← ranged_of [] 1 1024 parts.1
+  Some (parts.0, blocks)

@@ -1,5 +1,9 @@
 //! Why a text is refused.
 
+ghost use Rattle.std.specs.Prelude.{◌≡◌};
+ghost use Rattle.nq_script.specs.declared.faults.ScriptFault.TheVariants.{Memory};
+
+use nq_base::NoMemory;
 use thiserror::Error;
 
 /// Why a text is refused.
@@ -11,4 +15,12 @@ pub enum ScriptFault {
     /// Memory was wanting; nothing changed.
     #[error("out of memory")]
     Memory,
+}
+
+impl From<NoMemory> for ScriptFault {
+    ghost from_gives = { λ _ e. e ≡ Memory };
+
+    fn from(_fault: NoMemory) -> ScriptFault {
+        ScriptFault::Memory
+    }
 }

@@ -3,9 +3,11 @@
 
 mod calls;
 mod faults;
+mod heads;
 mod lines;
 mod words;
 
 pub use calls::parse_call;
 pub use faults::ScriptFault;
+pub use heads::Head;
 pub use lines::{Line, parse_line};

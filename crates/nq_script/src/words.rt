@@ -2,7 +2,7 @@
 
 ghost use Rattle.std.specs.Prelude.{◌≡◌, ◌≤◌, IfSome};
 ghost use Rattle.std.specs.Option.{option_map};
-ghost use Rattle.nq_script.specs.Reading.{cut_at, number_of, digits_of, digit_on, after, number_then, two_numbers, three_numbers};
+ghost use Rattle.nq_script.specs.Reading.{cut_at, number_of, digits_of, digit_on, after, number_then, two_numbers, three_numbers, ranged_of};
 
 /// The bytes before the first `at`, and those after it; None where there is none.
 pub(crate) fn cut(bytes: &[u8], at: u8) -> Option<(&[u8], &[u8])>
@@ -99,4 +99,14 @@ pub(crate) fn three_numbers(text: &[u8]) -> Option<(u32, u32, u32)>
     let (first, rest) = number_then(text)?;
     let (second, third) = two_numbers(rest)?;
     Some((first, second, third))
+}
+
+/// The number from `least` to `most` that is written behind the prefix.
+#[tactic(auto, unfolding(crate::specs::Reading::ranged_of))]
+pub(crate) fn ranged(line: &[u8], prefix: &[u8], least: u32, most: u32) -> Option<u32>
+    ensures { result ≡ ranged_of prefix.now least most line.now }
+{
+    let word = rest_after(line, prefix)?;
+    let value = number(word, u64::from(most))? as u32;
+    if value < least { None } else { Some(value) }
 }

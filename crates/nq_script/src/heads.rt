@@ -1,0 +1,121 @@
+//! The head of a schedule.
+
+ghost use Rattle.std.specs.Prelude.{◌≡◌, ◌≤◌, ◌<◌, ◌+◌, ◌↔◌, length, ◌++◌, ◌∷◌, [], ℕ, List, IfSome, IsNone, IsTrue};
+ghost use Rattle.std.specs.Option.{option_map};
+ghost use Rattle.nq_script.specs.Heads.{IsFile, IsNew, FitFiles, blocks_of, file_line, file_lines};
+ghost use Rattle.nq_script.specs.Faults.{Answers};
+ghost use Rattle.nq_script.specs.Progress.{WrongFile};
+ghost use Rattle.nq_script.specs.Reading.{file_of};
+ghost use Rattle.nq_script.specs.Text.{text_of};
+
+use crate::faults::ScriptFault;
+use crate::words::{cut, ranged, rest_after};
+use nq_base::{FileList, Name};
+use std::alloc::Global;
+
+/// What a run begins with.
+#[derive(Drop)]
+pub struct Head {
+    /// How many hosts there are, 1 to 64.
+    pub hosts: u32,
+    /// The term that clients want, in ticks, 5 to 60.
+    pub term: u32,
+    /// The files that are there, with their lengths in blocks.
+    pub files: FileList,
+}
+
+/// The line that ends a head.
+const BEGIN: &[u8] = b"begin";
+
+/// The most files, and the most blocks of all files together.
+const MOST_FILES: usize = 256;
+const MOST_BLOCKS: u32 = 16_384;
+
+/// The files whose lines stand in front, and what follows `begin`. The text begins at line 4.
+fn read_files(alloc: Global, text: &[u8]) -> Result<(FileList, &[u8]), ScriptFault>
+    ensures { Answers result (λ p. FitFiles p.0 × (text.now ≡ text_of (file_lines p.0) ++ p.1.now)) (λ number. WrongFile text.now number) }
+{
+    let mut files = FileList::new(alloc)?;
+    let mut blocks: u32 = 0;
+    let mut rest = text;
+    'lines: loop {
+        let number = files.len() as u32 + 4;
+        let Some((line, after)) = cut(rest, b'\n') else {
+            return Err(ScriptFault::Bad(number));
+        };
+        if line == BEGIN {
+            return Ok((files, after));
+        }
+        let Some((name, length)) = next_file(line, &files, blocks) else {
+            return Err(ScriptFault::Bad(number));
+        };
+        files.push(name, length)?;
+        blocks += length;
+        rest = after;
+    }
+}
+
+/// The file that the line names, if it fits behind the files, which have so many blocks together.
+fn next_file(line: &[u8], files: &FileList, blocks: u32) -> Option<(Name, u32)>
+    requires fit { FitFiles files.now }
+    requires sum { blocks ≡ blocks_of files.now }
+    ensures found { IfSome result (λ f. (line.now ≡ file_line f) × FitFiles (files.now ++ f ∷ [])) }
+    ensures none { IsNone result → (f : List ℕ × ℕ) → line.now ≡ file_line f → FitFiles (files.now ++ f ∷ []) → ⊥ }
+{
+    let Some((name, length)) = read_file(line) else {
+        return None;
+    };
+    if !has_room(files, blocks, length) {
+        return None;
+    }
+    if !is_new(&name, files) {
+        return None;
+    }
+    Some((name, length))
+}
+
+/// Whether there is room for one file more, of so many blocks.
+fn has_room(files: &FileList, blocks: u32, more: u32) -> bool
+    requires { blocks ≤ 16384 }
+    ensures { IsTrue result ↔ ((length files.now < 256) × (blocks + more ≤ 16384)) }
+{
+    files.len() < MOST_FILES && more <= MOST_BLOCKS - blocks
+}
+
+/// The file that the line names; None where the line is none of a file.
+fn read_file(line: &[u8]) -> Option<(Name, u32)>
+    ensures found { IfSome result (λ f. (line.now ≡ file_line f) × IsFile f) }
+    ensures none { IsNone result → (f : List ℕ × ℕ) → IsFile f → line.now ≡ file_line f → ⊥ }
+{
+    let Some((word, length)) = file_words(line) else {
+        return None;
+    };
+    match Name::new(word) {
+        Some(name) => Some((name, length)),
+        None => None,
+    }
+}
+
+#[tactic(auto, unfolding(crate::specs::Reading::file_of))]
+fn file_words(line: &[u8]) -> Option<(&[u8], u32)>
+    ensures { option_map (λ p. (p.0.now, p.1)) result ≡ file_of line.now }
+{
+    let words = rest_after(line, b"file ")?;
+    let (name, length) = cut(words, b' ')?;
+    let blocks = ranged(length, b"", 1, 1024)?;
+    Some((name, blocks))
+}
+
+/// Whether none of the files has the name.
+fn is_new(name: &Name, files: &FileList) -> bool
+    ensures { IsTrue result ↔ IsNew name.now files.now }
+{
+    for place in 0..files.len() {
+        if let Some((other, _)) = files.get(place) {
+            if other.is(name) {
+                return false;
+            }
+        }
+    }
+    true
+}
