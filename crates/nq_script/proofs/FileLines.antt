@@ -81,3 +81,14 @@ files-more text files new rest line after f blocks split cut found sum more =
         (rw (map-append file_line files (f ∷ []))
             (subst (λ l. text ≡ text_of (map file_line files ++ l ∷ []) ++ after) found.0 (text-more text (map file_line files) rest line after split cut)),
             found.1, omega arith)
+
+-- lines behind lines
+pub text-behind : (text : List ℕ) (xs ys : List (List ℕ)) (rest rest' : List ℕ) → text ≡ text_of xs ++ rest → rest ≡ text_of ys ++ rest'
+    → text ≡ text_of (xs ++ ys) ++ rest'
+text-behind text xs ys rest rest' first second =
+    first ∙ ap (λ r. text_of xs ++ r) second ∙ sym (append_assoc (text_of xs) (text_of ys) rest') ∙ ap (λ t. t ++ rest') (sym (text_of-append xs ys))
+
+-- the first line of a text, if it is this one
+pub text-first : (text line after word : List ℕ) → cut_at 10 text ≡ Some (line, after) → line ≡ word → text ≡ text_of (word ∷ []) ++ after
+text-first text line after word cut is =
+    subst (λ l. text ≡ text_of (l ∷ []) ++ after) is (text-more text [] text line after refl cut)

@@ -5,3 +5,6 @@ pub mod LineReading
 pub mod HeadReading
 pub mod Fitting
 pub mod FileLines
+pub mod Splitting
+pub mod HeadLines
+pub mod Passing

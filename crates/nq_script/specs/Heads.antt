@@ -39,6 +39,10 @@ pub record FitsHead (head : Head) : Type 0 where
   pub short_term : head.term ≤ 60
   pub files : FitFiles head.files
 
+-- a number of hosts and a term that a head may have
+abbrev pub AreSettings : (hosts term : ℕ) → Type 0
+AreSettings hosts term = (1 ≤ hosts) × (hosts ≤ 64) × (5 ≤ term) × (term ≤ 60)
+
 -- the line of a file
 abbrev pub file_line : List ℕ × ℕ → List ℕ
 file_line f = spaced (codes "file" ∷ f.0 ∷ decimal f.1 ∷ [])

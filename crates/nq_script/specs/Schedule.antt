@@ -1,5 +1,5 @@
 -- The text of a schedule, and the first line at which a text is outside the grammar.
-use Rattle.std.specs.Prelude.{◌≡◌, ℕ, ◌+◌, List, [], ◌∷◌, ◌++◌, length, codes}
+use Rattle.std.specs.Prelude.{◌≡◌, ℕ, ◌+◌, List, [], ◌∷◌, ◌++◌, length, drop, codes}
 use Rattle.std.specs.List.{AllByRecursion}
 use Rattle.nq_script.specs.Heads.{FitsHead, head_lines}
 use Rattle.nq_script.specs.Lines.{SpellsLine}
@@ -52,6 +52,13 @@ pub record GoesWrong (Is : List (List ℕ) → Type 0) (Whole : List (List ℕ) 
   pub begun : Begins Is before
   pub unfinished : Whole before rest → ⊥
   pub stuck : (line after : List ℕ) → rest ≡ line ++ 10 ∷ after → Lacks 10 line → Begins Is (before ++ line ∷ []) → ⊥
+
+-- the head stands in front of the text, on `count` lines of `size` bytes together
+pub record StandsInFront (head : Head) (count size : ℕ) (text : List ℕ) : Type 0 where
+  pub fits : FitsHead head
+  pub split : text ≡ text_of (head_lines head) ++ drop size text
+  pub bytes : size ≡ length (text_of (head_lines head))
+  pub lines : count ≡ length (head_lines head)
 
 -- the first line that is wrong in a text that has no head in front
 abbrev pub FirstBadHeadLine : (text : List ℕ) → (number : ℕ) → Type 0

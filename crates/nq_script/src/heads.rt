@@ -2,9 +2,12 @@
 
 ghost use Rattle.std.specs.Prelude.{◌≡◌, ◌≤◌, ◌<◌, ◌+◌, ◌↔◌, length, ◌++◌, ◌∷◌, [], ℕ, List, IfSome, IsNone, IsTrue};
 ghost use Rattle.std.specs.Option.{option_map};
-ghost use Rattle.nq_script.specs.Heads.{IsFile, IsNew, FitFiles, blocks_of, file_line, file_lines};
+ghost use Rattle.std.specs.Fmt.{decimal};
+ghost use Rattle.nq_script.specs.Heads.{IsFile, IsNew, FitFiles, FitsHead, AreSettings, blocks_of, file_line, file_lines, version_line, hosts_line, term_line, head_lines};
+ghost use Rattle.nq_script.specs.Schedule.{StandsInFront, FirstBadHeadLine};
+ghost use Rattle.nq_script.specs.declared.heads.Head.{Head};
 ghost use Rattle.nq_script.specs.Faults.{Answers};
-ghost use Rattle.nq_script.specs.Progress.{WrongFile};
+ghost use Rattle.nq_script.specs.Progress.{WrongFile, NoNumber};
 ghost use Rattle.nq_script.specs.Reading.{file_of};
 ghost use Rattle.nq_script.specs.Text.{text_of};
 
@@ -24,8 +27,75 @@ pub struct Head {
     pub files: FileList,
 }
 
-/// The line that ends a head.
+/// A head that was read from the front of a text.
+#[derive(Drop)]
+pub struct HeadOut {
+    /// The head.
+    pub head: Head,
+    /// How many lines it has.
+    pub lines: u32,
+    /// How many bytes it has, line feeds and all.
+    pub bytes: usize,
+}
+
+/// The first line of a head, and the last one.
+const VERSION: &[u8] = b"nqnfs-schedule 1";
 const BEGIN: &[u8] = b"begin";
+
+/// Reads the head in front of a text, from its first line to `begin`.
+///
+/// # Errors
+///
+/// `Bad` with the number of the first line at which the text is outside the grammar.
+pub fn parse_head(alloc: Global, lines: &[u8]) -> Result<HeadOut, ScriptFault>
+    ensures found { Answers result (λ out. StandsInFront out.head out.lines out.bytes lines.now) (λ number. FirstBadHeadLine lines.now number) }
+    ensures only { (head : Head) (rest : List ℕ) → FitsHead head → lines.now ≡ text_of (head_lines head) ++ rest
+        → Answers result (λ out. out.head ≡ head) (λ number. ⊥) }
+    ensures bad { (number : ℕ) → FirstBadHeadLine lines.now number → Answers result (λ out. ⊥) (λ place. place ≡ number) }
+{
+    read_head(alloc, lines)
+}
+
+fn read_head(alloc: Global, lines: &[u8]) -> Result<HeadOut, ScriptFault>
+    ensures { Answers result (λ out. StandsInFront out.head out.lines out.bytes lines.now) (λ number. FirstBadHeadLine lines.now number) }
+{
+    let (hosts, term, rest) = read_settings(lines)?;
+    let (files, rest) = read_files(alloc, rest)?;
+    let count = files.len() as u32 + 4;
+    Ok(HeadOut {
+        head: Head { hosts, term, files },
+        lines: count,
+        bytes: lines.len() - rest.len(),
+    })
+}
+
+/// The number of hosts and the term, and what follows the three lines of which the last names it.
+fn read_settings(text: &[u8]) -> Result<(u32, u32, &[u8]), ScriptFault>
+    ensures { Answers result (λ p. AreSettings p.0 p.1 × (text.now ≡ text_of (version_line ∷ hosts_line p.0 ∷ term_line p.1 ∷ []) ++ p.2.now)) (λ number. FirstBadHeadLine text.now number) }
+{
+    let Some((line, rest)) = cut(text, b'\n') else {
+        return Err(ScriptFault::Bad(1));
+    };
+    if line != VERSION {
+        return Err(ScriptFault::Bad(1));
+    }
+    let (hosts, rest) = ranged_line(rest, b"hosts ", 1, 64, 2)?;
+    let (term, rest) = ranged_line(rest, b"term ", 5, 60, 3)?;
+    Ok((hosts, term, rest))
+}
+
+/// The number behind the prefix in the first line of the text, which is line `number`, and what follows that line.
+fn ranged_line<'a>(text: &'a [u8], prefix: &[u8], least: u32, most: u32, number: u32) -> Result<(u32, &'a [u8]), ScriptFault>
+    ensures { Answers result (λ p. (least ≤ p.0) × (p.0 ≤ most) × (text.now ≡ text_of ((prefix.now ++ decimal p.0) ∷ []) ++ p.1.now)) (λ place. (place ≡ number) × NoNumber prefix.now least most text.now) }
+{
+    let Some((line, rest)) = cut(text, b'\n') else {
+        return Err(ScriptFault::Bad(number));
+    };
+    match ranged(line, prefix, least, most) {
+        Some(value) => Ok((value, rest)),
+        None => Err(ScriptFault::Bad(number)),
+    }
+}
 
 /// The most files, and the most blocks of all files together.
 const MOST_FILES: usize = 256;

@@ -9,5 +9,5 @@ mod words;
 
 pub use calls::parse_call;
 pub use faults::ScriptFault;
-pub use heads::Head;
+pub use heads::{Head, HeadOut, parse_head};
 pub use lines::{Line, parse_line};
