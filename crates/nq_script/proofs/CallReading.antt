@@ -84,7 +84,7 @@ fetch-found text told e =
     let found = bind-found (two_numbers text) (λ p. Some (Told.Fetch p.0 p.1)) told e in
     let two = two-found text found.0 found.1 in
     subst (λ t. SpellsCall (call_of t) (codes "fetch " ++ text)) (same_Some (Told.Fetch found.0.0 found.0.1) told found.2)
-        (two.0, two.1, ap (λ r. codes "fetch " ++ r) two.2)
+    (two.0, two.1, ap (λ r. codes "fetch " ++ r) two.2)
 
 put-found : (text : List ℕ) (told : Told) → put_of text ≡ Some told → SpellsCall (call_of told) (codes "put " ++ text)
 unfolding put_of
@@ -92,7 +92,7 @@ put-found text told e =
     let found = bind-found (three_numbers text) (λ p. Some (Told.WriteSync p.0 p.1 p.2)) told e in
     let three = three-found text found.0 found.1 in
     subst (λ t. SpellsCall (call_of t) (codes "put " ++ text)) (same_Some (Told.WriteSync found.0.0 found.0.1 found.0.2) told found.2)
-        (three.0, three.1, (found.0.2, (three.2, refl), ap (λ r. codes "put " ++ r) three.3))
+    (three.0, three.1, (found.0.2, (three.2, refl), ap (λ r. codes "put " ++ r) three.3))
 
 -- what is read as a call is spelled so
 pub told-found : (words : List ℕ) (told : Told) → told_of words ≡ Some told → SpellsCall (call_of told) words
@@ -100,11 +100,14 @@ unfolding told_of
 told-found words told e = fetch (either-found (after (codes "fetch ") words) fetch_of others told e) where
   others : Option Told
   others = either (after (codes "put ") words) put_of None
+
   spelled : (verb text : List ℕ) → after verb words ≡ Some text → SpellsCall (call_of told) (verb ++ text) → SpellsCall (call_of told) words
   spelled verb text begun call = subst (SpellsCall (call_of told)) (sym (after-found verb words text begun)) call
+
   put : ((x : List ℕ) × (after (codes "put ") words ≡ Some x) × (put_of x ≡ Some told)) ⊎ (None ≡ Some told) → SpellsCall (call_of told) words
   put (inl w) = spelled (codes "put ") w.0 w.1 (put-found w.0 told w.2)
   put (inr none) = absurd (none-some told none)
+
   fetch : ((x : List ℕ) × (after (codes "fetch ") words ≡ Some x) × (fetch_of x ≡ Some told)) ⊎ (others ≡ Some told) → SpellsCall (call_of told) words
   fetch (inl w) = spelled (codes "fetch ") w.0 w.1 (fetch-found w.0 told w.2)
   fetch (inr e) = put (either-found (after (codes "put ") words) put_of None told e)

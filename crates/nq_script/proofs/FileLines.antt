@@ -20,9 +20,9 @@ pub text-more : (text : List ℕ) (lines : List (List ℕ)) (rest line after : L
     → cut_at 10 rest ≡ Some (line, after) → text ≡ text_of (lines ++ line ∷ []) ++ after
 text-more text lines rest line after split cut =
     split ∙ ap (λ r. text_of lines ++ r) (cut-found 10 rest line after cut).0
-        ∙ ap (λ r. text_of lines ++ r) (sym (append_assoc line (10 ∷ []) after))
-        ∙ sym (append_assoc (text_of lines) (line ++ 10 ∷ []) after)
-        ∙ ap (λ t. t ++ after) (sym (text_of-append lines (line ∷ [])))
+    ∙ ap (λ r. text_of lines ++ r) (sym (append_assoc line (10 ∷ []) after))
+    ∙ sym (append_assoc (text_of lines) (line ++ 10 ∷ []) after)
+    ∙ ap (λ t. t ++ after) (sym (text_of-append lines (line ∷ [])))
 
 -- what is left after a line is less than what was left before it
 pub after-shorter : (rest line after : List ℕ) → cut_at 10 rest ≡ Some (line, after) → length after < length rest
@@ -77,10 +77,12 @@ pub files-more : (text : List ℕ) (files new : List (List ℕ × ℕ)) (rest li
     → (text ≡ text_of (map file_line new) ++ after) × FitFiles new × (blocks + f.1 ≡ blocks_of new)
 files-more text files new rest line after f blocks split cut found sum more =
     let sums = sum_by-append (λ g. g.1) files (f ∷ []) in
-    subst (λ xs. (text ≡ text_of (map file_line xs) ++ after) × FitFiles xs × (blocks + f.1 ≡ blocks_of xs)) (sym more)
-        (rw (map-append file_line files (f ∷ []))
-            (subst (λ l. text ≡ text_of (map file_line files ++ l ∷ []) ++ after) found.0 (text-more text (map file_line files) rest line after split cut)),
-            found.1, omega arith)
+    subst (λ xs. (text ≡ text_of (map file_line xs) ++ after) × FitFiles xs × (blocks + f.1 ≡ blocks_of xs)) (sym more) (
+      rw (map-append file_line files (f ∷ []))
+          (subst (λ l. text ≡ text_of (map file_line files ++ l ∷ []) ++ after) found.0 (text-more text (map file_line files) rest line after split cut)),
+      found.1,
+      omega arith,
+    )
 
 -- lines behind lines
 pub text-behind : (text : List ℕ) (xs ys : List (List ℕ)) (rest rest' : List ℕ) → text ≡ text_of xs ++ rest → rest ≡ text_of ys ++ rest'

@@ -27,9 +27,9 @@ number-line-lacks word n lacks low = lacks-append 10 word (decimal n) lacks (dec
 file-line-lacks : (f : List ℕ × ℕ) → IsFile f → Lacks 10 (file_line f)
 file-line-lacks f is =
     lacks-append 10 (codes "file ") (f.0 ++ 32 ∷ decimal f.1) (lacks-tested 10 (codes "file ") refl)
-        (lacks-append 10 f.0 (32 ∷ decimal f.1) (name-lacks 10 f.0 (lit< tt) is.0)
-            (lacks-append 10 (32 ∷ []) (decimal f.1) (lacks-tested 10 (32 ∷ []) refl)
-                (decimal-lacks 10 f.1 refl (let small : f.1 ≤ 1024 = is.2 in omega arith))))
+    (lacks-append 10 f.0 (32 ∷ decimal f.1) (name-lacks 10 f.0 (lit< tt) is.0)
+    (lacks-append 10 (32 ∷ []) (decimal f.1) (lacks-tested 10 (32 ∷ []) refl)
+    (decimal-lacks 10 f.1 refl (let small : f.1 ≤ 1024 = is.2 in omega arith))))
 
 pub files-lack : (files : List (List ℕ × ℕ)) → AllByRecursion IsFile files → AllByRecursion (Lacks 10) (map file_line files)
 files-lack [] each = tt
@@ -45,10 +45,17 @@ pub term-lacks : (term : ℕ) → term ≤ 60 → Lacks 10 (term_line term)
 term-lacks term short = number-line-lacks (codes "term ") term (lacks-tested 10 (codes "term ") refl) (omega arith)
 
 pub head-lacks : (head : Head) → FitsHead head → AllByRecursion (Lacks 10) (head_lines head)
-head-lacks head fits =
-    (version-lacks, (hosts-lacks head.hosts fits.few_hosts, (term-lacks head.term fits.short_term,
-        each-append (Lacks 10) (map file_line head.files) (codes "begin" ∷ []) (files-lack head.files fits.files.each)
-            (lacks-tested 10 (codes "begin") refl, tt))))
+head-lacks head fits = (
+  version-lacks,
+  (
+    hosts-lacks head.hosts fits.few_hosts,
+    (
+      term-lacks head.term fits.short_term,
+      each-append (Lacks 10) (map file_line head.files) (codes "begin" ∷ []) (files-lack head.files fits.files.each)
+          (lacks-tested 10 (codes "begin") refl, tt),
+    ),
+  ),
+)
 
 begin-no-file : (f : List ℕ × ℕ) → codes "begin" ≡ file_line f → ⊥
 begin-no-file f e = let first : ◌≡◌ {A = ℕ} 98 102 = ap (λ l. get_or l 0 0) e in absurd (omega arith)
@@ -72,9 +79,9 @@ same-number (w ∷ word) m n low-m low-n e = same-number word m n low-m low-n (r
 pub one-head : (g h : Head) (xs ys : List (List ℕ)) → FitsHead g → FitsHead h → head_lines g ++ xs ≡ head_lines h ++ ys → (g ≡ h) × (xs ≡ ys)
 one-head g h xs ys a b e =
     let hosts : g.hosts ≡ h.hosts = same-number (codes "hosts ") g.hosts h.hosts (let few = a.few_hosts in omega arith) (let few = b.few_hosts in omega arith)
-        (first-same (rest-same e)) in
+    (first-same (rest-same e)) in
     let term : g.term ≡ h.term = same-number (codes "term ") g.term h.term (let few = a.short_term in omega arith) (let few = b.short_term in omega arith)
-        (first-same (rest-same (rest-same e))) in
+    (first-same (rest-same (rest-same e))) in
     let files = one-files g.files h.files xs ys a.files.each b.files.each (rest-same (rest-same (rest-same e))) in
     (λ i. record { hosts = hosts i; term = term i; files = files.0 i }, files.1)
 
@@ -87,10 +94,10 @@ files-next [] (g ∷ gs) line more a b e = inr (g, gs, first-same e, refl)
 files-next (f ∷ fs) [] line more a b e = absurd (begin-no-file f (sym (first-same e)))
 files-next (f ∷ fs) (g ∷ gs) line more a b e =
     behind (file-line-same f g a.0 b.0 (first-same e)) (files-next fs gs line more a.1 b.1 (rest-same e)) where
-  behind : f ≡ g → (line ≡ codes "begin") ⊎ ((h : List ℕ × ℕ) × (others : List (List ℕ × ℕ)) × (line ≡ file_line h) × (gs ≡ fs ++ h ∷ others))
-      → (line ≡ codes "begin") ⊎ ((h : List ℕ × ℕ) × (others : List (List ℕ × ℕ)) × (line ≡ file_line h) × (g ∷ gs ≡ f ∷ fs ++ h ∷ others))
-  behind same (inl begin) = inl begin
-  behind same (inr w) = inr (w.0, w.1, w.2, rw (same, w.3) refl)
+      behind : f ≡ g → (line ≡ codes "begin") ⊎ ((h : List ℕ × ℕ) × (others : List (List ℕ × ℕ)) × (line ≡ file_line h) × (gs ≡ fs ++ h ∷ others))
+          → (line ≡ codes "begin") ⊎ ((h : List ℕ × ℕ) × (others : List (List ℕ × ℕ)) × (line ≡ file_line h) × (g ∷ gs ≡ f ∷ fs ++ h ∷ others))
+      behind same (inl begin) = inl begin
+      behind same (inr w) = inr (w.0, w.1, w.2, rw (same, w.3) refl)
 
 plain-head : (hosts term : ℕ) → Head
 plain-head hosts term = record { hosts = hosts; term = term; files = [] }
@@ -168,41 +175,45 @@ wrong-file text rest hosts term number some few long short split w = record {
   unfinished = λ is. no-begin w.files is.0.files (rest-same (rest-same (rest-same is.2)));
   stuck = λ line after here lacks begun.
       by_next line begun.1.0 begun.1.1 (w.stuck line after here lacks)
-          (files-next w.files begun.1.0.files line begun.0 w.fit.each begun.1.1.files.each (rest-same (rest-same (rest-same begun.1.2))));
+      (files-next w.files begun.1.0.files line begun.0 w.fit.each begun.1.1.files.each (rest-same (rest-same (rest-same begun.1.2))));
 } where
   head : Head
   head = record { hosts = hosts; term = term; files = w.files }
+
   fits : FitsHead head
   fits = record { some_hosts = some; few_hosts = few; long_term = long; short_term = short; files = w.fit }
+
   by_next : (line : List ℕ) (g : Head) → FitsHead g
       → (line ≡ codes "begin" → ⊥) × ((f : List ℕ × ℕ) → line ≡ file_line f → FitFiles (w.files ++ f ∷ []) → ⊥)
       → (line ≡ codes "begin") ⊎ ((f : List ℕ × ℕ) × (others : List (List ℕ × ℕ)) × (line ≡ file_line f) × (g.files ≡ w.files ++ f ∷ others)) → ⊥
   by_next line g fits stuck (inl begin) = stuck.0 begin
   by_next line g fits stuck (inr next) =
       stuck.1 next.0 next.2 (fit-front (w.files ++ next.0 ∷ []) next.1
-          (subst FitFiles (next.3 ∙ sym (append_assoc w.files (next.0 ∷ []) next.1)) fits.files))
+      (subst FitFiles (next.3 ∙ sym (append_assoc w.files (next.0 ∷ []) next.1)) fits.files))
 
 -- a text with a head in front goes wrong nowhere in it
 pub head-right : (text : List ℕ) (number : ℕ) (head : Head) (rest : List ℕ) → FitsHead head → text ≡ text_of (head_lines head) ++ rest
     → FirstBadHeadLine text number → ⊥
 head-right text number head rest fits split w =
     by_order (splits w.before (head_lines head) w.rest rest w.lines (head-lacks head fits) (sym w.split ∙ split)) where
-  shorter : (more : List (List ℕ)) → head_lines head ≡ w.before ++ more → w.rest ≡ text_of more ++ rest → ⊥
-  shorter [] same left = w.unfinished (head, fits, sym (same ∙ append-nil w.before))
-  shorter (line ∷ more) same left =
-      wrong-stuck IsHead (λ before rest. IsHead before) text number w line more rest
+      shorter : (more : List (List ℕ)) → head_lines head ≡ w.before ++ more → w.rest ≡ text_of more ++ rest → ⊥
+      shorter [] same left = w.unfinished (head, fits, sym (same ∙ append-nil w.before))
+      shorter (line ∷ more) same left =
+          wrong-stuck IsHead (λ before rest. IsHead before) text number w line more rest
           (each-back (Lacks 10) w.before (line ∷ more) (subst (AllByRecursion (Lacks 10)) same (head-lacks head fits))) left
           ([], (head, fits, append-nil (w.before ++ line ∷ more) ∙ sym same))
-  longer : (more : List (List ℕ)) → w.before ≡ head_lines head ++ more → ⊥
-  longer [] same = w.unfinished (head, fits, same ∙ append-nil (head_lines head))
-  longer (line ∷ more) same =
-      let begun = w.begun in
-      let one = one-head head begun.1.0 (line ∷ more ++ begun.0) [] fits begun.1.1
+
+      longer : (more : List (List ℕ)) → w.before ≡ head_lines head ++ more → ⊥
+      longer [] same = w.unfinished (head, fits, same ∙ append-nil (head_lines head))
+      longer (line ∷ more) same =
+          let begun = w.begun in
+          let one = one-head head begun.1.0 (line ∷ more ++ begun.0) [] fits begun.1.1
           (sym (append_assoc (head_lines head) (line ∷ more) begun.0) ∙ ap (λ l. l ++ begun.0) (sym same) ∙ begun.1.2 ∙ sym (append-nil (head_lines begun.1.0))) in
-      nil-cons (sym one.1)
-  by_order : Splits w.before (head_lines head) w.rest rest → ⊥
-  by_order (inl s) = shorter s.0 s.1 s.2
-  by_order (inr s) = longer s.0 s.1
+          nil-cons (sym one.1)
+
+      by_order : Splits w.before (head_lines head) w.rest rest → ⊥
+      by_order (inl s) = shorter s.0 s.1 s.2
+      by_order (inr s) = longer s.0 s.1
 
 front-size : (text front rest : List ℕ) → text ≡ front ++ rest → length text - length rest ≡ length front
 front-size text front rest e = let long = ap length e in let sum = length-append front rest in omega arith
@@ -210,7 +221,7 @@ front-size text front rest e = let long = ap length e in let sum = length-append
 front-drop : (text front rest : List ℕ) → text ≡ front ++ rest → text ≡ front ++ drop (length text - length rest) text
 front-drop text front rest e =
     e ∙ ap (λ r. front ++ r) (sym (drop_at front rest (length text - length rest) (sym (front-size text front rest e)))
-        ∙ ap (drop (length text - length rest)) (sym e))
+    ∙ ap (drop (length text - length rest)) (sym e))
 
 -- a head that was read stands in front
 pub head-in-front : (text rest rest' : List ℕ) (hosts term : ℕ) (files : List (List ℕ × ℕ)) (count : ℕ) → AreSettings hosts term
@@ -227,6 +238,7 @@ head-in-front text rest rest' hosts term files count settings split fit behind c
 } where
   head : Head
   head = record { hosts = hosts; term = term; files = files }
+
   whole : text ≡ text_of (head_lines head) ++ rest'
   whole = text-behind text (version_line ∷ hosts_line hosts ∷ term_line term ∷ []) (file_lines files) rest rest' split behind
 

@@ -22,9 +22,11 @@ ranged-found prefix least most line n wide e =
     let word = bind-found (after prefix line) (λ w. number_of most w >>= λ v. if nat_le least v then Some v else None) n e in
     let value = bind-found (number_of most word.0) (λ v. if nat_le least v then Some v else None) n word.2 in
     let above = cond_some (nat_le least value.0) value.0 n value.2 in
-    let number = number-found most word.0 n wide (value.1 ∙ ap (λ v. Some v) above.1) in
-    (after-found prefix line word.0 word.1 ∙ ap (λ w. prefix ++ w) number.0,
-        subst (λ v. least ≤ v) above.1 (leb-true least value.0 above.0), number.1)
+    let number = number-found most word.0 n wide (value.1 ∙ ap (λ v. Some v) above.1) in (
+      after-found prefix line word.0 word.1 ∙ ap (λ w. prefix ++ w) number.0,
+      subst (λ v. least ≤ v) above.1 (leb-true least value.0 above.0),
+      number.1,
+    )
 
 pub ranged-again : (prefix : List ℕ) (least most n : ℕ) → most < 2 ^ 64 → least ≤ n → n ≤ most → ranged_of prefix least most (prefix ++ decimal n) ≡ Some n
 unfolding ranged_of
@@ -52,15 +54,17 @@ pub file-found : (line : List ℕ) (f : List ℕ × ℕ) → file_of line ≡ So
 unfolding file_of
 file-found line f e =
     let words = bind-found (after (codes "file ") line)
-        (λ w. cut_at 32 w >>= λ p. ranged_of [] 1 1024 p.1 >>= λ b. Some (p.0, b)) f e in
+    (λ w. cut_at 32 w >>= λ p. ranged_of [] 1 1024 p.1 >>= λ b. Some (p.0, b)) f e in
     let parts = bind-found (cut_at 32 words.0) (λ p. ranged_of [] 1 1024 p.1 >>= λ b. Some (p.0, b)) f words.2 in
     let blocks = bind-found (ranged_of [] 1 1024 parts.0.1) (λ b. Some (parts.0.0, b)) f parts.2 in
     let same : (parts.0.0, blocks.0) ≡ f = same_Some (parts.0.0, blocks.0) f blocks.2 in
     let number = ranged-found [] 1 1024 parts.0.1 blocks.0 (lit< tt) blocks.1 in
-    subst (λ g. (line ≡ file_line g) × (1 ≤ g.1) × (g.1 ≤ 1024)) same
-        (after-found (codes "file ") line words.0 words.1
-            ∙ ap (λ r. codes "file " ++ r) ((cut-found 32 words.0 parts.0.0 parts.0.1 parts.1).0 ∙ ap (λ r. parts.0.0 ++ 32 ∷ r) number.0),
-            number.1, number.2)
+    subst (λ g. (line ≡ file_line g) × (1 ≤ g.1) × (g.1 ≤ 1024)) same (
+      after-found (codes "file ") line words.0 words.1
+          ∙ ap (λ r. codes "file " ++ r) ((cut-found 32 words.0 parts.0.0 parts.0.1 parts.1).0 ∙ ap (λ r. parts.0.0 ++ 32 ∷ r) number.0),
+      number.1,
+      number.2,
+    )
 
 pub file-again : (f : List ℕ × ℕ) → IsFile f → file_of (file_line f) ≡ Some f
 unfolding file_of
@@ -105,6 +109,7 @@ pub next-fits : (line : List ℕ) (files : List (List ℕ × ℕ)) (f g : List �
     → ((length files < 256) × (blocks + f.1 ≤ 16384)) × IsNew f.0 files
 next-fits line files f g blocks found sum spelled fit =
     let last = fit-last files g fit in
-    let same : g ≡ f = file-line-same g f last.0 found.1 (sym spelled ∙ found.0) in
-    ((last.1, subst (λ b. b + f.1 ≤ 16384) (sym sum) (subst (λ h. blocks_of files + h.1 ≤ 16384) same last.2)),
-        subst (λ h. IsNew h.0 files) same last.3)
+    let same : g ≡ f = file-line-same g f last.0 found.1 (sym spelled ∙ found.0) in (
+      (last.1, subst (λ b. b + f.1 ≤ 16384) (sym sum) (subst (λ h. blocks_of files + h.1 ≤ 16384) same last.2)),
+      subst (λ h. IsNew h.0 files) same last.3,
+    )

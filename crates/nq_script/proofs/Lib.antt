@@ -8,3 +8,5 @@ pub mod FileLines
 pub mod Splitting
 pub mod HeadLines
 pub mod Passing
+pub mod LineTexts
+pub mod Whole

@@ -25,7 +25,7 @@ call-found hosts text told e =
     let within = cond_some (nat_lt host.0.0 hosts) (ToldLine.Call host.0.0 call.0) told call.2 in
     let number = then-found text host.0.0 host.0.1 host.1 in
     subst (λ t. SpellsLine hosts (line_of t) (codes "call " ++ text)) within.1
-        (ltb-true host.0.0 hosts within.0, (refl, number.1, (host.0.1, told-found host.0.1 call.0 call.1, ap (λ r. codes "call " ++ r) number.0)))
+    (ltb-true host.0.0 hosts within.0, (refl, number.1, (host.0.1, told-found host.0.1 call.0 call.1, ap (λ r. codes "call " ++ r) number.0)))
 
 deliver-found : (hosts : ℕ) (text : List ℕ) (told : ToldLine) → deliver_line text ≡ Some told
     → SpellsLine hosts (line_of told) (codes "deliver " ++ text)
@@ -35,7 +35,7 @@ deliver-found hosts text told e =
     let number = number-found 18446744073709551615 text packet.0 (lit< tt) packet.1 in
     let low : packet.0 ≤ 18446744073709551615 = number.1 in
     subst (λ t. SpellsLine hosts (line_of t) (codes "deliver " ++ text)) (same_Some (ToldLine.Deliver packet.0) told packet.2)
-        (tt, (refl, omega arith, ap (λ r. codes "deliver " ++ r) number.0))
+    (tt, (refl, omega arith, ap (λ r. codes "deliver " ++ r) number.0))
 
 -- what is read as a line is spelled so
 pub line-found : (hosts : ℕ) (text : List ℕ) (told : ToldLine) → told_line hosts text ≡ Some told → SpellsLine hosts (line_of told) text
@@ -43,18 +43,23 @@ unfolding told_line
 line-found hosts text told e = call (either-found (after (codes "call ") text) (call_line hosts) others told e) where
   last : Option ToldLine
   last = if bytes_eq text (codes "end") then Some ToldLine.End else None
+
   others : Option ToldLine
   others = either (after (codes "deliver ") text) deliver_line last
+
   spelled : (word rest : List ℕ) → after word text ≡ Some rest → SpellsLine hosts (line_of told) (word ++ rest) → SpellsLine hosts (line_of told) text
   spelled word rest begun line = subst (SpellsLine hosts (line_of told)) (sym (after-found word text rest begun)) line
+
   end : last ≡ Some told → SpellsLine hosts (line_of told) text
   end e =
       let w = cond_some (bytes_eq text (codes "end")) ToldLine.End told e in
       subst (λ t. SpellsLine hosts (line_of t) text) w.1 ((bytes_eq-Decides text (codes "end")).0 w.0)
+
   deliver : ((x : List ℕ) × (after (codes "deliver ") text ≡ Some x) × (deliver_line x ≡ Some told)) ⊎ (last ≡ Some told)
       → SpellsLine hosts (line_of told) text
   deliver (inl w) = spelled (codes "deliver ") w.0 w.1 (deliver-found hosts w.0 told w.2)
   deliver (inr e) = end e
+
   call : ((x : List ℕ) × (after (codes "call ") text ≡ Some x) × (call_line hosts x ≡ Some told)) ⊎ (others ≡ Some told)
       → SpellsLine hosts (line_of told) text
   call (inl w) = spelled (codes "call ") w.0 w.1 (call-found hosts w.0 told w.2)
@@ -66,10 +71,11 @@ pub line-again : (hosts : ℕ) (line : Line) (text : List ℕ) → SpellsLine ho
 unfolding told_line call_line deliver_line
 line-again hosts (Line.Events (Event.Call host call) times) text s =
     let words = s.1.2.0 in
-    let told = told-again call words s.1.2.1 in
-    (ToldLine.Call host told.0,
-        rw (s.1.2.2, then-again host words s.1.1, told.1, lt-ltb host hosts s.0) refl,
-        rw (told.2, s.1.0) refl)
+    let told = told-again call words s.1.2.1 in (
+      ToldLine.Call host told.0,
+      rw (s.1.2.2, then-again host words s.1.1, told.1, lt-ltb host hosts s.0) refl,
+      rw (told.2, s.1.0) refl,
+    )
 line-again hosts (Line.Events (Event.Deliver k) times) text s =
     let low : k < 2 ^ 64 = s.1.1 in
     (ToldLine.Deliver k, rw (s.1.2, number-again 18446744073709551615 k (lit< tt) (omega arith)) refl, rw s.1.0 refl)

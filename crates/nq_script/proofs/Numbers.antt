@@ -45,16 +45,16 @@ digits-found : (most value : ℕ) (cs : List ℕ) (n : ℕ) → value ≤ most �
 digits-found most value [] n low e = let same : value ≡ n = same_Some value n e in (refl, same, omega arith)
 digits-found most value (c ∷ cs) n low e =
     by_cases (digit_on most value c) refl (λ longer fits. digits-found most longer cs n fits) e where
-  by_cases : (o : Option ℕ) → digit_on most value c ≡ o
-      → ((longer : ℕ) → longer ≤ most → digits_of most longer cs ≡ Some n
+      by_cases : (o : Option ℕ) → digit_on most value c ≡ o
+          → ((longer : ℕ) → longer ≤ most → digits_of most longer cs ≡ Some n
           → (all_ascii_digits cs ≡ true) × (value_after longer cs ≡ n) × (n ≤ most))
-      → option_and_then (λ longer. digits_of most longer cs) o ≡ Some n
-      → (all_ascii_digits (c ∷ cs) ≡ true) × (value_after value (c ∷ cs) ≡ n) × (n ≤ most)
-  by_cases None first rest e = absurd (none-some n e)
-  by_cases (Some longer) first rest e =
-      let digit = digit-found most value c longer first in
-      let tail = rest longer digit.2 e in
-      (and_from (is_ascii_digit c) (all_ascii_digits cs) digit.0 tail.0, ap (λ v. value_after v cs) digit.1 ∙ tail.1, tail.2)
+          → option_and_then (λ longer. digits_of most longer cs) o ≡ Some n
+          → (all_ascii_digits (c ∷ cs) ≡ true) × (value_after value (c ∷ cs) ≡ n) × (n ≤ most)
+      by_cases None first rest e = absurd (none-some n e)
+      by_cases (Some longer) first rest e =
+          let digit = digit-found most value c longer first in
+          let tail = rest longer digit.2 e in
+          (and_from (is_ascii_digit c) (all_ascii_digits cs) digit.0 tail.0, ap (λ v. value_after v cs) digit.1 ∙ tail.1, tail.2)
 
 -- digits are read, with their value
 digits-again : (most value : ℕ) (cs : List ℕ) → all_ascii_digits cs ≡ true → value_after value cs ≤ most
@@ -73,7 +73,7 @@ number-from most [] digits some plain low = absurd (omega arith)
 number-from most (c ∷ []) digits some plain low = digits-again most 0 (c ∷ []) digits low
 number-from most (c ∷ d ∷ cs) digits some plain low =
     rw (ne_eqb c 48 (λ zero_first. let one : length (c ∷ d ∷ cs) ≡ 1 = plain zero_first in absurd (omega arith)))
-        (digits-again most 0 (c ∷ d ∷ cs) digits low)
+    (digits-again most 0 (c ∷ d ∷ cs) digits low)
 
 -- only zero begins with a zero
 one-zero : (n : ℕ) → n < 2 ^ 64 → get_or (decimal n) 0 0 ≡ 48 → length (decimal n) ≡ 1
@@ -87,7 +87,7 @@ number-again most n wide low =
     let short : n < 2 ^ 64 = omega arith in
     let value : value_after 0 (decimal n) ≡ n = digits_value-decimal own n short in
     number-from most (decimal n) (digits_decimal own n short) (decimal_nonempty n short) (one-zero n short) (omega (arith, value))
-        ∙ ap (λ v. Some v) value
+    ∙ ap (λ v. Some v) value
 
 -- a choice that gives something was against nothing
 refused : {A : Type 0} (test : Bool) (o : Option A) (x : A) → (if test then None else o) ≡ Some x → (test ≡ false) × (o ≡ Some x)

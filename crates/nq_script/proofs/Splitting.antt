@@ -20,6 +20,22 @@ rest-same e = ap (λ l. drop 1 l) e
 pub nil-cons : {A : Type 0} {x : A} {xs : List A} → [] ≡ x ∷ xs → ⊥
 nil-cons {A} {x} {xs} e = let long = ap length e in absurd (omega arith)
 
+-- a list with an element is not empty
+pub not-nil : {A : Type 0} (xs : List A) (y : A) (ys : List A) → xs ++ y ∷ ys ≡ [] → ⊥
+not-nil [] y ys e = nil-cons (sym e)
+not-nil (x ∷ xs) y ys e = nil-cons (sym e)
+
+-- of two parts with which one list begins, the one begins the other
+pub parts : {A : Type 0} (xs ys more more' : List A) → xs ++ more ≡ ys ++ more'
+    → ((part : List A) × (ys ≡ xs ++ part)) ⊎ ((part : List A) × (xs ≡ ys ++ part))
+parts [] ys more more' e = inl (ys, refl)
+parts (x ∷ xs) [] more more' e = inr (x ∷ xs, refl)
+parts {A = A} (x ∷ xs) (y ∷ ys) more more' e = behind (first-same e) (parts xs ys more more' (rest-same e)) where
+  behind : x ≡ y → ((part : List A) × (ys ≡ xs ++ part)) ⊎ ((part : List A) × (xs ≡ ys ++ part))
+      → ((part : List A) × (y ∷ ys ≡ x ∷ xs ++ part)) ⊎ ((part : List A) × (x ∷ xs ≡ y ∷ ys ++ part))
+  behind same (inl p) = inl (p.0, rw (same, p.1) refl)
+  behind same (inr p) = inr (p.0, rw (same, p.1) refl)
+
 -- whether a byte stands nowhere in a text, as a test
 abbrev pub lacks : ℕ → List ℕ → Bool
 lacks at [] = true
@@ -57,15 +73,16 @@ splits [] ys rest rest' a b e = inl (ys, refl, e)
 splits (x ∷ xs) [] rest rest' a b e = inr (x ∷ xs, refl, sym e)
 splits (x ∷ xs) (y ∷ ys) rest rest' a b e =
     let same = next-line x y (text_of xs ++ rest) (text_of ys ++ rest') a.0 b.0
-        (sym (append_assoc x (10 ∷ text_of xs) rest) ∙ e ∙ append_assoc y (10 ∷ text_of ys) rest') in
+    (sym (append_assoc x (10 ∷ text_of xs) rest) ∙ e ∙ append_assoc y (10 ∷ text_of ys) rest') in
     splits-more x y xs ys rest rest' same.0 (splits xs ys rest rest' a.1 b.1 same.1)
 
 -- lines that begin such a list begin one with fewer at their end
 pub begins-front : (Is : List (List ℕ) → Type 0) (xs : List (List ℕ)) (line : List ℕ) (ys : List (List ℕ))
     → Begins Is (xs ++ line ∷ ys) → Begins Is (xs ++ line ∷ [])
-begins-front Is xs line ys begun =
-    (ys ++ begun.0,
-        subst Is (append_assoc xs (line ∷ ys) begun.0 ∙ sym (append_assoc xs (line ∷ []) (ys ++ begun.0))) begun.1)
+begins-front Is xs line ys begun = (
+  ys ++ begun.0,
+  subst Is (append_assoc xs (line ∷ ys) begun.0 ∙ sym (append_assoc xs (line ∷ []) (ys ++ begun.0))) begun.1,
+)
 
 -- where a text goes wrong, no more of its lines begin such a list
 pub wrong-stuck : (Is : List (List ℕ) → Type 0) (Whole : List (List ℕ) → List ℕ → Type 0) (text : List ℕ) (number : ℕ)
@@ -82,8 +99,8 @@ wrong-order Is Whole text m n v w [] same split =
     let long : length w.before ≡ length v.before = ap length (same ∙ append-nil v.before) in omega arith
 wrong-order Is Whole text m n v w (line ∷ more) same split =
     absurd (wrong-stuck Is Whole text m v line more w.rest
-        (each-back (Lacks 10) v.before (line ∷ more) (subst (AllByRecursion (Lacks 10)) same w.lines))
-        split (subst (λ xs. Begins Is xs) same w.begun))
+    (each-back (Lacks 10) v.before (line ∷ more) (subst (AllByRecursion (Lacks 10)) same w.lines))
+    split (subst (λ xs. Begins Is xs) same w.begun))
 
 -- a text goes wrong at one line
 pub wrong-once : (Is : List (List ℕ) → Type 0) (Whole : List (List ℕ) → List ℕ → Type 0) (text : List ℕ) (m n : ℕ)

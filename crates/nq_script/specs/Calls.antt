@@ -16,7 +16,7 @@ SpellsCall (Call.Fetch file block) text =
     (file < 2 ^ 32) × (block < 2 ^ 32) × (text ≡ spaced (codes "fetch" ∷ decimal file ∷ decimal block ∷ []))
 SpellsCall (Call.WriteSync file block body) text =
     (file < 2 ^ 32) × (block < 2 ^ 32) × ((value : ℕ) × IsFilled body value
-        × (text ≡ spaced (codes "put" ∷ decimal file ∷ decimal block ∷ decimal value ∷ [])))
+    × (text ≡ spaced (codes "put" ∷ decimal file ∷ decimal block ∷ decimal value ∷ [])))
 SpellsCall other text = ⊥
 
 -- the call that is told, with its body

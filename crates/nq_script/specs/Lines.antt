@@ -18,7 +18,7 @@ IsOfHosts hosts other = Unit {0}
 abbrev pub SpellsEvents : Event → (times : ℕ) → List ℕ → Type 0
 SpellsEvents (Event.Call host call) times text =
     (times ≡ 1) × (host < 2 ^ 32) × ((words : List ℕ) × SpellsCall call words
-        × (text ≡ spaced (codes "call" ∷ decimal host ∷ words ∷ [])))
+    × (text ≡ spaced (codes "call" ∷ decimal host ∷ words ∷ [])))
 SpellsEvents (Event.Deliver k) times text =
     (times ≡ 1) × (k < 2 ^ 64) × (text ≡ spaced (codes "deliver" ∷ decimal k ∷ []))
 SpellsEvents other times text = ⊥

@@ -2,7 +2,10 @@
 use Rattle.std.specs.Prelude.{◌≡◌, ℕ, ◌+◌, ◌≤◌, List, [], ◌∷◌, ◌++◌, length, map, codes}
 use Rattle.std.specs.Fmt.{decimal}
 use Rattle.nq_script.specs.Heads.{FitFiles, file_line}
+use Rattle.nq_script.specs.Lines.{SpellsLine}
+use Rattle.nq_script.specs.Schedule.{SpellsLines}
 use Rattle.nq_script.specs.Text.{Lacks, text_of}
+use Rattle.nq_script.specs.declared.lines.Line.{Line}
 
 -- among the lines of files, which begin at line 4, line `number` is the first that is wrong: the files before it fit,
 -- and it is not there, or neither `begin` nor the line of a file that fits behind them
@@ -19,3 +22,31 @@ pub record WrongFile (text : List ℕ) (number : ℕ) : Type 0 where
 abbrev pub NoNumber : (prefix : List ℕ) → (least most : ℕ) → (text : List ℕ) → Type 0
 NoNumber prefix least most text = (value : ℕ) (line after : List ℕ) → least ≤ value → value ≤ most → text ≡ line ++ 10 ∷ after → Lacks 10 line
     → line ≡ prefix ++ decimal value → ⊥
+
+-- the lines of events so far: texts that spell them, and what is left
+pub record ReadSoFar (hosts : ℕ) (lines : List Line) (text rest : List ℕ) : Type 0 where
+  pub texts : List (List ℕ)
+  pub spelled : SpellsLines hosts lines texts
+  pub split : text ≡ text_of texts ++ rest
+
+-- the text is that of lines of events, and `end`
+abbrev pub EndsWith : (hosts : ℕ) → List Line → (text : List ℕ) → Type 0
+EndsWith hosts lines text = (texts : List (List ℕ)) × SpellsLines hosts lines texts × (text ≡ text_of (texts ++ codes "end" ∷ []))
+
+-- behind lines of events, of which the first is line `first`, line `number` is not there, or spells nothing
+pub record WrongLine (hosts first : ℕ) (text : List ℕ) (number : ℕ) : Type 0 where
+  pub lines : List Line
+  pub rest : List ℕ
+  pub read : ReadSoFar hosts lines text rest
+  pub place : number ≡ first + length lines
+  pub stuck : (line after : List ℕ) → rest ≡ line ++ 10 ∷ after → Lacks 10 line → (spelled : Line) → SpellsLine hosts spelled line → ⊥
+
+-- bytes follow `end`, in line `number`
+pub record WrongEnd (hosts first : ℕ) (text : List ℕ) (number : ℕ) : Type 0 where
+  pub lines : List Line
+  pub texts : List (List ℕ)
+  pub rest : List ℕ
+  pub spelled : SpellsLines hosts lines texts
+  pub split : text ≡ text_of (texts ++ codes "end" ∷ []) ++ rest
+  pub place : number ≡ first + length lines + 1
+  pub more : rest ≡ [] → ⊥

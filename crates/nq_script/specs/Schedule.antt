@@ -23,7 +23,7 @@ SpellsLines hosts (line ∷ lines) (text ∷ texts) = NamesEvents line × Spells
 abbrev pub SpellsWhole : Head → List Line → List (List ℕ) → Type 0
 SpellsWhole head lines whole =
     FitsHead head × ((texts : List (List ℕ)) × SpellsLines head.hosts lines texts
-        × (whole ≡ head_lines head ++ (texts ++ codes "end" ∷ [])))
+    × (whole ≡ head_lines head ++ (texts ++ codes "end" ∷ [])))
 
 -- the text spells a schedule of this head and these lines
 abbrev pub SpellsSchedule : Head → List Line → List ℕ → Type 0

@@ -40,6 +40,7 @@ pub struct HeadOut {
 
 /// The first line of a head, and the last one.
 const VERSION: &[u8] = b"nqnfs-schedule 1";
+
 const BEGIN: &[u8] = b"begin";
 
 /// Reads the head in front of a text, from its first line to `begin`.
@@ -85,7 +86,13 @@ fn read_settings(text: &[u8]) -> Result<(u32, u32, &[u8]), ScriptFault>
 }
 
 /// The number behind the prefix in the first line of the text, which is line `number`, and what follows that line.
-fn ranged_line<'a>(text: &'a [u8], prefix: &[u8], least: u32, most: u32, number: u32) -> Result<(u32, &'a [u8]), ScriptFault>
+fn ranged_line<'a>(
+    text: &'a [u8],
+    prefix: &[u8],
+    least: u32,
+    most: u32,
+    number: u32,
+) -> Result<(u32, &'a [u8]), ScriptFault>
     ensures { Answers result (λ p. (least ≤ p.0) × (p.0 ≤ most) × (text.now ≡ text_of ((prefix.now ++ decimal p.0) ∷ []) ++ p.1.now)) (λ place. (place ≡ number) × NoNumber prefix.now least most text.now) }
 {
     let Some((line, rest)) = cut(text, b'\n') else {
@@ -99,6 +106,7 @@ fn ranged_line<'a>(text: &'a [u8], prefix: &[u8], least: u32, most: u32, number:
 
 /// The most files, and the most blocks of all files together.
 const MOST_FILES: usize = 256;
+
 const MOST_BLOCKS: u32 = 16_384;
 
 /// The files whose lines stand in front, and what follows `begin`. The text begins at line 4.

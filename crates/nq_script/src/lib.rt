@@ -5,9 +5,11 @@ mod calls;
 mod faults;
 mod heads;
 mod lines;
+mod scripts;
 mod words;
 
 pub use calls::parse_call;
 pub use faults::ScriptFault;
 pub use heads::{Head, HeadOut, parse_head};
 pub use lines::{Line, parse_line};
+pub use scripts::{Lines, Script};

@@ -6,7 +6,7 @@ use Rattle.nq_script.proofs.calls.parse_call.Goals as goal
 pub returns-in-Some-clause-found : goal.returns-in-Some-clause-found
 returns-in-Some-clause-found c =
     subst (λ x. SpellsCall x c.args.words.now) (sym c.call_of.ensures)
-        (told-found c.args.words.now c.in-Some.told (sym c.read_told.ensures ∙ c.in-Some.is))
+    (told-found c.args.words.now c.in-Some.told (sym c.read_told.ensures ∙ c.in-Some.is))
 
 pub returns-in-Some-clause-only : goal.returns-in-Some-clause-only
 returns-in-Some-clause-only c = λ x s.

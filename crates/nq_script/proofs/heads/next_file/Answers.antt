@@ -12,14 +12,14 @@ has_room-requires c =
 pub returns-then-not-has_room-clause-none : goal.returns-then-not-has_room-clause-none
 returns-then-not-has_room-clause-none c = λ _ f spelled fit.
     iff_false c.has_room.ensures c.if-not-has_room.true
-        (next-fits c.args.line.now c.args.files.now _ f c.args.blocks c.in-Some.ensures.found c.requires.sum spelled fit).0
+    (next-fits c.args.line.now c.args.files.now _ f c.args.blocks c.in-Some.ensures.found c.requires.sum spelled fit).0
 
 pub returns-then-not-is_new-clause-none : goal.returns-then-not-is_new-clause-none
 returns-then-not-is_new-clause-none c = λ _ f spelled fit.
     iff_false c.is_new.ensures c.if-not-is_new.true
-        (next-fits c.args.line.now c.args.files.now _ f c.args.blocks c.in-Some.ensures.found c.requires.sum spelled fit).1
+    (next-fits c.args.line.now c.args.files.now _ f c.args.blocks c.in-Some.ensures.found c.requires.sum spelled fit).1
 
 pub returns-clause-found : goal.returns-clause-found
 returns-clause-found c =
     next-found c.args.line.now c.args.files.now _ c.args.blocks c.in-Some.ensures.found c.requires.fit c.requires.sum
-        (c.has_room.ensures.0 c.if-not-has_room.false) (c.is_new.ensures.0 c.if-not-is_new.false)
+    (c.has_room.ensures.0 c.if-not-has_room.false) (c.is_new.ensures.0 c.if-not-is_new.false)

@@ -10,11 +10,17 @@ returns-in_default c = (refl, λ value line after low high split lacks spelled. 
 
 pub returns-in-Some-ranged : goal.returns-in-Some-ranged
 returns-in-Some-ranged c =
-    let found = ranged-found c.args.prefix.now c.args.least c.args.most c.in-Some.line.now c.in-Some-ranged.value (omega arith) (sym c.in-Some-ranged.ensures) in
-    (found.1, found.2, subst (λ l. c.args.text.now ≡ text_of (l ∷ []) ++ c.in-Some.rest.now) found.0
-        (text-more c.args.text.now [] c.args.text.now c.in-Some.line.now c.in-Some.rest.now refl (sym c.in-Some.ensures)))
+    let found = ranged-found c.args.prefix.now c.args.least c.args.most c.in-Some.line.now c.in-Some-ranged.value (omega arith) (sym c.in-Some-ranged.ensures) in (
+      found.1,
+      found.2,
+      subst (λ l. c.args.text.now ≡ text_of (l ∷ []) ++ c.in-Some.rest.now) found.0
+          (text-more c.args.text.now [] c.args.text.now c.in-Some.line.now c.in-Some.rest.now refl (sym c.in-Some.ensures)),
+    )
 
 pub returns-in-None : goal.returns-in-None
-returns-in-None c = (refl, λ value line after low high split lacks spelled.
-    ranged-none c.args.prefix.now c.args.least c.args.most c.in-Some.line.now (omega arith) (sym c.in-None.ensures) value low high
-        ((one-line c.args.text.now c.in-Some.line.now c.in-Some.rest.now line after (sym c.in-Some.ensures) split lacks).0 ∙ spelled))
+returns-in-None c = (
+  refl,
+  λ value line after low high split lacks spelled.
+      ranged-none c.args.prefix.now c.args.least c.args.most c.in-Some.line.now (omega arith) (sym c.in-None.ensures) value low high
+      ((one-line c.args.text.now c.in-Some.line.now c.in-Some.rest.now line after (sym c.in-Some.ensures) split lacks).0 ∙ spelled),
+)

@@ -12,7 +12,7 @@ pub returns-in-Some-new-clause-found : goal.returns-in-Some-new-clause-found
 returns-in-Some-new-clause-found c =
     let found = file-found c.args.line.now (c.in-Some.word.now, c.in-Some.length) (sym c.in-Some.ensures) in
     subst (λ n. (c.args.line.now ≡ file_line (n, c.in-Some.length)) × IsFile (n, c.in-Some.length)) (sym c.in-Some-new.ensures.bytes)
-        (found.0, (c.in-Some-new.ensures.name.0 refl, found.1, found.2))
+    (found.0, (c.in-Some-new.ensures.name.0 refl, found.1, found.2))
 
 pub returns-in-None-clause-none : goal.returns-in-None-clause-none
 returns-in-None-clause-none c = λ _ f is spelled.

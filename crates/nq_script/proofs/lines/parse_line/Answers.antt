@@ -6,7 +6,7 @@ use Rattle.nq_script.proofs.lines.parse_line.Goals as goal
 pub returns-in-Some-clause-found : goal.returns-in-Some-clause-found
 returns-in-Some-clause-found c =
     subst (λ x. SpellsLine c.args.hosts x c.args.line.now) (sym c.line_of.ensures)
-        (line-found c.args.hosts c.args.line.now c.in-Some.told (sym c.read_line.ensures ∙ c.in-Some.is))
+    (line-found c.args.hosts c.args.line.now c.in-Some.told (sym c.read_line.ensures ∙ c.in-Some.is))
 
 pub returns-in-Some-clause-only : goal.returns-in-Some-clause-only
 returns-in-Some-clause-only c = λ x s.

@@ -7,4 +7,4 @@ use Rattle.nq_script.proofs.words.rest_after.Goals as goal
 pub returns : goal.returns
 returns c =
     after-stripped c.args.bytes.now c.args.prefix.now c.strip_prefix.result
-        (strip_prefix_is Decides-eqb c.args.bytes.now c.args.prefix.now c.strip_prefix.result c.strip_prefix.ensures.cases)
+    (strip_prefix_is Decides-eqb c.args.bytes.now c.args.prefix.now c.strip_prefix.result c.strip_prefix.ensures.cases)
