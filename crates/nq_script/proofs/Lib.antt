@@ -10,3 +10,4 @@ pub mod HeadLines
 pub mod Passing
 pub mod LineTexts
 pub mod Whole
+pub mod EventLines

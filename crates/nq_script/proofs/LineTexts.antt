@@ -24,7 +24,7 @@ spaced-lacks [] each = tt
 spaced-lacks (word ∷ []) each = each.0
 spaced-lacks (word ∷ next ∷ words) each =
     lacks-append 10 word (32 ∷ spaced (next ∷ words)) each.0
-        (lacks-append 10 (32 ∷ []) (spaced (next ∷ words)) (lacks-tested 10 (32 ∷ []) refl) (spaced-lacks (next ∷ words) each.1))
+    (lacks-append 10 (32 ∷ []) (spaced (next ∷ words)) (lacks-tested 10 (32 ∷ []) refl) (spaced-lacks (next ∷ words) each.1))
 
 -- the words of a call have no line feed
 call-lacks : (call : Call) (words : List ℕ) → SpellsCall call words → Lacks 10 words
@@ -32,14 +32,14 @@ call-lacks (Call.Fetch file block) words s =
     let low-file : file < 2 ^ 32 = s.0 in
     let low-block : block < 2 ^ 32 = s.1 in
     subst (Lacks 10) (sym s.2) (spaced-lacks (codes "fetch" ∷ decimal file ∷ decimal block ∷ [])
-        (lacks-tested 10 (codes "fetch") refl, (decimal-line file (omega arith), (decimal-line block (omega arith), tt))))
+    (lacks-tested 10 (codes "fetch") refl, (decimal-line file (omega arith), (decimal-line block (omega arith), tt))))
 call-lacks (Call.WriteSync file block body) words s =
     let low-file : file < 2 ^ 32 = s.0 in
     let low-block : block < 2 ^ 32 = s.1 in
     let value = s.2.0 in
     let low-value : value < 2 ^ 32 = s.2.1.0 in
     subst (Lacks 10) (sym s.2.2) (spaced-lacks (codes "put" ∷ decimal file ∷ decimal block ∷ decimal value ∷ [])
-        (lacks-tested 10 (codes "put") refl, (decimal-line file (omega arith), (decimal-line block (omega arith), (decimal-line value (omega arith), tt)))))
+    (lacks-tested 10 (codes "put") refl, (decimal-line file (omega arith), (decimal-line block (omega arith), (decimal-line value (omega arith), tt)))))
 call-lacks other words s = absurd s
 
 -- a line has no line feed
@@ -48,10 +48,10 @@ line-lacks hosts (Line.Events (Event.Call host call) times) text s =
     let low-host : host < 2 ^ 32 = s.1.1 in
     let words = s.1.2.0 in
     subst (Lacks 10) (sym s.1.2.2) (spaced-lacks (codes "call" ∷ decimal host ∷ words ∷ [])
-        (lacks-tested 10 (codes "call") refl, (decimal-line host (omega arith), (call-lacks call words s.1.2.1, tt))))
+    (lacks-tested 10 (codes "call") refl, (decimal-line host (omega arith), (call-lacks call words s.1.2.1, tt))))
 line-lacks hosts (Line.Events (Event.Deliver k) times) text s =
     subst (Lacks 10) (sym s.1.2) (spaced-lacks (codes "deliver" ∷ decimal k ∷ [])
-        (lacks-tested 10 (codes "deliver") refl, (decimal-line k s.1.1, tt)))
+    (lacks-tested 10 (codes "deliver") refl, (decimal-line k s.1.1, tt)))
 line-lacks hosts (Line.Events other times) text s = absurd s.1
 line-lacks hosts (Line.Round times) text s = absurd s
 line-lacks hosts Line.Flow text s = absurd s

@@ -12,4 +12,4 @@ pub use calls::parse_call;
 pub use faults::ScriptFault;
 pub use heads::{Head, HeadOut, parse_head};
 pub use lines::{Line, parse_line};
-pub use scripts::{Lines, Script};
+pub use scripts::{Lines, Script, parse};

@@ -1,6 +1,6 @@
 //! The lines of events.
 
-ghost use Rattle.std.specs.Prelude.{◌≡◌, ◌≢◌};
+ghost use Rattle.std.specs.Prelude.{◌≡◌, ◌≢◌, ◌↔◌, IsTrue};
 ghost use Rattle.nq_script.specs.Faults.{Answers};
 ghost use Rattle.nq_script.specs.Lines.{SpellsLine, line_of};
 ghost use Rattle.nq_script.specs.Reading.{told_line, call_line, deliver_line};
@@ -32,6 +32,18 @@ pub(crate) enum ToldLine {
     Call { host: Host, told: Told },
     Deliver(u64),
     End,
+}
+
+impl ToldLine {
+    /// Whether this is the last line.
+    pub(crate) fn is_end(&self) -> bool
+        ensures { IsTrue result ↔ (self.now ≡ ToldLine.End) }
+    {
+        match self {
+            ToldLine::End => true,
+            _ => false,
+        }
+    }
 }
 
 /// The line that is told, with its body.

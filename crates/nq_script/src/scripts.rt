@@ -1,7 +1,8 @@
 //! The whole text of a schedule.
 
-ghost use Rattle.std.specs.Prelude.{◌≡◌, ◌↔◌, ◌+◌, ◌<◌, ◌^◌, ◌⊎◌, ℕ, List, [], length, map, slice_get, IsTrue};
+ghost use Rattle.std.specs.Prelude.{◌≡◌, ◌↔◌, ◌+◌, ◌<◌, ◌^◌, ◌⊎◌, ◌++◌, ◌∷◌, ℕ, List, [], OnOk, length, map, slice_get, IsTrue};
 ghost use Rattle.nq_script.specs.Faults.{Answers};
+ghost use Rattle.nq_script.specs.Heads.{head_lines};
 ghost use Rattle.nq_script.specs.Lines.{line_of};
 ghost use Rattle.nq_script.specs.Progress.{EndsWith, WrongLine, WrongEnd};
 ghost use Rattle.nq_script.specs.Schedule.{SpellsSchedule, FirstBadLine};
@@ -12,6 +13,7 @@ use crate::faults::ScriptFault;
 use crate::heads::{Head, HeadOut, parse_head};
 use crate::lines::{Line, ToldLine, line_of, read_line};
 use crate::words::cut;
+use nq_base::NoMemory;
 use std::alloc::Global;
 use std::marker::Model;
 
@@ -33,6 +35,28 @@ impl Model for Lines {
 }
 
 impl Lines {
+    fn new(alloc: Global) -> Lines
+        ensures { result ≡ [] }
+    {
+        Lines {
+            told: Vec::new(alloc),
+        }
+    }
+
+    fn push(&mut self, line: ToldLine) -> Result<(), NoMemory>
+        ensures { OnOk result (self.new ≡ self.old ++ line_of line ∷ []) }
+    {
+        // By cases, so that the prover meets the type of a call that is told.
+        let pushed = match line {
+            ToldLine::Call { host, told } => self.told.push(ToldLine::Call { host, told }),
+            other => self.told.push(other),
+        };
+        match pushed {
+            Ok(()) => Ok(()),
+            Err(_) => Err(NoMemory::Memory),
+        }
+    }
+
     /// How many there are.
     pub fn len(&self) -> usize
         ensures { result ≡ length self.now }
@@ -67,4 +91,59 @@ pub struct Script {
     pub first: u32,
     /// The lines between the head and `end`.
     pub lines: Lines,
+}
+
+/// Reads a whole text. The text is shorter than 2^31 bytes.
+///
+/// # Errors
+///
+/// `Bad` with the number of the first line at which the text is outside the grammar: also a line without its line feed,
+/// the line that is missing where the text ends before `end`, and the one behind `end` where bytes follow.
+pub fn parse(alloc: Global, text: &[u8]) -> Result<Script, ScriptFault>
+    requires { length text.now < 2 ^ 31 }
+    ensures found { Answers result (λ script. SpellsSchedule script.head script.lines text.now) (λ number. FirstBadLine text.now number) }
+    ensures only { (head : Head) (lines : List Line) → SpellsSchedule head lines text.now
+        → Answers result (λ script. (script.head ≡ head) × (script.lines ≡ lines)) (λ number. ⊥) }
+    ensures bad { (number : ℕ) → FirstBadLine text.now number → Answers result (λ script. ⊥) (λ place. place ≡ number) }
+    ensures first { Answers result (λ script. script.first ≡ length (head_lines script.head) + 1) (λ number. Unit {0}) }
+{
+    read_script(alloc, text)
+}
+
+fn read_script(alloc: Global, text: &[u8]) -> Result<Script, ScriptFault>
+    requires { length text.now < 2 ^ 31 }
+    ensures found { Answers result (λ script. SpellsSchedule script.head script.lines text.now) (λ number. FirstBadLine text.now number) }
+    ensures first { Answers result (λ script. script.first ≡ length (head_lines script.head) + 1) (λ number. Unit {0}) }
+{
+    let HeadOut { head, lines, bytes } = parse_head(alloc, text)?;
+    let first = lines + 1;
+    let lines = read_lines(alloc, &text[bytes..], head.hosts, first)?;
+    Ok(Script { head, first, lines })
+}
+
+/// Reads the lines of events, of which the first has the number `first`, up to `end`, which ends the text.
+fn read_lines(alloc: Global, text: &[u8], hosts: u32, first: u32) -> Result<Lines, ScriptFault>
+    requires { first + length text.now < 2 ^ 32 }
+    ensures { Answers result (λ lines. EndsWith hosts lines text.now) (λ number. WrongLine hosts first text.now number ⊎ WrongEnd hosts first text.now number) }
+{
+    let mut lines = Lines::new(alloc);
+    let mut rest = text;
+    'lines: loop {
+        let number = first + lines.len() as u32;
+        let Some((line, after)) = cut(rest, b'\n') else {
+            return Err(ScriptFault::Bad(number));
+        };
+        let Some(read) = read_line(line, hosts) else {
+            return Err(ScriptFault::Bad(number));
+        };
+        if read.is_end() {
+            return if after.is_empty() {
+                Ok(lines)
+            } else {
+                Err(ScriptFault::Bad(number + 1))
+            };
+        }
+        lines.push(read)?;
+        rest = after;
+    }
 }
