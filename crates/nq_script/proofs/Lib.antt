@@ -11,3 +11,4 @@ pub mod Passing
 pub mod LineTexts
 pub mod Whole
 pub mod EventLines
+pub mod Printing

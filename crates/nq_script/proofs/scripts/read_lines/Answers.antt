@@ -35,15 +35,15 @@ overflow_add-result c =
 pub returns-then-is_empty : goal.returns-then-is_empty
 returns-then-is_empty c =
     ended c.args.hosts c.lines.lines c.args.text.now c.lines.rest.now c.in-Some.line.now c.in-Some.after.now c.in-Some-read_line.read c.lines.invariant
-    (sym c.in-Some.ensures) (sym c.in-Some-read_line.ensures) (c.is_end.ensures.0 c.if-is_end.true) 
-        (nil_from_length c.in-Some.after.now (eqb-true (length c.in-Some.after.now) 0 (sym c.is_empty.ensures ∙ c.if-is_empty.true)))
+    (sym c.in-Some.ensures) (sym c.in-Some-read_line.ensures) (c.is_end.ensures.0 c.if-is_end.true)
+    (nil_from_length c.in-Some.after.now (eqb-true (length c.in-Some.after.now) 0 (sym c.is_empty.ensures ∙ c.if-is_empty.true)))
 
 pub returns-else-is_empty : goal.returns-else-is_empty
 returns-else-is_empty c =
     inr (wrong-end c.args.hosts c.args.first c.lines.lines c.args.text.now c.lines.rest.now c.in-Some.line.now c.in-Some.after.now c.in-Some-read_line.read
     (c.args.first + c.len.result) c.lines.invariant (ap (λ n. c.args.first + n) c.len.ensures) (sym c.in-Some.ensures)
     (sym c.in-Some-read_line.ensures) (c.is_end.ensures.0 c.if-is_end.true)
-        (λ none. eqb-false (length c.in-Some.after.now) 0 (sym c.is_empty.ensures ∙ c.if-is_empty.false) (ap length none)))
+    (λ none. eqb-false (length c.in-Some.after.now) 0 (sym c.is_empty.ensures ∙ c.if-is_empty.false) (ap length none)))
 
 pub lines-smaller : goal.lines-smaller
 lines-smaller c = after-shorter c.lines.rest.now c.in-Some.line.now c.in-Some.after.now (sym c.in-Some.ensures)
