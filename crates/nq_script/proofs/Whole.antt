@@ -3,7 +3,8 @@ use Rattle.std.proofs.Common.{◌≡◌, ◌≢◌, ◌⊎◌, inl, inr, ℕ, �
 use Rattle.std.specs.List.{AllByRecursion}
 use Rattle.std.proofs.lemmas.List.{append-nil, append_cancel_left, append_cancel_right}
 use Rattle.nq_script.specs.Heads.{FitsHead, head_lines}
-use Rattle.nq_script.specs.Lines.{SpellsLine}
+use Rattle.nq_base.specs.declared.Event.{Event}
+use Rattle.nq_script.specs.Lines.{SpellsLine, AreSpelled, once}
 use Rattle.nq_script.specs.Progress.{EndsWith, ReadSoFar, WrongLine, WrongEnd}
 use Rattle.nq_script.specs.Schedule.{SpellsLines, SpellsWhole, SpellsSchedule, IsHead, IsSchedule, Begins, GoesWrong, StandsInFront, FirstBadHeadLine, FirstBadLine}
 use Rattle.nq_script.specs.Text.{Lacks, text_of}
@@ -13,7 +14,7 @@ use Rattle.nq_script.specs.declared.faults.ScriptFault.TheVariants.{Bad, Memory}
 use Rattle.nq_script.specs.declared.heads.Head.{Head}
 use Rattle.nq_script.specs.declared.scripts.Script.{Script}
 use Rattle.nq_script.specs.declared.lines.Line.{Line}
-use Rattle.nq_script.proofs.FileLines.{text-behind}
+use Rattle.nq_script.proofs.FileLines.{text-behind, text_of-append}
 use Rattle.nq_script.proofs.Fitting.{each-append, each-back}
 use Rattle.nq_script.proofs.HeadLines.{head-lacks, one-head}
 use Rattle.nq_script.proofs.LineTexts.{lines-lack, one-list-spelled, as-many, line-next, nothing-next, not-ended}
@@ -229,3 +230,19 @@ pub schedule-bad : (text : List ℕ) (number : ℕ) → FirstBadLine text number
 schedule-bad text number w (Ok script) said = schedule-right text number script.head script.lines said w
 schedule-bad text number w (Err (Bad place)) said = wrong-once IsSchedule (λ before rest. IsSchedule before × (rest ≡ [])) text place number said w
 schedule-bad text number w (Err Memory) said = tt
+
+spelled-lines : (hosts : ℕ) (events : List Event) (texts : List (List ℕ)) → AreSpelled hosts events texts → SpellsLines hosts (map once events) texts
+spelled-lines hosts [] [] s = tt
+spelled-lines hosts [] (text ∷ texts) s = absurd s
+spelled-lines hosts (event ∷ events) [] s = absurd s
+spelled-lines hosts (event ∷ events) (text ∷ texts) s = (tt, (s.0, s.1), spelled-lines hosts events texts s.2)
+
+-- what is printed of a head and events is the text of their schedule
+pub printed-again : (head : Head) (events : List Event) (texts : List (List ℕ)) → FitsHead head → AreSpelled head.hosts events texts
+    → SpellsSchedule head (map once events) (text_of (head_lines head) ++ (text_of texts ++ codes "end\n"))
+printed-again head events texts fits s = (
+  head_lines head ++ (texts ++ codes "end" ∷ []),
+  (fits, (texts, spelled-lines head.hosts events texts s, refl)),
+  sym (text_of-append (head_lines head) (texts ++ codes "end" ∷ [])
+      ∙ ap (λ t. text_of (head_lines head) ++ t) (text_of-append texts (codes "end" ∷ []))),
+)

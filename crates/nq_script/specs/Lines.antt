@@ -1,5 +1,5 @@
 -- The lines between the head and `end`.
-use Rattle.std.specs.Prelude.{◌≡◌, ℕ, ◌<◌, ◌^◌, List, [], ◌∷◌, codes}
+use Rattle.std.specs.Prelude.{◌≡◌, ℕ, ◌<◌, ◌^◌, List, [], ◌∷◌, ◌++◌, replicate, codes}
 use Rattle.std.specs.Fmt.{decimal}
 use Rattle.nq_base.specs.declared.Event.{Event}
 use Rattle.nq_script.specs.Calls.{SpellsCall, call_of}
@@ -39,3 +39,20 @@ abbrev pub line_of : ToldLine → Line
 line_of (ToldLine.Call host told) = Line.Events (Event.Call host (call_of told)) 1
 line_of (ToldLine.Deliver k) = Line.Events (Event.Deliver k) 1
 line_of ToldLine.End = Line.End
+
+-- the line of an event, once
+abbrev pub once : Event → Line
+once event = Line.Events event 1
+
+-- texts that spell events one by one, each an event of these hosts
+abbrev pub AreSpelled : (hosts : ℕ) → List Event → List (List ℕ) → Type 0
+AreSpelled hosts [] [] = Unit {0}
+AreSpelled hosts [] (text ∷ texts) = ⊥
+AreSpelled hosts (event ∷ events) [] = ⊥
+AreSpelled hosts (event ∷ events) (text ∷ texts) = IsOfHosts hosts event × SpellsEvent event text × AreSpelled hosts events texts
+
+-- the events that lines name themselves; those of a round or a flow follow from the run
+abbrev pub events_of : List Line → List Event
+events_of [] = []
+events_of (Line.Events event times ∷ lines) = replicate times event ++ events_of lines
+events_of (other ∷ lines) = events_of lines

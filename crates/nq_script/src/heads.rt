@@ -114,7 +114,7 @@ fn read_files(alloc: Global, text: &[u8]) -> Result<(FileList, &[u8]), ScriptFau
     ensures { Answers result (λ p. FitFiles p.0 × (text.now ≡ text_of (file_lines p.0) ++ p.1.now)) (λ number. WrongFile text.now number) }
 {
     let mut files = FileList::new(alloc)?;
-    let mut blocks: u32 = 0;
+    let mut total: u32 = 0;
     let mut rest = text;
     'lines: loop {
         let number = files.len() as u32 + 4;
@@ -124,11 +124,11 @@ fn read_files(alloc: Global, text: &[u8]) -> Result<(FileList, &[u8]), ScriptFau
         if line == BEGIN {
             return Ok((files, after));
         }
-        let Some((name, length)) = next_file(line, &files, blocks) else {
+        let Some((name, length)) = next_file(line, &files, total) else {
             return Err(ScriptFault::Bad(number));
         };
         files.push(name, length)?;
-        blocks += length;
+        total += length;
         rest = after;
     }
 }

@@ -3,12 +3,12 @@
 ghost use Rattle.std.specs.Prelude.{◌≡◌, ◌++◌, ◌∷◌, [], ℕ, List, map, IfOk, OnOk};
 ghost use Rattle.std.specs.Fmt.{decimal};
 ghost use Rattle.nq_script.specs.Calls.{SpellsCall};
-ghost use Rattle.nq_script.specs.Heads.{FitsHead, head_lines};
+ghost use Rattle.nq_script.specs.Heads.{FitsHead, file_line, head_lines};
 ghost use Rattle.nq_script.specs.Lines.{SpellsEvent};
 ghost use Rattle.nq_script.specs.Text.{spaced, text_of};
 
 use crate::heads::Head;
-use nq_base::{Call, Event, NoMemory};
+use nq_base::{Call, Event, FileList, Name, NoMemory};
 use std::alloc::Global;
 
 /// Appends bytes.
@@ -94,4 +94,56 @@ pub fn print_event(alloc: Global, event: &Event) -> Result<Vec<u8>, NoMemory>
         _ => unreachable!(),
     }
     Ok(line)
+}
+
+/// The text of a head, from its first line to `begin` with its line feed. The head fits: it has 1 to 64 hosts, a term of
+/// 5 to 60 ticks, and at most 256 files of 1 to 1024 blocks, of distinct names and of at most 16,384 blocks together.
+pub fn print_head(alloc: Global, head: &Head) -> Result<Vec<u8>, NoMemory>
+    requires { FitsHead head.now }
+    ensures { IfOk result (λ text. text.items ≡ text_of (head_lines head.now)) }
+{
+    let mut text = Vec::new(alloc);
+    append(&mut text, b"nqnfs-schedule 1\n")?;
+    append_line(alloc, &mut text, b"hosts ", head.hosts)?;
+    append_line(alloc, &mut text, b"term ", head.term)?;
+    append_files(alloc, &mut text, &head.files)?;
+    append(&mut text, b"begin\n")?;
+    Ok(text)
+}
+
+/// Appends a line of a number behind a prefix.
+fn append_line(
+    alloc: Global,
+    text: &mut Vec<u8>,
+    prefix: &[u8],
+    number: u32,
+) -> Result<(), NoMemory>
+    ensures { OnOk result (text.new.items ≡ text.old.items ++ text_of ((prefix.now ++ decimal number) ∷ [])) }
+{
+    append(text, prefix)?;
+    append_number(alloc, text, u64::from(number))?;
+    append(text, b"\n")
+}
+
+/// Appends the lines of files.
+fn append_files(alloc: Global, text: &mut Vec<u8>, files: &FileList) -> Result<(), NoMemory>
+    ensures { OnOk result (text.new.items ≡ text.old.items ++ text_of (map file_line files.now)) }
+{
+    for place in 0..files.len() {
+        if let Some((name, length)) = files.get(place) {
+            append_file(alloc, text, name, length)?;
+        }
+    }
+    Ok(())
+}
+
+/// Appends the line of a file.
+fn append_file(alloc: Global, text: &mut Vec<u8>, name: &Name, blocks: u32) -> Result<(), NoMemory>
+    ensures { OnOk result (text.new.items ≡ text.old.items ++ text_of (file_line (name.now, blocks) ∷ [])) }
+{
+    append(text, b"file ")?;
+    append(text, name.as_bytes())?;
+    append(text, b" ")?;
+    append_number(alloc, text, u64::from(blocks))?;
+    append(text, b"\n")
 }

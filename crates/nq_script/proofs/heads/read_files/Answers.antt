@@ -28,6 +28,6 @@ lines-smaller c = after-shorter c.lines.rest.now c.in-Some.line.now c.in-Some.af
 
 pub lines-preserved : goal.lines-preserved
 lines-preserved c =
-    let more = files-more c.args.text.now c.lines.files c.push.new.self c.lines.rest.now c.in-Some.line.now c.in-Some.after.now _ c.lines.blocks
-    c.lines.invariant.split (sym c.in-Some.ensures) c.in-Some-next_file.ensures.found c.lines.invariant.blocks c.in_ok-push.ensures.ok in
-    record { split = more.0; fit = more.1; blocks = more.2 }
+    let more = files-more c.args.text.now c.lines.files c.push.new.self c.lines.rest.now c.in-Some.line.now c.in-Some.after.now _ c.lines.total
+    c.lines.invariant.split (sym c.in-Some.ensures) c.in-Some-next_file.ensures.found c.lines.invariant.sum c.in_ok-push.ensures.ok in
+    record { split = more.0; fit = more.1; sum = more.2 }

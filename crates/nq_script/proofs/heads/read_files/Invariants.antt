@@ -7,7 +7,7 @@ abbrev pub invariant-lines : goal.invariant-lines
 invariant-lines l = record {
   split : l.text ≡ text_of (map file_line l.files) ++ l.rest;
   fit : FitFiles l.files;
-  blocks : l.blocks ≡ blocks_of l.files;
+  sum : l.total ≡ blocks_of l.files;
 }
 
 abbrev pub decreases-lines : goal.decreases-lines

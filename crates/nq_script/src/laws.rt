@@ -1,0 +1,27 @@
+//! What holds of the grammar, whatever the program does.
+
+ghost use Rattle.std.specs.Prelude.{◌≡◌, ◌++◌, ◌∷◌, [], ℕ, List, map, codes};
+ghost use Rattle.nq_base.specs.declared.Event.{Event};
+ghost use Rattle.nq_script.specs.Heads.{FitsHead, head_lines};
+ghost use Rattle.nq_script.specs.Lines.{AreSpelled, once};
+ghost use Rattle.nq_script.specs.Schedule.{SpellsSchedule, FirstBadLine};
+ghost use Rattle.nq_script.specs.Text.{text_of};
+ghost use Rattle.nq_script.specs.declared.heads.Head.{Head};
+ghost use Rattle.nq_script.specs.declared.lines.Line.{Line};
+
+/// A text spells one schedule.
+pub fn one_reading()
+    ensures { (g h : Head) (ls ms : List Line) (text : List ℕ) → SpellsSchedule g ls text → SpellsSchedule h ms text → (g ≡ h) × (ls ≡ ms) }
+{}
+
+/// A text has one first line that is wrong, and none where it spells a schedule.
+pub fn one_fault()
+    ensures once { (text : List ℕ) (m n : ℕ) → FirstBadLine text m → FirstBadLine text n → m ≡ n }
+    ensures none { (text : List ℕ) (n : ℕ) (head : Head) (lines : List Line) → SpellsSchedule head lines text → FirstBadLine text n → ⊥ }
+{}
+
+/// The text of a head, the lines of events of its hosts, each with its line feed, and `end` spell these events.
+pub fn printed_again()
+    ensures { (head : Head) (events : List Event) (texts : List (List ℕ)) → FitsHead head → AreSpelled head.hosts events texts
+        → SpellsSchedule head (map once events) (text_of (head_lines head) ++ (text_of texts ++ codes "end\n")) }
+{}
