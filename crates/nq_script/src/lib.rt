@@ -19,3 +19,6 @@ pub use lines::{Line, parse_line};
 pub use print::{print_event, print_head};
 pub use schedules::Schedule;
 pub use scripts::{Lines, Script, parse};
+
+#[cfg(test)]
+mod tests;
