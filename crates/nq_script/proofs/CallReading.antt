@@ -1,14 +1,13 @@
 -- Calls are read as they are spelled.
-use Rattle.std.proofs.Common.{◌≡◌, ℕ, ◌+◌, ◌<◌, ◌≤◌, ◌^◌, List, [], ◌∷◌, ◌++◌, length, Option, Some, None, refl, ap, sym, ◌∙◌, arith, lit<, codes, ◌⊎◌, inl, inr, subst}
+use Rattle.std.proofs.Common.{◌≡◌, ℕ, ◌<◌, ◌≤◌, ◌^◌, List, [], ◌∷◌, ◌++◌, Option, Some, None, refl, ap, sym, ◌∙◌, arith, lit<, codes, ◌⊎◌, inl, inr, subst}
 use Rattle.std.specs.Fmt.{decimal}
 use Rattle.std.proofs.lemmas.Option.{none-some, same_Some, some_pair_parts}
-use Rattle.nq_base.specs.Block.{filled}
 use Rattle.nq_base.specs.declared.Call.{Call}
 use Rattle.nq_base.specs.declared.Told.{Told}
 use Rattle.nq_script.specs.Calls.{SpellsCall, call_of}
 use Rattle.nq_script.specs.Reading.{◌>>=◌, either, after, cut_at, number_of, number_then, two_numbers, three_numbers, fetch_of, put_of, told_of}
-use Rattle.nq_script.specs.Text.{Lacks, spaced}
-use Rattle.nq_script.proofs.Cuts.{cut-again, cut-found, after-again, after-found}
+use Rattle.nq_script.specs.Text.{spaced}
+use Rattle.nq_script.proofs.Cuts.{cut-again, cut-found, after-found}
 use Rattle.nq_script.proofs.Numbers.{number-again, number-found, decimal-lacks}
 
 -- what a step gives comes of what the first gave

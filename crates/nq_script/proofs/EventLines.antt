@@ -1,14 +1,14 @@
 -- The lines of events, read one after another.
-use Rattle.std.proofs.Common.{◌≡◌, ◌≢◌, ◌⊎◌, inl, inr, ℕ, ◌+◌, ◌<◌, ◌≤◌, ◌^◌, List, [], ◌∷◌, ◌++◌, length, Option, Some, None, zero, suc, refl, ap, sym, ◌∙◌, arith, subst, append_assoc, codes, length-append}
-use Rattle.std.proofs.lemmas.List.{append-nil, nil_from_length}
+use Rattle.std.proofs.Common.{◌≡◌, ◌≢◌, ℕ, ◌+◌, ◌≤◌, List, [], ◌∷◌, ◌++◌, length, Some, None, refl, ap, sym, ◌∙◌, arith, subst, codes, length-append}
+use Rattle.std.proofs.lemmas.List.{append-nil}
 use Rattle.nq_script.specs.Lines.{SpellsLine, line_of}
 use Rattle.nq_script.specs.Progress.{ReadSoFar, EndsWith, WrongLine, WrongEnd}
 use Rattle.nq_script.specs.Reading.{cut_at, told_line}
-use Rattle.nq_script.specs.Schedule.{SpellsLines, NamesEvents}
-use Rattle.nq_script.specs.Text.{Lacks, text_of}
+use Rattle.nq_script.specs.Schedule.{NamesEvents}
+use Rattle.nq_script.specs.Text.{text_of}
 use Rattle.nq_script.specs.declared.lines.Line.{Line}
 use Rattle.nq_script.specs.declared.lines.ToldLine.{ToldLine}
-use Rattle.nq_script.proofs.FileLines.{text-more, no-line, one-line, after-shorter}
+use Rattle.nq_script.proofs.FileLines.{text-more, no-line, one-line}
 use Rattle.nq_script.proofs.LineReading.{line-found, line-none}
 use Rattle.nq_script.proofs.LineTexts.{as-many, lines-more}
 

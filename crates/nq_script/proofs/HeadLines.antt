@@ -1,13 +1,12 @@
 -- The lines of a head: one head for them, and where they go wrong.
-use Rattle.std.proofs.Common.{◌≡◌, ◌≢◌, ◌⊎◌, inl, inr, ℕ, ◌+◌, ◌<◌, ◌≤◌, ◌^◌, List, [], ◌∷◌, ◌++◌, length, get_or, drop, map, zero, suc, refl, ap, sym, ◌∙◌, arith, lit<, lit≤, subst, append_assoc, codes, ◌-◌, Result, Ok, Err}
+use Rattle.std.proofs.Common.{◌≡◌, ◌⊎◌, inl, inr, ℕ, ◌+◌, ◌<◌, ◌≤◌, ◌^◌, List, [], ◌∷◌, ◌++◌, length, get_or, drop, map, refl, ap, sym, ◌∙◌, arith, lit<, lit≤, subst, append_assoc, codes, ◌-◌, Result, Ok, Err}
 use Rattle.std.specs.Fmt.{decimal}
 use Rattle.std.specs.List.{AllByRecursion}
 use Rattle.std.proofs.lemmas.Fmt.{decimal_injective}
 use Rattle.std.proofs.lemmas.List.{append-nil, length-map, drop_at, length-append}
-use Rattle.nq_base.specs.Name.{IsName}
 use Rattle.nq_script.specs.Heads.{IsFile, FitFiles, FitsHead, AreSettings, file_line, file_lines, version_line, hosts_line, term_line, head_lines}
 use Rattle.nq_script.specs.Progress.{WrongFile}
-use Rattle.nq_script.specs.Schedule.{IsHead, Begins, GoesWrong, FirstBadHeadLine, StandsInFront}
+use Rattle.nq_script.specs.Schedule.{IsHead, FirstBadHeadLine, StandsInFront}
 use Rattle.nq_script.specs.Text.{Lacks, text_of}
 use Rattle.nq_script.specs.Faults.{Answers}
 use Rattle.nq_script.specs.declared.faults.ScriptFault.{ScriptFault}

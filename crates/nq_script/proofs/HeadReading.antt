@@ -1,5 +1,5 @@
 -- The lines of a head are read as they are spelled.
-use Rattle.std.proofs.Common.{◌≡◌, ◌≢◌, ℕ, ◌+◌, ◌<◌, ◌≤◌, ◌^◌, Bool, true, false, List, [], ◌∷◌, ◌++◌, length, get_or, take, drop, Option, Some, None, zero, suc, refl, ap, sym, subst, ◌∙◌, arith, lit<, lit≤, codes, nat_le, if◌then◌else◌, All, slice_get}
+use Rattle.std.proofs.Common.{◌≡◌, ◌≢◌, ℕ, ◌+◌, ◌<◌, ◌≤◌, ◌^◌, List, [], ◌∷◌, ◌++◌, length, take, Some, None, zero, suc, refl, ap, sym, subst, ◌∙◌, arith, lit<, codes, nat_le, if◌then◌else◌, slice_get}
 use Rattle.std.specs.Fmt.{decimal}
 use Rattle.std.specs.List.{AllByRecursion}
 use Rattle.std.proofs.lemmas.Bool.{leb-true, le-leb}
@@ -8,7 +8,7 @@ use Rattle.std.proofs.lemmas.Option.{none-some, same_Some, cond_some}
 use Rattle.nq_base.specs.Name.{IsName, IsNameByte}
 use Rattle.nq_script.specs.Heads.{IsFile, IsNew, FitFiles, blocks_of, file_line}
 use Rattle.nq_script.specs.Reading.{◌>>=◌, after, cut_at, number_of, ranged_of, file_of}
-use Rattle.nq_script.specs.Text.{Lacks, spaced}
+use Rattle.nq_script.specs.Text.{Lacks}
 use Rattle.nq_script.proofs.CallReading.{bind-found}
 use Rattle.nq_script.proofs.Cuts.{after-found, after-again, cut-found, cut-again}
 use Rattle.nq_script.proofs.Fitting.{fit-more, fit-last}

@@ -1,15 +1,12 @@
 -- Lines are read as they are spelled.
-use Rattle.std.proofs.Common.{◌≡◌, ℕ, ◌+◌, ◌<◌, ◌≤◌, ◌^◌, Bool, true, false, List, [], ◌∷◌, ◌++◌, Option, Some, None, refl, ap, sym, subst, ◌∙◌, arith, lit<, codes, ◌⊎◌, inl, inr, nat_lt, if◌then◌else◌}
-use Rattle.std.specs.Fmt.{decimal}
+use Rattle.std.proofs.Common.{◌≡◌, ℕ, ◌<◌, ◌≤◌, ◌^◌, List, ◌++◌, Option, Some, None, refl, ap, sym, subst, ◌∙◌, arith, lit<, codes, ◌⊎◌, inl, inr, nat_lt, if◌then◌else◌}
 use Rattle.std.specs.Str.{bytes_eq}
 use Rattle.std.proofs.lemmas.Bool.{ltb-true, lt-ltb}
 use Rattle.std.proofs.lemmas.Option.{none-some, same_Some, cond_some}
 use Rattle.std.proofs.lemmas.Slice.Eq.{bytes_eq-Decides}
 use Rattle.nq_base.specs.declared.Event.{Event}
-use Rattle.nq_script.specs.Calls.{SpellsCall, call_of}
 use Rattle.nq_script.specs.Lines.{SpellsLine, line_of}
 use Rattle.nq_script.specs.Reading.{◌>>=◌, either, after, number_of, number_then, told_of, call_line, deliver_line, told_line}
-use Rattle.nq_script.specs.Text.{spaced}
 use Rattle.nq_script.specs.declared.lines.Line.{Line}
 use Rattle.nq_script.specs.declared.lines.ToldLine.{ToldLine}
 use Rattle.nq_script.proofs.CallReading.{bind-found, either-found, then-found, then-again, told-found, told-again}

@@ -1,11 +1,11 @@
 -- The lines of events: they have no line feed, and one text is of one list of them.
-use Rattle.std.proofs.Common.{◌≡◌, ◌≢◌, ℕ, ◌+◌, ◌<◌, ◌≤◌, ◌^◌, List, [], ◌∷◌, ◌++◌, length, map, zero, suc, refl, ap, sym, ◌∙◌, arith, subst, append_assoc, codes, Some}
+use Rattle.std.proofs.Common.{◌≡◌, ℕ, ◌<◌, ◌^◌, List, [], ◌∷◌, ◌++◌, length, refl, sym, ◌∙◌, arith, subst, codes, Some}
 use Rattle.std.specs.Fmt.{decimal}
 use Rattle.std.specs.List.{AllByRecursion}
 use Rattle.nq_base.specs.declared.Call.{Call}
 use Rattle.nq_base.specs.declared.Event.{Event}
 use Rattle.nq_script.specs.Calls.{SpellsCall}
-use Rattle.nq_script.specs.Lines.{SpellsLine, line_of}
+use Rattle.nq_script.specs.Lines.{SpellsLine}
 use Rattle.nq_script.specs.Reading.{told_line}
 use Rattle.nq_script.specs.Schedule.{SpellsLines, NamesEvents}
 use Rattle.nq_script.specs.Text.{Lacks, spaced}

@@ -1,8 +1,7 @@
 -- Numbers in decimal.
-use Rattle.std.proofs.Common.{◌≡◌, ◌≢◌, ℕ, ◌+◌, ◌-◌, ◌*◌, ◌<◌, ◌≤◌, ◌^◌, ◌==◌, ◌&&◌, nat_le, List, [], ◌∷◌, length, get_or, Option, Some, None, zero, suc, refl, ap, sym, ◌∙◌, arith, rules, true, false, Bool, if◌then◌else◌, eq-eqb}
+use Rattle.std.proofs.Common.{◌≡◌, ℕ, ◌+◌, ◌-◌, ◌*◌, ◌<◌, ◌≤◌, ◌^◌, ◌==◌, ◌&&◌, nat_le, List, [], ◌∷◌, length, get_or, Option, Some, None, zero, suc, refl, ap, sym, ◌∙◌, arith, rules, true, false, Bool, if◌then◌else◌}
 use Rattle.std.specs.Char.{is_ascii_digit}
 use Rattle.std.specs.Fmt.{decimal}
-use Rattle.std.specs.Int.{IsInRange}
 use Rattle.std.specs.Option.{option_and_then}
 use Rattle.std.specs.Str.{all_ascii_digits}
 use Rattle.std.proofs.lemmas.Bool.{true≢false, ne_eqb, eqb-false, and_parts, and_from, le-leb, leb-true}

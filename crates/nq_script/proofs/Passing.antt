@@ -1,5 +1,5 @@
 -- Faults that are passed on.
-use Rattle.std.proofs.Common.{◌≡◌, ℕ, Result, Ok, Err, sym, subst}
+use Rattle.std.proofs.Common.{◌≡◌, ℕ, Result, Err, sym, subst}
 use Rattle.nq_script.specs.Faults.{Answers, Names}
 use Rattle.nq_script.specs.declared.faults.ScriptFault.{ScriptFault}
 use Rattle.nq_script.specs.declared.faults.ScriptFault.TheVariants.{Bad, Memory}

@@ -1,9 +1,9 @@
 -- What is printed is spelled so.
-use Rattle.std.proofs.Common.{◌≡◌, ℕ, ◌<◌, ◌^◌, List, [], ◌∷◌, ◌++◌, refl, ap, sym, ◌∙◌, subst, append_assoc, codes, map, take, slice_get, length, Some, ◌+◌}
+use Rattle.std.proofs.Common.{◌≡◌, ℕ, List, [], ◌∷◌, ◌++◌, ap, sym, ◌∙◌, subst, append_assoc, codes, map, take, slice_get, Some, ◌+◌}
 use Rattle.std.specs.Fmt.{decimal}
 use Rattle.std.proofs.lemmas.List.{map-append, take_more}
 use Rattle.std.proofs.lemmas.Option.{slice_get_within, get_or_from_slice_get}
-use Rattle.nq_base.specs.Block.{filled, value_of}
+use Rattle.nq_base.specs.Block.{value_of}
 use Rattle.nq_base.specs.declared.Call.{Call}
 use Rattle.nq_base.proofs.Filling.{filled-value}
 use Rattle.nq_script.specs.Calls.{SpellsCall}

@@ -1,12 +1,12 @@
 -- The whole text of a schedule: one schedule for it, and where it goes wrong.
-use Rattle.std.proofs.Common.{◌≡◌, ◌≢◌, ◌⊎◌, inl, inr, ℕ, ◌+◌, ◌<◌, ◌≤◌, ◌^◌, List, [], ◌∷◌, ◌++◌, length, drop, map, zero, suc, refl, ap, sym, ◌∙◌, arith, subst, append_assoc, codes, Result, Ok, Err, length-append}
+use Rattle.std.proofs.Common.{◌≡◌, ◌⊎◌, inl, inr, ℕ, ◌+◌, List, [], ◌∷◌, ◌++◌, drop, map, refl, ap, sym, ◌∙◌, arith, subst, append_assoc, codes, Result, Ok, Err, length-append}
 use Rattle.std.specs.List.{AllByRecursion}
 use Rattle.std.proofs.lemmas.List.{append-nil, append_cancel_left, append_cancel_right}
 use Rattle.nq_script.specs.Heads.{FitsHead, head_lines}
 use Rattle.nq_base.specs.declared.Event.{Event}
-use Rattle.nq_script.specs.Lines.{SpellsLine, AreSpelled, once}
-use Rattle.nq_script.specs.Progress.{EndsWith, ReadSoFar, WrongLine, WrongEnd}
-use Rattle.nq_script.specs.Schedule.{SpellsLines, SpellsWhole, SpellsSchedule, IsHead, IsSchedule, Begins, GoesWrong, StandsInFront, FirstBadHeadLine, FirstBadLine}
+use Rattle.nq_script.specs.Lines.{AreSpelled, once}
+use Rattle.nq_script.specs.Progress.{EndsWith, WrongLine, WrongEnd}
+use Rattle.nq_script.specs.Schedule.{SpellsLines, SpellsWhole, SpellsSchedule, IsSchedule, StandsInFront, FirstBadHeadLine, FirstBadLine}
 use Rattle.nq_script.specs.Text.{Lacks, text_of}
 use Rattle.nq_script.specs.Faults.{Answers}
 use Rattle.nq_script.specs.declared.faults.ScriptFault.{ScriptFault}
@@ -18,7 +18,7 @@ use Rattle.nq_script.proofs.FileLines.{text-behind, text_of-append}
 use Rattle.nq_script.proofs.Fitting.{each-append, each-back}
 use Rattle.nq_script.proofs.HeadLines.{head-lacks, one-head}
 use Rattle.nq_script.proofs.LineTexts.{lines-lack, one-list-spelled, as-many, line-next, nothing-next, not-ended}
-use Rattle.nq_script.proofs.Splitting.{first-same, rest-same, nil-cons, not-nil, parts, lacks-tested, splits, Splits, wrong-stuck, wrong-once}
+use Rattle.nq_script.proofs.Splitting.{first-same, nil-cons, not-nil, parts, lacks-tested, splits, Splits, wrong-stuck, wrong-once}
 
 -- no line of a schedule has a line feed
 whole-lacks : (head : Head) (lines : List Line) (whole : List (List ℕ)) → SpellsWhole head lines whole → AllByRecursion (Lacks 10) whole

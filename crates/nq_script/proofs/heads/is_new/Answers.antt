@@ -1,4 +1,4 @@
-use Rattle.std.proofs.Common.{◌≡◌, ◌∙◌, sym, ap, arith, take, add-one, subst, length, ◌≤◌, refl}
+use Rattle.std.proofs.Common.{sym, arith, take, add-one, subst, length, ◌≤◌, refl}
 use Rattle.std.proofs.lemmas.Bool.{iff_false}
 use Rattle.nq_script.specs.Heads.{IsNew}
 use Rattle.nq_script.proofs.HeadReading.{new-at, new-more}

@@ -1,5 +1,5 @@
-use Rattle.std.proofs.Common.{◌≤◌, refl, arith}
-use Rattle.std.proofs.lemmas.Bool.{iff_false, not-true}
+use Rattle.std.proofs.Common.{◌≤◌, arith}
+use Rattle.std.proofs.lemmas.Bool.{iff_false}
 use Rattle.nq_script.specs.Heads.{blocks_of}
 use Rattle.nq_script.proofs.HeadReading.{next-found, next-fits}
 use Rattle.nq_script.proofs.heads.next_file.Goals as goal

@@ -1,4 +1,3 @@
-use Rattle.std.proofs.Common.{◌≡◌, ◌∙◌}
 use Rattle.nq_script.proofs.HeadLines.{head-only, head-bad}
 use Rattle.nq_script.proofs.heads.parse_head.Goals as goal
 

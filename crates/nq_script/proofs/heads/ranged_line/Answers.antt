@@ -1,5 +1,4 @@
-use Rattle.std.proofs.Common.{◌≡◌, ◌∙◌, ◌≤◌, ◌^◌, ◌<◌, ◌++◌, ◌∷◌, [], sym, refl, ap, arith, subst}
-use Rattle.std.specs.Fmt.{decimal}
+use Rattle.std.proofs.Common.{◌≡◌, ◌∙◌, ◌++◌, ◌∷◌, [], sym, refl, arith, subst}
 use Rattle.nq_script.specs.Text.{text_of}
 use Rattle.nq_script.proofs.FileLines.{no-line, one-line, text-more}
 use Rattle.nq_script.proofs.HeadReading.{ranged-found, ranged-none}

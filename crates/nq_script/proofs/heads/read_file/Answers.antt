@@ -1,4 +1,4 @@
-use Rattle.std.proofs.Common.{◌≡◌, ◌∙◌, sym, subst, refl}
+use Rattle.std.proofs.Common.{◌≡◌, sym, subst, refl}
 use Rattle.std.proofs.lemmas.Bool.{false≢true}
 use Rattle.nq_base.specs.Name.{IsName}
 use Rattle.nq_script.specs.Heads.{file_line, IsFile}

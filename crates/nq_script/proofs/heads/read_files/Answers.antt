@@ -1,4 +1,4 @@
-use Rattle.std.proofs.Common.{◌≡◌, ◌+◌, ◌∙◌, sym, ap, refl, arith, codes, length}
+use Rattle.std.proofs.Common.{◌+◌, ◌∙◌, sym, ap, refl, codes}
 use Rattle.std.proofs.lemmas.Slice.Eq.{bytes_eq-Decides}
 use Rattle.std.proofs.lemmas.Bool.{both_ways}
 use Rattle.nq_script.proofs.FileLines.{files-no-line, files-no-file, files-begin, files-more, after-shorter}

@@ -1,8 +1,5 @@
-use Rattle.std.proofs.Common.{◌≡◌, ◌∙◌, ◌+◌, ◌++◌, ◌∷◌, [], sym, refl, ap, arith, subst, length}
+use Rattle.std.proofs.Common.{◌+◌, ap}
 use Rattle.std.proofs.lemmas.Result.{err_from_is_err_and}
-use Rattle.nq_script.specs.Heads.{version_line, hosts_line, term_line, head_lines, file_lines}
-use Rattle.nq_script.specs.Text.{text_of}
-use Rattle.nq_script.proofs.FileLines.{text-behind}
 use Rattle.nq_script.proofs.HeadLines.{wrong-file, head-in-front}
 use Rattle.nq_script.proofs.Passing.{passed}
 use Rattle.nq_script.proofs.heads.read_head.Goals as goal

@@ -1,11 +1,10 @@
-use Rattle.std.proofs.Common.{◌≡◌, ◌∙◌, ◌≤◌, ◌++◌, ◌∷◌, [], sym, refl, ap, arith, subst, codes, not}
+use Rattle.std.proofs.Common.{◌∙◌, ◌∷◌, [], sym, subst}
 use Rattle.std.proofs.lemmas.Bool.{both_ways, not-true, not-false}
 use Rattle.std.proofs.lemmas.Result.{err_from_is_err_and}
 use Rattle.std.proofs.lemmas.Slice.Eq.{bytes_eq-Decides}
 use Rattle.std.specs.Str.{bytes_eq}
 use Rattle.nq_script.specs.Heads.{version_line, hosts_line, term_line}
 use Rattle.nq_script.specs.Schedule.{FirstBadHeadLine}
-use Rattle.nq_script.specs.Text.{text_of}
 use Rattle.nq_script.proofs.FileLines.{no-line, one-line, text-first, text-behind}
 use Rattle.nq_script.proofs.HeadLines.{wrong-version, wrong-hosts, wrong-term}
 use Rattle.nq_script.proofs.Passing.{passed}

@@ -1,4 +1,4 @@
-use Rattle.std.proofs.Common.{◌≡◌, ◌≤◌, refl, ap, ◌∙◌, arith, length}
+use Rattle.std.proofs.Common.{◌≤◌, refl, ap, ◌∙◌, arith, length}
 use Rattle.nq_script.proofs.Printing.{file-printed}
 use Rattle.nq_script.proofs.print.append_files.Goals as goal
 use Rattle.nq_script.proofs.print.append_files.Goals.{in-Some+in_ok-append_file, in_default}

@@ -1,4 +1,4 @@
-use Rattle.std.proofs.Common.{◌≡◌, ◌+◌, ◌≤◌, ◌<◌, ◌∙◌, sym, ap, refl, arith, length, inl, inr}
+use Rattle.std.proofs.Common.{◌+◌, ◌∙◌, sym, ap, arith, length, inl, inr}
 use Rattle.std.proofs.lemmas.Bool.{iff_false, eqb-true, eqb-false}
 use Rattle.std.proofs.lemmas.List.{nil_from_length}
 use Rattle.nq_script.proofs.EventLines.{so-far-size, wrong-no-line, wrong-no-read, ended, wrong-end, so-far-more}

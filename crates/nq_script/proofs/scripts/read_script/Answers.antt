@@ -1,7 +1,5 @@
-use Rattle.std.proofs.Common.{◌≡◌, ◌+◌, ◌≤◌, ◌<◌, ◌∙◌, ◌-◌, ◌⊎◌, sym, ap, refl, arith, length, inl, inr, drop, take, subst}
 use Rattle.std.proofs.lemmas.List.{take_rest}
 use Rattle.std.proofs.lemmas.Result.{err_from_is_err_and}
-use Rattle.nq_script.specs.Progress.{EndsWith, WrongLine, WrongEnd}
 use Rattle.nq_script.proofs.Passing.{passed}
 use Rattle.nq_script.proofs.Whole.{head-wrong, schedule-found, lines-wrong}
 use Rattle.nq_script.proofs.scripts.read_script.Goals as goal
