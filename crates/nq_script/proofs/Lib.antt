@@ -12,3 +12,4 @@ pub mod LineTexts
 pub mod Whole
 pub mod EventLines
 pub mod Printing
+pub mod LineLengths

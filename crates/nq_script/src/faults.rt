@@ -7,7 +7,7 @@ use nq_base::NoMemory;
 use thiserror::Error;
 
 /// Why a text is refused.
-#[derive(Clone, Copy, Debug, PartialEq, Eq, Drop, Error)]
+#[derive(Clone, Copy, Debug, PartialEq, Eq, Error)]
 pub enum ScriptFault {
     /// The text is outside the grammar, and this line is the first that is; lines are counted from 1.
     #[error("line {0} is outside the grammar of schedules")]

@@ -38,9 +38,10 @@ pub struct HeadOut {
     pub bytes: usize,
 }
 
-/// The first line of a head, and the last one.
+/// The first line of a head.
 const VERSION: &[u8] = b"nqnfs-schedule 1";
 
+/// The last line of a head.
 const BEGIN: &[u8] = b"begin";
 
 /// Reads the head in front of a text, from its first line to `begin`.
@@ -104,9 +105,10 @@ fn ranged_line<'a>(
     }
 }
 
-/// The most files, and the most blocks of all files together.
+/// The most files.
 const MOST_FILES: usize = 256;
 
+/// The most blocks of all files together.
 const MOST_BLOCKS: u32 = 16_384;
 
 /// The files whose lines stand in front, and what follows `begin`. The text begins at line 4.
@@ -174,6 +176,7 @@ fn read_file(line: &[u8]) -> Option<(Name, u32)>
     }
 }
 
+/// The name and the length in the line of a file, whatever bytes the name has.
 #[tactic(auto, unfolding(crate::specs::Reading::file_of))]
 fn file_words(line: &[u8]) -> Option<(&[u8], u32)>
     ensures { option_map (λ p. (p.0.now, p.1)) result ≡ file_of line.now }

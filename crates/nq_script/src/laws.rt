@@ -1,10 +1,11 @@
 //! What holds of the grammar, whatever the program does.
 
-ghost use Rattle.std.specs.Prelude.{◌≡◌, ◌++◌, ◌∷◌, [], ℕ, List, map, codes};
+ghost use Rattle.std.specs.Prelude.{◌≡◌, ◌≤◌, ◌++◌, ◌∷◌, [], ℕ, List, length, map, codes};
+ghost use Rattle.std.specs.List.{AllByRecursion};
 ghost use Rattle.nq_base.specs.declared.Event.{Event};
 ghost use Rattle.nq_script.specs.Heads.{FitsHead, head_lines};
 ghost use Rattle.nq_script.specs.Lines.{AreSpelled, once};
-ghost use Rattle.nq_script.specs.Schedule.{SpellsSchedule, FirstBadLine};
+ghost use Rattle.nq_script.specs.Schedule.{SpellsWhole, SpellsSchedule, FirstBadLine};
 ghost use Rattle.nq_script.specs.Text.{text_of};
 ghost use Rattle.nq_script.specs.declared.heads.Head.{Head};
 ghost use Rattle.nq_script.specs.declared.lines.Line.{Line};
@@ -24,4 +25,9 @@ pub fn one_fault()
 pub fn printed_again()
     ensures { (head : Head) (events : List Event) (texts : List (List ℕ)) → FitsHead head → AreSpelled head.hosts events texts
         → SpellsSchedule head (map once events) (text_of (head_lines head) ++ (text_of texts ++ codes "end\n")) }
+{}
+
+/// No line of a schedule has more than 128 bytes without its line feed.
+pub fn lines_are_short()
+    ensures { (head : Head) (lines : List Line) (whole : List (List ℕ)) → SpellsWhole head lines whole → AllByRecursion (λ line. length line ≤ 128) whole }
 {}

@@ -1,4 +1,9 @@
-//! The text of schedules: its grammar, read and written.
+//! The text of schedules, read and printed.
+//!
+//! The grammar is in `specs/`: `Text` (words and lines), `Calls`, `Lines`, `Heads`, and `Schedule`, which says what the
+//! text of a schedule is and at which line another text first goes wrong. A further form of a line is one more case of
+//! `SpellsCall` or `SpellsEvents`, of the reader beside it in `Reading`, and of the two laws on it in `CallReading` or
+//! `LineReading`.
 #![tactic(auto)]
 
 mod calls;
@@ -14,7 +19,7 @@ mod words;
 pub use calls::parse_call;
 pub use faults::ScriptFault;
 pub use heads::{Head, HeadOut, parse_head};
-pub use laws::{one_fault, one_reading, printed_again};
+pub use laws::{lines_are_short, one_fault, one_reading, printed_again};
 pub use lines::{Line, parse_line};
 pub use print::{print_event, print_head};
 pub use schedules::Schedule;

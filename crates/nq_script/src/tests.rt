@@ -308,5 +308,6 @@ fn schedules_keep_their_order(rt: HostRuntime) -> Result<(), NoMemory> {
     one_reading();
     one_fault();
     printed_again();
+    lines_are_short();
     Ok(())
 }
