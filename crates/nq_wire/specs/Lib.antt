@@ -1,0 +1,7 @@
+pub mod Procedure
+pub mod Status
+pub mod Parts
+pub mod Request
+pub mod Reply
+pub mod Reading
+pub mod Outbox

@@ -1,0 +1,15 @@
+//! The requests of clients and the replies of the server as bytes: the arguments and the results of the
+//! program's procedures (`specs/Request.antt`, `specs/Reply.antt`).
+#![tactic(auto)]
+
+mod fault;
+mod memory;
+mod parts;
+mod procedure;
+mod requests;
+
+pub use fault::WireFault;
+pub use memory::NoMemory;
+pub use nq_base::{Party, PushBase, Refusal, Reply, Request};
+pub use procedure::Procedure;
+//pub use requests::decode_request;

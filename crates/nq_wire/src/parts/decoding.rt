@@ -1,0 +1,175 @@
+ghost use Rattle.std.specs.Prelude.{◌≡◌, ◌++◌, length, IfSome, IfOk, IsTrue, ◌↔◌};
+ghost use Rattle.nq_base.specs.Name.{IsName};
+ghost use Rattle.nq_xdr.specs.Item.{word, opaque};
+ghost use Rattle.nq_xdr.specs.Reading.{Gives};
+ghost use Rattle.nq_wire.specs.Parts.{head, tag_bytes, mode_number, want_bytes, grant_bytes, base_bytes, optional, IsWho, IsTag, IsWant, IsGrant, IsPushBase, IsWanted};
+ghost use Rattle.nq_wire.specs.Reading.{Reads, head_at, tag_at, wanted_mode, want_at, granted_mode, grant_at, base_at, optional_at, name_of, name_at, body_at};
+
+use crate::{PushBase, WireFault};
+use nq_base::{Block, Grant, Host, Inc, Mode, Name, Rev, Tag, Want, Who};
+use nq_xdr::Reader;
+
+/// Who asks.
+#[tactic(auto, unfolding(crate::specs::Reading::head_at, crate::specs::Parts::head))]
+pub(crate) fn who(reader: &mut Reader) -> Result<Who, WireFault>
+    ensures found { Reads head IsWho reader.old reader.new result }
+    ensures step { Gives (λ w. (w, reader.new)) result (head_at reader.old) }
+{
+    let host = reader.u32()?;
+    let inc = reader.u32()?;
+    Ok(Who {
+        host: Host(host),
+        inc: Inc(inc),
+    })
+}
+
+#[tactic(auto, unfolding(crate::specs::Reading::tag_at, crate::specs::Parts::tag_bytes))]
+pub(crate) fn tag(reader: &mut Reader) -> Result<Tag, WireFault>
+    ensures found { Reads tag_bytes IsTag reader.old reader.new result }
+    ensures step { Gives (λ t. (t, reader.new)) result (tag_at reader.old) }
+{
+    let boot = reader.u32()?;
+    let number = reader.u64()?;
+    Ok(Tag { boot, number })
+}
+
+/// The mode of a lease that is wanted.
+#[tactic(auto, unfolding(crate::specs::Reading::wanted_mode))]
+fn wanted_mode(number: u32) -> Result<Mode, WireFault>
+    ensures wanted { IfOk result (λ m. IsWanted m × (number ≡ mode_number m)) }
+    ensures step { result ≡ wanted_mode number }
+{
+    match number {
+        1 => Ok(Mode::Reading),
+        2 => Ok(Mode::Writing),
+        _ => Err(WireFault::Garbage),
+    }
+}
+
+#[tactic(auto, unfolding(crate::specs::Reading::want_at, crate::specs::Parts::want_bytes))]
+pub(crate) fn want(reader: &mut Reader) -> Result<Want, WireFault>
+    ensures found { Reads want_bytes (λ w. IsWant w × IsWanted w.mode) reader.old reader.new result }
+    ensures step { Gives (λ w. (w, reader.new)) result (want_at reader.old) }
+{
+    let number = reader.u32()?;
+    let mode = wanted_mode(number)?;
+    let term = reader.u32()?;
+    Ok(Want { mode, term })
+}
+
+/// The mode of a lease that is granted.
+#[tactic(auto, unfolding(crate::specs::Reading::granted_mode))]
+fn granted_mode(number: u32) -> Result<Mode, WireFault>
+    ensures number { IfOk result (λ m. number ≡ mode_number m) }
+    ensures step { result ≡ granted_mode number }
+{
+    match number {
+        0 => Ok(Mode::NonCaching),
+        1 => Ok(Mode::Reading),
+        2 => Ok(Mode::Writing),
+        _ => Err(WireFault::Garbage),
+    }
+}
+
+#[tactic(auto, unfolding(crate::specs::Reading::grant_at, crate::specs::Parts::grant_bytes))]
+fn grant(reader: &mut Reader) -> Result<Grant, WireFault>
+    ensures found { Reads grant_bytes IsGrant reader.old reader.new result }
+    ensures step { Gives (λ g. (g, reader.new)) result (grant_at reader.old) }
+{
+    let number = reader.u32()?;
+    let mode = granted_mode(number)?;
+    let term = reader.u32()?;
+    let tag_of_grant = tag(reader)?;
+    let since = tag(reader)?;
+    let rev = reader.u64()?;
+    let blocks = reader.u32()?;
+    Ok(Grant {
+        mode,
+        term,
+        tag: tag_of_grant,
+        since,
+        rev: Rev(rev),
+        blocks,
+    })
+}
+
+#[tactic(auto, unfolding(crate::specs::Reading::base_at, crate::specs::Parts::base_bytes))]
+fn push_base(reader: &mut Reader) -> Result<PushBase, WireFault>
+    ensures found { Reads base_bytes IsPushBase reader.old reader.new result }
+    ensures step { Gives (λ p. (p, reader.new)) result (base_at reader.old) }
+{
+    let boot = reader.u32()?;
+    let base = reader.u64()?;
+    Ok(PushBase {
+        boot,
+        base: Rev(base),
+    })
+}
+
+#[tactic(auto, unfolding(crate::specs::Reading::optional_at, crate::specs::Parts::optional))]
+pub(crate) fn optional_want(reader: &mut Reader) -> Result<Option<Want>, WireFault>
+    ensures found { Reads (optional want_bytes) (λ o. IfSome o (λ w. IsWant w × IsWanted w.mode)) reader.old reader.new result }
+    ensures step { Gives (λ o. (o, reader.new)) result (optional_at want_at reader.old) }
+{
+    if reader.boolean()? {
+        Ok(Some(want(reader)?))
+    } else {
+        Ok(None)
+    }
+}
+
+#[tactic(auto, unfolding(crate::specs::Reading::optional_at, crate::specs::Parts::optional))]
+pub(crate) fn optional_grant(reader: &mut Reader) -> Result<Option<Grant>, WireFault>
+    ensures found { Reads (optional grant_bytes) (λ o. IfSome o IsGrant) reader.old reader.new result }
+    ensures step { Gives (λ o. (o, reader.new)) result (optional_at grant_at reader.old) }
+{
+    if reader.boolean()? {
+        Ok(Some(grant(reader)?))
+    } else {
+        Ok(None)
+    }
+}
+
+#[tactic(auto, unfolding(crate::specs::Reading::optional_at, crate::specs::Parts::optional))]
+pub(crate) fn optional_push(reader: &mut Reader) -> Result<Option<PushBase>, WireFault>
+    ensures found { Reads (optional base_bytes) (λ o. IfSome o IsPushBase) reader.old reader.new result }
+    ensures step { Gives (λ o. (o, reader.new)) result (optional_at base_at reader.old) }
+{
+    if reader.boolean()? {
+        Ok(Some(push_base(reader)?))
+    } else {
+        Ok(None)
+    }
+}
+
+/// The name of these bytes.
+#[tactic(auto, using(crate::proofs::Names::named))]
+fn name_of(bytes: &[u8]) -> Result<Name, WireFault>
+    ensures name { IfOk result (λ n. IsName n × (n ≡ bytes.now)) }
+    ensures step { result ≡ name_of bytes.now }
+{
+    match Name::new(bytes) {
+        Some(name) => Ok(name),
+        None => Err(WireFault::Garbage),
+    }
+}
+
+#[tactic(auto, unfolding(crate::specs::Reading::name_at))]
+pub(crate) fn name(reader: &mut Reader) -> Result<Name, WireFault>
+    ensures found { Reads opaque IsName reader.old reader.new result }
+    ensures step { Gives (λ n. (n, reader.new)) result (name_at reader.old) }
+{
+    let bytes = reader.opaque(64)?;
+    let name = name_of(bytes)?;
+    Ok(name)
+}
+
+/// The body of a block.
+#[tactic(auto, unfolding(crate::specs::Reading::body_at))]
+pub(crate) fn body(reader: &mut Reader) -> Result<Block, WireFault>
+    ensures found { Reads opaque (λ b. length b ≡ 4096) reader.old reader.new result }
+    ensures step { Gives (λ b. (b, reader.new)) result (body_at reader.old) }
+{
+    let bytes = reader.opaque(4096)?;
+    Block::from_bytes(bytes).ok_or(WireFault::Garbage)
+}

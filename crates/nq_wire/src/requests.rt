@@ -1,0 +1,4 @@
+//! The requests: the arguments of the procedures.
+
+mod decoding;
+

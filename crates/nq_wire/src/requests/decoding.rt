@@ -1,0 +1,233 @@
+ghost use Rattle.std.specs.Prelude.{◌≡◌, ℕ, ◌<◌, ◌≤◌, List, ◌++◌, length, ◌↔◌, Option, IfOk, IfErr, IfSome};
+ghost use Rattle.nq_base.specs.declared.Request.{Request};
+ghost use Rattle.nq_xdr.specs.Reading.{Gives};
+ghost use Rattle.nq_xdr.specs.Item.{word, hyper};
+ghost use Rattle.nq_wire.specs.Parts.{optional, base_bytes, IsPushBase};
+ghost use Rattle.nq_wire.specs.Request.{arguments, procedure_of, IsRequest, HasSpelling, IsOneWrite, IsArguments, ReadsRequest};
+ghost use Rattle.nq_wire.specs.Reading.{whole, attach_at, lookup_at, create_at, get_attr_at, read_at, span_at, write_at, get_lease_at, vacated_at, evicted_at, resize_at, remove_at, request_at};
+
+use crate::parts::decoding::{body, name, optional_push, optional_want, tag, want, who};
+use crate::{Procedure, PushBase, Request, WireFault};
+use nq_base::{BlockNo, FileId, Number, Seq};
+use nq_xdr::Reader;
+use std::alloc::Global;
+
+#[tactic(auto, unfolding(crate::specs::Reading::attach_at, crate::specs::Request::arguments))]
+fn attach(reader: &mut Reader) -> Result<Request, WireFault>
+    ensures found { ReadsRequest Procedure.Attach reader.old reader.new result }
+    ensures step { Gives (λ r. (r, reader.new)) result (attach_at reader.old) }
+{
+    let who = who(reader)?;
+    Ok(Request::Attach { who })
+}
+
+#[tactic(auto, unfolding(crate::specs::Reading::lookup_at, crate::specs::Request::arguments))]
+fn lookup(reader: &mut Reader) -> Result<Request, WireFault>
+    ensures found { ReadsRequest Procedure.Lookup reader.old reader.new result }
+    ensures step { Gives (λ r. (r, reader.new)) result (lookup_at reader.old) }
+{
+    let who = who(reader)?;
+    let name = name(reader)?;
+    Ok(Request::Lookup { who, name })
+}
+
+#[tactic(auto, unfolding(crate::specs::Reading::create_at, crate::specs::Request::arguments))]
+fn create(reader: &mut Reader) -> Result<Request, WireFault>
+    ensures found { ReadsRequest Procedure.Create reader.old reader.new result }
+    ensures step { Gives (λ r. (r, reader.new)) result (create_at reader.old) }
+{
+    let who = who(reader)?;
+    let seq = reader.u64()?;
+    let name = name(reader)?;
+    let blocks = reader.u32()?;
+    Ok(Request::Create {
+        who,
+        seq: Seq(seq),
+        name,
+        blocks,
+    })
+}
+
+#[tactic(auto, unfolding(crate::specs::Reading::get_attr_at, crate::specs::Request::arguments))]
+fn get_attr(reader: &mut Reader) -> Result<Request, WireFault>
+    ensures found { ReadsRequest Procedure.GetAttr reader.old reader.new result }
+    ensures step { Gives (λ r. (r, reader.new)) result (get_attr_at reader.old) }
+{
+    let who = who(reader)?;
+    let file = reader.u32()?;
+    Ok(Request::GetAttr {
+        who,
+        file: FileId(file),
+    })
+}
+
+#[tactic(auto, unfolding(crate::specs::Reading::read_at, crate::specs::Request::arguments))]
+fn read(reader: &mut Reader) -> Result<Request, WireFault>
+    ensures found { ReadsRequest Procedure.Read reader.old reader.new result }
+    ensures step { Gives (λ r. (r, reader.new)) result (read_at reader.old) }
+{
+    let who = who(reader)?;
+    let call = reader.u64()?;
+    let file = reader.u32()?;
+    let block = reader.u32()?;
+    let want = optional_want(reader)?;
+    Ok(Request::Read {
+        who,
+        call,
+        file: FileId(file),
+        block: BlockNo(block),
+        want,
+    })
+}
+
+/// The numbers of the first and the last write, which are equal where the WRITE is no push.
+#[tactic(auto, unfolding(crate::specs::Reading::span_at))]
+fn span(reader: &mut Reader) -> Result<(u64, u64, Option<PushBase>), WireFault>
+    ensures found { IfOk result (λ s. IsOneWrite s.0 s.1 s.2 × IfSome s.2 IsPushBase
+        × (reader.old ≡ hyper s.0 ++ hyper s.1 ++ optional base_bytes s.2 ++ reader.new)) }
+    ensures step { Gives (λ s. (s, reader.new)) result (span_at reader.old) }
+{
+    let first = reader.u64()?;
+    let last = reader.u64()?;
+    let push = optional_push(reader)?;
+    if push.is_none() && first != last {
+        return Err(WireFault::Garbage);
+    }
+    Ok((first, last, push))
+}
+
+#[tactic(auto, unfolding(crate::specs::Reading::write_at, crate::specs::Request::arguments))]
+fn write(reader: &mut Reader) -> Result<Request, WireFault>
+    ensures found { ReadsRequest Procedure.Write reader.old reader.new result }
+    ensures step { Gives (λ r. (r, reader.new)) result (write_at reader.old) }
+{
+    let who = who(reader)?;
+    let seq = reader.u64()?;
+    let file = reader.u32()?;
+    let block = reader.u32()?;
+    let (first, last, push) = span(reader)?;
+    let body = body(reader)?;
+    Ok(Request::Write {
+        who,
+        seq: Seq(seq),
+        file: FileId(file),
+        block: BlockNo(block),
+        first: Number(first),
+        last: Number(last),
+        push,
+        body,
+    })
+}
+
+#[tactic(auto, unfolding(crate::specs::Reading::get_lease_at, crate::specs::Request::arguments))]
+fn get_lease(reader: &mut Reader) -> Result<Request, WireFault>
+    ensures found { ReadsRequest Procedure.GetLease reader.old reader.new result }
+    ensures step { Gives (λ r. (r, reader.new)) result (get_lease_at reader.old) }
+{
+    let who = who(reader)?;
+    let file = reader.u32()?;
+    let want = want(reader)?;
+    Ok(Request::GetLease {
+        who,
+        file: FileId(file),
+        want,
+    })
+}
+
+#[tactic(auto, unfolding(crate::specs::Reading::vacated_at, crate::specs::Request::arguments))]
+fn vacated(reader: &mut Reader) -> Result<Request, WireFault>
+    ensures found { ReadsRequest Procedure.Vacated reader.old reader.new result }
+    ensures step { Gives (λ r. (r, reader.new)) result (vacated_at reader.old) }
+{
+    let who = who(reader)?;
+    let file = reader.u32()?;
+    let tag = tag(reader)?;
+    Ok(Request::Vacated {
+        who,
+        file: FileId(file),
+        tag,
+    })
+}
+
+#[tactic(auto, unfolding(crate::specs::Reading::evicted_at, crate::specs::Request::arguments))]
+fn evicted(reader: &mut Reader) -> Result<Request, WireFault>
+    ensures found { ReadsRequest Procedure.Evicted reader.old reader.new result }
+    ensures step { Gives (λ r. (r, reader.new)) result (evicted_at reader.old) }
+{
+    let who = who(reader)?;
+    let file = reader.u32()?;
+    let tag = tag(reader)?;
+    Ok(Request::Evicted {
+        who,
+        file: FileId(file),
+        tag,
+    })
+}
+
+#[tactic(auto, unfolding(crate::specs::Reading::resize_at, crate::specs::Request::arguments))]
+fn resize(reader: &mut Reader) -> Result<Request, WireFault>
+    ensures found { ReadsRequest Procedure.Resize reader.old reader.new result }
+    ensures step { Gives (λ r. (r, reader.new)) result (resize_at reader.old) }
+{
+    let who = who(reader)?;
+    let seq = reader.u64()?;
+    let call = reader.u64()?;
+    let file = reader.u32()?;
+    let blocks = reader.u32()?;
+    Ok(Request::Resize {
+        who,
+        seq: Seq(seq),
+        call,
+        file: FileId(file),
+        blocks,
+    })
+}
+
+#[tactic(auto, unfolding(crate::specs::Reading::remove_at, crate::specs::Request::arguments))]
+fn remove(reader: &mut Reader) -> Result<Request, WireFault>
+    ensures found { ReadsRequest Procedure.Remove reader.old reader.new result }
+    ensures step { Gives (λ r. (r, reader.new)) result (remove_at reader.old) }
+{
+    let who = who(reader)?;
+    let seq = reader.u64()?;
+    let call = reader.u64()?;
+    let file = reader.u32()?;
+    Ok(Request::Remove {
+        who,
+        seq: Seq(seq),
+        call,
+        file: FileId(file),
+    })
+}
+
+#[tactic(auto, unfolding(crate::specs::Request::arguments))]
+fn request(procedure: Procedure, reader: &mut Reader) -> Result<Request, WireFault>
+    ensures found { ReadsRequest procedure reader.old reader.new result }
+    ensures step { Gives (λ r. (r, reader.new)) result (request_at procedure reader.old) }
+{
+    match procedure {
+        Procedure::Null => Ok(Request::Null),
+        Procedure::Attach => attach(reader),
+        Procedure::Lookup => lookup(reader),
+        Procedure::Create => create(reader),
+        Procedure::GetAttr => get_attr(reader),
+        Procedure::Read => read(reader),
+        Procedure::Write => write(reader),
+        Procedure::GetLease => get_lease(reader),
+        Procedure::Vacated => vacated(reader),
+        Procedure::Evicted => evicted(reader),
+        Procedure::Resize => resize(reader),
+        Procedure::Remove => remove(reader),
+    }
+}
+
+/// The request whose arguments are all of the bytes.
+fn whole_request(procedure: Procedure, bytes: &[u8]) -> Result<Request, WireFault>
+    ensures found { IfOk result (λ r. (procedure_of r ≡ procedure) × IsRequest r × HasSpelling r × (bytes.now ≡ arguments r)) }
+    ensures step { result ≡ whole (request_at procedure bytes.now) }
+{
+    let mut reader = Reader::new(bytes);
+    let request = request(procedure, &mut reader)?;
+    reader.end()?;
+    Ok(request)
+}
