@@ -6,7 +6,9 @@ mod fault;
 mod memory;
 mod parts;
 mod procedure;
+mod replies;
 mod requests;
+mod status;
 
 pub use fault::WireFault;
 pub use memory::NoMemory;

@@ -1,0 +1,3 @@
+//! The replies: the results of the procedures.
+
+mod decoding;

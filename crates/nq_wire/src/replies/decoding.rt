@@ -1,0 +1,152 @@
+ghost use Rattle.std.specs.Prelude.{◌≡◌, ℕ, ◌<◌, ◌≤◌, ◌^◌, List, ◌++◌, length, ◌↔◌, Option, IfOk, IfErr, IfSome};
+ghost use Rattle.nq_base.specs.declared.Reply.{Reply};
+ghost use Rattle.nq_xdr.specs.Reading.{Gives};
+ghost use Rattle.nq_xdr.specs.Item.{word};
+ghost use Rattle.nq_wire.specs.Reply.{ok, results, IsReply, Answers, IsRefusable, ReadsReply, ReadsResults};
+ghost use Rattle.nq_wire.specs.Reading.{whole, found_at, created_at, attributes_at, block_at, written_at, lease_at, resized_at, results_at, answer_at, reply_at};
+
+use crate::parts::decoding::{body, optional_grant};
+use crate::{Procedure, Reply, WireFault, status};
+use nq_base::{FileId, Inc, Rev};
+use nq_xdr::Reader;
+
+#[tactic(auto, unfolding(crate::specs::Reading::found_at, crate::specs::Reply::results))]
+fn found(inc: Inc, reader: &mut Reader) -> Result<Reply, WireFault>
+    ensures found { ReadsResults Procedure.Lookup inc reader.old reader.new result }
+    ensures step { Gives (λ r. (r, reader.new)) result (found_at inc reader.old) }
+{
+    let file = reader.u32()?;
+    let blocks = reader.u32()?;
+    Ok(Reply::Lookup {
+        inc,
+        file: FileId(file),
+        blocks,
+    })
+}
+
+#[tactic(auto, unfolding(crate::specs::Reading::created_at, crate::specs::Reply::results))]
+fn created(inc: Inc, reader: &mut Reader) -> Result<Reply, WireFault>
+    ensures found { ReadsResults Procedure.Create inc reader.old reader.new result }
+    ensures step { Gives (λ r. (r, reader.new)) result (created_at inc reader.old) }
+{
+    let file = reader.u32()?;
+    Ok(Reply::Create {
+        inc,
+        file: FileId(file),
+    })
+}
+
+#[tactic(auto, unfolding(crate::specs::Reading::attributes_at, crate::specs::Reply::results))]
+fn attributes(inc: Inc, reader: &mut Reader) -> Result<Reply, WireFault>
+    ensures found { ReadsResults Procedure.GetAttr inc reader.old reader.new result }
+    ensures step { Gives (λ r. (r, reader.new)) result (attributes_at inc reader.old) }
+{
+    let blocks = reader.u32()?;
+    let rev = reader.u64()?;
+    Ok(Reply::GetAttr {
+        inc,
+        blocks,
+        rev: Rev(rev),
+    })
+}
+
+#[tactic(auto, unfolding(crate::specs::Reading::block_at, crate::specs::Reply::results))]
+fn block(inc: Inc, reader: &mut Reader) -> Result<Reply, WireFault>
+    ensures found { ReadsResults Procedure.Read inc reader.old reader.new result }
+    ensures step { Gives (λ r. (r, reader.new)) result (block_at inc reader.old) }
+{
+    let rev = reader.u64()?;
+    let body = body(reader)?;
+    let grant = optional_grant(reader)?;
+    Ok(Reply::Read {
+        inc,
+        rev: Rev(rev),
+        body,
+        grant,
+    })
+}
+
+#[tactic(auto, unfolding(crate::specs::Reading::written_at, crate::specs::Reply::results))]
+fn written(inc: Inc, reader: &mut Reader) -> Result<Reply, WireFault>
+    ensures found { ReadsResults Procedure.Write inc reader.old reader.new result }
+    ensures step { Gives (λ r. (r, reader.new)) result (written_at inc reader.old) }
+{
+    let rev = reader.u64()?;
+    Ok(Reply::Write { inc, rev: Rev(rev) })
+}
+
+#[tactic(auto, unfolding(crate::specs::Reading::lease_at, crate::specs::Reply::results))]
+fn lease(inc: Inc, reader: &mut Reader) -> Result<Reply, WireFault>
+    ensures found { ReadsResults Procedure.GetLease inc reader.old reader.new result }
+    ensures step { Gives (λ r. (r, reader.new)) result (lease_at inc reader.old) }
+{
+    let grant = optional_grant(reader)?;
+    Ok(Reply::GetLease { inc, grant })
+}
+
+#[tactic(auto, unfolding(crate::specs::Reading::resized_at, crate::specs::Reply::results))]
+fn resized(inc: Inc, reader: &mut Reader) -> Result<Reply, WireFault>
+    ensures found { ReadsResults Procedure.Resize inc reader.old reader.new result }
+    ensures step { Gives (λ r. (r, reader.new)) result (resized_at inc reader.old) }
+{
+    let rev = reader.u64()?;
+    Ok(Reply::Resize { inc, rev: Rev(rev) })
+}
+
+/// The results behind the incarnation and the status OK.
+#[tactic(auto, unfolding(crate::specs::Reply::results))]
+fn results(procedure: Procedure, inc: Inc, reader: &mut Reader) -> Result<Reply, WireFault>
+    ensures found { ReadsResults procedure inc reader.old reader.new result }
+    ensures step { Gives (λ r. (r, reader.new)) result (results_at procedure inc reader.old) }
+{
+    match procedure {
+        Procedure::Attach => Ok(Reply::Attach { inc }),
+        Procedure::Lookup => found(inc, reader),
+        Procedure::Create => created(inc, reader),
+        Procedure::GetAttr => attributes(inc, reader),
+        Procedure::Read => block(inc, reader),
+        Procedure::Write => written(inc, reader),
+        Procedure::GetLease => lease(inc, reader),
+        Procedure::Resize => resized(inc, reader),
+        Procedure::Remove => Ok(Reply::Remove { inc }),
+        Procedure::Null | Procedure::Vacated | Procedure::Evicted => Err(WireFault::Garbage),
+    }
+}
+
+/// The incarnation and the status, and what follows them.
+#[tactic(auto, unfolding(crate::specs::Reading::answer_at, crate::specs::Reply::results, crate::specs::Reply::ok))]
+fn answer(procedure: Procedure, reader: &mut Reader) -> Result<Reply, WireFault>
+    ensures found { IsRefusable procedure → ReadsReply procedure reader.old reader.new result }
+    ensures step { Gives (λ r. (r, reader.new)) result (answer_at procedure reader.old) }
+{
+    let inc = Inc(reader.u32()?);
+    let number = reader.u32()?;
+    if number == status::OK {
+        return results(procedure, inc, reader);
+    }
+    let status = status::refusal(number)?;
+    Ok(Reply::Refused { inc, status })
+}
+
+#[tactic(auto, unfolding(crate::specs::Reply::results))]
+fn reply(procedure: Procedure, reader: &mut Reader) -> Result<Reply, WireFault>
+    ensures found { ReadsReply procedure reader.old reader.new result }
+    ensures step { Gives (λ r. (r, reader.new)) result (reply_at procedure reader.old) }
+{
+    match procedure {
+        Procedure::Null => Ok(Reply::Null),
+        Procedure::Vacated | Procedure::Evicted => Err(WireFault::Garbage),
+        _ => answer(procedure, reader),
+    }
+}
+
+/// The reply whose results are all of the bytes.
+fn whole_reply(procedure: Procedure, bytes: &[u8]) -> Result<Reply, WireFault>
+    ensures found { IfOk result (λ r. Answers r procedure × IsReply r × (bytes.now ≡ results r)) }
+    ensures step { result ≡ whole (reply_at procedure bytes.now) }
+{
+    let mut reader = Reader::new(bytes);
+    let reply = reply(procedure, &mut reader)?;
+    reader.end()?;
+    Ok(reply)
+}
