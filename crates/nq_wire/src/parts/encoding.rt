@@ -1,0 +1,160 @@
+ghost use Rattle.std.specs.Prelude.{◌≡◌, ◌+◌, ◌≤◌, ◌++◌, length, IfSome, OnOk, IsOk};
+ghost use Rattle.nq_base.specs.Name.{IsName};
+ghost use Rattle.nq_xdr.specs.Item.{word, hyper, opaque, opaque_len};
+ghost use Rattle.nq_wire.specs.Parts.{head, tag_bytes, mode_number, want_bytes, grant_bytes, base_bytes, optional, optional_len, IsWho, IsTag, IsWant, IsGrant, IsPushBase};
+
+use crate::{NoMemory, PushBase};
+use nq_base::{Block, Grant, Mode, Name, Tag, Want, Who};
+use nq_xdr::Writer;
+
+#[tactic(auto, unfolding(crate::specs::Parts::head))]
+pub(crate) fn put_who(who: &Who, out: &mut Writer) -> Result<(), NoMemory>
+    ensures written { OnOk result (out.new.bytes ≡ out.old.bytes ++ head who.now) }
+    ensures fits { OnOk result (IsWho who.now) }
+    ensures succeeds { 8 ≤ out.old.spare → IsOk result }
+    ensures spare { out.old.spare ≤ out.new.spare + 8 }
+{
+    out.u32(who.host.0)?;
+    out.u32(who.inc.0)?;
+    Ok(())
+}
+
+#[tactic(auto, unfolding(crate::specs::Parts::tag_bytes))]
+pub(crate) fn put_tag(tag: &Tag, out: &mut Writer) -> Result<(), NoMemory>
+    ensures written { OnOk result (out.new.bytes ≡ out.old.bytes ++ tag_bytes tag.now) }
+    ensures fits { OnOk result (IsTag tag.now) }
+    ensures succeeds { 12 ≤ out.old.spare → IsOk result }
+    ensures spare { out.old.spare ≤ out.new.spare + 12 }
+{
+    out.u32(tag.boot)?;
+    out.u64(tag.number)?;
+    Ok(())
+}
+
+fn mode_number(mode: Mode) -> u32
+    ensures { result ≡ mode_number mode }
+{
+    match mode {
+        Mode::NonCaching => 0,
+        Mode::Reading => 1,
+        Mode::Writing => 2,
+    }
+}
+
+#[tactic(auto, unfolding(crate::specs::Parts::want_bytes))]
+pub(crate) fn put_want(want: &Want, out: &mut Writer) -> Result<(), NoMemory>
+    ensures written { OnOk result (out.new.bytes ≡ out.old.bytes ++ want_bytes want.now) }
+    ensures fits { OnOk result (IsWant want.now) }
+    ensures succeeds { 8 ≤ out.old.spare → IsOk result }
+    ensures spare { out.old.spare ≤ out.new.spare + 8 }
+{
+    out.u32(mode_number(want.mode))?;
+    out.u32(want.term)?;
+    Ok(())
+}
+
+#[tactic(auto, unfolding(crate::specs::Parts::grant_bytes))]
+fn put_grant(grant: &Grant, out: &mut Writer) -> Result<(), NoMemory>
+    ensures written { OnOk result (out.new.bytes ≡ out.old.bytes ++ grant_bytes grant.now) }
+    ensures fits { OnOk result (IsGrant grant.now) }
+    ensures succeeds { 44 ≤ out.old.spare → IsOk result }
+    ensures spare { out.old.spare ≤ out.new.spare + 44 }
+{
+    out.u32(mode_number(grant.mode))?;
+    out.u32(grant.term)?;
+    put_tag(&grant.tag, out)?;
+    put_tag(&grant.since, out)?;
+    out.u64(grant.rev.0)?;
+    out.u32(grant.blocks)?;
+    Ok(())
+}
+
+#[tactic(auto, unfolding(crate::specs::Parts::base_bytes))]
+fn put_base(push: &PushBase, out: &mut Writer) -> Result<(), NoMemory>
+    ensures written { OnOk result (out.new.bytes ≡ out.old.bytes ++ base_bytes push.now) }
+    ensures fits { OnOk result (IsPushBase push.now) }
+    ensures succeeds { 12 ≤ out.old.spare → IsOk result }
+    ensures spare { out.old.spare ≤ out.new.spare + 12 }
+{
+    out.u32(push.boot)?;
+    out.u64(push.base.0)?;
+    Ok(())
+}
+
+#[tactic(auto, unfolding(crate::specs::Parts::optional))]
+pub(crate) fn put_optional_want(want: &Option<Want>, out: &mut Writer) -> Result<(), NoMemory>
+    ensures written { OnOk result (out.new.bytes ≡ out.old.bytes ++ optional want_bytes want.now) }
+    ensures fits { OnOk result (IfSome want.now IsWant) }
+    ensures succeeds { optional_len 8 want.now ≤ out.old.spare → IsOk result }
+    ensures spare { out.old.spare ≤ out.new.spare + optional_len 8 want.now }
+{
+    match want {
+        Some(want) => {
+            out.boolean(true)?;
+            put_want(want, out)
+        }
+        None => {
+            out.boolean(false)?;
+            Ok(())
+        }
+    }
+}
+
+#[tactic(auto, unfolding(crate::specs::Parts::optional))]
+pub(crate) fn put_optional_grant(grant: &Option<Grant>, out: &mut Writer) -> Result<(), NoMemory>
+    ensures written { OnOk result (out.new.bytes ≡ out.old.bytes ++ optional grant_bytes grant.now) }
+    ensures fits { OnOk result (IfSome grant.now IsGrant) }
+    ensures succeeds { optional_len 44 grant.now ≤ out.old.spare → IsOk result }
+    ensures spare { out.old.spare ≤ out.new.spare + optional_len 44 grant.now }
+{
+    match grant {
+        Some(grant) => {
+            out.boolean(true)?;
+            put_grant(grant, out)
+        }
+        None => {
+            out.boolean(false)?;
+            Ok(())
+        }
+    }
+}
+
+#[tactic(auto, unfolding(crate::specs::Parts::optional))]
+pub(crate) fn put_optional_base(push: &Option<PushBase>, out: &mut Writer) -> Result<(), NoMemory>
+    ensures written { OnOk result (out.new.bytes ≡ out.old.bytes ++ optional base_bytes push.now) }
+    ensures fits { OnOk result (IfSome push.now IsPushBase) }
+    ensures succeeds { optional_len 12 push.now ≤ out.old.spare → IsOk result }
+    ensures spare { out.old.spare ≤ out.new.spare + optional_len 12 push.now }
+{
+    match push {
+        Some(push) => {
+            out.boolean(true)?;
+            put_base(push, out)
+        }
+        None => {
+            out.boolean(false)?;
+            Ok(())
+        }
+    }
+}
+
+pub(crate) fn put_name(name: &Name, out: &mut Writer) -> Result<(), NoMemory>
+    ensures written { OnOk result (out.new.bytes ≡ out.old.bytes ++ opaque name.now) }
+    ensures fits { OnOk result (IsName name.now) }
+    ensures succeeds { opaque_len (length name.now) ≤ out.old.spare → IsOk result }
+    ensures spare { out.old.spare ≤ out.new.spare + opaque_len (length name.now) }
+{
+    out.opaque(name.as_bytes())?;
+    Ok(())
+}
+
+/// Writes the body of a block, which is copied once.
+pub(crate) fn put_body(body: &Block, out: &mut Writer) -> Result<(), NoMemory>
+    ensures written { OnOk result (out.new.bytes ≡ out.old.bytes ++ opaque body.now) }
+    ensures fits { OnOk result (length body.now ≡ 4096) }
+    ensures succeeds { 4100 ≤ out.old.spare → IsOk result }
+    ensures spare { out.old.spare ≤ out.new.spare + 4100 }
+{
+    out.opaque(body.as_bytes())?;
+    Ok(())
+}
