@@ -14,4 +14,4 @@ pub use fault::WireFault;
 pub use memory::NoMemory;
 pub use nq_base::{Party, PushBase, Refusal, Reply, Request};
 pub use procedure::Procedure;
-//pub use requests::decode_request;
+pub use requests::{LONGEST_ARGUMENTS, encode_request, encode_request_into};

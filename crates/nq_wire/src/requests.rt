@@ -1,4 +1,6 @@
 //! The requests: the arguments of the procedures.
 
 mod decoding;
+mod encoding;
 
+pub use encoding::{LONGEST_ARGUMENTS, encode_request, encode_request_into};

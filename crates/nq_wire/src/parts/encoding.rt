@@ -138,6 +138,15 @@ pub(crate) fn put_optional_base(push: &Option<PushBase>, out: &mut Writer) -> Re
     }
 }
 
+/// How many bytes a name takes.
+pub(crate) fn name_len(name: &Name) -> usize
+    ensures length { result ≡ opaque_len (length name.now) }
+    ensures most { result ≤ 68 }
+{
+    let length = name.as_bytes().len();
+    4 + length + (4 - length % 4) % 4
+}
+
 pub(crate) fn put_name(name: &Name, out: &mut Writer) -> Result<(), NoMemory>
     ensures written { OnOk result (out.new.bytes ≡ out.old.bytes ++ opaque name.now) }
     ensures fits { OnOk result (IsName name.now) }
