@@ -1,3 +1,6 @@
 //! The replies: the results of the procedures.
 
 mod decoding;
+mod encoding;
+
+pub use encoding::{LONGEST_RESULTS, encode_reply, encode_reply_into};

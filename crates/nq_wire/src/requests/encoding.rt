@@ -19,7 +19,7 @@ pub const LONGEST_ARGUMENTS: usize = 4156;
 /// How many bytes the arguments take.
 fn arguments_len(request: &Request) -> usize
     ensures length { result ≡ arguments_len request.now }
-    ensures most { result ≤ 4156 }
+    ensures most { result ≤ LONGEST_ARGUMENTS }
 {
     match request {
         Request::Null => 0,
@@ -176,7 +176,7 @@ pub fn encode_request_into(request: &Request, out: &mut Writer) -> Result<(), No
     ensures fits { OnOk result (IsRequest request.now) }
     ensures refused { OnErr result (out.new ≡ out.old) }
     ensures succeeds { arguments_len request.now ≤ out.old.spare → IsOk result }
-    ensures room_enough { 4156 ≤ out.old.spare → IsOk result }
+    ensures room_enough { LONGEST_ARGUMENTS ≤ out.old.spare → IsOk result }
     ensures spare { out.old.spare ≤ out.new.spare + arguments_len request.now }
 {
     out.reserve(arguments_len(request))?;

@@ -1,0 +1,128 @@
+ghost use Rattle.std.specs.Prelude.{◌≡◌, ◌+◌, ◌≤◌, ◌^◌, ◌<◌, ◌++◌, length, IfOk, OnOk, OnErr, IsOk};
+ghost use Rattle.nq_xdr.specs.Item.{word, hyper};
+ghost use Rattle.nq_wire.specs.Parts.{optional_len};
+ghost use Rattle.nq_wire.specs.Status.{status_number};
+ghost use Rattle.nq_wire.specs.Reply.{ok, results, results_len, IsReply};
+
+use crate::parts::encoding::{put_body, put_optional_grant};
+use crate::{NoMemory, Reply, status};
+use nq_base::{FileId, Inc};
+use nq_xdr::Writer;
+use std::alloc::Global;
+
+/// The most bytes that the results of a procedure take: those of a READ with a grant.
+pub const LONGEST_RESULTS: usize = 4164;
+
+/// How many bytes the results take.
+fn results_len(reply: &Reply) -> usize
+    ensures length { result ≡ results_len reply.now }
+    ensures most { result ≤ LONGEST_RESULTS }
+{
+    match reply {
+        Reply::Null => 0,
+        Reply::Attach { .. } | Reply::Remove { .. } | Reply::Refused { .. } => 8,
+        Reply::Create { .. } => 12,
+        Reply::Lookup { .. } | Reply::Write { .. } | Reply::Resize { .. } => 16,
+        Reply::GetAttr { .. } => 20,
+        Reply::Read { grant, .. } => 4120 + if grant.is_some() { 44 } else { 0 },
+        Reply::GetLease { grant, .. } => 12 + if grant.is_some() { 44 } else { 0 },
+    }
+}
+
+/// Writes the incarnation and a status.
+fn put_status(inc: Inc, status: u32, out: &mut Writer) -> Result<(), NoMemory>
+    ensures written { OnOk result (out.new.bytes ≡ out.old.bytes ++ word inc ++ word status) }
+    ensures fits { OnOk result (inc < 2 ^ 32) }
+    ensures succeeds { 8 ≤ out.old.spare → IsOk result }
+    ensures spare { out.old.spare ≤ out.new.spare + 8 }
+{
+    out.u32(inc.0)?;
+    out.u32(status)?;
+    Ok(())
+}
+
+#[tactic(auto, unfolding(crate::specs::Reply::ok))]
+fn put_ok(inc: Inc, out: &mut Writer) -> Result<(), NoMemory>
+    ensures written { OnOk result (out.new.bytes ≡ out.old.bytes ++ ok inc) }
+    ensures fits { OnOk result (inc < 2 ^ 32) }
+    ensures succeeds { 8 ≤ out.old.spare → IsOk result }
+    ensures spare { out.old.spare ≤ out.new.spare + 8 }
+{
+    put_status(inc, status::OK, out)
+}
+
+#[tactic(auto, unfolding(crate::specs::Reply::results))]
+fn put(reply: &Reply, out: &mut Writer) -> Result<(), NoMemory>
+    ensures written { OnOk result (out.new.bytes ≡ out.old.bytes ++ results reply.now) }
+    ensures fits { OnOk result (IsReply reply.now) }
+    ensures succeeds { results_len reply.now ≤ out.old.spare → IsOk result }
+    ensures spare { out.old.spare ≤ out.new.spare + results_len reply.now }
+{
+    match reply {
+        Reply::Null => Ok(()),
+        Reply::Attach { inc } | Reply::Remove { inc } => put_ok(*inc, out),
+        Reply::Lookup { inc, file, blocks } => {
+            put_ok(*inc, out)?;
+            out.u32(file.0)?;
+            out.u32(*blocks)?;
+            Ok(())
+        }
+        Reply::Create { inc, file } => {
+            put_ok(*inc, out)?;
+            out.u32(file.0)?;
+            Ok(())
+        }
+        Reply::GetAttr { inc, blocks, rev } => {
+            put_ok(*inc, out)?;
+            out.u32(*blocks)?;
+            out.u64(rev.0)?;
+            Ok(())
+        }
+        Reply::Read {
+            inc,
+            rev,
+            body,
+            grant,
+        } => {
+            put_ok(*inc, out)?;
+            out.u64(rev.0)?;
+            put_body(body, out)?;
+            put_optional_grant(grant, out)
+        }
+        Reply::Write { inc, rev } | Reply::Resize { inc, rev } => {
+            put_ok(*inc, out)?;
+            out.u64(rev.0)?;
+            Ok(())
+        }
+        Reply::GetLease { inc, grant } => {
+            put_ok(*inc, out)?;
+            put_optional_grant(grant, out)
+        }
+        Reply::Refused { inc, status } => put_status(*inc, status::number(*status), out),
+    }
+}
+
+/// Writes the results of a reply behind what `out` holds. Memory is wanted only where `out` has too
+/// little room, and [`LONGEST_RESULTS`] are always room enough. A refusal leaves `out` as it was.
+pub fn encode_reply_into(reply: &Reply, out: &mut Writer) -> Result<(), NoMemory>
+    ensures written { OnOk result (out.new.bytes ≡ out.old.bytes ++ results reply.now) }
+    ensures fits { OnOk result (IsReply reply.now) }
+    ensures refused { OnErr result (out.new ≡ out.old) }
+    ensures succeeds { results_len reply.now ≤ out.old.spare → IsOk result }
+    ensures room_enough { LONGEST_RESULTS ≤ out.old.spare → IsOk result }
+    ensures spare { out.old.spare ≤ out.new.spare + results_len reply.now }
+{
+    out.reserve(results_len(reply))?;
+    put(reply, out).unwrap();
+    Ok(())
+}
+
+/// The results of a reply.
+pub fn encode_reply(alloc: Global, reply: &Reply) -> Result<Vec<u8>, NoMemory>
+    ensures written { IfOk result (λ v. v.items ≡ results reply.now) }
+    ensures fits { OnOk result (IsReply reply.now) }
+{
+    let mut out = Writer::new(alloc)?;
+    encode_reply_into(reply, &mut out)?;
+    Ok(out.into_bytes())
+}
