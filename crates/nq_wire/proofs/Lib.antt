@@ -1,1 +1,4 @@
 pub mod Names
+pub mod PartsAgain
+pub mod RequestsAgain
+pub mod RepliesAgain
