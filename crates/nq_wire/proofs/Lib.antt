@@ -2,3 +2,4 @@ pub mod Names
 pub mod PartsAgain
 pub mod RequestsAgain
 pub mod RepliesAgain
+pub mod Whole

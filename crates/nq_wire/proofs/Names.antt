@@ -4,7 +4,7 @@ use Rattle.std.specs.Bool.{Decides}
 use Rattle.std.specs.List.{list_all}
 use Rattle.std.proofs.lemmas.Bool.Decides.{Decides-and, Decides-not, Decides-eqb, Decides-by_and, Decides-like, nat_tests}
 use Rattle.nq_base.specs.Name.{IsName, IsNameByte}
-use Rattle.nq_wire.specs.declared.fault.WireFault.TheVariants.{Garbage}
+use Rattle.nq_wire.specs.Garbage.{garbage}
 use Rattle.nq_wire.specs.Reading.{is_name_byte, is_name, name_of}
 
 byte_decides : (b : ℕ) → Decides (is_name_byte b) (IsNameByte b)
@@ -30,7 +30,7 @@ pub name_of-name : (bytes : List ℕ) → IsName bytes → name_of bytes ≡ Ok 
 unfolding name_of
 name_of-name bytes is = rw ((name_decides bytes).1 is) refl
 
-pub name_of-none : (bytes : List ℕ) → (IsName bytes → ⊥) → name_of bytes ≡ Err Garbage
+pub name_of-none : (bytes : List ℕ) → (IsName bytes → ⊥) → name_of bytes ≡ Err garbage
 unfolding name_of
 name_of-none bytes isnt = rw (not_true (is_name bytes) (λ e. isnt ((name_decides bytes).0 e))) refl
 

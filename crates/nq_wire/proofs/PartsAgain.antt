@@ -12,7 +12,7 @@ use Rattle.nq_base.specs.declared.Who.{Who}
 use Rattle.nq_xdr.specs.Item.{word, hyper, boolean, opaque}
 use Rattle.nq_xdr.proofs.Numbers.{word_again, hyper_again}
 use Rattle.nq_xdr.proofs.Opaque.{boolean_again, opaque_again}
-use Rattle.nq_wire.specs.declared.fault.WireFault.{WireFault}
+use Rattle.nq_wire.specs.declared.fault.Garbage.{Garbage}
 use Rattle.nq_wire.specs.Parts.{head, tag_bytes, mode_number, want_bytes, grant_bytes, base_bytes, optional, IsWho, IsTag, IsWant, IsGrant, IsPushBase, IsWanted}
 use Rattle.nq_wire.specs.Reading.{head_at, tag_at, wanted_mode, want_at, granted_mode, grant_at, base_at, optional_at, name_at, body_at}
 use Rattle.nq_wire.proofs.Names.{name_of-name}
@@ -75,7 +75,7 @@ unfolding base_bytes base_at
 base_again push rest fits =
     ap base_at (append_assoc (word push.boot) (hyper push.base) rest) ∙ rw (word_again push.boot (hyper push.base ++ rest) fits.boot, hyper_again push.base rest fits.base) refl
 
-pub optional_again : {A : Type 0} (part : A → List ℕ) (part_at : List ℕ → Result (A × List ℕ) WireFault) (o : Option A) (rest : List ℕ)
+pub optional_again : {A : Type 0} (part : A → List ℕ) (part_at : List ℕ → Result (A × List ℕ) Garbage) (o : Option A) (rest : List ℕ)
     → IfSome o (λ x. part_at (part x ++ rest) ≡ Ok (x, rest)) → optional_at part_at (optional part o ++ rest) ≡ Ok (o, rest)
 unfolding optional optional_at
 optional_again part part_at None rest again = rw (boolean_again false rest) refl

@@ -8,7 +8,7 @@ use Rattle.nq_base.specs.declared.Reply.TheVariants as reply
 use Rattle.nq_xdr.specs.Item.{word, hyper, opaque}
 use Rattle.nq_xdr.specs.Reading.{◌>>=◌}
 use Rattle.nq_xdr.proofs.Numbers.{word_again, hyper_again}
-use Rattle.nq_wire.specs.declared.fault.WireFault.{WireFault}
+use Rattle.nq_wire.specs.declared.fault.Garbage.{Garbage}
 use Rattle.nq_wire.specs.declared.procedure.Procedure.{Procedure}
 use Rattle.nq_wire.specs.declared.procedure.Procedure.TheVariants.{Null, Attach, Lookup, Create, GetAttr, Read, Write, GetLease, Vacated, Evicted, Resize, Remove}
 use Rattle.nq_wire.specs.Parts.{grant_bytes, optional}

@@ -1,3 +1,4 @@
+pub mod Garbage
 pub mod Procedure
 pub mod Status
 pub mod Parts

@@ -16,8 +16,8 @@ use Rattle.nq_base.specs.declared.Want.{Want}
 use Rattle.nq_base.specs.declared.Who.{Who}
 use Rattle.nq_xdr.specs.declared.XdrFault.{XdrFault}
 use Rattle.nq_xdr.specs.Reading.{◌>>=◌, word_at, hyper_at, boolean_at, opaque_at}
-use Rattle.nq_wire.specs.declared.fault.WireFault.{WireFault}
-use Rattle.nq_wire.specs.declared.fault.WireFault.TheVariants.{NoSuchProc, Garbage, Memory}
+use Rattle.nq_wire.specs.declared.fault.Garbage.{Garbage}
+use Rattle.nq_wire.specs.Garbage.{garbage}
 use Rattle.nq_wire.specs.declared.procedure.Procedure.{Procedure}
 use Rattle.nq_wire.specs.declared.procedure.Procedure.TheVariants as procedure
 
@@ -26,29 +26,29 @@ abbrev pub Reads : {A F : Type 0} → (A → List ℕ) → (A → Type 0) → Li
 Reads spelling Fits old new result = IfOk result (λ x. Fits x × (old ≡ spelling x ++ new))
 
 -- an item: any fault of it makes garbage of the whole
-abbrev pub item : {A : Type 0} → Result A XdrFault → Result A WireFault
+abbrev pub item : {A : Type 0} → Result A XdrFault → Result A Garbage
 item (Ok x) = Ok x
-item (Err e) = Err Garbage
+item (Err e) = Err garbage
 
 -- ---- the parts
 
-unfoldable pub head_at : List ℕ → Result (Who × List ℕ) WireFault
+unfoldable pub head_at : List ℕ → Result (Who × List ℕ) Garbage
 head_at bytes = do
   host ← item (word_at bytes)
   inc ← item (word_at host.1)
   Ok (record { host = host.0; inc = inc.0 }, inc.1)
 
-unfoldable pub tag_at : List ℕ → Result (Tag × List ℕ) WireFault
+unfoldable pub tag_at : List ℕ → Result (Tag × List ℕ) Garbage
 tag_at bytes = do
   boot ← item (word_at bytes)
   number ← item (hyper_at boot.1)
   Ok (record { boot = boot.0; number = number.0 }, number.1)
 
 -- the mode of a lease that is wanted, by its number
-unfoldable pub wanted_mode : ℕ → Result Mode WireFault
-wanted_mode n = if n == 1 then Ok Reading else (if n == 2 then Ok Writing else Err Garbage)
+unfoldable pub wanted_mode : ℕ → Result Mode Garbage
+wanted_mode n = if n == 1 then Ok Reading else (if n == 2 then Ok Writing else Err garbage)
 
-unfoldable pub want_at : List ℕ → Result (Want × List ℕ) WireFault
+unfoldable pub want_at : List ℕ → Result (Want × List ℕ) Garbage
 want_at bytes = do
   number ← item (word_at bytes)
   mode ← wanted_mode number.0
@@ -56,10 +56,10 @@ want_at bytes = do
   Ok (record { mode = mode; term = term.0 }, term.1)
 
 -- the mode of a lease that is granted, by its number
-unfoldable pub granted_mode : ℕ → Result Mode WireFault
-granted_mode n = if n == 0 then Ok NonCaching else (if n == 1 then Ok Reading else (if n == 2 then Ok Writing else Err Garbage))
+unfoldable pub granted_mode : ℕ → Result Mode Garbage
+granted_mode n = if n == 0 then Ok NonCaching else (if n == 1 then Ok Reading else (if n == 2 then Ok Writing else Err garbage))
 
-unfoldable pub grant_at : List ℕ → Result (Grant × List ℕ) WireFault
+unfoldable pub grant_at : List ℕ → Result (Grant × List ℕ) Garbage
 grant_at bytes = do
   number ← item (word_at bytes)
   mode ← granted_mode number.0
@@ -70,18 +70,18 @@ grant_at bytes = do
   blocks ← item (word_at rev.1)
   Ok (record { mode = mode; term = term.0; tag = tag.0; since = since.0; rev = rev.0; blocks = blocks.0 }, blocks.1)
 
-unfoldable pub base_at : List ℕ → Result (PushBase × List ℕ) WireFault
+unfoldable pub base_at : List ℕ → Result (PushBase × List ℕ) Garbage
 base_at bytes = do
   boot ← item (word_at bytes)
   base ← item (hyper_at boot.1)
   Ok (record { boot = boot.0; base = base.0 }, base.1)
 
 -- a part that is there
-abbrev pub some_of : {A : Type 0} → Result (A × List ℕ) WireFault → Result (Option A × List ℕ) WireFault
+abbrev pub some_of : {A : Type 0} → Result (A × List ℕ) Garbage → Result (Option A × List ℕ) Garbage
 some_of (Ok x) = Ok (Some x.0, x.1)
 some_of (Err e) = Err e
 
-unfoldable pub optional_at : {A : Type 0} → (List ℕ → Result (A × List ℕ) WireFault) → List ℕ → Result (Option A × List ℕ) WireFault
+unfoldable pub optional_at : {A : Type 0} → (List ℕ → Result (A × List ℕ) Garbage) → List ℕ → Result (Option A × List ℕ) Garbage
 optional_at part_at bytes = do
   there ← item (boolean_at bytes)
   if there.0 then some_of (part_at there.1) else Ok (None, there.1)
@@ -94,34 +94,34 @@ unfoldable pub is_name : List ℕ → Bool
 is_name bytes = nat_le 1 (length bytes) && (nat_le (length bytes) 64 && list_all is_name_byte bytes)
 
 -- the name of these bytes
-unfoldable pub name_of : List ℕ → Result (List ℕ) WireFault
-name_of bytes = if is_name bytes then Ok bytes else Err Garbage
+unfoldable pub name_of : List ℕ → Result (List ℕ) Garbage
+name_of bytes = if is_name bytes then Ok bytes else Err garbage
 
-unfoldable pub name_at : List ℕ → Result (List ℕ × List ℕ) WireFault
+unfoldable pub name_at : List ℕ → Result (List ℕ × List ℕ) Garbage
 name_at bytes = do
   body ← item (opaque_at 64 bytes)
   name ← name_of body.0
   Ok (name, body.1)
 
-unfoldable pub body_at : List ℕ → Result (List ℕ × List ℕ) WireFault
+unfoldable pub body_at : List ℕ → Result (List ℕ × List ℕ) Garbage
 body_at bytes = do
   body ← item (opaque_at 4096 bytes)
-  if length body.0 == 4096 then Ok (body.0, body.1) else Err Garbage
+  if length body.0 == 4096 then Ok (body.0, body.1) else Err garbage
 
 -- ---- the arguments of each procedure
 
-unfoldable pub attach_at : List ℕ → Result (Request × List ℕ) WireFault
+unfoldable pub attach_at : List ℕ → Result (Request × List ℕ) Garbage
 attach_at bytes = do
   who ← head_at bytes
   Ok (request.Attach who.0, who.1)
 
-unfoldable pub lookup_at : List ℕ → Result (Request × List ℕ) WireFault
+unfoldable pub lookup_at : List ℕ → Result (Request × List ℕ) Garbage
 lookup_at bytes = do
   who ← head_at bytes
   name ← name_at who.1
   Ok (request.Lookup who.0 name.0, name.1)
 
-unfoldable pub create_at : List ℕ → Result (Request × List ℕ) WireFault
+unfoldable pub create_at : List ℕ → Result (Request × List ℕ) Garbage
 create_at bytes = do
   who ← head_at bytes
   seq ← item (hyper_at who.1)
@@ -129,13 +129,13 @@ create_at bytes = do
   blocks ← item (word_at name.1)
   Ok (request.Create who.0 seq.0 name.0 blocks.0, blocks.1)
 
-unfoldable pub get_attr_at : List ℕ → Result (Request × List ℕ) WireFault
+unfoldable pub get_attr_at : List ℕ → Result (Request × List ℕ) Garbage
 get_attr_at bytes = do
   who ← head_at bytes
   file ← item (word_at who.1)
   Ok (request.GetAttr who.0 file.0, file.1)
 
-unfoldable pub read_at : List ℕ → Result (Request × List ℕ) WireFault
+unfoldable pub read_at : List ℕ → Result (Request × List ℕ) Garbage
 read_at bytes = do
   who ← head_at bytes
   call ← item (hyper_at who.1)
@@ -145,14 +145,14 @@ read_at bytes = do
   Ok (request.Read who.0 call.0 file.0 block.0 want.0, want.1)
 
 -- the write numbers, and what they rest on where the WRITE is a push
-unfoldable pub span_at : List ℕ → Result ((ℕ × ℕ × Option PushBase) × List ℕ) WireFault
+unfoldable pub span_at : List ℕ → Result ((ℕ × ℕ × Option PushBase) × List ℕ) Garbage
 span_at bytes = do
   first ← item (hyper_at bytes)
   last ← item (hyper_at first.1)
   push ← optional_at base_at last.1
-  if is_none push.0 && not (first.0 == last.0) then Err Garbage else Ok ((first.0, last.0, push.0), push.1)
+  if is_none push.0 && not (first.0 == last.0) then Err garbage else Ok ((first.0, last.0, push.0), push.1)
 
-unfoldable pub write_at : List ℕ → Result (Request × List ℕ) WireFault
+unfoldable pub write_at : List ℕ → Result (Request × List ℕ) Garbage
 write_at bytes = do
   who ← head_at bytes
   seq ← item (hyper_at who.1)
@@ -162,28 +162,28 @@ write_at bytes = do
   body ← body_at span.1
   Ok (request.Write who.0 seq.0 file.0 block.0 span.0.0 span.0.1 span.0.2 body.0, body.1)
 
-unfoldable pub get_lease_at : List ℕ → Result (Request × List ℕ) WireFault
+unfoldable pub get_lease_at : List ℕ → Result (Request × List ℕ) Garbage
 get_lease_at bytes = do
   who ← head_at bytes
   file ← item (word_at who.1)
   want ← want_at file.1
   Ok (request.GetLease who.0 file.0 want.0, want.1)
 
-unfoldable pub vacated_at : List ℕ → Result (Request × List ℕ) WireFault
+unfoldable pub vacated_at : List ℕ → Result (Request × List ℕ) Garbage
 vacated_at bytes = do
   who ← head_at bytes
   file ← item (word_at who.1)
   tag ← tag_at file.1
   Ok (request.Vacated who.0 file.0 tag.0, tag.1)
 
-unfoldable pub evicted_at : List ℕ → Result (Request × List ℕ) WireFault
+unfoldable pub evicted_at : List ℕ → Result (Request × List ℕ) Garbage
 evicted_at bytes = do
   who ← head_at bytes
   file ← item (word_at who.1)
   tag ← tag_at file.1
   Ok (request.Evicted who.0 file.0 tag.0, tag.1)
 
-unfoldable pub resize_at : List ℕ → Result (Request × List ℕ) WireFault
+unfoldable pub resize_at : List ℕ → Result (Request × List ℕ) Garbage
 resize_at bytes = do
   who ← head_at bytes
   seq ← item (hyper_at who.1)
@@ -192,7 +192,7 @@ resize_at bytes = do
   blocks ← item (word_at file.1)
   Ok (request.Resize who.0 seq.0 call.0 file.0 blocks.0, blocks.1)
 
-unfoldable pub remove_at : List ℕ → Result (Request × List ℕ) WireFault
+unfoldable pub remove_at : List ℕ → Result (Request × List ℕ) Garbage
 remove_at bytes = do
   who ← head_at bytes
   seq ← item (hyper_at who.1)
@@ -201,7 +201,7 @@ remove_at bytes = do
   Ok (request.Remove who.0 seq.0 call.0 file.0, file.1)
 
 -- the arguments of a procedure
-abbrev pub request_at : Procedure → List ℕ → Result (Request × List ℕ) WireFault
+abbrev pub request_at : Procedure → List ℕ → Result (Request × List ℕ) Garbage
 request_at procedure.Null bytes = Ok (request.Null, bytes)
 request_at procedure.Attach bytes = attach_at bytes
 request_at procedure.Lookup bytes = lookup_at bytes
@@ -217,47 +217,47 @@ request_at procedure.Remove bytes = remove_at bytes
 
 -- ---- the results of each procedure, behind the incarnation and the status OK
 
-unfoldable pub found_at : ℕ → List ℕ → Result (Reply × List ℕ) WireFault
+unfoldable pub found_at : ℕ → List ℕ → Result (Reply × List ℕ) Garbage
 found_at inc bytes = do
   file ← item (word_at bytes)
   blocks ← item (word_at file.1)
   Ok (reply.Lookup inc file.0 blocks.0, blocks.1)
 
-unfoldable pub created_at : ℕ → List ℕ → Result (Reply × List ℕ) WireFault
+unfoldable pub created_at : ℕ → List ℕ → Result (Reply × List ℕ) Garbage
 created_at inc bytes = do
   file ← item (word_at bytes)
   Ok (reply.Create inc file.0, file.1)
 
-unfoldable pub attributes_at : ℕ → List ℕ → Result (Reply × List ℕ) WireFault
+unfoldable pub attributes_at : ℕ → List ℕ → Result (Reply × List ℕ) Garbage
 attributes_at inc bytes = do
   blocks ← item (word_at bytes)
   rev ← item (hyper_at blocks.1)
   Ok (reply.GetAttr inc blocks.0 rev.0, rev.1)
 
-unfoldable pub block_at : ℕ → List ℕ → Result (Reply × List ℕ) WireFault
+unfoldable pub block_at : ℕ → List ℕ → Result (Reply × List ℕ) Garbage
 block_at inc bytes = do
   rev ← item (hyper_at bytes)
   body ← body_at rev.1
   grant ← optional_at grant_at body.1
   Ok (reply.Read inc rev.0 body.0 grant.0, grant.1)
 
-unfoldable pub written_at : ℕ → List ℕ → Result (Reply × List ℕ) WireFault
+unfoldable pub written_at : ℕ → List ℕ → Result (Reply × List ℕ) Garbage
 written_at inc bytes = do
   rev ← item (hyper_at bytes)
   Ok (reply.Write inc rev.0, rev.1)
 
-unfoldable pub lease_at : ℕ → List ℕ → Result (Reply × List ℕ) WireFault
+unfoldable pub lease_at : ℕ → List ℕ → Result (Reply × List ℕ) Garbage
 lease_at inc bytes = do
   grant ← optional_at grant_at bytes
   Ok (reply.GetLease inc grant.0, grant.1)
 
-unfoldable pub resized_at : ℕ → List ℕ → Result (Reply × List ℕ) WireFault
+unfoldable pub resized_at : ℕ → List ℕ → Result (Reply × List ℕ) Garbage
 resized_at inc bytes = do
   rev ← item (hyper_at bytes)
   Ok (reply.Resize inc rev.0, rev.1)
 
-abbrev pub results_at : Procedure → ℕ → List ℕ → Result (Reply × List ℕ) WireFault
-results_at procedure.Null inc bytes = Err Garbage
+abbrev pub results_at : Procedure → ℕ → List ℕ → Result (Reply × List ℕ) Garbage
+results_at procedure.Null inc bytes = Err garbage
 results_at procedure.Attach inc bytes = Ok (reply.Attach inc, bytes)
 results_at procedure.Lookup inc bytes = found_at inc bytes
 results_at procedure.Create inc bytes = created_at inc bytes
@@ -265,13 +265,13 @@ results_at procedure.GetAttr inc bytes = attributes_at inc bytes
 results_at procedure.Read inc bytes = block_at inc bytes
 results_at procedure.Write inc bytes = written_at inc bytes
 results_at procedure.GetLease inc bytes = lease_at inc bytes
-results_at procedure.Vacated inc bytes = Err Garbage
-results_at procedure.Evicted inc bytes = Err Garbage
+results_at procedure.Vacated inc bytes = Err garbage
+results_at procedure.Evicted inc bytes = Err garbage
 results_at procedure.Resize inc bytes = resized_at inc bytes
 results_at procedure.Remove inc bytes = Ok (reply.Remove inc, bytes)
 
 -- the status of a number that is not 0
-unfoldable pub refusal_of : ℕ → Result Refusal WireFault
+unfoldable pub refusal_of : ℕ → Result Refusal Garbage
 refusal_of n =
     if n == 2 then Ok refusal.NoEnt else (
     if n == 17 then Ok refusal.Exist else (
@@ -281,25 +281,25 @@ refusal_of n =
     if n == 501 then Ok refusal.TryLater else (
     if n == 502 then Ok refusal.Fenced else (
     if n == 503 then Ok refusal.NotAttached else (
-    if n == 504 then Ok refusal.Old else Err Garbage))))))))
+    if n == 504 then Ok refusal.Old else Err garbage))))))))
 
 -- the incarnation and the status, and what follows them
-unfoldable pub answer_at : Procedure → List ℕ → Result (Reply × List ℕ) WireFault
+unfoldable pub answer_at : Procedure → List ℕ → Result (Reply × List ℕ) Garbage
 answer_at p bytes = do
   inc ← item (word_at bytes)
   status ← item (word_at inc.1)
   if status.0 == 0 then results_at p inc.0 status.1 else (refusal_of status.0 >>= λ status'. Ok (reply.Refused inc.0 status', status.1))
 
 -- the results of a procedure
-abbrev pub reply_at : Procedure → List ℕ → Result (Reply × List ℕ) WireFault
+abbrev pub reply_at : Procedure → List ℕ → Result (Reply × List ℕ) Garbage
 reply_at procedure.Null bytes = Ok (reply.Null, bytes)
-reply_at procedure.Vacated bytes = Err Garbage
-reply_at procedure.Evicted bytes = Err Garbage
+reply_at procedure.Vacated bytes = Err garbage
+reply_at procedure.Evicted bytes = Err garbage
 reply_at p bytes = answer_at p bytes
 
 -- ---- all of the bytes
 
 -- what was read, where nothing follows it
-abbrev pub whole : {A : Type 0} → Result (A × List ℕ) WireFault → Result A WireFault
-whole (Ok x) = if length x.1 == 0 then Ok x.0 else Err Garbage
+abbrev pub whole : {A : Type 0} → Result (A × List ℕ) Garbage → Result A Garbage
+whole (Ok x) = if length x.1 == 0 then Ok x.0 else Err garbage
 whole (Err e) = Err e

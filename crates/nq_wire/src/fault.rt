@@ -1,5 +1,6 @@
 ghost use Rattle.std.specs.Prelude.{◌≡◌};
-ghost use Rattle.nq_wire.specs.declared.fault.WireFault.TheVariants.{Garbage};
+ghost use Rattle.nq_wire.specs.declared.fault.WireFault.TheVariants as fault;
+ghost use Rattle.nq_wire.specs.Garbage.{garbage};
 
 use nq_xdr::XdrFault;
 use thiserror::Error;
@@ -18,10 +19,22 @@ pub enum WireFault {
     Memory,
 }
 
-impl From<XdrFault> for WireFault {
-    ghost from_gives = { λ _ e. e ≡ Garbage };
+/// The bytes are not in the grammar.
+#[derive(Clone, Copy, Debug, PartialEq, Eq)]
+pub(crate) struct Garbage;
 
-    fn from(_fault: XdrFault) -> WireFault {
+impl From<XdrFault> for Garbage {
+    ghost from_gives = { λ _ e. e ≡ garbage };
+
+    fn from(_fault: XdrFault) -> Garbage {
+        Garbage
+    }
+}
+
+impl From<Garbage> for WireFault {
+    ghost from_gives = { λ _ e. e ≡ fault.Garbage };
+
+    fn from(_garbage: Garbage) -> WireFault {
         WireFault::Garbage
     }
 }

@@ -14,5 +14,5 @@ pub use fault::WireFault;
 pub use memory::NoMemory;
 pub use nq_base::{Party, PushBase, Refusal, Reply, Request};
 pub use procedure::Procedure;
-pub use replies::{LONGEST_RESULTS, encode_reply, encode_reply_into};
-pub use requests::{LONGEST_ARGUMENTS, encode_request, encode_request_into};
+pub use replies::{LONGEST_RESULTS, decode_reply, encode_reply, encode_reply_into};
+pub use requests::{LONGEST_ARGUMENTS, decode_request, encode_request, encode_request_into};

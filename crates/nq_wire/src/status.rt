@@ -4,7 +4,8 @@ ghost use Rattle.std.specs.Prelude.{◌≡◌, IfOk};
 ghost use Rattle.nq_wire.specs.Status.{status_number};
 ghost use Rattle.nq_wire.specs.Reading.{refusal_of};
 
-use crate::{Refusal, WireFault};
+use crate::{Refusal};
+use crate::fault::Garbage;
 
 /// The status of a request that was done.
 pub(crate) const OK: u32 = 0;
@@ -28,7 +29,7 @@ pub(crate) fn number(status: Refusal) -> u32
 
 /// The status of a number that is not OK's.
 #[tactic(auto, unfolding(crate::specs::Reading::refusal_of))]
-pub(crate) fn refusal(number: u32) -> Result<Refusal, WireFault>
+pub(crate) fn refusal(number: u32) -> Result<Refusal, Garbage>
     ensures number { IfOk result (λ s. number ≡ status_number s) }
     ensures step { result ≡ refusal_of number }
 {
@@ -42,6 +43,6 @@ pub(crate) fn refusal(number: u32) -> Result<Refusal, WireFault>
         502 => Ok(Refusal::Fenced),
         503 => Ok(Refusal::NotAttached),
         504 => Ok(Refusal::Old),
-        _ => Err(WireFault::Garbage),
+        _ => Err(Garbage),
     }
 }

@@ -5,13 +5,14 @@ ghost use Rattle.nq_xdr.specs.Reading.{Gives};
 ghost use Rattle.nq_wire.specs.Parts.{head, tag_bytes, mode_number, want_bytes, grant_bytes, base_bytes, optional, IsWho, IsTag, IsWant, IsGrant, IsPushBase, IsWanted};
 ghost use Rattle.nq_wire.specs.Reading.{Reads, head_at, tag_at, wanted_mode, want_at, granted_mode, grant_at, base_at, optional_at, name_of, name_at, body_at};
 
-use crate::{PushBase, WireFault};
+use crate::{PushBase};
+use crate::fault::Garbage;
 use nq_base::{Block, Grant, Host, Inc, Mode, Name, Rev, Tag, Want, Who};
 use nq_xdr::Reader;
 
 /// Who asks.
 #[tactic(auto, unfolding(crate::specs::Reading::head_at, crate::specs::Parts::head))]
-pub(crate) fn who(reader: &mut Reader) -> Result<Who, WireFault>
+pub(crate) fn who(reader: &mut Reader) -> Result<Who, Garbage>
     ensures found { Reads head IsWho reader.old reader.new result }
     ensures step { Gives (λ w. (w, reader.new)) result (head_at reader.old) }
 {
@@ -24,7 +25,7 @@ pub(crate) fn who(reader: &mut Reader) -> Result<Who, WireFault>
 }
 
 #[tactic(auto, unfolding(crate::specs::Reading::tag_at, crate::specs::Parts::tag_bytes))]
-pub(crate) fn tag(reader: &mut Reader) -> Result<Tag, WireFault>
+pub(crate) fn tag(reader: &mut Reader) -> Result<Tag, Garbage>
     ensures found { Reads tag_bytes IsTag reader.old reader.new result }
     ensures step { Gives (λ t. (t, reader.new)) result (tag_at reader.old) }
 {
@@ -35,19 +36,19 @@ pub(crate) fn tag(reader: &mut Reader) -> Result<Tag, WireFault>
 
 /// The mode of a lease that is wanted.
 #[tactic(auto, unfolding(crate::specs::Reading::wanted_mode))]
-fn wanted_mode(number: u32) -> Result<Mode, WireFault>
+fn wanted_mode(number: u32) -> Result<Mode, Garbage>
     ensures wanted { IfOk result (λ m. IsWanted m × (number ≡ mode_number m)) }
     ensures step { result ≡ wanted_mode number }
 {
     match number {
         1 => Ok(Mode::Reading),
         2 => Ok(Mode::Writing),
-        _ => Err(WireFault::Garbage),
+        _ => Err(Garbage),
     }
 }
 
 #[tactic(auto, unfolding(crate::specs::Reading::want_at, crate::specs::Parts::want_bytes))]
-pub(crate) fn want(reader: &mut Reader) -> Result<Want, WireFault>
+pub(crate) fn want(reader: &mut Reader) -> Result<Want, Garbage>
     ensures found { Reads want_bytes (λ w. IsWant w × IsWanted w.mode) reader.old reader.new result }
     ensures step { Gives (λ w. (w, reader.new)) result (want_at reader.old) }
 {
@@ -59,7 +60,7 @@ pub(crate) fn want(reader: &mut Reader) -> Result<Want, WireFault>
 
 /// The mode of a lease that is granted.
 #[tactic(auto, unfolding(crate::specs::Reading::granted_mode))]
-fn granted_mode(number: u32) -> Result<Mode, WireFault>
+fn granted_mode(number: u32) -> Result<Mode, Garbage>
     ensures number { IfOk result (λ m. number ≡ mode_number m) }
     ensures step { result ≡ granted_mode number }
 {
@@ -67,12 +68,12 @@ fn granted_mode(number: u32) -> Result<Mode, WireFault>
         0 => Ok(Mode::NonCaching),
         1 => Ok(Mode::Reading),
         2 => Ok(Mode::Writing),
-        _ => Err(WireFault::Garbage),
+        _ => Err(Garbage),
     }
 }
 
 #[tactic(auto, unfolding(crate::specs::Reading::grant_at, crate::specs::Parts::grant_bytes))]
-fn grant(reader: &mut Reader) -> Result<Grant, WireFault>
+fn grant(reader: &mut Reader) -> Result<Grant, Garbage>
     ensures found { Reads grant_bytes IsGrant reader.old reader.new result }
     ensures step { Gives (λ g. (g, reader.new)) result (grant_at reader.old) }
 {
@@ -94,7 +95,7 @@ fn grant(reader: &mut Reader) -> Result<Grant, WireFault>
 }
 
 #[tactic(auto, unfolding(crate::specs::Reading::base_at, crate::specs::Parts::base_bytes))]
-fn push_base(reader: &mut Reader) -> Result<PushBase, WireFault>
+fn push_base(reader: &mut Reader) -> Result<PushBase, Garbage>
     ensures found { Reads base_bytes IsPushBase reader.old reader.new result }
     ensures step { Gives (λ p. (p, reader.new)) result (base_at reader.old) }
 {
@@ -107,7 +108,7 @@ fn push_base(reader: &mut Reader) -> Result<PushBase, WireFault>
 }
 
 #[tactic(auto, unfolding(crate::specs::Reading::optional_at, crate::specs::Parts::optional))]
-pub(crate) fn optional_want(reader: &mut Reader) -> Result<Option<Want>, WireFault>
+pub(crate) fn optional_want(reader: &mut Reader) -> Result<Option<Want>, Garbage>
     ensures found { Reads (optional want_bytes) (λ o. IfSome o (λ w. IsWant w × IsWanted w.mode)) reader.old reader.new result }
     ensures step { Gives (λ o. (o, reader.new)) result (optional_at want_at reader.old) }
 {
@@ -119,7 +120,7 @@ pub(crate) fn optional_want(reader: &mut Reader) -> Result<Option<Want>, WireFau
 }
 
 #[tactic(auto, unfolding(crate::specs::Reading::optional_at, crate::specs::Parts::optional))]
-pub(crate) fn optional_grant(reader: &mut Reader) -> Result<Option<Grant>, WireFault>
+pub(crate) fn optional_grant(reader: &mut Reader) -> Result<Option<Grant>, Garbage>
     ensures found { Reads (optional grant_bytes) (λ o. IfSome o IsGrant) reader.old reader.new result }
     ensures step { Gives (λ o. (o, reader.new)) result (optional_at grant_at reader.old) }
 {
@@ -131,7 +132,7 @@ pub(crate) fn optional_grant(reader: &mut Reader) -> Result<Option<Grant>, WireF
 }
 
 #[tactic(auto, unfolding(crate::specs::Reading::optional_at, crate::specs::Parts::optional))]
-pub(crate) fn optional_push(reader: &mut Reader) -> Result<Option<PushBase>, WireFault>
+pub(crate) fn optional_push(reader: &mut Reader) -> Result<Option<PushBase>, Garbage>
     ensures found { Reads (optional base_bytes) (λ o. IfSome o IsPushBase) reader.old reader.new result }
     ensures step { Gives (λ o. (o, reader.new)) result (optional_at base_at reader.old) }
 {
@@ -144,18 +145,18 @@ pub(crate) fn optional_push(reader: &mut Reader) -> Result<Option<PushBase>, Wir
 
 /// The name of these bytes.
 #[tactic(auto, using(crate::proofs::Names::named))]
-fn name_of(bytes: &[u8]) -> Result<Name, WireFault>
+fn name_of(bytes: &[u8]) -> Result<Name, Garbage>
     ensures name { IfOk result (λ n. IsName n × (n ≡ bytes.now)) }
     ensures step { result ≡ name_of bytes.now }
 {
     match Name::new(bytes) {
         Some(name) => Ok(name),
-        None => Err(WireFault::Garbage),
+        None => Err(Garbage),
     }
 }
 
 #[tactic(auto, unfolding(crate::specs::Reading::name_at))]
-pub(crate) fn name(reader: &mut Reader) -> Result<Name, WireFault>
+pub(crate) fn name(reader: &mut Reader) -> Result<Name, Garbage>
     ensures found { Reads opaque IsName reader.old reader.new result }
     ensures step { Gives (λ n. (n, reader.new)) result (name_at reader.old) }
 {
@@ -166,10 +167,10 @@ pub(crate) fn name(reader: &mut Reader) -> Result<Name, WireFault>
 
 /// The body of a block.
 #[tactic(auto, unfolding(crate::specs::Reading::body_at))]
-pub(crate) fn body(reader: &mut Reader) -> Result<Block, WireFault>
+pub(crate) fn body(reader: &mut Reader) -> Result<Block, Garbage>
     ensures found { Reads opaque (λ b. length b ≡ 4096) reader.old reader.new result }
     ensures step { Gives (λ b. (b, reader.new)) result (body_at reader.old) }
 {
     let bytes = reader.opaque(4096)?;
-    Block::from_bytes(bytes).ok_or(WireFault::Garbage)
+    Block::from_bytes(bytes).ok_or(Garbage)
 }

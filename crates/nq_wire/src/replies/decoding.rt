@@ -1,17 +1,19 @@
-ghost use Rattle.std.specs.Prelude.{◌≡◌, ℕ, ◌<◌, ◌≤◌, ◌^◌, List, ◌++◌, length, ◌↔◌, Option, IfOk, IfErr, IfSome};
+ghost use Rattle.std.specs.Prelude.{◌≡◌, ◌≢◌, ℕ, ◌<◌, ◌≤◌, ◌^◌, List, ◌++◌, length, ◌↔◌, Option, IfOk, IfErr, IfSome};
 ghost use Rattle.nq_base.specs.declared.Reply.{Reply};
 ghost use Rattle.nq_xdr.specs.Reading.{Gives};
 ghost use Rattle.nq_xdr.specs.Item.{word};
-ghost use Rattle.nq_wire.specs.Reply.{ok, results, IsReply, Answers, IsRefusable, ReadsReply, ReadsResults};
+ghost use Rattle.nq_wire.specs.Reply.{ok, results, IsReply, Answers, IsRefusable, IsResults, ReadsReply, ReadsResults};
 ghost use Rattle.nq_wire.specs.Reading.{whole, found_at, created_at, attributes_at, block_at, written_at, lease_at, resized_at, results_at, answer_at, reply_at};
 
+use crate::fault::Garbage;
 use crate::parts::decoding::{body, optional_grant};
 use crate::{Procedure, Reply, WireFault, status};
 use nq_base::{FileId, Inc, Rev};
 use nq_xdr::Reader;
+use std::alloc::Global;
 
 #[tactic(auto, unfolding(crate::specs::Reading::found_at, crate::specs::Reply::results))]
-fn found(inc: Inc, reader: &mut Reader) -> Result<Reply, WireFault>
+fn found(inc: Inc, reader: &mut Reader) -> Result<Reply, Garbage>
     ensures found { ReadsResults Procedure.Lookup inc reader.old reader.new result }
     ensures step { Gives (λ r. (r, reader.new)) result (found_at inc reader.old) }
 {
@@ -25,7 +27,7 @@ fn found(inc: Inc, reader: &mut Reader) -> Result<Reply, WireFault>
 }
 
 #[tactic(auto, unfolding(crate::specs::Reading::created_at, crate::specs::Reply::results))]
-fn created(inc: Inc, reader: &mut Reader) -> Result<Reply, WireFault>
+fn created(inc: Inc, reader: &mut Reader) -> Result<Reply, Garbage>
     ensures found { ReadsResults Procedure.Create inc reader.old reader.new result }
     ensures step { Gives (λ r. (r, reader.new)) result (created_at inc reader.old) }
 {
@@ -37,7 +39,7 @@ fn created(inc: Inc, reader: &mut Reader) -> Result<Reply, WireFault>
 }
 
 #[tactic(auto, unfolding(crate::specs::Reading::attributes_at, crate::specs::Reply::results))]
-fn attributes(inc: Inc, reader: &mut Reader) -> Result<Reply, WireFault>
+fn attributes(inc: Inc, reader: &mut Reader) -> Result<Reply, Garbage>
     ensures found { ReadsResults Procedure.GetAttr inc reader.old reader.new result }
     ensures step { Gives (λ r. (r, reader.new)) result (attributes_at inc reader.old) }
 {
@@ -51,7 +53,7 @@ fn attributes(inc: Inc, reader: &mut Reader) -> Result<Reply, WireFault>
 }
 
 #[tactic(auto, unfolding(crate::specs::Reading::block_at, crate::specs::Reply::results))]
-fn block(inc: Inc, reader: &mut Reader) -> Result<Reply, WireFault>
+fn block(inc: Inc, reader: &mut Reader) -> Result<Reply, Garbage>
     ensures found { ReadsResults Procedure.Read inc reader.old reader.new result }
     ensures step { Gives (λ r. (r, reader.new)) result (block_at inc reader.old) }
 {
@@ -67,7 +69,7 @@ fn block(inc: Inc, reader: &mut Reader) -> Result<Reply, WireFault>
 }
 
 #[tactic(auto, unfolding(crate::specs::Reading::written_at, crate::specs::Reply::results))]
-fn written(inc: Inc, reader: &mut Reader) -> Result<Reply, WireFault>
+fn written(inc: Inc, reader: &mut Reader) -> Result<Reply, Garbage>
     ensures found { ReadsResults Procedure.Write inc reader.old reader.new result }
     ensures step { Gives (λ r. (r, reader.new)) result (written_at inc reader.old) }
 {
@@ -76,7 +78,7 @@ fn written(inc: Inc, reader: &mut Reader) -> Result<Reply, WireFault>
 }
 
 #[tactic(auto, unfolding(crate::specs::Reading::lease_at, crate::specs::Reply::results))]
-fn lease(inc: Inc, reader: &mut Reader) -> Result<Reply, WireFault>
+fn lease(inc: Inc, reader: &mut Reader) -> Result<Reply, Garbage>
     ensures found { ReadsResults Procedure.GetLease inc reader.old reader.new result }
     ensures step { Gives (λ r. (r, reader.new)) result (lease_at inc reader.old) }
 {
@@ -85,7 +87,7 @@ fn lease(inc: Inc, reader: &mut Reader) -> Result<Reply, WireFault>
 }
 
 #[tactic(auto, unfolding(crate::specs::Reading::resized_at, crate::specs::Reply::results))]
-fn resized(inc: Inc, reader: &mut Reader) -> Result<Reply, WireFault>
+fn resized(inc: Inc, reader: &mut Reader) -> Result<Reply, Garbage>
     ensures found { ReadsResults Procedure.Resize inc reader.old reader.new result }
     ensures step { Gives (λ r. (r, reader.new)) result (resized_at inc reader.old) }
 {
@@ -95,7 +97,7 @@ fn resized(inc: Inc, reader: &mut Reader) -> Result<Reply, WireFault>
 
 /// The results behind the incarnation and the status OK.
 #[tactic(auto, unfolding(crate::specs::Reply::results))]
-fn results(procedure: Procedure, inc: Inc, reader: &mut Reader) -> Result<Reply, WireFault>
+fn results(procedure: Procedure, inc: Inc, reader: &mut Reader) -> Result<Reply, Garbage>
     ensures found { ReadsResults procedure inc reader.old reader.new result }
     ensures step { Gives (λ r. (r, reader.new)) result (results_at procedure inc reader.old) }
 {
@@ -109,13 +111,13 @@ fn results(procedure: Procedure, inc: Inc, reader: &mut Reader) -> Result<Reply,
         Procedure::GetLease => lease(inc, reader),
         Procedure::Resize => resized(inc, reader),
         Procedure::Remove => Ok(Reply::Remove { inc }),
-        Procedure::Null | Procedure::Vacated | Procedure::Evicted => Err(WireFault::Garbage),
+        Procedure::Null | Procedure::Vacated | Procedure::Evicted => Err(Garbage),
     }
 }
 
 /// The incarnation and the status, and what follows them.
 #[tactic(auto, unfolding(crate::specs::Reading::answer_at, crate::specs::Reply::results, crate::specs::Reply::ok))]
-fn answer(procedure: Procedure, reader: &mut Reader) -> Result<Reply, WireFault>
+fn answer(procedure: Procedure, reader: &mut Reader) -> Result<Reply, Garbage>
     ensures found { IsRefusable procedure → ReadsReply procedure reader.old reader.new result }
     ensures step { Gives (λ r. (r, reader.new)) result (answer_at procedure reader.old) }
 {
@@ -129,19 +131,19 @@ fn answer(procedure: Procedure, reader: &mut Reader) -> Result<Reply, WireFault>
 }
 
 #[tactic(auto, unfolding(crate::specs::Reply::results))]
-fn reply(procedure: Procedure, reader: &mut Reader) -> Result<Reply, WireFault>
+fn reply(procedure: Procedure, reader: &mut Reader) -> Result<Reply, Garbage>
     ensures found { ReadsReply procedure reader.old reader.new result }
     ensures step { Gives (λ r. (r, reader.new)) result (reply_at procedure reader.old) }
 {
     match procedure {
         Procedure::Null => Ok(Reply::Null),
-        Procedure::Vacated | Procedure::Evicted => Err(WireFault::Garbage),
+        Procedure::Vacated | Procedure::Evicted => Err(Garbage),
         _ => answer(procedure, reader),
     }
 }
 
 /// The reply whose results are all of the bytes.
-fn whole_reply(procedure: Procedure, bytes: &[u8]) -> Result<Reply, WireFault>
+fn whole_reply(procedure: Procedure, bytes: &[u8]) -> Result<Reply, Garbage>
     ensures found { IfOk result (λ r. Answers r procedure × IsReply r × (bytes.now ≡ results r)) }
     ensures step { result ≡ whole (reply_at procedure bytes.now) }
 {
@@ -149,4 +151,27 @@ fn whole_reply(procedure: Procedure, bytes: &[u8]) -> Result<Reply, WireFault>
     let reply = reply(procedure, &mut reader)?;
     reader.end()?;
     Ok(reply)
+}
+
+/// The reply whose results are all of the bytes, by the number of the procedure that was called.
+///
+/// # Errors
+///
+/// `NoSuchProc` exactly where the number is above 11, else `Garbage` exactly where the bytes are not the
+/// procedure's results, as always of VACATED and EVICTED, which have no reply. No memory is wanted.
+pub fn decode_reply(_alloc: Global, procedure: u32, bytes: &[u8]) -> Result<Reply, WireFault>
+    // What is read is spelled so, and what is spelled so is read.
+    ensures found { IfOk result (λ r. IsResults procedure r bytes.now) }
+    ensures only { (r : Reply) → IsResults procedure r bytes.now → result ≡ Ok r }
+
+    // When each error comes.
+    ensures no_procedure { (result ≡ Err WireFault.NoSuchProc) ↔ (11 < procedure) }
+    ensures garbage { (result ≡ Err WireFault.Garbage)
+        ↔ ((procedure ≤ 11) × ((r : Reply) → IsResults procedure r bytes.now → ⊥)) }
+    ensures memory { result ≢ Err WireFault.Memory }
+{
+    match Procedure::from_number(procedure) {
+        Some(called) => Ok(whole_reply(called, bytes)?),
+        None => Err(WireFault::NoSuchProc),
+    }
 }

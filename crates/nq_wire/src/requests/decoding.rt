@@ -1,4 +1,4 @@
-ghost use Rattle.std.specs.Prelude.{◌≡◌, ℕ, ◌<◌, ◌≤◌, List, ◌++◌, length, ◌↔◌, Option, IfOk, IfErr, IfSome};
+ghost use Rattle.std.specs.Prelude.{◌≡◌, ◌≢◌, ℕ, ◌<◌, ◌≤◌, List, ◌++◌, length, ◌↔◌, Option, IfOk, IfErr, IfSome};
 ghost use Rattle.nq_base.specs.declared.Request.{Request};
 ghost use Rattle.nq_xdr.specs.Reading.{Gives};
 ghost use Rattle.nq_xdr.specs.Item.{word, hyper};
@@ -6,6 +6,7 @@ ghost use Rattle.nq_wire.specs.Parts.{optional, base_bytes, IsPushBase};
 ghost use Rattle.nq_wire.specs.Request.{arguments, procedure_of, IsRequest, HasSpelling, IsOneWrite, IsArguments, ReadsRequest};
 ghost use Rattle.nq_wire.specs.Reading.{whole, attach_at, lookup_at, create_at, get_attr_at, read_at, span_at, write_at, get_lease_at, vacated_at, evicted_at, resize_at, remove_at, request_at};
 
+use crate::fault::Garbage;
 use crate::parts::decoding::{body, name, optional_push, optional_want, tag, want, who};
 use crate::{Procedure, PushBase, Request, WireFault};
 use nq_base::{BlockNo, FileId, Number, Seq};
@@ -13,7 +14,7 @@ use nq_xdr::Reader;
 use std::alloc::Global;
 
 #[tactic(auto, unfolding(crate::specs::Reading::attach_at, crate::specs::Request::arguments))]
-fn attach(reader: &mut Reader) -> Result<Request, WireFault>
+fn attach(reader: &mut Reader) -> Result<Request, Garbage>
     ensures found { ReadsRequest Procedure.Attach reader.old reader.new result }
     ensures step { Gives (λ r. (r, reader.new)) result (attach_at reader.old) }
 {
@@ -22,7 +23,7 @@ fn attach(reader: &mut Reader) -> Result<Request, WireFault>
 }
 
 #[tactic(auto, unfolding(crate::specs::Reading::lookup_at, crate::specs::Request::arguments))]
-fn lookup(reader: &mut Reader) -> Result<Request, WireFault>
+fn lookup(reader: &mut Reader) -> Result<Request, Garbage>
     ensures found { ReadsRequest Procedure.Lookup reader.old reader.new result }
     ensures step { Gives (λ r. (r, reader.new)) result (lookup_at reader.old) }
 {
@@ -32,7 +33,7 @@ fn lookup(reader: &mut Reader) -> Result<Request, WireFault>
 }
 
 #[tactic(auto, unfolding(crate::specs::Reading::create_at, crate::specs::Request::arguments))]
-fn create(reader: &mut Reader) -> Result<Request, WireFault>
+fn create(reader: &mut Reader) -> Result<Request, Garbage>
     ensures found { ReadsRequest Procedure.Create reader.old reader.new result }
     ensures step { Gives (λ r. (r, reader.new)) result (create_at reader.old) }
 {
@@ -49,7 +50,7 @@ fn create(reader: &mut Reader) -> Result<Request, WireFault>
 }
 
 #[tactic(auto, unfolding(crate::specs::Reading::get_attr_at, crate::specs::Request::arguments))]
-fn get_attr(reader: &mut Reader) -> Result<Request, WireFault>
+fn get_attr(reader: &mut Reader) -> Result<Request, Garbage>
     ensures found { ReadsRequest Procedure.GetAttr reader.old reader.new result }
     ensures step { Gives (λ r. (r, reader.new)) result (get_attr_at reader.old) }
 {
@@ -62,7 +63,7 @@ fn get_attr(reader: &mut Reader) -> Result<Request, WireFault>
 }
 
 #[tactic(auto, unfolding(crate::specs::Reading::read_at, crate::specs::Request::arguments))]
-fn read(reader: &mut Reader) -> Result<Request, WireFault>
+fn read(reader: &mut Reader) -> Result<Request, Garbage>
     ensures found { ReadsRequest Procedure.Read reader.old reader.new result }
     ensures step { Gives (λ r. (r, reader.new)) result (read_at reader.old) }
 {
@@ -82,7 +83,7 @@ fn read(reader: &mut Reader) -> Result<Request, WireFault>
 
 /// The numbers of the first and the last write, which are equal where the WRITE is no push.
 #[tactic(auto, unfolding(crate::specs::Reading::span_at))]
-fn span(reader: &mut Reader) -> Result<(u64, u64, Option<PushBase>), WireFault>
+fn span(reader: &mut Reader) -> Result<(u64, u64, Option<PushBase>), Garbage>
     ensures found { IfOk result (λ s. IsOneWrite s.0 s.1 s.2 × IfSome s.2 IsPushBase
         × (reader.old ≡ hyper s.0 ++ hyper s.1 ++ optional base_bytes s.2 ++ reader.new)) }
     ensures step { Gives (λ s. (s, reader.new)) result (span_at reader.old) }
@@ -91,13 +92,13 @@ fn span(reader: &mut Reader) -> Result<(u64, u64, Option<PushBase>), WireFault>
     let last = reader.u64()?;
     let push = optional_push(reader)?;
     if push.is_none() && first != last {
-        return Err(WireFault::Garbage);
+        return Err(Garbage);
     }
     Ok((first, last, push))
 }
 
 #[tactic(auto, unfolding(crate::specs::Reading::write_at, crate::specs::Request::arguments))]
-fn write(reader: &mut Reader) -> Result<Request, WireFault>
+fn write(reader: &mut Reader) -> Result<Request, Garbage>
     ensures found { ReadsRequest Procedure.Write reader.old reader.new result }
     ensures step { Gives (λ r. (r, reader.new)) result (write_at reader.old) }
 {
@@ -120,7 +121,7 @@ fn write(reader: &mut Reader) -> Result<Request, WireFault>
 }
 
 #[tactic(auto, unfolding(crate::specs::Reading::get_lease_at, crate::specs::Request::arguments))]
-fn get_lease(reader: &mut Reader) -> Result<Request, WireFault>
+fn get_lease(reader: &mut Reader) -> Result<Request, Garbage>
     ensures found { ReadsRequest Procedure.GetLease reader.old reader.new result }
     ensures step { Gives (λ r. (r, reader.new)) result (get_lease_at reader.old) }
 {
@@ -135,7 +136,7 @@ fn get_lease(reader: &mut Reader) -> Result<Request, WireFault>
 }
 
 #[tactic(auto, unfolding(crate::specs::Reading::vacated_at, crate::specs::Request::arguments))]
-fn vacated(reader: &mut Reader) -> Result<Request, WireFault>
+fn vacated(reader: &mut Reader) -> Result<Request, Garbage>
     ensures found { ReadsRequest Procedure.Vacated reader.old reader.new result }
     ensures step { Gives (λ r. (r, reader.new)) result (vacated_at reader.old) }
 {
@@ -150,7 +151,7 @@ fn vacated(reader: &mut Reader) -> Result<Request, WireFault>
 }
 
 #[tactic(auto, unfolding(crate::specs::Reading::evicted_at, crate::specs::Request::arguments))]
-fn evicted(reader: &mut Reader) -> Result<Request, WireFault>
+fn evicted(reader: &mut Reader) -> Result<Request, Garbage>
     ensures found { ReadsRequest Procedure.Evicted reader.old reader.new result }
     ensures step { Gives (λ r. (r, reader.new)) result (evicted_at reader.old) }
 {
@@ -165,7 +166,7 @@ fn evicted(reader: &mut Reader) -> Result<Request, WireFault>
 }
 
 #[tactic(auto, unfolding(crate::specs::Reading::resize_at, crate::specs::Request::arguments))]
-fn resize(reader: &mut Reader) -> Result<Request, WireFault>
+fn resize(reader: &mut Reader) -> Result<Request, Garbage>
     ensures found { ReadsRequest Procedure.Resize reader.old reader.new result }
     ensures step { Gives (λ r. (r, reader.new)) result (resize_at reader.old) }
 {
@@ -184,7 +185,7 @@ fn resize(reader: &mut Reader) -> Result<Request, WireFault>
 }
 
 #[tactic(auto, unfolding(crate::specs::Reading::remove_at, crate::specs::Request::arguments))]
-fn remove(reader: &mut Reader) -> Result<Request, WireFault>
+fn remove(reader: &mut Reader) -> Result<Request, Garbage>
     ensures found { ReadsRequest Procedure.Remove reader.old reader.new result }
     ensures step { Gives (λ r. (r, reader.new)) result (remove_at reader.old) }
 {
@@ -201,7 +202,7 @@ fn remove(reader: &mut Reader) -> Result<Request, WireFault>
 }
 
 #[tactic(auto, unfolding(crate::specs::Request::arguments))]
-fn request(procedure: Procedure, reader: &mut Reader) -> Result<Request, WireFault>
+fn request(procedure: Procedure, reader: &mut Reader) -> Result<Request, Garbage>
     ensures found { ReadsRequest procedure reader.old reader.new result }
     ensures step { Gives (λ r. (r, reader.new)) result (request_at procedure reader.old) }
 {
@@ -222,7 +223,7 @@ fn request(procedure: Procedure, reader: &mut Reader) -> Result<Request, WireFau
 }
 
 /// The request whose arguments are all of the bytes.
-fn whole_request(procedure: Procedure, bytes: &[u8]) -> Result<Request, WireFault>
+fn whole_request(procedure: Procedure, bytes: &[u8]) -> Result<Request, Garbage>
     ensures found { IfOk result (λ r. (procedure_of r ≡ procedure) × IsRequest r × HasSpelling r × (bytes.now ≡ arguments r)) }
     ensures step { result ≡ whole (request_at procedure bytes.now) }
 {
@@ -230,4 +231,31 @@ fn whole_request(procedure: Procedure, bytes: &[u8]) -> Result<Request, WireFaul
     let request = request(procedure, &mut reader)?;
     reader.end()?;
     Ok(request)
+}
+
+/// The request whose arguments are all of the bytes, by the number of the procedure that is called.
+///
+/// # Errors
+///
+/// `NoSuchProc` exactly where the number is above 11, else `Garbage` exactly where the bytes are not the
+/// procedure's arguments. No memory is wanted.
+pub fn decode_request(
+    _alloc: Global,
+    procedure: u32,
+    bytes: &[u8],
+) -> Result<Request, WireFault>
+    // What is read is spelled so, and what is spelled so is read.
+    ensures found { IfOk result (λ r. IsArguments procedure r bytes.now) }
+    ensures only { (r : Request) → IsArguments procedure r bytes.now → result ≡ Ok r }
+
+    // When each error comes.
+    ensures no_procedure { (result ≡ Err WireFault.NoSuchProc) ↔ (11 < procedure) }
+    ensures garbage { (result ≡ Err WireFault.Garbage)
+        ↔ ((procedure ≤ 11) × ((r : Request) → IsArguments procedure r bytes.now → ⊥)) }
+    ensures memory { result ≢ Err WireFault.Memory }
+{
+    match Procedure::from_number(procedure) {
+        Some(called) => Ok(whole_request(called, bytes)?),
+        None => Err(WireFault::NoSuchProc),
+    }
 }

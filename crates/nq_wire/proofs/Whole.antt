@@ -1,0 +1,106 @@
+-- All of the bytes: what is spelled so is read.
+use Rattle.std.proofs.Common.{◌≡◌, ℕ, ◌+◌, ◌<◌, ◌≤◌, ◌==◌, cond, List, [], ◌++◌, length, Result, Ok, Err, refl, sym, ap, subst, ◌∙◌, arith}
+use Rattle.std.proofs.lemmas.List.{append-nil}
+use Rattle.nq_base.specs.declared.Reply.{Reply}
+use Rattle.nq_base.specs.declared.Request.{Request}
+use Rattle.nq_wire.specs.Garbage.{garbage}
+use Rattle.nq_wire.specs.declared.fault.Garbage.{Garbage}
+use Rattle.nq_wire.specs.declared.procedure.Procedure.{Procedure}
+use Rattle.nq_wire.specs.declared.procedure.Procedure.TheVariants.{Null, Attach, Lookup, Create, GetAttr, Read, Write, GetLease, Vacated, Evicted, Resize, Remove}
+use Rattle.nq_wire.specs.Procedure.{number_of}
+use Rattle.nq_wire.specs.Request.{arguments, procedure_of, IsRequest, HasSpelling, IsArguments}
+use Rattle.nq_wire.specs.Reply.{results, IsReply, Answers, IsResults}
+use Rattle.nq_wire.specs.Reading.{whole, request_at, reply_at}
+use Rattle.nq_wire.proofs.RequestsAgain.{request_again}
+use Rattle.nq_wire.proofs.RepliesAgain.{reply_again}
+
+-- the procedure of a number
+abbrev procedure_at : ℕ → Procedure
+procedure_at n =
+    cond (n == 0) Null (cond (n == 1) Attach (cond (n == 2) Lookup (cond (n == 3) Create (cond (n == 4) GetAttr (cond (n == 5) Read
+    (cond (n == 6) Write (cond (n == 7) GetLease (cond (n == 8) Vacated (cond (n == 9) Evicted (cond (n == 10) Resize Remove))))))))))
+
+procedure_again : (p : Procedure) → procedure_at (number_of p) ≡ p
+procedure_again Null = refl
+procedure_again Attach = refl
+procedure_again Lookup = refl
+procedure_again Create = refl
+procedure_again GetAttr = refl
+procedure_again Read = refl
+procedure_again Write = refl
+procedure_again GetLease = refl
+procedure_again Vacated = refl
+procedure_again Evicted = refl
+procedure_again Resize = refl
+procedure_again Remove = refl
+
+-- no two procedures have one number
+pub number_of-apart : (p q : Procedure) → number_of p ≡ number_of q → p ≡ q
+number_of-apart p q e = sym (procedure_again p) ∙ ap procedure_at e ∙ procedure_again q
+
+pub number_of-most : (p : Procedure) → number_of p ≤ 11
+number_of-most Null = omega arith
+number_of-most Attach = omega arith
+number_of-most Lookup = omega arith
+number_of-most Create = omega arith
+number_of-most GetAttr = omega arith
+number_of-most Read = omega arith
+number_of-most Write = omega arith
+number_of-most GetLease = omega arith
+number_of-most Vacated = omega arith
+number_of-most Evicted = omega arith
+number_of-most Resize = omega arith
+number_of-most Remove = omega arith
+
+-- what was read with nothing behind it
+whole_of : {A : Type 0} (spelling bytes : List ℕ) (read : List ℕ → Result (A × List ℕ) Garbage) (x : A) → bytes ≡ spelling → read (spelling ++ []) ≡ Ok (x, []) → whole (read bytes) ≡ Ok x
+whole_of spelling bytes read x e again =
+    let all : read bytes ≡ Ok (x, []) = ap read (e ∙ sym (append-nil spelling)) ∙ again in
+    rw all refl
+
+pub request_whole : (p : Procedure) (r : Request) (bytes : List ℕ) → IsArguments (number_of p) r bytes → whole (request_at p bytes) ≡ Ok r
+request_whole p r bytes is =
+    let same : p ≡ procedure_of r = number_of-apart p (procedure_of r) (sym is.procedure_is) in
+    ap (λ (q : Procedure). whole (request_at q bytes)) same
+    ∙ whole_of (arguments r) bytes (request_at (procedure_of r)) r is.bytes_are (request_again r [] is.value_fits is.has_spelling)
+
+pub reply_whole : (p : Procedure) (r : Reply) (bytes : List ℕ) → IsResults (number_of p) r bytes → whole (reply_at p bytes) ≡ Ok r
+reply_whole p r bytes is =
+    let same : is.procedure ≡ p = number_of-apart is.procedure p is.procedure_is in
+    let P : Procedure → Type 0 = Answers r in
+    whole_of (results r) bytes (reply_at p) r is.bytes_are (reply_again p r [] (subst P same is.answers) is.value_fits)
+
+one_read : {A B : Type 0} (x : A) (y : B) (read : Result A B) → read ≡ Ok x → read ≡ Err y → ⊥
+one_read x y read is_ok is_err = cc
+
+same_read : {A B : Type 0} (x y : A) (read : Result A B) → read ≡ Ok x → read ≡ Ok y → x ≡ y
+same_read x y read is is' = cc
+
+-- ---- what a reading by a procedure's number says
+
+pub number_fits : (p : Procedure) (n : ℕ) → number_of p ≡ n → n ≤ 11
+number_fits p n e = omega (arith, number_of-most p)
+
+pub no_request : (p : Procedure) (n : ℕ) (r : Request) (bytes : List ℕ) (read : Result Request Garbage) (fault : Garbage)
+    → number_of p ≡ n → read ≡ whole (request_at p bytes) → read ≡ Err fault → IsArguments n r bytes → ⊥
+no_request p n r bytes read fault number step was is =
+    let P : ℕ → Type 0 = λ n. IsArguments n r bytes in
+    one_read r fault read (step ∙ request_whole p r bytes (subst P (sym number) is)) was
+
+pub one_request : (p : Procedure) (n : ℕ) (r s : Request) (bytes : List ℕ) (read : Result Request Garbage)
+    → number_of p ≡ n → read ≡ whole (request_at p bytes) → read ≡ Ok s → IsArguments n r bytes → s ≡ r
+one_request p n r s bytes read number step was is =
+    let P : ℕ → Type 0 = λ n. IsArguments n r bytes in
+    same_read s r read was (step ∙ request_whole p r bytes (subst P (sym number) is))
+
+pub no_reply : (p : Procedure) (n : ℕ) (r : Reply) (bytes : List ℕ) (read : Result Reply Garbage) (fault : Garbage)
+    → number_of p ≡ n → read ≡ whole (reply_at p bytes) → read ≡ Err fault → IsResults n r bytes → ⊥
+no_reply p n r bytes read fault number step was is =
+    let P : ℕ → Type 0 = λ n. IsResults n r bytes in
+    one_read r fault read (step ∙ reply_whole p r bytes (subst P (sym number) is)) was
+
+pub one_reply : (p : Procedure) (n : ℕ) (r s : Reply) (bytes : List ℕ) (read : Result Reply Garbage)
+    → number_of p ≡ n → read ≡ whole (reply_at p bytes) → read ≡ Ok s → IsResults n r bytes → s ≡ r
+one_reply p n r s bytes read number step was is =
+    let P : ℕ → Type 0 = λ n. IsResults n r bytes in
+    same_read s r read was (step ∙ reply_whole p r bytes (subst P (sym number) is))
