@@ -3,3 +3,5 @@ pub mod PartsAgain
 pub mod RequestsAgain
 pub mod RepliesAgain
 pub mod Whole
+pub mod Lengths
+pub mod Apart

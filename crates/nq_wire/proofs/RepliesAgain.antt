@@ -29,7 +29,7 @@ status_fits NotAttached = omega arith
 status_fits Old = omega arith
 
 -- a status other than OK, by its number
-status_again : (status : Refusal) → (status_number status ≡ 0 → ⊥) × (refusal_of (status_number status) ≡ Ok status)
+pub status_again : (status : Refusal) → (status_number status ≡ 0 → ⊥) × (refusal_of (status_number status) ≡ Ok status)
 unfolding refusal_of
 status_again NoEnt = (λ e. omega arith, refl)
 status_again Exist = (λ e. omega arith, refl)

@@ -3,7 +3,9 @@
 #![tactic(auto)]
 
 mod fault;
+pub mod laws;
 mod memory;
+mod outbox;
 mod parts;
 mod procedure;
 mod replies;
@@ -13,6 +15,7 @@ mod status;
 pub use fault::WireFault;
 pub use memory::NoMemory;
 pub use nq_base::{Party, PushBase, Refusal, Reply, Request};
+pub use outbox::Outbox;
 pub use procedure::Procedure;
 pub use replies::{LONGEST_RESULTS, decode_reply, encode_reply, encode_reply_into};
 pub use requests::{LONGEST_ARGUMENTS, decode_request, encode_request, encode_request_into};

@@ -1,8 +1,10 @@
 ghost use Rattle.std.specs.Prelude.{◌≡◌, ◌+◌, ◌≤◌, ◌^◌, ◌<◌, ◌++◌, length, IfOk, OnOk, OnErr, IsOk};
 ghost use Rattle.nq_xdr.specs.Item.{word, hyper};
 ghost use Rattle.nq_wire.specs.Parts.{optional_len};
+ghost use Rattle.nq_wire.specs.declared.procedure.Procedure.{Procedure};
+ghost use Rattle.nq_wire.specs.Procedure.{number_of};
 ghost use Rattle.nq_wire.specs.Status.{status_number};
-ghost use Rattle.nq_wire.specs.Reply.{ok, results, results_len, IsReply};
+ghost use Rattle.nq_wire.specs.Reply.{ok, results, results_len, IsReply, Answers, IsResults};
 
 use crate::parts::encoding::{put_body, put_optional_grant};
 use crate::{NoMemory, Reply, status};
@@ -117,10 +119,10 @@ pub fn encode_reply_into(reply: &Reply, out: &mut Writer) -> Result<(), NoMemory
     Ok(())
 }
 
-/// The results of a reply.
+/// The results of a reply, whichever procedure it answers.
 pub fn encode_reply(alloc: Global, reply: &Reply) -> Result<Vec<u8>, NoMemory>
     ensures written { IfOk result (λ v. v.items ≡ results reply.now) }
-    ensures fits { OnOk result (IsReply reply.now) }
+    ensures spelled { IfOk result (λ v. (p : Procedure) → Answers reply.now p → IsResults (number_of p) reply.now v.items) }
 {
     let mut out = Writer::new(alloc)?;
     encode_reply_into(reply, &mut out)?;
