@@ -19,3 +19,6 @@ pub use outbox::Outbox;
 pub use procedure::Procedure;
 pub use replies::{LONGEST_RESULTS, decode_reply, encode_reply, encode_reply_into};
 pub use requests::{LONGEST_ARGUMENTS, decode_request, encode_request, encode_request_into};
+
+#[cfg(test)]
+mod tests;

@@ -4,7 +4,7 @@ ghost use Rattle.std.specs.Prelude.{◌≡◌, IfOk};
 ghost use Rattle.nq_wire.specs.Status.{status_number};
 ghost use Rattle.nq_wire.specs.Reading.{refusal_of};
 
-use crate::{Refusal};
+use crate::Refusal;
 use crate::fault::Garbage;
 
 /// The status of a request that was done.

@@ -5,7 +5,7 @@ ghost use Rattle.nq_xdr.specs.Reading.{Gives};
 ghost use Rattle.nq_wire.specs.Parts.{head, tag_bytes, mode_number, want_bytes, grant_bytes, base_bytes, optional, IsWho, IsTag, IsWant, IsGrant, IsPushBase, IsWanted};
 ghost use Rattle.nq_wire.specs.Reading.{Reads, head_at, tag_at, wanted_mode, want_at, granted_mode, grant_at, base_at, optional_at, name_of, name_at, body_at};
 
-use crate::{PushBase};
+use crate::PushBase;
 use crate::fault::Garbage;
 use nq_base::{Block, Grant, Host, Inc, Mode, Name, Rev, Tag, Want, Who};
 use nq_xdr::Reader;

@@ -239,11 +239,7 @@ fn whole_request(procedure: Procedure, bytes: &[u8]) -> Result<Request, Garbage>
 ///
 /// `NoSuchProc` exactly where the number is above 11, else `Garbage` exactly where the bytes are not the
 /// procedure's arguments. No memory is wanted.
-pub fn decode_request(
-    _alloc: Global,
-    procedure: u32,
-    bytes: &[u8],
-) -> Result<Request, WireFault>
+pub fn decode_request(_alloc: Global, procedure: u32, bytes: &[u8]) -> Result<Request, WireFault>
     // What is read is spelled so, and what is spelled so is read.
     ensures found { IfOk result (λ r. IsArguments procedure r bytes.now) }
     ensures only { (r : Request) → IsArguments procedure r bytes.now → result ≡ Ok r }

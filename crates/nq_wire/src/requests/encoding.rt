@@ -72,7 +72,12 @@ fn put_place(file: u32, block: u32, out: &mut Writer) -> Result<(), NoMemory>
 }
 
 /// Writes the numbers of the first and the last write, and what they rest on.
-fn put_span(first: u64, last: u64, push: &Option<PushBase>, out: &mut Writer) -> Result<(), NoMemory>
+fn put_span(
+    first: u64,
+    last: u64,
+    push: &Option<PushBase>,
+    out: &mut Writer,
+) -> Result<(), NoMemory>
     ensures written { OnOk result (out.new.bytes ≡ out.old.bytes ++ hyper first ++ hyper last ++ optional base_bytes push.now) }
     ensures fits { OnOk result (IfSome push.now IsPushBase) }
     ensures succeeds { 16 + optional_len 12 push.now ≤ out.old.spare → IsOk result }

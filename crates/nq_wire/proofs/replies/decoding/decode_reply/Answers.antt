@@ -10,12 +10,11 @@ returns-in_err-whole_reply-in-Some-clause-only c =
 
 pub returns-in_err-whole_reply-in-Some-clause-garbage : goal.returns-in_err-whole_reply-in-Some-clause-garbage
 returns-in_err-whole_reply-in-Some-clause-garbage c =
-    let p = err_from_is_err_and c.from_residual.result c.from_residual.ensures.1 in
-    (
+    let p = err_from_is_err_and c.from_residual.result c.from_residual.ensures.1 in (
       λ _. (
         number_fits c.in-Some.called c.args.procedure c.in-Some.ensures.some,
         λ r is.
-        no_reply c.in-Some.called c.args.procedure r c.args.bytes.now c.whole_reply.result c.in_err-whole_reply-in-Some.field-0.0 c.in-Some.ensures.some c.whole_reply.ensures.step c.in_err-whole_reply-in-Some.was is,
+            no_reply c.in-Some.called c.args.procedure r c.args.bytes.now c.whole_reply.result c.in_err-whole_reply-in-Some.field-0.0 c.in-Some.ensures.some c.whole_reply.ensures.step c.in_err-whole_reply-in-Some.was is,
       ),
       λ _. rw (p.1, p.2) refl,
     )
@@ -28,15 +27,14 @@ returns-in_ok-whole_reply-in-Some-clause-only c =
 
 pub returns-in_ok-whole_reply-in-Some-clause-garbage : goal.returns-in_ok-whole_reply-in-Some-clause-garbage
 returns-in_ok-whole_reply-in-Some-clause-garbage c =
-    let found = c.in_ok-whole_reply-in-Some.ensures.found in
-    (
+    let found = c.in_ok-whole_reply-in-Some.ensures.found in (
       λ e. absurd cc,
       λ none.
-      absurd (none.1 c.in_ok-whole_reply-in-Some.field-0 (record {
-        procedure = c.in-Some.called;
-        procedure_is = c.in-Some.ensures.some;
-        answers = found.0;
-        value_fits = found.1;
-        bytes_are = found.2;
-      })),
+          absurd (none.1 c.in_ok-whole_reply-in-Some.field-0 (record {
+            procedure = c.in-Some.called;
+            procedure_is = c.in-Some.ensures.some;
+            answers = found.0;
+            value_fits = found.1;
+            bytes_are = found.2;
+          })),
     )

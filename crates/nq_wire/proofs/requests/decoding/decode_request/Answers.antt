@@ -10,12 +10,11 @@ returns-in_err-whole_request-in-Some-clause-only c =
 
 pub returns-in_err-whole_request-in-Some-clause-garbage : goal.returns-in_err-whole_request-in-Some-clause-garbage
 returns-in_err-whole_request-in-Some-clause-garbage c =
-    let p = err_from_is_err_and c.from_residual.result c.from_residual.ensures.1 in
-    (
+    let p = err_from_is_err_and c.from_residual.result c.from_residual.ensures.1 in (
       λ _. (
         number_fits c.in-Some.called c.args.procedure c.in-Some.ensures.some,
         λ r is.
-        no_request c.in-Some.called c.args.procedure r c.args.bytes.now c.whole_request.result c.in_err-whole_request-in-Some.field-0.0 c.in-Some.ensures.some c.whole_request.ensures.step c.in_err-whole_request-in-Some.was is,
+            no_request c.in-Some.called c.args.procedure r c.args.bytes.now c.whole_request.result c.in_err-whole_request-in-Some.field-0.0 c.in-Some.ensures.some c.whole_request.ensures.step c.in_err-whole_request-in-Some.was is,
       ),
       λ _. rw (p.1, p.2) refl,
     )
