@@ -1,22 +1,20 @@
 -- No spelling begins another of its kind.
-use Rattle.std.proofs.Common.{◌≡◌, ℕ, List, ◌++◌, Result, Ok, Err, refl, sym, ap, subst, ◌∙◌, arith}
+use Rattle.std.proofs.Common.{◌≡◌, ℕ, List, ◌++◌, Result, Ok, Err, refl, sym, ap, subst, ◌∙◌}
 use Rattle.nq_base.specs.declared.Refusal.{Refusal}
 use Rattle.nq_base.specs.declared.Reply.{Reply}
-use Rattle.nq_base.specs.declared.Reply.TheVariants as reply
 use Rattle.nq_base.specs.declared.Request.{Request}
 use Rattle.nq_xdr.proofs.Steps.{apart}
 use Rattle.nq_wire.specs.declared.fault.Garbage.{Garbage}
 use Rattle.nq_wire.specs.declared.procedure.Procedure.{Procedure}
 use Rattle.nq_wire.specs.declared.procedure.Procedure.TheVariants.{Vacated, Evicted}
 use Rattle.nq_wire.specs.Garbage.{garbage}
-use Rattle.nq_wire.specs.Procedure.{number_of}
 use Rattle.nq_wire.specs.Status.{status_number}
 use Rattle.nq_wire.specs.Request.{procedure_of, arguments, IsRequest, HasSpelling, IsArguments}
 use Rattle.nq_wire.specs.Reply.{results, IsReply, Answers, IsResults}
 use Rattle.nq_wire.specs.Reading.{whole, refusal_of, request_at, reply_at}
 use Rattle.nq_wire.proofs.RequestsAgain.{request_again}
 use Rattle.nq_wire.proofs.RepliesAgain.{status_again, reply_again}
-use Rattle.nq_wire.proofs.Whole.{number_of-apart, request_whole, reply_whole}
+use Rattle.nq_wire.proofs.Whole.{request_whole, reply_whole}
 
 abbrev status_read : Refusal → Result Refusal Garbage
 status_read s = Ok s

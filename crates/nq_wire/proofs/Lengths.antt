@@ -1,7 +1,6 @@
 -- How many bytes requests and replies take.
-use Rattle.std.proofs.Common.{◌≡◌, ℕ, ◌+◌, ◌≤◌, true, false, List, ◌++◌, length, Option, Some, None, refl, ap, ◌∙◌, arith}
+use Rattle.std.proofs.Common.{◌≡◌, ℕ, ◌+◌, ◌≤◌, true, false, List, length, Option, Some, None, refl, arith}
 use Rattle.std.proofs.lemmas.List.{length-append}
-use Rattle.nq_base.specs.Name.{IsName}
 use Rattle.nq_base.specs.declared.Grant.{Grant}
 use Rattle.nq_base.specs.declared.PushBase.{PushBase}
 use Rattle.nq_base.specs.declared.Reply.{Reply}
@@ -11,10 +10,10 @@ use Rattle.nq_base.specs.declared.Request.TheVariants as request
 use Rattle.nq_base.specs.declared.Tag.{Tag}
 use Rattle.nq_base.specs.declared.Want.{Want}
 use Rattle.nq_base.specs.declared.Who.{Who}
-use Rattle.nq_xdr.specs.Item.{word, hyper, boolean, opaque, opaque_len}
+use Rattle.nq_xdr.specs.Item.{boolean}
 use Rattle.nq_xdr.proofs.Numbers.{length-word, length-hyper}
 use Rattle.nq_xdr.proofs.Opaque.{length-boolean, length-opaque}
-use Rattle.nq_wire.specs.Parts.{head, tag_bytes, mode_number, want_bytes, grant_bytes, base_bytes, optional, optional_len}
+use Rattle.nq_wire.specs.Parts.{head, tag_bytes, want_bytes, grant_bytes, base_bytes, optional, optional_len}
 use Rattle.nq_wire.specs.Request.{arguments, arguments_len, IsRequest}
 use Rattle.nq_wire.specs.Reply.{ok, results, results_len, IsReply}
 

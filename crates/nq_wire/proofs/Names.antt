@@ -1,8 +1,8 @@
 -- Bytes that are tested as a name are one, and only they.
-use Rattle.std.proofs.Common.{◌≡◌, ℕ, ◌≤◌, nat_le, ◌==◌, ◌&&◌, Bool, true, false, List, Ok, Err, length, All, refl, arith}
+use Rattle.std.proofs.Common.{◌≡◌, ℕ, ◌≤◌, nat_le, Bool, true, false, List, Ok, Err, length, All, refl, arith}
 use Rattle.std.specs.Bool.{Decides}
 use Rattle.std.specs.List.{list_all}
-use Rattle.std.proofs.lemmas.Bool.Decides.{Decides-and, Decides-not, Decides-eqb, Decides-by_and, Decides-like, nat_tests}
+use Rattle.std.proofs.lemmas.Bool.Decides.{Decides-and, Decides-by_and, Decides-like, nat_tests}
 use Rattle.nq_base.specs.Name.{IsName, IsNameByte}
 use Rattle.nq_wire.specs.Garbage.{garbage}
 use Rattle.nq_wire.specs.Reading.{is_name_byte, is_name, name_of}

@@ -1,14 +1,12 @@
 -- Replies: what is spelled so is read, whatever follows.
-use Rattle.std.proofs.Common.{◌≡◌, ◌≢◌, ℕ, ◌^◌, ◌<◌, ◌==◌, cond, List, ◌++◌, Result, Ok, Err, refl, sym, ap, ◌∙◌, append_assoc, arith}
+use Rattle.std.proofs.Common.{◌≡◌, ℕ, ◌^◌, ◌<◌, List, ◌++◌, Ok, refl, ap, ◌∙◌, append_assoc, arith}
 use Rattle.std.proofs.lemmas.Bool.{ne_eqb}
 use Rattle.nq_base.specs.declared.Refusal.{Refusal}
 use Rattle.nq_base.specs.declared.Refusal.TheVariants.{NoEnt, Exist, Inval, NoSpc, Stale, TryLater, Fenced, NotAttached, Old}
 use Rattle.nq_base.specs.declared.Reply.{Reply}
 use Rattle.nq_base.specs.declared.Reply.TheVariants as reply
 use Rattle.nq_xdr.specs.Item.{word, hyper, opaque}
-use Rattle.nq_xdr.specs.Reading.{◌>>=◌}
 use Rattle.nq_xdr.proofs.Numbers.{word_again, hyper_again}
-use Rattle.nq_wire.specs.declared.fault.Garbage.{Garbage}
 use Rattle.nq_wire.specs.declared.procedure.Procedure.{Procedure}
 use Rattle.nq_wire.specs.declared.procedure.Procedure.TheVariants.{Null, Attach, Lookup, Create, GetAttr, Read, Write, GetLease, Vacated, Evicted, Resize, Remove}
 use Rattle.nq_wire.specs.Parts.{grant_bytes, optional}

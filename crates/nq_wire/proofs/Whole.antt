@@ -1,15 +1,14 @@
 -- All of the bytes: what is spelled so is read.
-use Rattle.std.proofs.Common.{◌≡◌, ℕ, ◌+◌, ◌<◌, ◌≤◌, ◌==◌, cond, List, [], ◌++◌, length, Result, Ok, Err, refl, sym, ap, subst, ◌∙◌, arith}
+use Rattle.std.proofs.Common.{◌≡◌, ℕ, ◌≤◌, ◌==◌, cond, List, [], ◌++◌, Result, Ok, Err, refl, sym, ap, subst, ◌∙◌, arith}
 use Rattle.std.proofs.lemmas.List.{append-nil}
 use Rattle.nq_base.specs.declared.Reply.{Reply}
 use Rattle.nq_base.specs.declared.Request.{Request}
-use Rattle.nq_wire.specs.Garbage.{garbage}
 use Rattle.nq_wire.specs.declared.fault.Garbage.{Garbage}
 use Rattle.nq_wire.specs.declared.procedure.Procedure.{Procedure}
 use Rattle.nq_wire.specs.declared.procedure.Procedure.TheVariants.{Null, Attach, Lookup, Create, GetAttr, Read, Write, GetLease, Vacated, Evicted, Resize, Remove}
 use Rattle.nq_wire.specs.Procedure.{number_of}
-use Rattle.nq_wire.specs.Request.{arguments, procedure_of, IsRequest, HasSpelling, IsArguments}
-use Rattle.nq_wire.specs.Reply.{results, IsReply, Answers, IsResults}
+use Rattle.nq_wire.specs.Request.{arguments, procedure_of, IsArguments}
+use Rattle.nq_wire.specs.Reply.{results, Answers, IsResults}
 use Rattle.nq_wire.specs.Reading.{whole, request_at, reply_at}
 use Rattle.nq_wire.proofs.RequestsAgain.{request_again}
 use Rattle.nq_wire.proofs.RepliesAgain.{reply_again}

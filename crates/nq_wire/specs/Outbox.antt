@@ -6,5 +6,5 @@ use Rattle.nq_base.specs.declared.Party.{Party}
 -- before memory is wanted.
 pub record Datagrams : Type 0 where
   pub first : ℕ
-  pub items : List (Party × List ℕ)
+  pub datagrams : List (Party × List ℕ)
   pub spare : ℕ

@@ -32,12 +32,14 @@ item (Err e) = Err garbage
 
 -- ---- the parts
 
+-- who asks
 unfoldable pub head_at : List ℕ → Result (Who × List ℕ) Garbage
 head_at bytes = do
   host ← item (word_at bytes)
   inc ← item (word_at host.1)
   Ok (record { host = host.0; inc = inc.0 }, inc.1)
 
+-- a tag
 unfoldable pub tag_at : List ℕ → Result (Tag × List ℕ) Garbage
 tag_at bytes = do
   boot ← item (word_at bytes)
@@ -48,6 +50,7 @@ tag_at bytes = do
 unfoldable pub wanted_mode : ℕ → Result Mode Garbage
 wanted_mode n = if n == 1 then Ok Reading else (if n == 2 then Ok Writing else Err garbage)
 
+-- a want: its mode is 1 or 2
 unfoldable pub want_at : List ℕ → Result (Want × List ℕ) Garbage
 want_at bytes = do
   number ← item (word_at bytes)
@@ -59,6 +62,7 @@ want_at bytes = do
 unfoldable pub granted_mode : ℕ → Result Mode Garbage
 granted_mode n = if n == 0 then Ok NonCaching else (if n == 1 then Ok Reading else (if n == 2 then Ok Writing else Err garbage))
 
+-- a grant: its mode is 0, 1 or 2
 unfoldable pub grant_at : List ℕ → Result (Grant × List ℕ) Garbage
 grant_at bytes = do
   number ← item (word_at bytes)
@@ -70,6 +74,7 @@ grant_at bytes = do
   blocks ← item (word_at rev.1)
   Ok (record { mode = mode; term = term.0; tag = tag.0; since = since.0; rev = rev.0; blocks = blocks.0 }, blocks.1)
 
+-- what a delayed write rests on
 unfoldable pub base_at : List ℕ → Result (PushBase × List ℕ) Garbage
 base_at bytes = do
   boot ← item (word_at bytes)
@@ -81,15 +86,17 @@ abbrev pub some_of : {A : Type 0} → Result (A × List ℕ) Garbage → Result 
 some_of (Ok x) = Ok (Some x.0, x.1)
 some_of (Err e) = Err e
 
+-- a part that may be there
 unfoldable pub optional_at : {A : Type 0} → (List ℕ → Result (A × List ℕ) Garbage) → List ℕ → Result (Option A × List ℕ) Garbage
 optional_at part_at bytes = do
   there ← item (boolean_at bytes)
   if there.0 then some_of (part_at there.1) else Ok (None, there.1)
 
--- whether a name may have the byte, and whether the bytes are a name
+-- whether a name may have the byte
 abbrev pub is_name_byte : ℕ → Bool
 is_name_byte b = nat_le 33 b && (nat_le b 126 && not (b == 47))
 
+-- whether the bytes are a name
 unfoldable pub is_name : List ℕ → Bool
 is_name bytes = nat_le 1 (length bytes) && (nat_le (length bytes) 64 && list_all is_name_byte bytes)
 
@@ -97,12 +104,14 @@ is_name bytes = nat_le 1 (length bytes) && (nat_le (length bytes) 64 && list_all
 unfoldable pub name_of : List ℕ → Result (List ℕ) Garbage
 name_of bytes = if is_name bytes then Ok bytes else Err garbage
 
+-- a name
 unfoldable pub name_at : List ℕ → Result (List ℕ × List ℕ) Garbage
 name_at bytes = do
   body ← item (opaque_at 64 bytes)
   name ← name_of body.0
   Ok (name, body.1)
 
+-- the body of a block: 4096 bytes
 unfoldable pub body_at : List ℕ → Result (List ℕ × List ℕ) Garbage
 body_at bytes = do
   body ← item (opaque_at 4096 bytes)
@@ -110,17 +119,20 @@ body_at bytes = do
 
 -- ---- the arguments of each procedure
 
+-- the arguments of ATTACH
 unfoldable pub attach_at : List ℕ → Result (Request × List ℕ) Garbage
 attach_at bytes = do
   who ← head_at bytes
   Ok (request.Attach who.0, who.1)
 
+-- the arguments of LOOKUP
 unfoldable pub lookup_at : List ℕ → Result (Request × List ℕ) Garbage
 lookup_at bytes = do
   who ← head_at bytes
   name ← name_at who.1
   Ok (request.Lookup who.0 name.0, name.1)
 
+-- the arguments of CREATE
 unfoldable pub create_at : List ℕ → Result (Request × List ℕ) Garbage
 create_at bytes = do
   who ← head_at bytes
@@ -129,12 +141,14 @@ create_at bytes = do
   blocks ← item (word_at name.1)
   Ok (request.Create who.0 seq.0 name.0 blocks.0, blocks.1)
 
+-- the arguments of GETATTR
 unfoldable pub get_attr_at : List ℕ → Result (Request × List ℕ) Garbage
 get_attr_at bytes = do
   who ← head_at bytes
   file ← item (word_at who.1)
   Ok (request.GetAttr who.0 file.0, file.1)
 
+-- the arguments of READ
 unfoldable pub read_at : List ℕ → Result (Request × List ℕ) Garbage
 read_at bytes = do
   who ← head_at bytes
@@ -152,6 +166,7 @@ span_at bytes = do
   push ← optional_at base_at last.1
   if is_none push.0 && not (first.0 == last.0) then Err garbage else Ok ((first.0, last.0, push.0), push.1)
 
+-- the arguments of WRITE
 unfoldable pub write_at : List ℕ → Result (Request × List ℕ) Garbage
 write_at bytes = do
   who ← head_at bytes
@@ -162,6 +177,7 @@ write_at bytes = do
   body ← body_at span.1
   Ok (request.Write who.0 seq.0 file.0 block.0 span.0.0 span.0.1 span.0.2 body.0, body.1)
 
+-- the arguments of GETLEASE
 unfoldable pub get_lease_at : List ℕ → Result (Request × List ℕ) Garbage
 get_lease_at bytes = do
   who ← head_at bytes
@@ -169,6 +185,7 @@ get_lease_at bytes = do
   want ← want_at file.1
   Ok (request.GetLease who.0 file.0 want.0, want.1)
 
+-- the arguments of VACATED
 unfoldable pub vacated_at : List ℕ → Result (Request × List ℕ) Garbage
 vacated_at bytes = do
   who ← head_at bytes
@@ -176,6 +193,7 @@ vacated_at bytes = do
   tag ← tag_at file.1
   Ok (request.Vacated who.0 file.0 tag.0, tag.1)
 
+-- the arguments of EVICTED
 unfoldable pub evicted_at : List ℕ → Result (Request × List ℕ) Garbage
 evicted_at bytes = do
   who ← head_at bytes
@@ -183,6 +201,7 @@ evicted_at bytes = do
   tag ← tag_at file.1
   Ok (request.Evicted who.0 file.0 tag.0, tag.1)
 
+-- the arguments of RESIZE
 unfoldable pub resize_at : List ℕ → Result (Request × List ℕ) Garbage
 resize_at bytes = do
   who ← head_at bytes
@@ -192,6 +211,7 @@ resize_at bytes = do
   blocks ← item (word_at file.1)
   Ok (request.Resize who.0 seq.0 call.0 file.0 blocks.0, blocks.1)
 
+-- the arguments of REMOVE
 unfoldable pub remove_at : List ℕ → Result (Request × List ℕ) Garbage
 remove_at bytes = do
   who ← head_at bytes
@@ -217,23 +237,27 @@ request_at procedure.Remove bytes = remove_at bytes
 
 -- ---- the results of each procedure, behind the incarnation and the status OK
 
+-- the results of LOOKUP
 unfoldable pub found_at : ℕ → List ℕ → Result (Reply × List ℕ) Garbage
 found_at inc bytes = do
   file ← item (word_at bytes)
   blocks ← item (word_at file.1)
   Ok (reply.Lookup inc file.0 blocks.0, blocks.1)
 
+-- the results of CREATE
 unfoldable pub created_at : ℕ → List ℕ → Result (Reply × List ℕ) Garbage
 created_at inc bytes = do
   file ← item (word_at bytes)
   Ok (reply.Create inc file.0, file.1)
 
+-- the results of GETATTR
 unfoldable pub attributes_at : ℕ → List ℕ → Result (Reply × List ℕ) Garbage
 attributes_at inc bytes = do
   blocks ← item (word_at bytes)
   rev ← item (hyper_at blocks.1)
   Ok (reply.GetAttr inc blocks.0 rev.0, rev.1)
 
+-- the results of READ
 unfoldable pub block_at : ℕ → List ℕ → Result (Reply × List ℕ) Garbage
 block_at inc bytes = do
   rev ← item (hyper_at bytes)
@@ -241,21 +265,25 @@ block_at inc bytes = do
   grant ← optional_at grant_at body.1
   Ok (reply.Read inc rev.0 body.0 grant.0, grant.1)
 
+-- the results of WRITE
 unfoldable pub written_at : ℕ → List ℕ → Result (Reply × List ℕ) Garbage
 written_at inc bytes = do
   rev ← item (hyper_at bytes)
   Ok (reply.Write inc rev.0, rev.1)
 
+-- the results of GETLEASE
 unfoldable pub lease_at : ℕ → List ℕ → Result (Reply × List ℕ) Garbage
 lease_at inc bytes = do
   grant ← optional_at grant_at bytes
   Ok (reply.GetLease inc grant.0, grant.1)
 
+-- the results of RESIZE
 unfoldable pub resized_at : ℕ → List ℕ → Result (Reply × List ℕ) Garbage
 resized_at inc bytes = do
   rev ← item (hyper_at bytes)
   Ok (reply.Resize inc rev.0, rev.1)
 
+-- the results of a procedure
 abbrev pub results_at : Procedure → ℕ → List ℕ → Result (Reply × List ℕ) Garbage
 results_at procedure.Null inc bytes = Err garbage
 results_at procedure.Attach inc bytes = Ok (reply.Attach inc, bytes)

@@ -1,8 +1,8 @@
 -- The results of the procedures as bytes: one spelling for each reply.
-use Rattle.std.specs.Prelude.{◌≡◌, ℕ, ◌+◌, ◌^◌, ◌<◌, List, [], ◌++◌, length, Option, Some, None, IfSome, Result, IfOk}
+use Rattle.std.specs.Prelude.{◌≡◌, ℕ, ◌+◌, ◌^◌, ◌<◌, List, [], ◌++◌, length, IfSome, Result, IfOk}
 use Rattle.nq_base.specs.declared.Reply.{Reply}
 use Rattle.nq_base.specs.declared.Reply.TheVariants.{Null, Attach, Lookup, Create, GetAttr, Read, Write, GetLease, Resize, Remove, Refused}
-use Rattle.nq_xdr.specs.Item.{word, hyper, opaque, opaque_len}
+use Rattle.nq_xdr.specs.Item.{word, hyper, opaque}
 use Rattle.nq_wire.specs.declared.procedure.Procedure.{Procedure}
 use Rattle.nq_wire.specs.declared.procedure.Procedure.TheVariants as procedure
 use Rattle.nq_wire.specs.Procedure.{number_of}

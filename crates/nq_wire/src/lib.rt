@@ -1,5 +1,9 @@
 //! The requests of clients and the replies of the server as bytes: the arguments and the results of the
-//! program's procedures (`specs/Request.antt`, `specs/Reply.antt`).
+//! twelve procedures of the leased file sharing program (Macklem 1994), as rows of XDR items (RFC 1014).
+//!
+//! Each request that can be made has one spelling, its arguments (`specs/Request.antt`), and each reply
+//! one, its results (`specs/Reply.antt`). Decoding answers exactly for these. Statuses that RFC 1813 has
+//! keep its numbers. An [`Outbox`] holds datagrams until they are sent.
 #![tactic(auto)]
 
 mod fault;

@@ -1,4 +1,4 @@
-ghost use Rattle.std.specs.Prelude.{◌≡◌, ℕ, ◌+◌, ◌-◌, ◌≤◌, ◌<◌, [], ◌∷◌, ◌++◌, length, take, min, slice_get, IsOk, IfOk, OnOk, OnErr, IsNone, IfSome, IsTrue, ◌↔◌};
+ghost use Rattle.std.specs.Prelude.{◌≡◌, ◌+◌, ◌-◌, ◌≤◌, [], ◌∷◌, ◌++◌, length, take, min, slice_get, IsOk, IfOk, OnOk, OnErr, IsNone, IfSome, IsTrue, ◌↔◌};
 
 use crate::{NoMemory, Party};
 use std::alloc::Global;
@@ -18,14 +18,14 @@ impl Model for Outbox {
 
     ghost Value = { Datagrams };
 
-    ghost view = { λ o. record { first = o.first; items = map (λ d. (d.0, d.1.items)) o.datagrams.items; spare = vec_capacity o.datagrams - vec_len o.datagrams } };
+    ghost view = { λ o. record { first = o.first; datagrams = map (λ d. (d.0, d.1.items)) o.datagrams.items; spare = vec_capacity o.datagrams - vec_len o.datagrams } };
 }
 
 impl Outbox {
     /// The empty outbox whose first datagram gets the number `next`. It takes no memory.
     pub fn new(alloc: Global, next: u64) -> Result<Outbox, NoMemory>
         ensures made { IsOk result }
-        ensures empty { IfOk result (λ o. (o.first ≡ next) × (o.items ≡ [])) }
+        ensures empty { IfOk result (λ o. (o.first ≡ next) × (o.datagrams ≡ [])) }
     {
         Ok(Outbox {
             first: next,
@@ -36,7 +36,7 @@ impl Outbox {
     /// Makes room for `more` datagrams.
     pub fn reserve(&mut self, more: usize) -> Result<(), NoMemory>
         ensures first { self.new.first ≡ self.old.first }
-        ensures items { self.new.items ≡ self.old.items }
+        ensures datagrams { self.new.datagrams ≡ self.old.datagrams }
         ensures room { OnOk result (more ≤ self.new.spare) }
         ensures refused { OnErr result (self.new ≡ self.old) }
         ensures succeeds { more ≤ self.old.spare → IsOk result }
@@ -49,8 +49,8 @@ impl Outbox {
     /// Adds a datagram at the end.
     pub fn push(&mut self, to: Party, bytes: Vec<u8>) -> Result<(), NoMemory>
         ensures first { self.new.first ≡ self.old.first }
-        ensures pushed { OnOk result (self.new.items ≡ self.old.items ++ (to, bytes.items) ∷ []) }
-        ensures refused { OnErr result (self.new.items ≡ self.old.items) }
+        ensures pushed { OnOk result (self.new.datagrams ≡ self.old.datagrams ++ (to, bytes.items) ∷ []) }
+        ensures refused { OnErr result (self.new.datagrams ≡ self.old.datagrams) }
         ensures succeeds { 1 ≤ self.old.spare → IsOk result }
         ensures spare { self.old.spare ≤ self.new.spare + 1 }
     {
@@ -60,31 +60,31 @@ impl Outbox {
 
     /// The number that the next datagram gets. It stops at the type's end.
     pub fn next(&self) -> u64
-        ensures { result ≡ min (self.now.first + length self.now.items) u64.MAX }
+        ensures { result ≡ min (self.now.first + length self.now.datagrams) u64.MAX }
     {
         self.first.saturating_add(self.datagrams.len() as u64)
     }
 
     /// How many datagrams there are.
     pub fn len(&self) -> usize
-        ensures { result ≡ length self.now.items }
+        ensures { result ≡ length self.now.datagrams }
     {
         self.datagrams.len()
     }
 
     /// Whether there are none.
     pub fn is_empty(&self) -> bool
-        ensures { IsTrue result ↔ (self.now.items ≡ []) }
+        ensures { IsTrue result ↔ (self.now.datagrams ≡ []) }
     {
         self.datagrams.is_empty()
     }
 
     /// Keeps the first `len` datagrams.
     pub fn cut(&mut self, len: usize)
-        requires { len ≤ length self.old.items }
+        requires { len ≤ length self.old.datagrams }
         ensures first { self.new.first ≡ self.old.first }
-        ensures kept { self.new.items ≡ take len self.old.items }
-        ensures spare { self.new.spare + len ≡ self.old.spare + length self.old.items }
+        ensures kept { self.new.datagrams ≡ take len self.old.datagrams }
+        ensures spare { self.new.spare + len ≡ self.old.spare + length self.old.datagrams }
     {
         self.datagrams.truncate(len);
     }
@@ -92,8 +92,8 @@ impl Outbox {
     /// To whom the datagram at a place goes, and its bytes; None exactly where the place is not below the
     /// length.
     pub fn get(&self, place: usize) -> Option<(Party, &[u8])>
-        ensures none { IsNone result ↔ (length self.now.items ≤ place) }
-        ensures some { IfSome result (λ d. slice_get self.now.items place ≡ Some (d.0, d.1.now)) }
+        ensures none { IsNone result ↔ (length self.now.datagrams ≤ place) }
+        ensures some { IfSome result (λ d. slice_get self.now.datagrams place ≡ Some (d.0, d.1.now)) }
     {
         match self.datagrams.get(place) {
             Some((to, bytes)) => Some((*to, bytes)),

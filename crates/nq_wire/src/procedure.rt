@@ -7,17 +7,29 @@ use crate::Request;
 /// The procedures of the program.
 #[derive(Clone, Copy, Debug, PartialEq, Eq)]
 pub enum Procedure {
+    /// 0: asks for nothing.
     Null,
+    /// 1: begins an incarnation.
     Attach,
+    /// 2: asks for the id and the length of a name.
     Lookup,
+    /// 3: makes a file.
     Create,
+    /// 4: asks for a file's length and revision.
     GetAttr,
+    /// 5: reads a block, and may ask for a lease.
     Read,
+    /// 6: writes a block, through or as a push of delayed writes.
     Write,
+    /// 7: asks for a lease.
     GetLease,
+    /// 8: a lease was given up. It has no reply.
     Vacated,
+    /// 9: a lease is to be given up. It is sent by the server alone, and has no reply.
     Evicted,
+    /// 10: gives a file another length.
     Resize,
+    /// 11: takes a file away.
     Remove,
 }
 

@@ -1,6 +1,6 @@
 ghost use Rattle.std.specs.Prelude.{◌≡◌, ◌+◌, ◌≤◌, ◌++◌, length, IfSome, OnOk, IsOk};
 ghost use Rattle.nq_base.specs.Name.{IsName};
-ghost use Rattle.nq_xdr.specs.Item.{word, hyper, opaque, opaque_len};
+ghost use Rattle.nq_xdr.specs.Item.{opaque, opaque_len};
 ghost use Rattle.nq_wire.specs.Parts.{head, tag_bytes, mode_number, want_bytes, grant_bytes, base_bytes, optional, optional_len, IsWho, IsTag, IsWant, IsGrant, IsPushBase};
 
 use crate::{NoMemory, PushBase};

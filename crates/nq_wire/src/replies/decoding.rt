@@ -1,8 +1,7 @@
-ghost use Rattle.std.specs.Prelude.{◌≡◌, ◌≢◌, ℕ, ◌<◌, ◌≤◌, ◌^◌, List, ◌++◌, length, ◌↔◌, Option, IfOk, IfErr, IfSome};
+ghost use Rattle.std.specs.Prelude.{◌≡◌, ◌≢◌, ◌<◌, ◌≤◌, ◌↔◌, IfOk};
 ghost use Rattle.nq_base.specs.declared.Reply.{Reply};
 ghost use Rattle.nq_xdr.specs.Reading.{Gives};
-ghost use Rattle.nq_xdr.specs.Item.{word};
-ghost use Rattle.nq_wire.specs.Reply.{ok, results, IsReply, Answers, IsRefusable, IsResults, ReadsReply, ReadsResults};
+ghost use Rattle.nq_wire.specs.Reply.{results, IsReply, Answers, IsRefusable, IsResults, ReadsReply, ReadsResults};
 ghost use Rattle.nq_wire.specs.Reading.{whole, found_at, created_at, attributes_at, block_at, written_at, lease_at, resized_at, results_at, answer_at, reply_at};
 
 use crate::fault::Garbage;
@@ -153,12 +152,13 @@ fn whole_reply(procedure: Procedure, bytes: &[u8]) -> Result<Reply, Garbage>
     Ok(reply)
 }
 
-/// The reply whose results are all of the bytes, by the number of the procedure that was called.
+/// The reply whose results are all of the bytes, by the number of the procedure that was called. The body
+/// of a block is copied once. Replies hold no memory, so none is wanted.
 ///
 /// # Errors
 ///
 /// `NoSuchProc` exactly where the number is above 11, else `Garbage` exactly where the bytes are not the
-/// procedure's results, as always of VACATED and EVICTED, which have no reply. No memory is wanted.
+/// procedure's results, as always of VACATED and EVICTED, which have no reply.
 pub fn decode_reply(_alloc: Global, procedure: u32, bytes: &[u8]) -> Result<Reply, WireFault>
     // What is read is spelled so, and what is spelled so is read.
     ensures found { IfOk result (λ r. IsResults procedure r bytes.now) }

@@ -1,9 +1,7 @@
 ghost use Rattle.std.specs.Prelude.{◌≡◌, ◌+◌, ◌≤◌, ◌^◌, ◌<◌, ◌++◌, length, IfOk, OnOk, OnErr, IsOk};
-ghost use Rattle.nq_xdr.specs.Item.{word, hyper};
-ghost use Rattle.nq_wire.specs.Parts.{optional_len};
+ghost use Rattle.nq_xdr.specs.Item.{word};
 ghost use Rattle.nq_wire.specs.declared.procedure.Procedure.{Procedure};
 ghost use Rattle.nq_wire.specs.Procedure.{number_of};
-ghost use Rattle.nq_wire.specs.Status.{status_number};
 ghost use Rattle.nq_wire.specs.Reply.{ok, results, results_len, IsReply, Answers, IsResults};
 
 use crate::parts::encoding::{put_body, put_optional_grant};

@@ -1,7 +1,7 @@
-ghost use Rattle.std.specs.Prelude.{◌≡◌, ◌≢◌, ℕ, ◌<◌, ◌≤◌, List, ◌++◌, length, ◌↔◌, Option, IfOk, IfErr, IfSome};
+ghost use Rattle.std.specs.Prelude.{◌≡◌, ◌≢◌, ◌<◌, ◌≤◌, ◌++◌, ◌↔◌, IfOk, IfSome};
 ghost use Rattle.nq_base.specs.declared.Request.{Request};
 ghost use Rattle.nq_xdr.specs.Reading.{Gives};
-ghost use Rattle.nq_xdr.specs.Item.{word, hyper};
+ghost use Rattle.nq_xdr.specs.Item.{hyper};
 ghost use Rattle.nq_wire.specs.Parts.{optional, base_bytes, IsPushBase};
 ghost use Rattle.nq_wire.specs.Request.{arguments, procedure_of, IsRequest, HasSpelling, IsOneWrite, IsArguments, ReadsRequest};
 ghost use Rattle.nq_wire.specs.Reading.{whole, attach_at, lookup_at, create_at, get_attr_at, read_at, span_at, write_at, get_lease_at, vacated_at, evicted_at, resize_at, remove_at, request_at};
@@ -233,12 +233,13 @@ fn whole_request(procedure: Procedure, bytes: &[u8]) -> Result<Request, Garbage>
     Ok(request)
 }
 
-/// The request whose arguments are all of the bytes, by the number of the procedure that is called.
+/// The request whose arguments are all of the bytes, by the number of the procedure that is called. The
+/// body of a block is copied once. Requests hold no memory, so none is wanted.
 ///
 /// # Errors
 ///
 /// `NoSuchProc` exactly where the number is above 11, else `Garbage` exactly where the bytes are not the
-/// procedure's arguments. No memory is wanted.
+/// procedure's arguments.
 pub fn decode_request(_alloc: Global, procedure: u32, bytes: &[u8]) -> Result<Request, WireFault>
     // What is read is spelled so, and what is spelled so is read.
     ensures found { IfOk result (λ r. IsArguments procedure r bytes.now) }

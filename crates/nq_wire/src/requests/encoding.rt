@@ -1,7 +1,6 @@
-ghost use Rattle.std.specs.Prelude.{◌≡◌, ◌+◌, ◌≤◌, ◌^◌, ◌<◌, ◌++◌, length, IfSome, IfOk, OnOk, OnErr, IsOk};
-ghost use Rattle.nq_base.specs.Name.{IsName};
-ghost use Rattle.nq_xdr.specs.Item.{word, hyper, opaque, opaque_len};
-ghost use Rattle.nq_wire.specs.Parts.{head, tag_bytes, base_bytes, optional, optional_len, IsWho, IsTag, IsPushBase};
+ghost use Rattle.std.specs.Prelude.{◌≡◌, ◌+◌, ◌≤◌, ◌++◌, length, IfSome, IfOk, OnOk, OnErr, IsOk};
+ghost use Rattle.nq_xdr.specs.Item.{word, hyper};
+ghost use Rattle.nq_wire.specs.Parts.{head, base_bytes, optional, optional_len, IsWho, IsPushBase};
 ghost use Rattle.nq_wire.specs.Procedure.{number_of};
 ghost use Rattle.nq_wire.specs.Request.{procedure_of, arguments, arguments_len, IsRequest, HasSpelling, IsArguments};
 

@@ -1,4 +1,4 @@
-use Rattle.std.proofs.Common.{ap, refl, ◌∙◌, Ok, Err}
+use Rattle.std.proofs.Common.{ap, refl, Ok}
 use Rattle.std.proofs.lemmas.Result.{err_from_is_err_and}
 use Rattle.nq_wire.proofs.Whole.{number_fits, no_reply, one_reply}
 use Rattle.nq_wire.proofs.replies.decoding.decode_reply.Goals as goal

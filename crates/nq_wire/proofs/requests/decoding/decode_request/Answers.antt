@@ -1,4 +1,4 @@
-use Rattle.std.proofs.Common.{ap, refl, ◌∙◌, Ok, Err}
+use Rattle.std.proofs.Common.{ap, refl, Ok}
 use Rattle.std.proofs.lemmas.Result.{err_from_is_err_and}
 use Rattle.nq_wire.proofs.Whole.{number_fits, no_request, one_request}
 use Rattle.nq_wire.proofs.requests.decoding.decode_request.Goals as goal
