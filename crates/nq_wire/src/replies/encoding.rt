@@ -6,7 +6,7 @@ ghost use Rattle.nq_wire.specs.Reply.{ok, results, results_len, IsReply, Answers
 
 use crate::parts::encoding::{put_body, put_optional_grant};
 use crate::{NoMemory, Reply, status};
-use nq_base::{FileId, Inc};
+use nq_base::Inc;
 use nq_xdr::Writer;
 use std::alloc::Global;
 

@@ -8,7 +8,7 @@ use crate::parts::encoding::{
     name_len, put_body, put_name, put_optional_base, put_optional_want, put_tag, put_want, put_who,
 };
 use crate::{NoMemory, PushBase, Request};
-use nq_base::{Tag, Who};
+use nq_base::Who;
 use nq_xdr::Writer;
 use std::alloc::Global;
 
