@@ -1,0 +1,5 @@
+pub mod Fault
+pub mod Items
+pub mod Printing
+pub mod Text
+pub mod Words

@@ -1,0 +1,12 @@
+//! The journal of a run: its entries, and their text, printed and parsed.
+#![tactic(auto)]
+
+mod journal;
+mod lines;
+mod no_memory;
+mod printing;
+
+pub use journal::Journal;
+pub use no_memory::NoMemory;
+pub use nq_base::{Entry, Said, Span, Spans, Told};
+pub use printing::{Printed, print};
