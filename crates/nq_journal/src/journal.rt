@@ -77,4 +77,11 @@ impl Journal {
     {
         self.entries.get(place)
     }
+
+    // All entries, in order.
+    pub(crate) fn entries(&self) -> &[Entry]
+        ensures { result.now ≡ self.now.entries }
+    {
+        &self.entries
+    }
 }

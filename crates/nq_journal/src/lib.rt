@@ -5,6 +5,7 @@ mod journal;
 mod lines;
 mod no_memory;
 mod printing;
+mod rows;
 
 pub use journal::Journal;
 pub use no_memory::NoMemory;

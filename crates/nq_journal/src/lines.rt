@@ -6,7 +6,7 @@ ghost use Rattle.nq_journal.specs.Words.{spaced};
 ghost use Rattle.nq_journal.specs.Text.{span_word, told_words, said_words, mode_word, way_word, source_words, entry_line, Has};
 
 use crate::NoMemory;
-use nq_base::{Entry, Mode, Said, Span, Spans, Told, Who};
+use nq_base::{Said, Span, Spans, Told};
 
 // Appends the digits of a number.
 fn digits(out: &mut Vec<u8>, number: u64) -> Result<(), NoMemory>
@@ -20,7 +20,7 @@ fn digits(out: &mut Vec<u8>, number: u64) -> Result<(), NoMemory>
 }
 
 // Appends a word with the blank before it.
-fn word(out: &mut Vec<u8>, word: &[u8]) -> Result<(), NoMemory>
+pub(crate) fn word(out: &mut Vec<u8>, word: &[u8]) -> Result<(), NoMemory>
     ensures { OnOk result (out.new.items ≡ out.old.items ++ spaced word.now) }
 {
     out.push(b' ')?;
@@ -29,7 +29,7 @@ fn word(out: &mut Vec<u8>, word: &[u8]) -> Result<(), NoMemory>
 }
 
 // Appends numbers, each as a word with the blank before it.
-fn numbers(out: &mut Vec<u8>, numbers: &[u64]) -> Result<(), NoMemory>
+pub(crate) fn numbers(out: &mut Vec<u8>, numbers: &[u64]) -> Result<(), NoMemory>
     ensures { OnOk result (out.new.items ≡ out.old.items ++ flat_map (λ n. spaced (decimal n)) numbers.now) }
 {
     for number in numbers {
@@ -37,4 +37,107 @@ fn numbers(out: &mut Vec<u8>, numbers: &[u64]) -> Result<(), NoMemory>
         digits(out, *number)?;
     }
     Ok(())
+}
+
+// Appends the words of a call, each with the blank before it.
+pub(crate) fn told(out: &mut Vec<u8>, told: &Told) -> Result<(), NoMemory>
+    ensures { OnOk result (out.new.items ≡ out.old.items ++ flat_map spaced (told_words told.now)) }
+{
+    match told {
+        Told::Create { name, blocks } => {
+            word(out, b"create")?;
+            word(out, name.as_bytes())?;
+            numbers(out, &[u64::from(*blocks)])
+        }
+        Told::Lookup { name } => {
+            word(out, b"lookup")?;
+            word(out, name.as_bytes())
+        }
+        Told::Attr { file } => command(out, b"attr", &[u64::from(file.0)]),
+        Told::Read { file, block } => command(
+            out,
+            b"read",
+            &[u64::from(file.0), u64::from(block.0)],
+        ),
+        Told::Fetch { file, block } => command(
+            out,
+            b"fetch",
+            &[u64::from(file.0), u64::from(block.0)],
+        ),
+        Told::Write { file, block, value } => command(
+            out,
+            b"write",
+            &[u64::from(file.0), u64::from(block.0), u64::from(*value)],
+        ),
+        Told::WriteSync { file, block, value } => command(
+            out,
+            b"put",
+            &[u64::from(file.0), u64::from(block.0), u64::from(*value)],
+        ),
+        Told::Sync { file } => command(out, b"sync", &[u64::from(file.0)]),
+        Told::Resize { file, blocks } => command(
+            out,
+            b"resize",
+            &[u64::from(file.0), u64::from(*blocks)],
+        ),
+        Told::Remove { file } => command(out, b"remove", &[u64::from(file.0)]),
+    }
+}
+
+// Appends a word and numbers, each with the blank before it.
+pub(crate) fn command(out: &mut Vec<u8>, first: &[u8], numbers: &[u64]) -> Result<(), NoMemory>
+    ensures { OnOk result (out.new.items ≡ out.old.items ++ (spaced first.now ++ flat_map (λ n. spaced (decimal n)) numbers.now)) }
+{
+    word(out, first)?;
+    self::numbers(out, numbers)
+}
+
+// Appends the word of a span with the blank before it.
+#[tactic(auto, unfolding(crate::specs::Text::span_word))]
+fn span(out: &mut Vec<u8>, span: &Span) -> Result<(), NoMemory>
+    ensures { OnOk result (out.new.items ≡ out.old.items ++ spaced (span_word span.now)) }
+{
+    out.push(b' ')?;
+    digits(out, u64::from(span.block.0))?;
+    out.push(b':')?;
+    digits(out, span.first.0)?;
+    out.push(b'-')?;
+    digits(out, span.last.0)
+}
+
+// Appends the words of spans, each with the blank before it.
+fn spans(out: &mut Vec<u8>, spans: &Spans) -> Result<(), NoMemory>
+    ensures { OnOk result (out.new.items ≡ out.old.items ++ flat_map spaced (map span_word spans.now.items)) }
+{
+    for place in 0..spans.len() {
+        if let Some(found) = spans.get(place) {
+            span(out, &found)?;
+        }
+    }
+    Ok(())
+}
+
+// Appends the words of an answer, each with the blank before it.
+pub(crate) fn said(out: &mut Vec<u8>, said: &Said) -> Result<(), NoMemory>
+    ensures { OnOk result (out.new.items ≡ out.old.items ++ flat_map spaced (said_words said.now)) }
+{
+    match said {
+        Said::Ok => word(out, b"ok"),
+        Said::OkValue(value) => command(out, b"ok", &[u64::from(*value)]),
+        Said::OkBy { value, packet } => {
+            command(out, b"ok", &[u64::from(*value)])?;
+            command(out, b"by", &[*packet])
+        }
+        Said::Lost(lost) => {
+            word(out, b"lost")?;
+            spans(out, lost)
+        }
+        Said::Busy => word(out, b"busy"),
+        Said::Stale => word(out, b"stale"),
+        Said::NoEntry => word(out, b"noentry"),
+        Said::Exists => word(out, b"exists"),
+        Said::NoSpace => word(out, b"nospace"),
+        Said::Range => word(out, b"range"),
+        Said::DirtyFull => word(out, b"dirtyfull"),
+    }
 }

@@ -1,4 +1,16 @@
 // Printing a journal.
+ghost use Rattle.std.specs.Prelude.{◌≡◌, ◌++◌, All, OnOk};
+ghost use Rattle.nq_journal.specs.Printing.{Prints, CountsPrint};
+ghost use Rattle.nq_journal.specs.Text.{Has, IsVersion, journal_text, head_line, end_line};
+
+use crate::lines::numbers;
+use crate::rows::line;
+use crate::{Journal, NoMemory};
+use nq_io::{Put, Sink};
+use std::alloc::Global;
+
+// A sink is given as many bytes at once, or more, but for the last time.
+const PIECE: usize = 16_384;
 
 /// What printing answers.
 #[derive(Clone, Copy, Debug, PartialEq, Eq)]
@@ -11,5 +23,53 @@ pub enum Printed {
     Memory,
 }
 
-pub fn print() {
+/// Prints a journal in a version of its text, 1 or 2, which has each of its entries.
+pub fn print<K: Sink>(alloc: Global, journal: &Journal, version: u32, out: &mut K) -> Printed
+    requires version { IsVersion version }
+    requires has { All (Has version) journal.now.entries }
+    ensures puts { Prints result (journal_text version journal.now.entries) (K.held out.old) (K.held out.new) }
+    ensures cause { CountsPrint result (K.faults out.old) (K.faults out.new) }
+{
+    let mut text = Vec::new(alloc);
+    if head(&mut text, version).is_err() {
+        return Printed::Memory;
+    }
+    for entry in journal.entries() {
+        if line(&mut text, version, entry).is_err() {
+            return Printed::Memory;
+        }
+        if text.len() >= PIECE {
+            if out.put(&text) == Put::Failed {
+                return Printed::Failed;
+            }
+            text.clear();
+        }
+    }
+    if end(&mut text).is_err() {
+        return Printed::Memory;
+    }
+    match out.put(&text) {
+        Put::All => Printed::All,
+        Put::Failed => Printed::Failed,
+    }
+}
+
+// Appends the first line.
+#[tactic(auto, unfolding(crate::specs::Words::joined, crate::specs::Words::line, crate::specs::Text::head_line))]
+fn head(out: &mut Vec<u8>, version: u32) -> Result<(), NoMemory>
+    ensures { OnOk result (out.new.items ≡ out.old.items ++ head_line version) }
+{
+    out.extend_from_slice(b"nqnfs-journal")?;
+    numbers(out, &[u64::from(version)])?;
+    out.push(b'\n')?;
+    Ok(())
+}
+
+// Appends the last line.
+#[tactic(auto, unfolding(crate::specs::Words::joined, crate::specs::Words::line, crate::specs::Text::end_line))]
+fn end(out: &mut Vec<u8>) -> Result<(), NoMemory>
+    ensures { OnOk result (out.new.items ≡ out.old.items ++ end_line) }
+{
+    out.extend_from_slice(b"end\n")?;
+    Ok(())
 }

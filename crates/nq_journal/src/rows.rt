@@ -1,0 +1,211 @@
+// Writing the entries of a journal, a line each.
+ghost use Rattle.std.specs.Prelude.{◌≡◌, [], ◌++◌, OnOk};
+ghost use Rattle.std.specs.List.{flat_map};
+ghost use Rattle.nq_journal.specs.Words.{joined, spaced};
+ghost use Rattle.nq_journal.specs.Text.{entry_words, entry_line, of_who, way_word, mode_word, source_words, longest_words};
+
+use crate::NoMemory;
+use crate::lines::{command, numbers, said, told, word};
+use nq_base::{Entry, Mode, Who};
+
+// Appends the letter of a line and the incarnation of which it tells.
+#[tactic(auto, unfolding(crate::specs::Words::joined))]
+fn begin(out: &mut Vec<u8>, letter: &[u8], who: &Who) -> Result<(), NoMemory>
+    ensures { OnOk result (out.new.items ≡ out.old.items ++ joined (of_who letter.now who.now [])) }
+{
+    out.extend_from_slice(letter)?;
+    numbers(out, &[u64::from(who.host.0), u64::from(who.inc.0)])
+}
+
+// The word of a write's way.
+fn way(through: bool) -> &'static [u8]
+    ensures { result.now ≡ way_word through }
+{
+    if through { b"through" } else { b"delayed" }
+}
+
+// The word of a mode.
+fn mode_name(mode: Mode) -> &'static [u8]
+    ensures { result.now ≡ mode_word mode }
+{
+    match mode {
+        Mode::NonCaching => b"noncaching",
+        Mode::Reading => b"reading",
+        Mode::Writing => b"writing",
+    }
+}
+
+// Appends the words of a read's source.
+fn source(out: &mut Vec<u8>, served: Option<u64>) -> Result<(), NoMemory>
+    ensures { OnOk result (out.new.items ≡ out.old.items ++ flat_map spaced (source_words served)) }
+{
+    match served {
+        None => word(out, b"cached"),
+        Some(packet) => command(out, b"served", &[packet]),
+    }
+}
+
+// Appends the longest term, where the version tells it.
+fn longest_term(out: &mut Vec<u8>, version: u32, longest: u32) -> Result<(), NoMemory>
+    ensures { OnOk result (out.new.items ≡ out.old.items ++ flat_map spaced (longest_words version longest)) }
+{
+    if version == 2 {
+        numbers(out, &[u64::from(longest)])?;
+    }
+    Ok(())
+}
+
+// Appends the words of an entry.
+#[tactic(auto, unfolding(crate::specs::Words::joined))]
+fn words(out: &mut Vec<u8>, version: u32, entry: &Entry) -> Result<(), NoMemory>
+    ensures { OnOk result (out.new.items ≡ out.old.items ++ joined (entry_words version entry.now)) }
+{
+    match entry {
+        Entry::C { who, q, told: call } => {
+            begin(out, b"C", who)?;
+            numbers(out, &[*q])?;
+            told(out, call)
+        }
+        Entry::W {
+            who,
+            file,
+            block,
+            number,
+            value,
+            through,
+        } => {
+            begin(out, b"W", who)?;
+            numbers(
+                out,
+                &[
+                    u64::from(file.0),
+                    u64::from(block.0),
+                    number.0,
+                    u64::from(*value),
+                ],
+            )?;
+            word(out, way(*through))
+        }
+        Entry::R {
+            who,
+            q,
+            file,
+            block,
+            value,
+            served,
+        } => {
+            begin(out, b"R", who)?;
+            numbers(
+                out,
+                &[*q, u64::from(file.0), u64::from(block.0), u64::from(*value)],
+            )?;
+            source(out, *served)
+        }
+        Entry::S {
+            who,
+            file,
+            block,
+            first,
+            last,
+            now,
+        } => {
+            begin(out, b"S", who)?;
+            numbers(
+                out,
+                &[
+                    u64::from(file.0),
+                    u64::from(block.0),
+                    first.0,
+                    last.0,
+                    now.0,
+                ],
+            )
+        }
+        Entry::L {
+            who,
+            file,
+            block,
+            first,
+            last,
+        } => {
+            begin(out, b"L", who)?;
+            numbers(
+                out,
+                &[u64::from(file.0), u64::from(block.0), first.0, last.0],
+            )
+        }
+        Entry::G {
+            who,
+            file,
+            mode,
+            tag,
+            term,
+            now,
+        } => {
+            begin(out, b"G", who)?;
+            numbers(out, &[u64::from(file.0)])?;
+            word(out, mode_name(*mode))?;
+            numbers(
+                out,
+                &[u64::from(tag.boot), tag.number, u64::from(*term), now.0],
+            )
+        }
+        Entry::F {
+            who,
+            file,
+            until,
+            heard,
+            now,
+        } => {
+            begin(out, b"F", who)?;
+            numbers(out, &[u64::from(file.0), until.0, heard.0, now.0])
+        }
+        Entry::O {
+            boot,
+            until,
+            heard,
+            now,
+        } => {
+            out.extend_from_slice(b"O")?;
+            numbers(out, &[u64::from(*boot), until.0, heard.0, now.0])
+        }
+        Entry::B { who } => begin(out, b"B", who),
+        Entry::X { boot, now, longest } => {
+            out.extend_from_slice(b"X")?;
+            numbers(out, &[u64::from(*boot), now.0])?;
+            longest_term(out, version, *longest)
+        }
+        Entry::Z {
+            who,
+            q,
+            file,
+            from,
+            to,
+        } => {
+            begin(out, b"Z", who)?;
+            numbers(
+                out,
+                &[*q, u64::from(file.0), u64::from(*from), u64::from(*to)],
+            )
+        }
+        Entry::A {
+            who,
+            q,
+            said: answer,
+        } => {
+            begin(out, b"A", who)?;
+            numbers(out, &[*q])?;
+            said(out, answer)
+        }
+    }
+}
+
+// Appends the line of an entry.
+#[tactic(auto, unfolding(crate::specs::Words::line, crate::specs::Text::entry_line))]
+pub(crate) fn line(out: &mut Vec<u8>, version: u32, entry: &Entry) -> Result<(), NoMemory>
+    ensures { OnOk result (out.new.items ≡ out.old.items ++ entry_line version entry.now) }
+{
+    words(out, version, entry)?;
+    out.push(b'\n')?;
+    Ok(())
+}
