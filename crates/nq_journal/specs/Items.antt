@@ -1,6 +1,5 @@
 -- A journal as contracts see it.
-use Rattle.std.specs.Prelude.{ℕ, List, map}
-use Rattle.nq_base.specs.Lists.{SpanList}
+use Rattle.std.specs.Prelude.{ℕ, List}
 use Rattle.nq_base.specs.declared.Entry.{Entry}
 use Rattle.nq_base.specs.declared.Said.{Said}
 

@@ -1,5 +1,5 @@
 -- What printing does. Below, `held` is what the sink held before it and `now` is what it holds after it, where the sink tells them.
-use Rattle.std.specs.Prelude.{◌≡◌, ℕ, ◌≤◌, List, length, take, Option}
+use Rattle.std.specs.Prelude.{◌≡◌, ℕ, List, Option}
 use Rattle.nq_io.specs.Faults.{Rose}
 use Rattle.nq_io.specs.Sink.{AppendsFront}
 use Rattle.nq_io.specs.Told.{with_end}

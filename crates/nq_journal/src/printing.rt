@@ -31,23 +31,23 @@ pub fn print<K: Sink>(alloc: Global, journal: &Journal, version: u32, out: &mut 
     ensures cause { CountsPrint result (K.faults out.old) (K.faults out.new) }
 {
     let mut text = Vec::new(alloc);
-    if head(&mut text, version).is_err() {
+    let Ok(()) = head(&mut text, version) else {
         return Printed::Memory;
-    }
+    };
     for entry in journal.entries() {
-        if line(&mut text, version, entry).is_err() {
+        let Ok(()) = line(&mut text, version, entry) else {
             return Printed::Memory;
-        }
+        };
         if text.len() >= PIECE {
-            if out.put(&text) == Put::Failed {
-                return Printed::Failed;
+            match out.put(&text) {
+                Put::All => text.clear(),
+                Put::Failed => return Printed::Failed,
             }
-            text.clear();
         }
     }
-    if end(&mut text).is_err() {
+    let Ok(()) = end(&mut text) else {
         return Printed::Memory;
-    }
+    };
     match out.put(&text) {
         Put::All => Printed::All,
         Put::Failed => Printed::Failed,

@@ -1,4 +1,4 @@
-use Rattle.std.proofs.Common.{◌<◌, ◌^◌, ◌≤◌, ◌≡◌, arith}
+use Rattle.std.proofs.Common.{◌<◌, ◌^◌, arith}
 use Rattle.nq_journal.proofs.Digits.{more, one}
 use Rattle.nq_journal.proofs.lines.+digits.Goals as goal
 use Rattle.nq_journal.proofs.lines.+digits.Goals.{then-number-ge10+in_ok-digits, else-number-ge10}

@@ -1,4 +1,4 @@
-use Rattle.std.proofs.Common.{◌<◌, length, arith, sym, ◌∙◌}
+use Rattle.std.proofs.Common.{◌<◌, length, arith, sym}
 use Rattle.nq_journal.proofs.SpanWords.{one_more, within_has}
 use Rattle.nq_journal.proofs.lines.spans.Goals as goal
 use Rattle.nq_journal.proofs.lines.spans.Goals.{in-Some+in_ok-span, in_default}
