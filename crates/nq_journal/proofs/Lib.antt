@@ -1,3 +1,5 @@
+mod Cuts
 mod Digits
+mod Numerals
 mod Pieces
 mod SpanWords

@@ -6,6 +6,8 @@ mod lines;
 mod no_memory;
 mod printing;
 mod rows;
+mod tolds;
+mod words;
 
 pub use journal::Journal;
 pub use no_memory::NoMemory;

@@ -30,10 +30,10 @@ loop-entry-preserved g c =
     let step = entry_more c.args.version items place c.entry-item.result (omega arith) c.entry-item.is in
     let grown = extended _ _ _ _ _ _ _ c.line.new.out.items _ c.loop-entry.invariant c.in-Ok-line.ensures step in
     elim c.if-len-ge-PIECE.branch [
-    | then-len-ge-PIECE+in-All w ↦
-        rw (w.out-is, w.text-is)
-        (flushed _ _ _ _ _ _ _ _ _ grown (rw (← w.deref.ensures.value) w.in-All.ensures.puts) w.in-All.ensures.cause w.clear.ensures.items)
-    | else-len-ge-PIECE w ↦ rw (w.out-is, w.text-is) grown
+      | then-len-ge-PIECE+in-All w ↦
+          rw (w.out-is, w.text-is)
+          (flushed _ _ _ _ _ _ _ _ _ grown (rw (← w.deref.ensures.value) w.in-All.ensures.puts) w.in-All.ensures.cause w.clear.ensures.items)
+      | else-len-ge-PIECE w ↦ rw (w.out-is, w.text-is) grown
     ]
 
 pub returns-in_default-end-clause-puts : goal.returns-in_default-end-clause-puts

@@ -1,0 +1,15 @@
+use Rattle.std.proofs.Common.{None, Some, Bor, List, ℕ}
+use Rattle.nq_journal.proofs.Cuts.{next_word}
+use Rattle.nq_journal.proofs.words.Words.next.Goals as goal
+
+now : Bor (List ℕ) → List ℕ
+now line = line.now
+
+pub returns-in-Some : goal.returns-in-Some
+returns-in-Some c =
+    next_word (λ line. line.now) c.self.inside.rest c.in_ok-line.line c.args.self.now (Some (c.in-Some.word.now, c.in-Some.rest.now)) c.self.view_is c.in_ok-line.was
+    c.in-Some.ensures
+
+pub returns-in-None : goal.returns-in-None
+returns-in-None c =
+    next_word (λ line. line.now) c.self.inside.rest c.in_ok-line.line c.args.self.now None c.self.view_is c.in_ok-line.was c.in-None.ensures

@@ -1,0 +1,217 @@
+-- Reading a text from the left: a value and what stands behind it, or nothing where it is not spelled there.
+use Rattle.std.specs.Prelude.{◌≡◌, ℕ, ◌+◌, ◌-◌, ◌*◌, ◌^◌, ◌==◌, Bool, not, ◌&&◌, ◌||◌, List, [], ◌∷◌, ◌++◌, length, slice_index, Option, Some, None, nat_lt, nat_le, codes, if◌then◌else◌}
+use Rattle.std.specs.List.{list_all}
+use Rattle.std.specs.Str.{bytes_eq}
+use Rattle.nq_base.specs.declared.Entry.{Entry}
+use Rattle.nq_base.specs.declared.Mode.{Mode}
+use Rattle.nq_base.specs.declared.Said.{Said}
+use Rattle.nq_base.specs.declared.Span.{Span}
+use Rattle.nq_base.specs.declared.Tag.{Tag}
+use Rattle.nq_base.specs.declared.Told.{Told}
+use Rattle.nq_base.specs.declared.Who.{Who}
+use Rattle.nq_journal.specs.declared.tolds.Verb.{Verb}
+
+infixl 10 ◌>>=◌
+-- goes on with the value of a step, or ends where there is none
+abbrev pub ◌>>=◌ : {A B : Type 0} → Option A → (A → Option B) → Option B
+None >>= f = None
+(Some x) >>= f = f x
+
+-- a value, if it passes a test
+abbrev pub only_if : {A : Type 0} → Bool → A → Option A
+only_if test x = if test then Some x else None
+
+-- bytes more in front of the first part
+abbrev pub with_front : List ℕ → Option (List ℕ × List ℕ) → Option (List ℕ × List ℕ)
+with_front front None = None
+with_front front (Some parts) = Some (front ++ parts.0, parts.1)
+
+-- what stands before the first byte of this kind, and what stands behind it
+unfoldable pub cut : (stop : ℕ) → List ℕ → Option (List ℕ × List ℕ)
+cut stop [] = None
+cut stop (b ∷ bytes) = if b == stop then Some ([], bytes) else with_front (b ∷ []) (cut stop bytes)
+
+-- a byte more in front of the first word
+abbrev pub with_first : ℕ → List (List ℕ) → List (List ℕ)
+with_first b [] = (b ∷ []) ∷ []
+with_first b (word ∷ words) = (b ∷ word) ∷ words
+
+-- the words of a line, which stand between its blanks
+unfoldable pub words_of : List ℕ → List (List ℕ)
+words_of [] = [] ∷ []
+words_of (b ∷ bytes) = if b == 32 then [] ∷ words_of bytes else with_first b (words_of bytes)
+
+-- the words of a line that are left, if any of it is
+abbrev pub words_left : Option (List ℕ) → List (List ℕ)
+words_left None = []
+words_left (Some line) = words_of line
+
+abbrev pub is_digit : ℕ → Bool
+is_digit b = nat_le 48 b && nat_lt b 58
+
+-- the number that a digit more makes, if it is below 2^64
+unfoldable pub with_digit : ℕ → ℕ → Option ℕ
+with_digit n b = only_if (is_digit b && nat_lt (n * 10 + (b - 48)) (2 ^ 64)) (n * 10 + (b - 48))
+
+-- the number that goes on with these digits, if it is below 2^64
+unfoldable pub digits_after : ℕ → List ℕ → Option ℕ
+digits_after n [] = Some n
+digits_after n (b ∷ bytes) = with_digit n b >>= λ more. digits_after more bytes
+
+-- a word that can be a number's: it is not empty and has no needless zero in front
+abbrev pub is_plain : List ℕ → Bool
+is_plain word = not (length word == 0) && ((length word == 1) || not (slice_index word 0 == 48))
+
+-- a number below 2^64
+unfoldable pub u64_of : List ℕ → Option ℕ
+u64_of word = if is_plain word then digits_after 0 word else None
+
+-- a number below 2^32
+unfoldable pub u32_of : List ℕ → Option ℕ
+u32_of word = u64_of word >>= λ n. only_if (nat_lt n (2 ^ 32)) n
+
+abbrev pub is_name_byte : ℕ → Bool
+is_name_byte b = nat_le 33 b && nat_le b 126 && not (b == 47)
+
+-- a name
+unfoldable pub name_of : List ℕ → Option (List ℕ)
+name_of word = only_if (nat_le 1 (length word) && nat_le (length word) 64 && list_all is_name_byte word) word
+
+-- a span
+unfoldable pub span_of : List ℕ → Option Span
+span_of word = do
+  parts ← cut 58 word
+  ends ← cut 45 parts.1
+  block ← u32_of parts.0
+  first ← u64_of ends.0
+  last ← u64_of ends.1
+  Some (record { block = block; first = first; last = last })
+
+-- the first word
+abbrev pub word_at : List (List ℕ) → Option (List ℕ × List (List ℕ))
+word_at [] = None
+word_at (word ∷ words) = Some (word, words)
+
+unfoldable pub u64_at : List (List ℕ) → Option (ℕ × List (List ℕ))
+u64_at words = do
+  word ← word_at words
+  n ← u64_of word.0
+  Some (n, word.1)
+
+unfoldable pub u32_at : List (List ℕ) → Option (ℕ × List (List ℕ))
+u32_at words = do
+  word ← word_at words
+  n ← u32_of word.0
+  Some (n, word.1)
+
+unfoldable pub name_at : List (List ℕ) → Option (List ℕ × List (List ℕ))
+name_at words = do
+  word ← word_at words
+  name ← name_of word.0
+  Some (name, word.1)
+
+unfoldable pub who_at : List (List ℕ) → Option (Who × List (List ℕ))
+who_at words = do
+  host ← u32_at words
+  inc ← u32_at host.1
+  Some (record { host = host.0; inc = inc.0 }, inc.1)
+
+-- a file and a block
+unfoldable pub place_at : List (List ℕ) → Option ((ℕ × ℕ) × List (List ℕ))
+place_at words = do
+  file ← u32_at words
+  block ← u32_at file.1
+  Some ((file.0, block.0), block.1)
+
+unfoldable pub create_at : List (List ℕ) → Option (Told × List (List ℕ))
+create_at words = do
+  name ← name_at words
+  blocks ← u32_at name.1
+  Some (Told.Create name.0 blocks.0, blocks.1)
+
+unfoldable pub lookup_at : List (List ℕ) → Option (Told × List (List ℕ))
+lookup_at words = do
+  name ← name_at words
+  Some (Told.Lookup name.0, name.1)
+
+unfoldable pub attr_at : List (List ℕ) → Option (Told × List (List ℕ))
+attr_at words = do
+  file ← u32_at words
+  Some (Told.Attr file.0, file.1)
+
+unfoldable pub read_at : List (List ℕ) → Option (Told × List (List ℕ))
+read_at words = do
+  place ← place_at words
+  Some (Told.Read place.0.0 place.0.1, place.1)
+
+unfoldable pub fetch_at : List (List ℕ) → Option (Told × List (List ℕ))
+fetch_at words = do
+  place ← place_at words
+  Some (Told.Fetch place.0.0 place.0.1, place.1)
+
+unfoldable pub write_at : List (List ℕ) → Option (Told × List (List ℕ))
+write_at words = do
+  place ← place_at words
+  value ← u32_at place.1
+  Some (Told.Write place.0.0 place.0.1 value.0, value.1)
+
+unfoldable pub put_at : List (List ℕ) → Option (Told × List (List ℕ))
+put_at words = do
+  place ← place_at words
+  value ← u32_at place.1
+  Some (Told.WriteSync place.0.0 place.0.1 value.0, value.1)
+
+unfoldable pub sync_at : List (List ℕ) → Option (Told × List (List ℕ))
+sync_at words = do
+  file ← u32_at words
+  Some (Told.Sync file.0, file.1)
+
+unfoldable pub resize_at : List (List ℕ) → Option (Told × List (List ℕ))
+resize_at words = do
+  file ← u32_at words
+  blocks ← u32_at file.1
+  Some (Told.Resize file.0 blocks.0, blocks.1)
+
+unfoldable pub remove_at : List (List ℕ) → Option (Told × List (List ℕ))
+remove_at words = do
+  file ← u32_at words
+  Some (Told.Remove file.0, file.1)
+
+-- what a word asks for
+unfoldable pub verb_of : List ℕ → Option Verb
+verb_of word =
+    if bytes_eq word (codes "create") then Some Verb.Create
+    else (if bytes_eq word (codes "lookup") then Some Verb.Lookup
+    else (if bytes_eq word (codes "attr") then Some Verb.Attr
+    else (if bytes_eq word (codes "read") then Some Verb.Read
+    else (if bytes_eq word (codes "fetch") then Some Verb.Fetch
+    else (if bytes_eq word (codes "write") then Some Verb.Write
+    else (if bytes_eq word (codes "put") then Some Verb.Put
+    else (if bytes_eq word (codes "sync") then Some Verb.Sync
+    else (if bytes_eq word (codes "resize") then Some Verb.Resize
+    else (if bytes_eq word (codes "remove") then Some Verb.Remove
+    else None)))))))))
+
+-- the call behind its first word
+abbrev pub told_by : Verb → List (List ℕ) → Option (Told × List (List ℕ))
+told_by Verb.Create words = create_at words
+told_by Verb.Lookup words = lookup_at words
+told_by Verb.Attr words = attr_at words
+told_by Verb.Read words = read_at words
+told_by Verb.Fetch words = fetch_at words
+told_by Verb.Write words = write_at words
+told_by Verb.Put words = put_at words
+told_by Verb.Sync words = sync_at words
+told_by Verb.Resize words = resize_at words
+told_by Verb.Remove words = remove_at words
+
+unfoldable pub told_at : List (List ℕ) → Option (Told × List (List ℕ))
+told_at words = do
+  word ← word_at words
+  verb ← verb_of word.0
+  told_by verb word.1
+
+-- A call gave what reading gives, seen by view, and left these words; or it gave nothing, and reading gives nothing.
+abbrev pub Takes : {X Y : Type 0} → (X → Y) → Option X → List (List ℕ) → Option (Y × List (List ℕ)) → Type 0
+Takes view None left read = read ≡ None
+Takes view (Some x) left read = read ≡ Some (view x, left)
