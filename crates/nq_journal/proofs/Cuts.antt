@@ -1,10 +1,10 @@
 -- Cutting a text at the first byte of a kind, and a line into its words.
-use Rattle.std.proofs.Common.{◌≡◌, ◌≢◌, ℕ, ◌+◌, ◌-◌, ◌<◌, ◌≤◌, eqb, List, [], ◌∷◌, ◌++◌, length, take, drop, get_or, Option, Some, None, option_map, Bool, true, false, not, IsTrue, refl, ap, sym, ◌∙◌, inl, inr, append_assoc, append-nil, add-one, drop-cons, arith}
+use Rattle.std.proofs.Common.{◌≡◌, ◌≢◌, ℕ, ◌+◌, ◌-◌, ◌<◌, ◌≤◌, List, [], ◌∷◌, ◌++◌, length, take, drop, get_or, Option, Some, None, option_map, Bool, true, false, not, refl, ap, sym, ◌∙◌, inl, inr, append_assoc, append-nil, add-one, drop-cons, arith}
 use Rattle.std.proofs.lemmas.Bool.{ne_eqb, eq-eqb}
 use Rattle.std.proofs.lemmas.Bool.Decides.{eqb_tells}
 use Rattle.std.proofs.lemmas.List.{take_more, take_all, drop_all, length-drop}
 use Rattle.std.specs.Option.{is_some}
-use Rattle.nq_journal.specs.Reading.{cut, with_front, words_of, words_left, word_at, with_first}
+use Rattle.nq_journal.specs.Reading.{cut, with_front, words_of, words_left, word_at, with_first, is_done}
 
 -- at a byte of another kind the first part grows
 pub cut_past : (stop b : ℕ) (bytes : List ℕ) → b ≢ stop → cut stop (b ∷ bytes) ≡ with_front (b ∷ []) (cut stop bytes)
@@ -64,9 +64,9 @@ pub words_of-cut : (line : List ℕ) → words_of line ≡ words_by line (cut 32
 unfolding words_of cut
 words_of-cut [] = refl
 words_of-cut (b ∷ line) = elim (eqb_tells b 32) [
-    | inl same ↦ rw same.0 refl
-    | inr other ↦ rw other.0 (words_by-more b line (words_of line) (cut 32 line) (words_of-cut line))
-    ]
+  | inl same ↦ rw same.0 refl
+  | inr other ↦ rw other.0 (words_by-more b line (words_of line) (cut 32 line) (words_of-cut line))
+]
 
 -- a line has a word
 with_first_some : (b : ℕ) (words : List (List ℕ)) → with_first b words ≡ [] → ⊥
@@ -77,21 +77,20 @@ pub words_of_some : (line : List ℕ) → words_of line ≡ [] → ⊥
 unfolding words_of
 words_of_some [] none = cc
 words_of_some (b ∷ line) none = elim (eqb_tells b 32) [
-    | inl same ↦ let e = rw same.0 at none in cc
-    | inr other ↦ with_first_some b (words_of line) (rw other.0 at none)
-    ]
-
--- where no word is left nothing of the line is
-pub none_left : (line : Option (List ℕ)) → words_left line ≡ [] → line ≡ None
-none_left None none = refl
-none_left (Some line) none = absurd (words_of_some line none)
+  | inl same ↦ let e = rw same.0 at none in cc
+  | inr other ↦ with_first_some b (words_of line) (rw other.0 at none)
+]
 
 -- whether no word is left
-pub emptied : {X : Type 0} (f : X → List ℕ) (rest : Option X) (r : Bool) (now : List (List ℕ)) → words_left (option_map f rest) ≡ now → is_some rest ≡ not r → (IsTrue r → now ≡ []) × (now ≡ [] → IsTrue r)
-emptied f None true now left none = (λ _. sym left, λ _. refl)
+some_left : (words : List (List ℕ)) → (words ≡ [] → ⊥) → is_done words ≡ false
+some_left [] some = absurd (some refl)
+some_left (word ∷ words) some = refl
+
+pub emptied : {X : Type 0} (f : X → List ℕ) (rest : Option X) (r : Bool) (now : List (List ℕ)) → words_left (option_map f rest) ≡ now → is_some rest ≡ not r → r ≡ is_done now
+emptied f None true now left none = ap is_done left
 emptied f None false now left none = cc
 emptied f (Some line) true now left some = cc
-emptied f (Some line) false now left some = (λ h. cc, λ e. absurd (words_of_some (f line) (left ∙ e)))
+emptied f (Some line) false now left some = sym (some_left (words_of (f line)) (words_of_some (f line))) ∙ ap is_done left
 
 -- the next word
 pub next_word : {X : Type 0} (f : X → List ℕ) (rest : Option X) (line : X) (now : List (List ℕ)) (parts : Option (List ℕ × List ℕ)) → words_left (option_map f rest) ≡ now → rest ≡ Some line → parts ≡ cut 32 (f line) → word_at now ≡ word_at (words_by (f line) parts)

@@ -1,5 +1,6 @@
 mod Cuts
 mod Digits
+mod Names
 mod Numerals
 mod Pieces
 mod SpanWords

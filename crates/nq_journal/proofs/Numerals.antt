@@ -1,7 +1,7 @@
 -- Decimal digits read from the left, and the number that they make.
-use Rattle.std.proofs.Common.{◌≡◌, ◌≢◌, ℕ, ◌+◌, ◌-◌, ◌*◌, ◌^◌, ◌<◌, ◌≤◌, Bool, true, false, ◌&&◌, List, [], ◌∷◌, ◌++◌, length, take, drop, get_or, Option, Some, None, refl, ap, sym, ◌∙◌, add-one, drop-cons, arith, IsTrue}
+use Rattle.std.proofs.Common.{◌≡◌, ℕ, ◌+◌, ◌<◌, ◌≤◌, List, length, drop, get_or, Some, None, ap, sym, ◌∙◌}
 use Rattle.std.proofs.lemmas.List.{drop_all}
-use Rattle.nq_journal.specs.Reading.{◌>>=◌, only_if, with_digit, digits_after, is_digit, is_plain, u64_of, u32_of}
+use Rattle.nq_journal.specs.Reading.{◌>>=◌, with_digit, digits_after}
 use Rattle.nq_journal.proofs.Cuts.{drop_at_place}
 
 -- at a place the number takes the digit there

@@ -1,9 +1,10 @@
 -- The words of spans, one more of them.
-use Rattle.std.proofs.Common.{◌≡◌, ℕ, ◌+◌, ◌<◌, List, [], ◌∷◌, ◌++◌, length, map, take, Some, None, ap, sym, ◌∙◌, inl, inr, arith}
+use Rattle.std.proofs.Common.{◌≡◌, ℕ, ◌+◌, ◌<◌, List, [], ◌∷◌, ◌++◌, length, map, take, Option, Some, None, refl, ap, sym, ◌∙◌, append_assoc, append-nil, inl, inr, arith}
 use Rattle.std.specs.List.{flat_map, slice_get}
 use Rattle.std.proofs.lemmas.List.{take_more, map-append, flat_map_more}
 use Rattle.std.proofs.lemmas.Option.{slice_get_cases, slice_get_within, get_or_from_slice_get}
 use Rattle.nq_base.specs.declared.Span.{Span}
+use Rattle.nq_journal.specs.Reading.{◌>>=◌, word_at, span_of, spans_of}
 use Rattle.nq_journal.specs.Text.{span_word}
 use Rattle.nq_journal.specs.Words.{spaced}
 
@@ -26,3 +27,42 @@ within_has xs place within none = elim (slice_get_cases xs place).1 [
   | inl found ↦ cc (sym found.2 ∙ none)
   | inr past ↦ omega (arith, past.0)
 ]
+
+-- spans in front of those that are read
+abbrev pub with_spans : List Span → Option (List Span) → Option (List Span)
+with_spans front None = None
+with_spans front (Some spans) = Some (front ++ spans)
+
+-- no span more
+pub spans_start : (spans : Option (List Span)) → with_spans [] spans ≡ spans
+spans_start None = refl
+spans_start (Some spans) = refl
+
+-- the first word taken is in front
+pub word_in_front : (words left : List (List ℕ)) (word : List ℕ) → word_at words ≡ Some (word, left) → words ≡ word ∷ left
+word_in_front [] left word taken = cc
+word_in_front (first ∷ words) left word taken =
+    let same : ◌≡◌ {A = List ℕ × List (List ℕ)} (first, words) (word, left) = cc in
+    ap (λ (taken : List ℕ × List (List ℕ)). taken.0 ∷ taken.1) same
+
+with_spans-more : (front : List Span) (span : Span) (spans : Option (List Span)) → with_spans front (spans >>= λ more. Some (span ∷ more)) ≡ with_spans (front ++ span ∷ []) spans
+with_spans-more front span None = refl
+with_spans-more front span (Some spans) = ap Some (sym (append_assoc front (span ∷ []) spans))
+
+pub spans_more : (words left : List (List ℕ)) (word : List ℕ) (front : List Span) (span : Span) → word_at words ≡ Some (word, left) → Some span ≡ span_of word → with_spans front (spans_of words) ≡ with_spans (front ++ span ∷ []) (spans_of left)
+unfolding spans_of
+spans_more words left word front span taken read =
+    ap (λ ws. with_spans front (spans_of ws)) (word_in_front words left word taken)
+    ∙ ap (λ o. with_spans front (o >>= λ first. (spans_of left >>= λ more. Some (first ∷ more)))) (sym read)
+    ∙ with_spans-more front span (spans_of left)
+
+pub spans_none : (words left : List (List ℕ)) (word : List ℕ) (front : List Span) → word_at words ≡ Some (word, left) → None ≡ span_of word → with_spans front (spans_of words) ≡ None
+unfolding spans_of
+spans_none words left word front taken none =
+    ap (λ ws. with_spans front (spans_of ws)) (word_in_front words left word taken)
+    ∙ ap (λ o. with_spans front (o >>= λ first. (spans_of left >>= λ more. Some (first ∷ more)))) (sym none)
+
+pub spans_end : (words : List (List ℕ)) (front : List Span) → word_at words ≡ None → with_spans front (spans_of words) ≡ Some front
+unfolding spans_of
+spans_end [] front none = ap Some (append-nil front)
+spans_end (word ∷ words) front none = cc

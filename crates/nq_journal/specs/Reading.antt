@@ -1,5 +1,5 @@
 -- Reading a text from the left: a value and what stands behind it, or nothing where it is not spelled there.
-use Rattle.std.specs.Prelude.{◌≡◌, ℕ, ◌+◌, ◌-◌, ◌*◌, ◌^◌, ◌==◌, Bool, not, ◌&&◌, ◌||◌, List, [], ◌∷◌, ◌++◌, length, slice_index, Option, Some, None, nat_lt, nat_le, codes, if◌then◌else◌}
+use Rattle.std.specs.Prelude.{◌≡◌, ℕ, ◌+◌, ◌-◌, ◌*◌, ◌^◌, ◌==◌, Bool, true, false, not, ◌&&◌, ◌||◌, List, [], ◌∷◌, ◌++◌, length, slice_index, Option, Some, None, nat_lt, nat_le, codes, if◌then◌else◌}
 use Rattle.std.specs.List.{list_all}
 use Rattle.std.specs.Str.{bytes_eq}
 use Rattle.nq_base.specs.declared.Entry.{Entry}
@@ -9,6 +9,7 @@ use Rattle.nq_base.specs.declared.Span.{Span}
 use Rattle.nq_base.specs.declared.Tag.{Tag}
 use Rattle.nq_base.specs.declared.Told.{Told}
 use Rattle.nq_base.specs.declared.Who.{Who}
+use Rattle.nq_journal.specs.declared.entries.Kind.{Kind}
 use Rattle.nq_journal.specs.declared.tolds.Verb.{Verb}
 
 infixl 10 ◌>>=◌
@@ -210,6 +211,268 @@ told_at words = do
   word ← word_at words
   verb ← verb_of word.0
   told_by verb word.1
+
+-- whether no word is left
+abbrev pub is_done : List (List ℕ) → Bool
+is_done [] = true
+is_done (word ∷ words) = false
+
+-- spans to the end of the line
+unfoldable pub spans_of : List (List ℕ) → Option (List Span)
+spans_of [] = Some []
+spans_of (word ∷ words) = do
+  span ← span_of word
+  spans ← spans_of words
+  Some (span ∷ spans)
+
+unfoldable pub lost_at : List (List ℕ) → Option (Said × List (List ℕ))
+lost_at words = do
+  spans ← spans_of words
+  Some (Said.Lost (record { items = spans; spare = 0 }), [])
+
+-- the packet that brought a value
+unfoldable pub by_at : (value : ℕ) → List (List ℕ) → Option (Said × List (List ℕ))
+by_at value words = do
+  by ← word_at words
+  packet ← u64_at by.1
+  only_if (bytes_eq by.0 (codes "by")) (Said.OkBy value packet.0, packet.1)
+
+-- a value, and the packet that brought it, if one did
+unfoldable pub value_at : List (List ℕ) → Option (Said × List (List ℕ))
+value_at words = do
+  value ← u32_at words
+  if is_done value.1 then Some (Said.OkValue value.0, value.1) else by_at value.0 value.1
+
+-- what stands behind the word `ok`
+unfoldable pub ok_at : List (List ℕ) → Option (Said × List (List ℕ))
+ok_at words = if is_done words then Some (Said.Ok, words) else value_at words
+
+-- an answer of one word
+unfoldable pub bare_of : List ℕ → Option Said
+bare_of word =
+    if bytes_eq word (codes "busy") then Some Said.Busy
+    else (if bytes_eq word (codes "stale") then Some Said.Stale
+    else (if bytes_eq word (codes "noentry") then Some Said.NoEntry
+    else (if bytes_eq word (codes "exists") then Some Said.Exists
+    else (if bytes_eq word (codes "nospace") then Some Said.NoSpace
+    else (if bytes_eq word (codes "range") then Some Said.Range
+    else (if bytes_eq word (codes "dirtyfull") then Some Said.DirtyFull
+    else None))))))
+
+unfoldable pub bare_at : List ℕ → List (List ℕ) → Option (Said × List (List ℕ))
+bare_at word words = do
+  said ← bare_of word
+  Some (said, words)
+
+-- an answer behind its first word
+abbrev pub said_by : List ℕ → List (List ℕ) → Option (Said × List (List ℕ))
+said_by word words =
+    if bytes_eq word (codes "ok") then ok_at words
+    else (if bytes_eq word (codes "lost") then lost_at words
+    else bare_at word words)
+
+unfoldable pub said_at : List (List ℕ) → Option (Said × List (List ℕ))
+said_at words = do
+  word ← word_at words
+  said_by word.0 word.1
+
+unfoldable pub mode_of : List ℕ → Option Mode
+mode_of word =
+    if bytes_eq word (codes "noncaching") then Some Mode.NonCaching
+    else (if bytes_eq word (codes "reading") then Some Mode.Reading
+    else (if bytes_eq word (codes "writing") then Some Mode.Writing
+    else None))
+
+unfoldable pub mode_at : List (List ℕ) → Option (Mode × List (List ℕ))
+mode_at words = do
+  word ← word_at words
+  mode ← mode_of word.0
+  Some (mode, word.1)
+
+unfoldable pub tag_at : List (List ℕ) → Option (Tag × List (List ℕ))
+tag_at words = do
+  boot ← u32_at words
+  number ← u64_at boot.1
+  Some (record { boot = boot.0; number = number.0 }, number.1)
+
+-- whether a write went through
+unfoldable pub way_of : List ℕ → Option Bool
+way_of word =
+    if bytes_eq word (codes "delayed") then Some false
+    else (if bytes_eq word (codes "through") then Some true
+    else None)
+
+unfoldable pub way_at : List (List ℕ) → Option (Bool × List (List ℕ))
+way_at words = do
+  word ← word_at words
+  way ← way_of word.0
+  Some (way, word.1)
+
+-- the reply packet of a read, if the server served it
+abbrev pub source_by : List ℕ → List (List ℕ) → Option (Option ℕ × List (List ℕ))
+source_by word words =
+    if bytes_eq word (codes "cached") then Some (None, words)
+    else (if bytes_eq word (codes "served") then (u64_at words >>= λ packet. Some (Some packet.0, packet.1))
+    else None)
+
+unfoldable pub source_at : List (List ℕ) → Option (Option ℕ × List (List ℕ))
+source_at words = do
+  word ← word_at words
+  source_by word.0 word.1
+
+-- the longest term, which version 1 does not tell
+unfoldable pub longest_at : (version : ℕ) → List (List ℕ) → Option (ℕ × List (List ℕ))
+longest_at version words = if version == 2 then u32_at words else Some (60, words)
+
+-- the kinds of entry, by their letters
+unfoldable pub kind_of : List ℕ → Option Kind
+kind_of word =
+    if bytes_eq word (codes "C") then Some Kind.C
+    else (if bytes_eq word (codes "W") then Some Kind.W
+    else (if bytes_eq word (codes "R") then Some Kind.R
+    else (if bytes_eq word (codes "S") then Some Kind.S
+    else (if bytes_eq word (codes "L") then Some Kind.L
+    else (if bytes_eq word (codes "G") then Some Kind.G
+    else (if bytes_eq word (codes "F") then Some Kind.F
+    else (if bytes_eq word (codes "O") then Some Kind.O
+    else (if bytes_eq word (codes "B") then Some Kind.B
+    else (if bytes_eq word (codes "X") then Some Kind.X
+    else (if bytes_eq word (codes "Z") then Some Kind.Z
+    else (if bytes_eq word (codes "A") then Some Kind.A
+    else None)))))))))))
+
+unfoldable pub c_at : List (List ℕ) → Option (Entry × List (List ℕ))
+c_at words = do
+  who ← who_at words
+  q ← u64_at who.1
+  told ← told_at q.1
+  Some (Entry.C who.0 q.0 told.0, told.1)
+
+unfoldable pub w_at : List (List ℕ) → Option (Entry × List (List ℕ))
+w_at words = do
+  who ← who_at words
+  place ← place_at who.1
+  number ← u64_at place.1
+  value ← u32_at number.1
+  way ← way_at value.1
+  Some (Entry.W who.0 place.0.0 place.0.1 number.0 value.0 way.0, way.1)
+
+unfoldable pub r_at : List (List ℕ) → Option (Entry × List (List ℕ))
+r_at words = do
+  who ← who_at words
+  q ← u64_at who.1
+  place ← place_at q.1
+  value ← u32_at place.1
+  source ← source_at value.1
+  Some (Entry.R who.0 q.0 place.0.0 place.0.1 value.0 source.0, source.1)
+
+unfoldable pub s_at : List (List ℕ) → Option (Entry × List (List ℕ))
+s_at words = do
+  who ← who_at words
+  place ← place_at who.1
+  first ← u64_at place.1
+  last ← u64_at first.1
+  now ← u64_at last.1
+  Some (Entry.S who.0 place.0.0 place.0.1 first.0 last.0 now.0, now.1)
+
+unfoldable pub l_at : List (List ℕ) → Option (Entry × List (List ℕ))
+l_at words = do
+  who ← who_at words
+  place ← place_at who.1
+  first ← u64_at place.1
+  last ← u64_at first.1
+  Some (Entry.L who.0 place.0.0 place.0.1 first.0 last.0, last.1)
+
+unfoldable pub g_at : List (List ℕ) → Option (Entry × List (List ℕ))
+g_at words = do
+  who ← who_at words
+  file ← u32_at who.1
+  mode ← mode_at file.1
+  tag ← tag_at mode.1
+  term ← u32_at tag.1
+  now ← u64_at term.1
+  Some (Entry.G who.0 file.0 mode.0 tag.0 term.0 now.0, now.1)
+
+unfoldable pub f_at : List (List ℕ) → Option (Entry × List (List ℕ))
+f_at words = do
+  who ← who_at words
+  file ← u32_at who.1
+  until ← u64_at file.1
+  heard ← u64_at until.1
+  now ← u64_at heard.1
+  Some (Entry.F who.0 file.0 until.0 heard.0 now.0, now.1)
+
+unfoldable pub o_at : List (List ℕ) → Option (Entry × List (List ℕ))
+o_at words = do
+  boot ← u32_at words
+  until ← u64_at boot.1
+  heard ← u64_at until.1
+  now ← u64_at heard.1
+  Some (Entry.O boot.0 until.0 heard.0 now.0, now.1)
+
+unfoldable pub b_at : List (List ℕ) → Option (Entry × List (List ℕ))
+b_at words = do
+  who ← who_at words
+  Some (Entry.B who.0, who.1)
+
+unfoldable pub x_at : (version : ℕ) → List (List ℕ) → Option (Entry × List (List ℕ))
+x_at version words = do
+  boot ← u32_at words
+  now ← u64_at boot.1
+  longest ← longest_at version now.1
+  Some (Entry.X boot.0 now.0 longest.0, longest.1)
+
+unfoldable pub z_at : List (List ℕ) → Option (Entry × List (List ℕ))
+z_at words = do
+  who ← who_at words
+  q ← u64_at who.1
+  file ← u32_at q.1
+  from ← u32_at file.1
+  to ← u32_at from.1
+  Some (Entry.Z who.0 q.0 file.0 from.0 to.0, to.1)
+
+unfoldable pub a_at : List (List ℕ) → Option (Entry × List (List ℕ))
+a_at words = do
+  who ← who_at words
+  q ← u64_at who.1
+  said ← said_at q.1
+  Some (Entry.A who.0 q.0 said.0, said.1)
+
+-- an entry behind its letter
+abbrev pub entry_by : (version : ℕ) → Kind → List (List ℕ) → Option (Entry × List (List ℕ))
+entry_by version Kind.C words = c_at words
+entry_by version Kind.W words = w_at words
+entry_by version Kind.R words = r_at words
+entry_by version Kind.S words = s_at words
+entry_by version Kind.L words = l_at words
+entry_by version Kind.G words = g_at words
+entry_by version Kind.F words = f_at words
+entry_by version Kind.O words = o_at words
+entry_by version Kind.B words = b_at words
+entry_by version Kind.X words = x_at version words
+entry_by version Kind.Z words = z_at words
+entry_by version Kind.A words = a_at words
+
+-- whether a version has a call
+abbrev pub has_told : (version : ℕ) → Told → Bool
+has_told version (Told.Resize file blocks) = version == 2
+has_told version (Told.Remove file) = version == 2
+has_told version other = true
+
+-- whether a version has an entry
+abbrev pub has : (version : ℕ) → Entry → Bool
+has version (Entry.C who q told) = has_told version told
+has version (Entry.Z who q file from to) = version == 2
+has version (Entry.X boot now longest) = (version == 2) || (longest == 60)
+has version other = true
+
+-- the entry that these words, all of them, spell in a version
+unfoldable pub entry_of : (version : ℕ) → List (List ℕ) → Option Entry
+entry_of version words = do
+  word ← word_at words
+  kind ← kind_of word.0
+  entry ← entry_by version kind word.1
+  only_if (is_done entry.1 && has version entry.0) entry.0
 
 -- A call gave what reading gives, seen by view, and left these words; or it gave nothing, and reading gives nothing.
 abbrev pub Takes : {X Y : Type 0} → (X → Y) → Option X → List (List ℕ) → Option (Y × List (List ℕ)) → Type 0

@@ -1,11 +1,13 @@
 //! The journal of a run: its entries, and their text, printed and parsed.
 #![tactic(auto)]
 
+mod entries;
 mod journal;
 mod lines;
 mod no_memory;
 mod printing;
 mod rows;
+mod saids;
 mod tolds;
 mod words;
 

@@ -26,3 +26,11 @@ impl<T: Drop> From<AllocFailed<T>> for NoMemory {
         NoMemory::Memory
     }
 }
+
+impl From<nq_base::NoMemory> for NoMemory {
+    ghost from_gives = { λ _ error. error ≡ Memory };
+
+    fn from(_: nq_base::NoMemory) -> Self {
+        NoMemory::Memory
+    }
+}

@@ -1,9 +1,9 @@
 // Reading the words of a line.
-ghost use Rattle.std.specs.Prelude.{◌≡◌, ◌↔◌, [], option_map, IsTrue};
+ghost use Rattle.std.specs.Prelude.{◌≡◌, [], IsNone, option_map};
 ghost use Rattle.std.specs.Str.{bytes_eq};
-ghost use Rattle.nq_journal.specs.Reading.{cut, words_of, Takes, word_at, with_digit, digits_after, is_plain, u64_of, u32_of, name_of, u64_at, u32_at, name_at, who_at, place_at};
+ghost use Rattle.nq_journal.specs.Reading.{cut, words_of, Takes, is_done, word_at, with_digit, digits_after, is_plain, u64_of, u32_of, name_of, u64_at, u32_at, name_at, who_at, place_at, tag_at};
 
-use nq_base::{BlockNo, FileId, Host, Inc, Name, Who};
+use nq_base::{BlockNo, FileId, Host, Inc, Name, Tag, Who};
 use std::marker::Model;
 
 // What stands before the first byte of this kind, and what stands behind it.
@@ -62,6 +62,14 @@ pub(crate) fn number(word: &[u8]) -> Option<u64>
     if is_plain(word) { digits(word) } else { None }
 }
 
+// The number below 2^32 that a word spells.
+#[tactic(auto, unfolding(crate::specs::Reading::u32_of))]
+pub(crate) fn small(word: &[u8]) -> Option<u32>
+    ensures { result ≡ u32_of word.now }
+{
+    u32::try_from(number(word)?).ok()
+}
+
 // The name that a word spells.
 pub(crate) fn name(word: &[u8]) -> Option<Name>
     ensures { result ≡ name_of word.now }
@@ -94,7 +102,8 @@ impl<'a> Words<'a> {
 
     // Takes the next word.
     pub(crate) fn next(&mut self) -> Option<&'a [u8]>
-        ensures { Takes (λ word. word.now) result self.new (word_at self.old) }
+        ensures takes { Takes (λ word. word.now) result self.new (word_at self.old) }
+        ensures done { IsNone result → self.new ≡ [] }
     {
         let line = self.rest?;
         match cut(line, b' ') {
@@ -111,7 +120,7 @@ impl<'a> Words<'a> {
 
     // Whether no word is left.
     pub(crate) fn is_empty(&self) -> bool
-        ensures { IsTrue result ↔ (self.now ≡ []) }
+        ensures { result ≡ is_done self.now }
     {
         self.rest.is_none()
     }
@@ -125,11 +134,11 @@ impl<'a> Words<'a> {
     }
 
     // Takes a number below 2^32.
-    #[tactic(auto, unfolding(crate::specs::Reading::u32_at, crate::specs::Reading::u32_of))]
+    #[tactic(auto, unfolding(crate::specs::Reading::u32_at))]
     pub(crate) fn u32(&mut self) -> Option<u32>
         ensures { Takes (λ n. n) result self.new (u32_at self.old) }
     {
-        u32::try_from(number(self.next()?)?).ok()
+        small(self.next()?)
     }
 
     // Takes a name.
@@ -158,5 +167,15 @@ impl<'a> Words<'a> {
         let file = FileId(self.u32()?);
         let block = BlockNo(self.u32()?);
         Some((file, block))
+    }
+
+    // Takes a tag.
+    #[tactic(auto, unfolding(crate::specs::Reading::tag_at))]
+    pub(crate) fn tag(&mut self) -> Option<Tag>
+        ensures { Takes (λ tag. tag) result self.new (tag_at self.old) }
+    {
+        let boot = self.u32()?;
+        let number = self.u64()?;
+        Some(Tag { boot, number })
     }
 }

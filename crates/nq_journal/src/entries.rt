@@ -1,0 +1,391 @@
+// Reading entries.
+ghost use Rattle.std.specs.Prelude.{◌≡◌, option_map, IfOk};
+ghost use Rattle.nq_journal.specs.Items.{plain};
+ghost use Rattle.nq_journal.specs.Reading.{Takes, kind_of, entry_by, entry_of, has, has_told, mode_of, mode_at, way_of, way_at, source_at, longest_at, words_of, c_at, w_at, r_at, s_at, l_at, g_at, f_at, o_at, b_at, x_at, z_at, a_at};
+
+use crate::NoMemory;
+use crate::saids::said;
+use crate::tolds::told;
+use crate::words::{Words, is};
+use nq_base::{Entry, FileId, Mode, Number, Ticks, Told};
+use std::alloc::Global;
+
+// The kinds of entry, by their letters.
+#[derive(Clone, Copy)]
+pub(crate) enum Kind {
+    C,
+    W,
+    R,
+    S,
+    L,
+    G,
+    F,
+    O,
+    B,
+    X,
+    Z,
+    A,
+}
+
+// The kind of entry whose letter a word is.
+#[tactic(auto, unfolding(crate::specs::Reading::kind_of))]
+fn kind_of(word: &[u8]) -> Option<Kind>
+    ensures { result ≡ kind_of word.now }
+{
+    if is(word, b"C") {
+        Some(Kind::C)
+    } else if is(word, b"W") {
+        Some(Kind::W)
+    } else if is(word, b"R") {
+        Some(Kind::R)
+    } else if is(word, b"S") {
+        Some(Kind::S)
+    } else if is(word, b"L") {
+        Some(Kind::L)
+    } else if is(word, b"G") {
+        Some(Kind::G)
+    } else if is(word, b"F") {
+        Some(Kind::F)
+    } else if is(word, b"O") {
+        Some(Kind::O)
+    } else if is(word, b"B") {
+        Some(Kind::B)
+    } else if is(word, b"X") {
+        Some(Kind::X)
+    } else if is(word, b"Z") {
+        Some(Kind::Z)
+    } else if is(word, b"A") {
+        Some(Kind::A)
+    } else {
+        None
+    }
+}
+
+// The mode that a word names.
+#[tactic(auto, unfolding(crate::specs::Reading::mode_of))]
+fn mode_of(word: &[u8]) -> Option<Mode>
+    ensures { result ≡ mode_of word.now }
+{
+    if is(word, b"noncaching") {
+        Some(Mode::NonCaching)
+    } else if is(word, b"reading") {
+        Some(Mode::Reading)
+    } else if is(word, b"writing") {
+        Some(Mode::Writing)
+    } else {
+        None
+    }
+}
+
+// Takes a mode.
+#[tactic(auto, unfolding(crate::specs::Reading::mode_at))]
+fn take_mode(words: &mut Words<'_>) -> Option<Mode>
+    ensures { Takes (λ mode. mode) result words.new (mode_at words.old) }
+{
+    mode_of(words.next()?)
+}
+
+// Whether a write went through, as a word tells.
+#[tactic(auto, unfolding(crate::specs::Reading::way_of))]
+fn way_of(word: &[u8]) -> Option<bool>
+    ensures { result ≡ way_of word.now }
+{
+    if is(word, b"delayed") {
+        Some(false)
+    } else if is(word, b"through") {
+        Some(true)
+    } else {
+        None
+    }
+}
+
+// Takes whether a write went through.
+#[tactic(auto, unfolding(crate::specs::Reading::way_at))]
+fn take_way(words: &mut Words<'_>) -> Option<bool>
+    ensures { Takes (λ way. way) result words.new (way_at words.old) }
+{
+    way_of(words.next()?)
+}
+
+// Takes the reply packet of a read, if the server served it.
+#[tactic(auto, unfolding(crate::specs::Reading::source_at))]
+fn source(words: &mut Words<'_>) -> Option<Option<u64>>
+    ensures { Takes (λ source. source) result words.new (source_at words.old) }
+{
+    let word = words.next()?;
+    if is(word, b"cached") {
+        Some(None)
+    } else if is(word, b"served") {
+        let packet = words.u64()?;
+        Some(Some(packet))
+    } else {
+        None
+    }
+}
+
+// Takes the longest term, which version 1 does not tell.
+#[tactic(auto, unfolding(crate::specs::Reading::longest_at))]
+fn longest(words: &mut Words<'_>, version: u32) -> Option<u32>
+    ensures { Takes (λ longest. longest) result words.new (longest_at version words.old) }
+{
+    if version == 2 { words.u32() } else { Some(60) }
+}
+
+#[tactic(auto, unfolding(crate::specs::Reading::c_at))]
+fn c(words: &mut Words<'_>) -> Option<Entry>
+    ensures { Takes plain result words.new (c_at words.old) }
+{
+    let who = words.who()?;
+    let q = words.u64()?;
+    let told = told(words)?;
+    Some(Entry::C { who, q, told })
+}
+
+#[tactic(auto, unfolding(crate::specs::Reading::w_at))]
+fn w(words: &mut Words<'_>) -> Option<Entry>
+    ensures { Takes plain result words.new (w_at words.old) }
+{
+    let who = words.who()?;
+    let (file, block) = words.place()?;
+    let number = Number(words.u64()?);
+    let value = words.u32()?;
+    let through = take_way(words)?;
+    Some(Entry::W {
+        who,
+        file,
+        block,
+        number,
+        value,
+        through,
+    })
+}
+
+#[tactic(auto, unfolding(crate::specs::Reading::r_at))]
+fn r(words: &mut Words<'_>) -> Option<Entry>
+    ensures { Takes plain result words.new (r_at words.old) }
+{
+    let who = words.who()?;
+    let q = words.u64()?;
+    let (file, block) = words.place()?;
+    let value = words.u32()?;
+    let served = source(words)?;
+    Some(Entry::R {
+        who,
+        q,
+        file,
+        block,
+        value,
+        served,
+    })
+}
+
+#[tactic(auto, unfolding(crate::specs::Reading::s_at))]
+fn s(words: &mut Words<'_>) -> Option<Entry>
+    ensures { Takes plain result words.new (s_at words.old) }
+{
+    let who = words.who()?;
+    let (file, block) = words.place()?;
+    let first = Number(words.u64()?);
+    let last = Number(words.u64()?);
+    let now = Ticks(words.u64()?);
+    Some(Entry::S {
+        who,
+        file,
+        block,
+        first,
+        last,
+        now,
+    })
+}
+
+#[tactic(auto, unfolding(crate::specs::Reading::l_at))]
+fn l(words: &mut Words<'_>) -> Option<Entry>
+    ensures { Takes plain result words.new (l_at words.old) }
+{
+    let who = words.who()?;
+    let (file, block) = words.place()?;
+    let first = Number(words.u64()?);
+    let last = Number(words.u64()?);
+    Some(Entry::L {
+        who,
+        file,
+        block,
+        first,
+        last,
+    })
+}
+
+#[tactic(auto, unfolding(crate::specs::Reading::g_at))]
+fn g(words: &mut Words<'_>) -> Option<Entry>
+    ensures { Takes plain result words.new (g_at words.old) }
+{
+    let who = words.who()?;
+    let file = FileId(words.u32()?);
+    let mode = take_mode(words)?;
+    let tag = words.tag()?;
+    let term = words.u32()?;
+    let now = Ticks(words.u64()?);
+    Some(Entry::G {
+        who,
+        file,
+        mode,
+        tag,
+        term,
+        now,
+    })
+}
+
+#[tactic(auto, unfolding(crate::specs::Reading::f_at))]
+fn f(words: &mut Words<'_>) -> Option<Entry>
+    ensures { Takes plain result words.new (f_at words.old) }
+{
+    let who = words.who()?;
+    let file = FileId(words.u32()?);
+    let until = Ticks(words.u64()?);
+    let heard = Ticks(words.u64()?);
+    let now = Ticks(words.u64()?);
+    Some(Entry::F {
+        who,
+        file,
+        until,
+        heard,
+        now,
+    })
+}
+
+#[tactic(auto, unfolding(crate::specs::Reading::o_at))]
+fn o(words: &mut Words<'_>) -> Option<Entry>
+    ensures { Takes plain result words.new (o_at words.old) }
+{
+    let boot = words.u32()?;
+    let until = Ticks(words.u64()?);
+    let heard = Ticks(words.u64()?);
+    let now = Ticks(words.u64()?);
+    Some(Entry::O {
+        boot,
+        until,
+        heard,
+        now,
+    })
+}
+
+#[tactic(auto, unfolding(crate::specs::Reading::b_at))]
+fn b(words: &mut Words<'_>) -> Option<Entry>
+    ensures { Takes plain result words.new (b_at words.old) }
+{
+    let who = words.who()?;
+    Some(Entry::B { who })
+}
+
+#[tactic(auto, unfolding(crate::specs::Reading::x_at))]
+fn x(words: &mut Words<'_>, version: u32) -> Option<Entry>
+    ensures { Takes plain result words.new (x_at version words.old) }
+{
+    let boot = words.u32()?;
+    let now = Ticks(words.u64()?);
+    let longest = longest(words, version)?;
+    Some(Entry::X { boot, now, longest })
+}
+
+#[tactic(auto, unfolding(crate::specs::Reading::z_at))]
+fn z(words: &mut Words<'_>) -> Option<Entry>
+    ensures { Takes plain result words.new (z_at words.old) }
+{
+    let who = words.who()?;
+    let q = words.u64()?;
+    let file = FileId(words.u32()?);
+    let from = words.u32()?;
+    let to = words.u32()?;
+    Some(Entry::Z {
+        who,
+        q,
+        file,
+        from,
+        to,
+    })
+}
+
+#[tactic(auto, unfolding(crate::specs::Reading::a_at))]
+fn a(alloc: Global, words: &mut Words<'_>) -> Result<Option<Entry>, NoMemory>
+    ensures { IfOk result (λ entry. Takes plain entry words.new (a_at words.old)) }
+{
+    let Some(who) = words.who() else {
+        return Ok(None);
+    };
+    let Some(q) = words.u64() else {
+        return Ok(None);
+    };
+    let Some(said) = said(alloc, words)? else {
+        return Ok(None);
+    };
+    Ok(Some(Entry::A { who, q, said }))
+}
+
+// Takes the words of an entry behind its letter.
+fn by_kind(
+    alloc: Global,
+    words: &mut Words<'_>,
+    version: u32,
+    kind: Kind,
+) -> Result<Option<Entry>, NoMemory>
+    ensures { IfOk result (λ entry. Takes plain entry words.new (entry_by version kind words.old)) }
+{
+    match kind {
+        Kind::C => Ok(c(words)),
+        Kind::W => Ok(w(words)),
+        Kind::R => Ok(r(words)),
+        Kind::S => Ok(s(words)),
+        Kind::L => Ok(l(words)),
+        Kind::G => Ok(g(words)),
+        Kind::F => Ok(f(words)),
+        Kind::O => Ok(o(words)),
+        Kind::B => Ok(b(words)),
+        Kind::X => Ok(x(words, version)),
+        Kind::Z => Ok(z(words)),
+        Kind::A => a(alloc, words),
+    }
+}
+
+// Whether a version has a call.
+fn has_told(version: u32, told: &Told) -> bool
+    ensures { result ≡ has_told version told.now }
+{
+    match told {
+        Told::Resize { .. } | Told::Remove { .. } => version == 2,
+        _ => true,
+    }
+}
+
+// Whether a version has an entry.
+fn has(version: u32, entry: &Entry) -> bool
+    ensures { result ≡ has version entry.now }
+{
+    match entry {
+        Entry::C { told, .. } => has_told(version, told),
+        Entry::Z { .. } => version == 2,
+        Entry::X { longest, .. } => version == 2 || *longest == 60,
+        _ => true,
+    }
+}
+
+// The entry that a line spells in a version.
+#[tactic(auto, unfolding(crate::specs::Reading::entry_of))]
+pub(crate) fn entry(alloc: Global, version: u32, line: &[u8]) -> Result<Option<Entry>, NoMemory>
+    ensures { IfOk result (λ entry. option_map plain entry ≡ entry_of version (words_of line.now)) }
+{
+    let mut words = Words::new(line);
+    let Some(letter) = words.next() else {
+        return Ok(None);
+    };
+    let Some(kind) = kind_of(letter) else {
+        return Ok(None);
+    };
+    let Some(entry) = by_kind(alloc, &mut words, version, kind)? else {
+        return Ok(None);
+    };
+    if words.is_empty() && has(version, &entry) {
+        Ok(Some(entry))
+    } else {
+        Ok(None)
+    }
+}

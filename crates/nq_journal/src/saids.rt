@@ -1,0 +1,116 @@
+// Reading answers.
+ghost use Rattle.std.specs.Prelude.{◌≡◌, option_map, IfOk};
+ghost use Rattle.nq_journal.specs.Items.{plain_said};
+ghost use Rattle.nq_journal.specs.Reading.{Takes, span_of, lost_at, by_at, value_at, ok_at, bare_of, bare_at, said_at};
+
+use crate::NoMemory;
+use crate::words::{Words, cut, is, number, small};
+use nq_base::{BlockNo, Number, Said, Span, Spans};
+use std::alloc::Global;
+
+// The span that a word spells.
+#[tactic(auto, unfolding(crate::specs::Reading::span_of))]
+fn span(word: &[u8]) -> Option<Span>
+    ensures { result ≡ span_of word.now }
+{
+    let (block, ends) = cut(word, b':')?;
+    let (first, last) = cut(ends, b'-')?;
+    let block = BlockNo(small(block)?);
+    let first = Number(number(first)?);
+    let last = Number(number(last)?);
+    Some(Span { block, first, last })
+}
+
+// Takes spans to the end of the line.
+fn lost(alloc: Global, words: &mut Words<'_>) -> Result<Option<Said>, NoMemory>
+    ensures { IfOk result (λ said. Takes plain_said said words.new (lost_at words.old)) }
+{
+    let mut spans = Spans::new(alloc)?;
+    while let Some(word) = words.next() {
+        let Some(span) = span(word) else {
+            return Ok(None);
+        };
+        spans.push(span)?;
+    }
+    Ok(Some(Said::Lost(spans)))
+}
+
+// Takes the packet that brought a value.
+#[tactic(auto, unfolding(crate::specs::Reading::by_at))]
+fn by(words: &mut Words<'_>, value: u32) -> Option<Said>
+    ensures { Takes plain_said result words.new (by_at value words.old) }
+{
+    let by = words.next()?;
+    let packet = words.u64()?;
+    if is(by, b"by") {
+        Some(Said::OkBy { value, packet })
+    } else {
+        None
+    }
+}
+
+// Takes a value, and the packet that brought it, where one did.
+#[tactic(auto, unfolding(crate::specs::Reading::value_at))]
+fn value(words: &mut Words<'_>) -> Option<Said>
+    ensures { Takes plain_said result words.new (value_at words.old) }
+{
+    let value = words.u32()?;
+    if words.is_empty() {
+        Some(Said::OkValue(value))
+    } else {
+        by(words, value)
+    }
+}
+
+// Takes what stands behind the word `ok`.
+#[tactic(auto, unfolding(crate::specs::Reading::ok_at))]
+fn ok(words: &mut Words<'_>) -> Option<Said>
+    ensures { Takes plain_said result words.new (ok_at words.old) }
+{
+    if words.is_empty() {
+        Some(Said::Ok)
+    } else {
+        value(words)
+    }
+}
+
+// The answer that a word alone spells.
+#[tactic(auto, unfolding(crate::specs::Reading::bare_of))]
+fn bare(word: &[u8]) -> Option<Said>
+    ensures { option_map plain_said result ≡ bare_of word.now }
+{
+    if is(word, b"busy") {
+        Some(Said::Busy)
+    } else if is(word, b"stale") {
+        Some(Said::Stale)
+    } else if is(word, b"noentry") {
+        Some(Said::NoEntry)
+    } else if is(word, b"exists") {
+        Some(Said::Exists)
+    } else if is(word, b"nospace") {
+        Some(Said::NoSpace)
+    } else if is(word, b"range") {
+        Some(Said::Range)
+    } else if is(word, b"dirtyfull") {
+        Some(Said::DirtyFull)
+    } else {
+        None
+    }
+}
+
+// Takes the words of an answer.
+#[tactic(auto, unfolding(crate::specs::Reading::said_at, crate::specs::Reading::bare_at))]
+pub(crate) fn said(alloc: Global, words: &mut Words<'_>) -> Result<Option<Said>, NoMemory>
+    ensures { IfOk result (λ said. Takes plain_said said words.new (said_at words.old)) }
+{
+    let Some(word) = words.next() else {
+        return Ok(None);
+    };
+    if is(word, b"ok") {
+        Ok(ok(words))
+    } else if is(word, b"lost") {
+        lost(alloc, words)
+    } else {
+        Ok(bare(word))
+    }
+}
