@@ -5,6 +5,7 @@ use Rattle.std.specs.List.{list_all}
 use Rattle.std.proofs.lemmas.Bool.{leb-true, le-leb}
 use Rattle.std.proofs.lemmas.Bool.Decides.{nat_tests, Decides-by_and, Decides-and, Decides-like}
 use Rattle.nq_base.specs.Name.{IsName, IsNameByte}
+use Rattle.nq_journal.proofs.Options.{chosen}
 use Rattle.nq_journal.specs.Reading.{only_if, is_name_byte, name_of}
 
 within : (a b : ℕ) → Decides (nat_le a b) (a ≤ b)
@@ -24,11 +25,6 @@ named word =
     let sizes = Decides-and (nat_le 1 (length word)) (nat_le (length word) 64) (within 1 (length word)) (within (length word) 64) in
     Decides-like (is_name word) (λ h. (h.0.0, h.0.1, h.1)) (λ h. ((h.0, h.1), h.2))
     (Decides-and (nat_le 1 (length word) && nat_le (length word) 64) (list_all is_name_byte word) sizes (bytes word))
-
--- a test and what it chooses
-chosen : {A : Type 0} (test : Bool) (x : A) → ((test ≡ true) × (only_if test x ≡ Some x)) ⊎ ((test ≡ false) × (only_if test x ≡ None))
-chosen true x = inl (refl, refl)
-chosen false x = inr (refl, refl)
 
 -- an answer that tells whether a word is a name
 pub found : (word : List ℕ) (r : Option (List ℕ)) → (IsSome r → IsName word) × (IsName word → IsSome r) → IfSome r (λ n. n ≡ word) → r ≡ name_of word
