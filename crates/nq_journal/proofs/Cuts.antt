@@ -4,7 +4,7 @@ use Rattle.std.proofs.lemmas.Bool.{ne_eqb, eq-eqb}
 use Rattle.std.proofs.lemmas.Bool.Decides.{eqb_tells}
 use Rattle.std.proofs.lemmas.List.{take_more, take_all, drop_all, length-drop}
 use Rattle.std.specs.Option.{is_some}
-use Rattle.nq_journal.specs.Reading.{cut, with_front, words_of, words_left, word_at, with_first, is_done}
+use Rattle.nq_journal.specs.Reading.{cut, with_front, words_of, words_left, with_first, is_done}
 
 -- at a byte of another kind the first part grows
 pub cut_past : (stop b : ℕ) (bytes : List ℕ) → b ≢ stop → cut stop (b ∷ bytes) ≡ with_front (b ∷ []) (cut stop bytes)
@@ -92,7 +92,7 @@ emptied f None false now left none = cc
 emptied f (Some line) true now left some = cc
 emptied f (Some line) false now left some = sym (some_left (words_of (f line)) (words_of_some (f line))) ∙ ap is_done left
 
--- the next word
-pub next_word : {X : Type 0} (f : X → List ℕ) (rest : Option X) (line : X) (now : List (List ℕ)) (parts : Option (List ℕ × List ℕ)) → words_left (option_map f rest) ≡ now → rest ≡ Some line → parts ≡ cut 32 (f line) → word_at now ≡ word_at (words_by (f line) parts)
-next_word f rest line now parts left some cuts =
-    ap word_at (sym left ∙ ap (λ r. words_left (option_map f r)) some ∙ words_of-cut (f line) ∙ ap (words_by (f line)) (sym cuts))
+-- the words that are left, by the next cut
+pub next_words : {X : Type 0} (f : X → List ℕ) (rest : Option X) (line : X) (now : List (List ℕ)) (parts : Option (List ℕ × List ℕ)) → words_left (option_map f rest) ≡ now → rest ≡ Some line → parts ≡ cut 32 (f line) → now ≡ words_by (f line) parts
+next_words f rest line now parts left some cuts =
+    sym left ∙ ap (λ r. words_left (option_map f r)) some ∙ words_of-cut (f line) ∙ ap (words_by (f line)) (sym cuts)

@@ -1,10 +1,10 @@
 -- Lines and their words, lines and the text behind them.
-use Rattle.std.proofs.Common.{◌≡◌, ◌≢◌, ℕ, ◌<◌, lit<, List, [], ◌∷◌, ◌++◌, Option, Some, None, refl, ap, sym, ◌∙◌, ◌⊎◌, inl, inr, append_assoc, arith}
+use Rattle.std.proofs.Common.{◌≡◌, ◌≢◌, ℕ, ◌<◌, lit<, List, [], ◌∷◌, ◌++◌, Option, Some, None, refl, ap, sym, ◌∙◌, inl, inr, arith}
 use Rattle.std.specs.List.{AllByRecursion, flat_map}
-use Rattle.std.proofs.lemmas.Bool.{ne_eqb, eq-eqb}
+use Rattle.std.proofs.lemmas.Bool.{ne_eqb}
 use Rattle.std.proofs.lemmas.Bool.Decides.{eqb_tells}
 use Rattle.nq_journal.specs.Reading.{cut, with_front, words_of, with_first}
-use Rattle.nq_journal.specs.Words.{spaced, joined, line}
+use Rattle.nq_journal.specs.Words.{spaced, joined}
 use Rattle.nq_journal.proofs.Cuts.{cut_past, cut_here}
 
 -- bytes that stand behind the blank

@@ -1,12 +1,12 @@
 -- Whether a word is a name.
-use Rattle.std.proofs.Common.{◌≡◌, ℕ, ◌≤◌, Bool, true, false, ◌&&◌, List, length, All, Option, Some, None, Decides, refl, ap, sym, ◌∙◌, subst, ◌⊎◌, inl, inr, arith, nat_le}
+use Rattle.std.proofs.Common.{◌≡◌, ℕ, ◌≤◌, Bool, ◌&&◌, List, length, All, Option, Some, None, Decides, refl, ap, sym, ◌∙◌, subst, inl, inr, arith, nat_le}
 use Rattle.std.specs.Option.{IsSome, IfSome}
 use Rattle.std.specs.List.{list_all}
 use Rattle.std.proofs.lemmas.Bool.{leb-true, le-leb}
 use Rattle.std.proofs.lemmas.Bool.Decides.{nat_tests, Decides-by_and, Decides-and, Decides-like}
 use Rattle.nq_base.specs.Name.{IsName, IsNameByte}
 use Rattle.nq_journal.proofs.Options.{chosen}
-use Rattle.nq_journal.specs.Reading.{only_if, is_name_byte, name_of}
+use Rattle.nq_journal.specs.Reading.{is_name_byte, name_of}
 
 within : (a b : ℕ) → Decides (nat_le a b) (a ≤ b)
 within a b = (leb-true a b, le-leb a b)

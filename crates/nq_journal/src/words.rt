@@ -1,7 +1,10 @@
 // Reading the words of a line.
-ghost use Rattle.std.specs.Prelude.{◌≡◌, [], IsNone, option_map};
+ghost use Rattle.std.specs.Prelude.{◌≡◌, ◌^◌, ◌<◌, [], ◌∷◌, IsNone, IfSome, option_map};
+ghost use Rattle.std.specs.Fmt.{decimal};
 ghost use Rattle.std.specs.Str.{bytes_eq};
+ghost use Rattle.nq_base.specs.Name.{IsName};
 ghost use Rattle.nq_journal.specs.Reading.{cut, words_of, Takes, is_done, word_at, with_digit, digits_after, is_plain, u64_of, u32_of, name_of, u64_at, u32_at, name_at, who_at, place_at, tag_at};
+ghost use Rattle.nq_journal.specs.Text.{FitsWho};
 
 use nq_base::{BlockNo, FileId, Host, Inc, Name, Tag, Who};
 use std::marker::Model;
@@ -56,23 +59,34 @@ fn is_plain(word: &[u8]) -> bool
 
 // The number below 2^64 that a word spells.
 #[tactic(auto, unfolding(crate::specs::Reading::u64_of))]
-pub(crate) fn number(word: &[u8]) -> Option<u64>
+fn checked(word: &[u8]) -> Option<u64>
     ensures { result ≡ u64_of word.now }
 {
     if is_plain(word) { digits(word) } else { None }
 }
 
+// The same, and that a word spells it.
+#[tactic(auto, using(crate::proofs::Numerals::u64_found))]
+pub(crate) fn number(word: &[u8]) -> Option<u64>
+    ensures step { result ≡ u64_of word.now }
+    ensures found { IfSome result (λ n. word.now ≡ decimal n) }
+{
+    checked(word)
+}
+
 // The number below 2^32 that a word spells.
 #[tactic(auto, unfolding(crate::specs::Reading::u32_of))]
 pub(crate) fn small(word: &[u8]) -> Option<u32>
-    ensures { result ≡ u32_of word.now }
+    ensures step { result ≡ u32_of word.now }
+    ensures found { IfSome result (λ n. word.now ≡ decimal n) }
 {
     u32::try_from(number(word)?).ok()
 }
 
 // The name that a word spells.
 pub(crate) fn name(word: &[u8]) -> Option<Name>
-    ensures { result ≡ name_of word.now }
+    ensures step { result ≡ name_of word.now }
+    ensures found { IfSome result (λ n. (word.now ≡ n) × IsName n) }
 {
     Name::new(word)
 }
@@ -102,7 +116,8 @@ impl<'a> Words<'a> {
 
     // Takes the next word.
     pub(crate) fn next(&mut self) -> Option<&'a [u8]>
-        ensures takes { Takes (λ word. word.now) result self.new (word_at self.old) }
+        ensures step { Takes (λ word. word.now) result self.new (word_at self.old) }
+        ensures found { IfSome result (λ word. self.old ≡ word.now ∷ self.new) }
         ensures done { IsNone result → self.new ≡ [] }
     {
         let line = self.rest?;
@@ -128,7 +143,8 @@ impl<'a> Words<'a> {
     // Takes a number below 2^64.
     #[tactic(auto, unfolding(crate::specs::Reading::u64_at))]
     pub(crate) fn u64(&mut self) -> Option<u64>
-        ensures { Takes (λ n. n) result self.new (u64_at self.old) }
+        ensures step { Takes (λ n. n) result self.new (u64_at self.old) }
+        ensures found { IfSome result (λ n. self.old ≡ decimal n ∷ self.new) }
     {
         number(self.next()?)
     }
@@ -136,7 +152,8 @@ impl<'a> Words<'a> {
     // Takes a number below 2^32.
     #[tactic(auto, unfolding(crate::specs::Reading::u32_at))]
     pub(crate) fn u32(&mut self) -> Option<u32>
-        ensures { Takes (λ n. n) result self.new (u32_at self.old) }
+        ensures step { Takes (λ n. n) result self.new (u32_at self.old) }
+        ensures found { IfSome result (λ n. self.old ≡ decimal n ∷ self.new) }
     {
         small(self.next()?)
     }
@@ -144,7 +161,8 @@ impl<'a> Words<'a> {
     // Takes a name.
     #[tactic(auto, unfolding(crate::specs::Reading::name_at))]
     pub(crate) fn name(&mut self) -> Option<Name>
-        ensures { Takes (λ n. n) result self.new (name_at self.old) }
+        ensures step { Takes (λ n. n) result self.new (name_at self.old) }
+        ensures found { IfSome result (λ n. (self.old ≡ n ∷ self.new) × IsName n) }
     {
         name(self.next()?)
     }
@@ -152,7 +170,8 @@ impl<'a> Words<'a> {
     // Takes an incarnation.
     #[tactic(auto, unfolding(crate::specs::Reading::who_at))]
     pub(crate) fn who(&mut self) -> Option<Who>
-        ensures { Takes (λ who. who) result self.new (who_at self.old) }
+        ensures step { Takes (λ who. who) result self.new (who_at self.old) }
+        ensures found { IfSome result (λ who. (self.old ≡ decimal who.host ∷ decimal who.inc ∷ self.new) × FitsWho who) }
     {
         let host = Host(self.u32()?);
         let inc = Inc(self.u32()?);
@@ -162,7 +181,8 @@ impl<'a> Words<'a> {
     // Takes a file and a block.
     #[tactic(auto, unfolding(crate::specs::Reading::place_at))]
     pub(crate) fn place(&mut self) -> Option<(FileId, BlockNo)>
-        ensures { Takes (λ place. place) result self.new (place_at self.old) }
+        ensures step { Takes (λ place. place) result self.new (place_at self.old) }
+        ensures found { IfSome result (λ place. (self.old ≡ decimal place.0 ∷ decimal place.1 ∷ self.new) × (place.0 < 2 ^ 32) × (place.1 < 2 ^ 32)) }
     {
         let file = FileId(self.u32()?);
         let block = BlockNo(self.u32()?);
@@ -172,7 +192,8 @@ impl<'a> Words<'a> {
     // Takes a tag.
     #[tactic(auto, unfolding(crate::specs::Reading::tag_at))]
     pub(crate) fn tag(&mut self) -> Option<Tag>
-        ensures { Takes (λ tag. tag) result self.new (tag_at self.old) }
+        ensures step { Takes (λ tag. tag) result self.new (tag_at self.old) }
+        ensures found { IfSome result (λ tag. (self.old ≡ decimal tag.boot ∷ decimal tag.number ∷ self.new) × (tag.boot < 2 ^ 32) × (tag.number < 2 ^ 64)) }
     {
         let boot = self.u32()?;
         let number = self.u64()?;

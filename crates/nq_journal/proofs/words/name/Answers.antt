@@ -1,5 +1,5 @@
 use Rattle.nq_journal.proofs.Names.{found}
 use Rattle.nq_journal.proofs.words.name.Goals as goal
 
-pub returns : goal.returns
-returns c = found c.args.word.now c.new.result c.new.ensures.name c.new.ensures.bytes
+pub returns-clause-step : goal.returns-clause-step
+returns-clause-step c = found c.args.word.now c.new.result c.new.ensures.name c.new.ensures.bytes
