@@ -1,12 +1,14 @@
 -- The words of spans, one more of them.
-use Rattle.std.proofs.Common.{◌≡◌, ℕ, ◌+◌, ◌<◌, List, [], ◌∷◌, ◌++◌, length, map, take, Option, Some, None, refl, ap, sym, ◌∙◌, append_assoc, append-nil, inl, inr, arith}
+use Rattle.std.proofs.Common.{◌≡◌, ℕ, ◌+◌, ◌<◌, List, [], ◌∷◌, ◌++◌, length, map, take, Option, Some, None, refl, ap, sym, ◌∙◌, subst, append_assoc, append-nil, inl, inr, arith}
+use Rattle.std.specs.Fmt.{decimal}
 use Rattle.std.specs.List.{flat_map, slice_get}
 use Rattle.std.proofs.lemmas.List.{take_more, map-append, flat_map_more}
 use Rattle.std.proofs.lemmas.Option.{slice_get_cases, slice_get_within, get_or_from_slice_get}
 use Rattle.nq_base.specs.declared.Span.{Span}
-use Rattle.nq_journal.specs.Reading.{◌>>=◌, word_at, span_of, spans_of}
+use Rattle.nq_journal.specs.Reading.{◌>>=◌, cut, word_at, span_of, spans_of}
 use Rattle.nq_journal.specs.Text.{span_word}
 use Rattle.nq_journal.specs.Words.{spaced}
+use Rattle.nq_journal.proofs.LineWords.{IsCut, cut_found}
 
 pub taken_more : (spans : List Span) (place : ℕ) (s : Span) → slice_get spans place ≡ Some s → take (place + 1) spans ≡ take place spans ++ s ∷ []
 taken_more spans place s found =
@@ -66,3 +68,29 @@ pub spans_end : (words : List (List ℕ)) (front : List Span) → word_at words 
 unfolding spans_of
 spans_end [] front none = ap Some (append-nil front)
 spans_end (word ∷ words) front none = cc
+
+-- the word of a span, by its parts
+pub span_spelled : (word block ends first last : List ℕ) (span : Span) → Some (block, ends) ≡ cut 58 word → Some (first, last) ≡ cut 45 ends → block ≡ decimal span.block → first ≡ decimal span.first → last ≡ decimal span.last → word ≡ span_word span
+unfolding span_word
+span_spelled word block ends first last span outer inner is_block is_first is_last =
+    let front = (let P : Option (List ℕ × List ℕ) → Type 0 = IsCut 58 word in subst P (sym outer) (cut_found 58 word)).0 in
+    let back = (let P : Option (List ℕ × List ℕ) → Type 0 = IsCut 45 ends in subst P (sym inner) (cut_found 45 ends)).0 in
+    front
+    ∙ ap (λ xs. block ++ 58 ∷ xs) back
+    ∙ ap (λ xs. xs ++ 58 ∷ (first ++ 45 ∷ last)) is_block
+    ∙ ap (λ xs. decimal span.block ++ 58 ∷ (xs ++ 45 ∷ last)) is_first
+    ∙ ap (λ xs. decimal span.block ++ 58 ∷ (decimal span.first ++ 45 ∷ xs)) is_last
+    ∙ simp append_assoc
+
+-- one span more was found
+pub words_more : (old words left : List (List ℕ)) (word : List ℕ) (front : List Span) (span : Span) → old ≡ map span_word front ++ words → words ≡ word ∷ left → word ≡ span_word span → old ≡ map span_word (front ++ span ∷ []) ++ left
+words_more old words left word front span found taken spelled =
+    found
+    ∙ ap (λ ws. map span_word front ++ ws) (taken ∙ ap (λ w. w ∷ left) spelled)
+    ∙ sym (append_assoc (map span_word front) (span_word span ∷ []) left)
+    ∙ ap (λ ws. ws ++ left) (sym (map-append span_word front (span ∷ [])))
+
+-- no word in front is none at all
+pub none_in_front : (words : List (List ℕ)) → word_at words ≡ None → words ≡ []
+none_in_front [] none = refl
+none_in_front (word ∷ words) none = cc

@@ -9,6 +9,7 @@ use Rattle.nq_base.specs.declared.Span.{Span}
 use Rattle.nq_base.specs.declared.Tag.{Tag}
 use Rattle.nq_base.specs.declared.Told.{Told}
 use Rattle.nq_base.specs.declared.Who.{Who}
+use Rattle.nq_journal.specs.Text.{entry_words, Fits}
 use Rattle.nq_journal.specs.declared.entries.Kind.{Kind}
 use Rattle.nq_journal.specs.declared.tolds.Verb.{Verb}
 
@@ -193,6 +194,19 @@ verb_of word =
     else (if bytes_eq word (codes "remove") then Some Verb.Remove
     else None)))))))))
 
+-- the word of what is asked for
+abbrev pub verb_word : Verb → List ℕ
+verb_word Verb.Create = codes "create"
+verb_word Verb.Lookup = codes "lookup"
+verb_word Verb.Attr = codes "attr"
+verb_word Verb.Read = codes "read"
+verb_word Verb.Fetch = codes "fetch"
+verb_word Verb.Write = codes "write"
+verb_word Verb.Put = codes "put"
+verb_word Verb.Sync = codes "sync"
+verb_word Verb.Resize = codes "resize"
+verb_word Verb.Remove = codes "remove"
+
 -- the call behind its first word
 abbrev pub told_by : Verb → List (List ℕ) → Option (Told × List (List ℕ))
 told_by Verb.Create words = create_at words
@@ -341,6 +355,21 @@ kind_of word =
     else (if bytes_eq word (codes "A") then Some Kind.A
     else None)))))))))))
 
+-- the letter of a kind
+abbrev pub kind_word : Kind → List ℕ
+kind_word Kind.C = codes "C"
+kind_word Kind.W = codes "W"
+kind_word Kind.R = codes "R"
+kind_word Kind.S = codes "S"
+kind_word Kind.L = codes "L"
+kind_word Kind.G = codes "G"
+kind_word Kind.F = codes "F"
+kind_word Kind.O = codes "O"
+kind_word Kind.B = codes "B"
+kind_word Kind.X = codes "X"
+kind_word Kind.Z = codes "Z"
+kind_word Kind.A = codes "A"
+
 unfoldable pub c_at : List (List ℕ) → Option (Entry × List (List ℕ))
 c_at words = do
   who ← who_at words
@@ -473,6 +502,10 @@ entry_of version words = do
   kind ← kind_of word.0
   entry ← entry_by version kind word.1
   only_if (is_done entry.1 && has version entry.0) entry.0
+
+-- these words begin with those of an entry, whose numbers are in their ranges, and go on with these
+abbrev pub Spells : (version : ℕ) → List (List ℕ) → Entry → List (List ℕ) → Type 0
+Spells version words entry left = (words ≡ entry_words version entry ++ left) × Fits entry
 
 -- A call gave what reading gives, seen by view, and left these words; or it gave nothing, and reading gives nothing.
 abbrev pub Takes : {X Y : Type 0} → (X → Y) → Option X → List (List ℕ) → Option (Y × List (List ℕ)) → Type 0

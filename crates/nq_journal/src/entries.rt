@@ -1,7 +1,8 @@
 // Reading entries.
-ghost use Rattle.std.specs.Prelude.{◌≡◌, option_map, IfOk};
+ghost use Rattle.std.specs.Prelude.{◌≡◌, ◌↔◌, ℕ, ◌<◌, ◌^◌, [], ◌∷◌, ◌++◌, codes, option_map, IsTrue, IfSome, IfOk};
 ghost use Rattle.nq_journal.specs.Items.{plain};
-ghost use Rattle.nq_journal.specs.Reading.{Takes, kind_of, entry_by, entry_of, has, has_told, mode_of, mode_at, way_of, way_at, source_at, longest_at, words_of, c_at, w_at, r_at, s_at, l_at, g_at, f_at, o_at, b_at, x_at, z_at, a_at};
+ghost use Rattle.nq_journal.specs.Reading.{Takes, Spells, kind_of, kind_word, entry_by, entry_of, has, has_told, mode_of, mode_at, way_of, way_at, source_at, longest_at, words_of, c_at, w_at, r_at, s_at, l_at, g_at, f_at, o_at, b_at, x_at, z_at, a_at};
+ghost use Rattle.nq_journal.specs.Text.{mode_word, way_word, source_words, longest_words, FitsSource, HasTold, Has};
 
 use crate::NoMemory;
 use crate::saids::said;
@@ -30,7 +31,8 @@ pub(crate) enum Kind {
 // The kind of entry whose letter a word is.
 #[tactic(auto, unfolding(crate::specs::Reading::kind_of))]
 fn kind_of(word: &[u8]) -> Option<Kind>
-    ensures { result ≡ kind_of word.now }
+    ensures step { result ≡ kind_of word.now }
+    ensures found { IfSome result (λ kind. word.now ≡ kind_word kind) }
 {
     if is(word, b"C") {
         Some(Kind::C)
@@ -64,7 +66,8 @@ fn kind_of(word: &[u8]) -> Option<Kind>
 // The mode that a word names.
 #[tactic(auto, unfolding(crate::specs::Reading::mode_of))]
 fn mode_of(word: &[u8]) -> Option<Mode>
-    ensures { result ≡ mode_of word.now }
+    ensures step { result ≡ mode_of word.now }
+    ensures found { IfSome result (λ mode. word.now ≡ mode_word mode) }
 {
     if is(word, b"noncaching") {
         Some(Mode::NonCaching)
@@ -80,7 +83,8 @@ fn mode_of(word: &[u8]) -> Option<Mode>
 // Takes a mode.
 #[tactic(auto, unfolding(crate::specs::Reading::mode_at))]
 fn take_mode(words: &mut Words<'_>) -> Option<Mode>
-    ensures { Takes (λ mode. mode) result words.new (mode_at words.old) }
+    ensures step { Takes (λ mode. mode) result words.new (mode_at words.old) }
+    ensures found { IfSome result (λ mode. words.old ≡ mode_word mode ∷ words.new) }
 {
     mode_of(words.next()?)
 }
@@ -88,7 +92,8 @@ fn take_mode(words: &mut Words<'_>) -> Option<Mode>
 // Whether a write went through, as a word tells.
 #[tactic(auto, unfolding(crate::specs::Reading::way_of))]
 fn way_of(word: &[u8]) -> Option<bool>
-    ensures { result ≡ way_of word.now }
+    ensures step { result ≡ way_of word.now }
+    ensures found { IfSome result (λ way. word.now ≡ way_word way) }
 {
     if is(word, b"delayed") {
         Some(false)
@@ -102,7 +107,8 @@ fn way_of(word: &[u8]) -> Option<bool>
 // Takes whether a write went through.
 #[tactic(auto, unfolding(crate::specs::Reading::way_at))]
 fn take_way(words: &mut Words<'_>) -> Option<bool>
-    ensures { Takes (λ way. way) result words.new (way_at words.old) }
+    ensures step { Takes (λ way. way) result words.new (way_at words.old) }
+    ensures found { IfSome result (λ way. words.old ≡ way_word way ∷ words.new) }
 {
     way_of(words.next()?)
 }
@@ -110,7 +116,8 @@ fn take_way(words: &mut Words<'_>) -> Option<bool>
 // Takes the reply packet of a read, if the server served it.
 #[tactic(auto, unfolding(crate::specs::Reading::source_at))]
 fn source(words: &mut Words<'_>) -> Option<Option<u64>>
-    ensures { Takes (λ source. source) result words.new (source_at words.old) }
+    ensures step { Takes (λ source. source) result words.new (source_at words.old) }
+    ensures found { IfSome result (λ source. (words.old ≡ source_words source ++ words.new) × FitsSource source) }
 {
     let word = words.next()?;
     if is(word, b"cached") {
@@ -126,14 +133,16 @@ fn source(words: &mut Words<'_>) -> Option<Option<u64>>
 // Takes the longest term, which version 1 does not tell.
 #[tactic(auto, unfolding(crate::specs::Reading::longest_at))]
 fn longest(words: &mut Words<'_>, version: u32) -> Option<u32>
-    ensures { Takes (λ longest. longest) result words.new (longest_at version words.old) }
+    ensures step { Takes (λ longest. longest) result words.new (longest_at version words.old) }
+    ensures found { IfSome result (λ longest. (words.old ≡ longest_words version longest ++ words.new) × (longest < 2 ^ 32)) }
 {
     if version == 2 { words.u32() } else { Some(60) }
 }
 
 #[tactic(auto, unfolding(crate::specs::Reading::c_at))]
 fn c(words: &mut Words<'_>) -> Option<Entry>
-    ensures { Takes plain result words.new (c_at words.old) }
+    ensures step { Takes plain result words.new (c_at words.old) }
+    ensures found { (version : ℕ) → IfSome result (λ entry. Spells version (codes "C" ∷ words.old) entry words.new) }
 {
     let who = words.who()?;
     let q = words.u64()?;
@@ -143,7 +152,8 @@ fn c(words: &mut Words<'_>) -> Option<Entry>
 
 #[tactic(auto, unfolding(crate::specs::Reading::w_at))]
 fn w(words: &mut Words<'_>) -> Option<Entry>
-    ensures { Takes plain result words.new (w_at words.old) }
+    ensures step { Takes plain result words.new (w_at words.old) }
+    ensures found { (version : ℕ) → IfSome result (λ entry. Spells version (codes "W" ∷ words.old) entry words.new) }
 {
     let who = words.who()?;
     let (file, block) = words.place()?;
@@ -162,7 +172,8 @@ fn w(words: &mut Words<'_>) -> Option<Entry>
 
 #[tactic(auto, unfolding(crate::specs::Reading::r_at))]
 fn r(words: &mut Words<'_>) -> Option<Entry>
-    ensures { Takes plain result words.new (r_at words.old) }
+    ensures step { Takes plain result words.new (r_at words.old) }
+    ensures found { (version : ℕ) → IfSome result (λ entry. Spells version (codes "R" ∷ words.old) entry words.new) }
 {
     let who = words.who()?;
     let q = words.u64()?;
@@ -181,7 +192,8 @@ fn r(words: &mut Words<'_>) -> Option<Entry>
 
 #[tactic(auto, unfolding(crate::specs::Reading::s_at))]
 fn s(words: &mut Words<'_>) -> Option<Entry>
-    ensures { Takes plain result words.new (s_at words.old) }
+    ensures step { Takes plain result words.new (s_at words.old) }
+    ensures found { (version : ℕ) → IfSome result (λ entry. Spells version (codes "S" ∷ words.old) entry words.new) }
 {
     let who = words.who()?;
     let (file, block) = words.place()?;
@@ -200,7 +212,8 @@ fn s(words: &mut Words<'_>) -> Option<Entry>
 
 #[tactic(auto, unfolding(crate::specs::Reading::l_at))]
 fn l(words: &mut Words<'_>) -> Option<Entry>
-    ensures { Takes plain result words.new (l_at words.old) }
+    ensures step { Takes plain result words.new (l_at words.old) }
+    ensures found { (version : ℕ) → IfSome result (λ entry. Spells version (codes "L" ∷ words.old) entry words.new) }
 {
     let who = words.who()?;
     let (file, block) = words.place()?;
@@ -217,7 +230,8 @@ fn l(words: &mut Words<'_>) -> Option<Entry>
 
 #[tactic(auto, unfolding(crate::specs::Reading::g_at))]
 fn g(words: &mut Words<'_>) -> Option<Entry>
-    ensures { Takes plain result words.new (g_at words.old) }
+    ensures step { Takes plain result words.new (g_at words.old) }
+    ensures found { (version : ℕ) → IfSome result (λ entry. Spells version (codes "G" ∷ words.old) entry words.new) }
 {
     let who = words.who()?;
     let file = FileId(words.u32()?);
@@ -237,7 +251,8 @@ fn g(words: &mut Words<'_>) -> Option<Entry>
 
 #[tactic(auto, unfolding(crate::specs::Reading::f_at))]
 fn f(words: &mut Words<'_>) -> Option<Entry>
-    ensures { Takes plain result words.new (f_at words.old) }
+    ensures step { Takes plain result words.new (f_at words.old) }
+    ensures found { (version : ℕ) → IfSome result (λ entry. Spells version (codes "F" ∷ words.old) entry words.new) }
 {
     let who = words.who()?;
     let file = FileId(words.u32()?);
@@ -255,7 +270,8 @@ fn f(words: &mut Words<'_>) -> Option<Entry>
 
 #[tactic(auto, unfolding(crate::specs::Reading::o_at))]
 fn o(words: &mut Words<'_>) -> Option<Entry>
-    ensures { Takes plain result words.new (o_at words.old) }
+    ensures step { Takes plain result words.new (o_at words.old) }
+    ensures found { (version : ℕ) → IfSome result (λ entry. Spells version (codes "O" ∷ words.old) entry words.new) }
 {
     let boot = words.u32()?;
     let until = Ticks(words.u64()?);
@@ -271,7 +287,8 @@ fn o(words: &mut Words<'_>) -> Option<Entry>
 
 #[tactic(auto, unfolding(crate::specs::Reading::b_at))]
 fn b(words: &mut Words<'_>) -> Option<Entry>
-    ensures { Takes plain result words.new (b_at words.old) }
+    ensures step { Takes plain result words.new (b_at words.old) }
+    ensures found { (version : ℕ) → IfSome result (λ entry. Spells version (codes "B" ∷ words.old) entry words.new) }
 {
     let who = words.who()?;
     Some(Entry::B { who })
@@ -279,7 +296,8 @@ fn b(words: &mut Words<'_>) -> Option<Entry>
 
 #[tactic(auto, unfolding(crate::specs::Reading::x_at))]
 fn x(words: &mut Words<'_>, version: u32) -> Option<Entry>
-    ensures { Takes plain result words.new (x_at version words.old) }
+    ensures step { Takes plain result words.new (x_at version words.old) }
+    ensures found { IfSome result (λ entry. Spells version (codes "X" ∷ words.old) entry words.new) }
 {
     let boot = words.u32()?;
     let now = Ticks(words.u64()?);
@@ -289,7 +307,8 @@ fn x(words: &mut Words<'_>, version: u32) -> Option<Entry>
 
 #[tactic(auto, unfolding(crate::specs::Reading::z_at))]
 fn z(words: &mut Words<'_>) -> Option<Entry>
-    ensures { Takes plain result words.new (z_at words.old) }
+    ensures step { Takes plain result words.new (z_at words.old) }
+    ensures found { (version : ℕ) → IfSome result (λ entry. Spells version (codes "Z" ∷ words.old) entry words.new) }
 {
     let who = words.who()?;
     let q = words.u64()?;
@@ -307,7 +326,8 @@ fn z(words: &mut Words<'_>) -> Option<Entry>
 
 #[tactic(auto, unfolding(crate::specs::Reading::a_at))]
 fn a(alloc: Global, words: &mut Words<'_>) -> Result<Option<Entry>, NoMemory>
-    ensures { IfOk result (λ entry. Takes plain entry words.new (a_at words.old)) }
+    ensures step { IfOk result (λ entry. Takes plain entry words.new (a_at words.old)) }
+    ensures found { (version : ℕ) → IfOk result (λ entry. IfSome entry (λ e. Spells version (codes "A" ∷ words.old) e words.new)) }
 {
     let Some(who) = words.who() else {
         return Ok(None);
@@ -328,7 +348,8 @@ fn by_kind(
     version: u32,
     kind: Kind,
 ) -> Result<Option<Entry>, NoMemory>
-    ensures { IfOk result (λ entry. Takes plain entry words.new (entry_by version kind words.old)) }
+    ensures step { IfOk result (λ entry. Takes plain entry words.new (entry_by version kind words.old)) }
+    ensures found { IfOk result (λ entry. IfSome entry (λ e. Spells version (kind_word kind ∷ words.old) e words.new)) }
 {
     match kind {
         Kind::C => Ok(c(words)),
@@ -348,7 +369,8 @@ fn by_kind(
 
 // Whether a version has a call.
 fn has_told(version: u32, told: &Told) -> bool
-    ensures { result ≡ has_told version told.now }
+    ensures test { result ≡ has_told version told.now }
+    ensures has { IsTrue result ↔ HasTold version told.now }
 {
     match told {
         Told::Resize { .. } | Told::Remove { .. } => version == 2,
@@ -358,7 +380,8 @@ fn has_told(version: u32, told: &Told) -> bool
 
 // Whether a version has an entry.
 fn has(version: u32, entry: &Entry) -> bool
-    ensures { result ≡ has version entry.now }
+    ensures test { result ≡ has version entry.now }
+    ensures has { IsTrue result ↔ Has version entry.now }
 {
     match entry {
         Entry::C { told, .. } => has_told(version, told),
@@ -371,7 +394,8 @@ fn has(version: u32, entry: &Entry) -> bool
 // The entry that a line spells in a version.
 #[tactic(auto, unfolding(crate::specs::Reading::entry_of))]
 pub(crate) fn entry(alloc: Global, version: u32, line: &[u8]) -> Result<Option<Entry>, NoMemory>
-    ensures { IfOk result (λ entry. option_map plain entry ≡ entry_of version (words_of line.now)) }
+    ensures step { IfOk result (λ entry. option_map plain entry ≡ entry_of version (words_of line.now)) }
+    ensures found { IfOk result (λ entry. IfSome entry (λ e. Spells version (words_of line.now) e [] × Has version e)) }
 {
     let mut words = Words::new(line);
     let Some(letter) = words.next() else {

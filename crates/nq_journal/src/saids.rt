@@ -1,7 +1,9 @@
 // Reading answers.
-ghost use Rattle.std.specs.Prelude.{◌≡◌, option_map, IfOk};
+ghost use Rattle.std.specs.Prelude.{◌≡◌, [], ◌∷◌, ◌++◌, codes, option_map, IfSome, IfOk};
+ghost use Rattle.std.specs.Fmt.{decimal};
 ghost use Rattle.nq_journal.specs.Items.{plain_said};
 ghost use Rattle.nq_journal.specs.Reading.{Takes, span_of, lost_at, by_at, value_at, ok_at, bare_of, bare_at, said_at};
+ghost use Rattle.nq_journal.specs.Text.{span_word, said_words, FitsSpan, FitsSaid};
 
 use crate::NoMemory;
 use crate::words::{Words, cut, is, number, small};
@@ -11,7 +13,8 @@ use std::alloc::Global;
 // The span that a word spells.
 #[tactic(auto, unfolding(crate::specs::Reading::span_of))]
 fn span(word: &[u8]) -> Option<Span>
-    ensures { result ≡ span_of word.now }
+    ensures step { result ≡ span_of word.now }
+    ensures found { IfSome result (λ span. (word.now ≡ span_word span) × FitsSpan span) }
 {
     let (block, ends) = cut(word, b':')?;
     let (first, last) = cut(ends, b'-')?;
@@ -23,7 +26,8 @@ fn span(word: &[u8]) -> Option<Span>
 
 // Takes spans to the end of the line.
 fn lost(alloc: Global, words: &mut Words<'_>) -> Result<Option<Said>, NoMemory>
-    ensures { IfOk result (λ said. Takes plain_said said words.new (lost_at words.old)) }
+    ensures step { IfOk result (λ said. Takes plain_said said words.new (lost_at words.old)) }
+    ensures found { IfOk result (λ said. IfSome said (λ s. (codes "lost" ∷ words.old ≡ said_words s ++ words.new) × FitsSaid s)) }
 {
     let mut spans = Spans::new(alloc)?;
     while let Some(word) = words.next() {
@@ -38,7 +42,8 @@ fn lost(alloc: Global, words: &mut Words<'_>) -> Result<Option<Said>, NoMemory>
 // Takes the packet that brought a value.
 #[tactic(auto, unfolding(crate::specs::Reading::by_at))]
 fn by(words: &mut Words<'_>, value: u32) -> Option<Said>
-    ensures { Takes plain_said result words.new (by_at value words.old) }
+    ensures step { Takes plain_said result words.new (by_at value words.old) }
+    ensures found { IfSome result (λ s. (codes "ok" ∷ decimal value ∷ words.old ≡ said_words s ++ words.new) × FitsSaid s) }
 {
     let by = words.next()?;
     let packet = words.u64()?;
@@ -52,7 +57,8 @@ fn by(words: &mut Words<'_>, value: u32) -> Option<Said>
 // Takes a value, and the packet that brought it, where one did.
 #[tactic(auto, unfolding(crate::specs::Reading::value_at))]
 fn value(words: &mut Words<'_>) -> Option<Said>
-    ensures { Takes plain_said result words.new (value_at words.old) }
+    ensures step { Takes plain_said result words.new (value_at words.old) }
+    ensures found { IfSome result (λ s. (codes "ok" ∷ words.old ≡ said_words s ++ words.new) × FitsSaid s) }
 {
     let value = words.u32()?;
     if words.is_empty() {
@@ -65,7 +71,8 @@ fn value(words: &mut Words<'_>) -> Option<Said>
 // Takes what stands behind the word `ok`.
 #[tactic(auto, unfolding(crate::specs::Reading::ok_at))]
 fn ok(words: &mut Words<'_>) -> Option<Said>
-    ensures { Takes plain_said result words.new (ok_at words.old) }
+    ensures step { Takes plain_said result words.new (ok_at words.old) }
+    ensures found { IfSome result (λ s. (codes "ok" ∷ words.old ≡ said_words s ++ words.new) × FitsSaid s) }
 {
     if words.is_empty() {
         Some(Said::Ok)
@@ -77,7 +84,8 @@ fn ok(words: &mut Words<'_>) -> Option<Said>
 // The answer that a word alone spells.
 #[tactic(auto, unfolding(crate::specs::Reading::bare_of))]
 fn bare(word: &[u8]) -> Option<Said>
-    ensures { option_map plain_said result ≡ bare_of word.now }
+    ensures step { option_map plain_said result ≡ bare_of word.now }
+    ensures found { IfSome result (λ s. (word.now ∷ [] ≡ said_words s) × FitsSaid s) }
 {
     if is(word, b"busy") {
         Some(Said::Busy)
@@ -101,7 +109,8 @@ fn bare(word: &[u8]) -> Option<Said>
 // Takes the words of an answer.
 #[tactic(auto, unfolding(crate::specs::Reading::said_at, crate::specs::Reading::bare_at))]
 pub(crate) fn said(alloc: Global, words: &mut Words<'_>) -> Result<Option<Said>, NoMemory>
-    ensures { IfOk result (λ said. Takes plain_said said words.new (said_at words.old)) }
+    ensures step { IfOk result (λ said. Takes plain_said said words.new (said_at words.old)) }
+    ensures found { IfOk result (λ said. IfSome said (λ s. (words.old ≡ said_words s ++ words.new) × FitsSaid s)) }
 {
     let Some(word) = words.next() else {
         return Ok(None);

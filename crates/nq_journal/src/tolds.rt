@@ -1,6 +1,7 @@
 // Reading calls.
-ghost use Rattle.std.specs.Prelude.{◌≡◌};
-ghost use Rattle.nq_journal.specs.Reading.{Takes, verb_of, told_at, told_by};
+ghost use Rattle.std.specs.Prelude.{◌≡◌, ◌∷◌, ◌++◌, IfSome};
+ghost use Rattle.nq_journal.specs.Reading.{Takes, verb_of, verb_word, told_at, told_by};
+ghost use Rattle.nq_journal.specs.Text.{told_words, FitsTold};
 
 use crate::words::{Words, is};
 use nq_base::{FileId, Told};
@@ -23,7 +24,8 @@ enum Verb {
 // What a word asks for.
 #[tactic(auto, unfolding(crate::specs::Reading::verb_of))]
 fn verb_of(word: &[u8]) -> Option<Verb>
-    ensures { result ≡ verb_of word.now }
+    ensures step { result ≡ verb_of word.now }
+    ensures found { IfSome result (λ verb. word.now ≡ verb_word verb) }
 {
     if is(word, b"create") {
         Some(Verb::Create)
@@ -53,7 +55,8 @@ fn verb_of(word: &[u8]) -> Option<Verb>
 // Takes the words of a call.
 #[tactic(auto, unfolding(crate::specs::Reading::told_at))]
 pub(crate) fn told(words: &mut Words<'_>) -> Option<Told>
-    ensures { Takes (λ told. told) result words.new (told_at words.old) }
+    ensures step { Takes (λ told. told) result words.new (told_at words.old) }
+    ensures found { IfSome result (λ told. (words.old ≡ told_words told ++ words.new) × FitsTold told) }
 {
     let verb = verb_of(words.next()?)?;
     asked(words, verb)
@@ -62,7 +65,8 @@ pub(crate) fn told(words: &mut Words<'_>) -> Option<Told>
 // Takes what such a call names.
 #[tactic(auto, unfolding(crate::specs::Reading::create_at, crate::specs::Reading::lookup_at, crate::specs::Reading::attr_at, crate::specs::Reading::read_at, crate::specs::Reading::fetch_at, crate::specs::Reading::write_at, crate::specs::Reading::put_at, crate::specs::Reading::sync_at, crate::specs::Reading::resize_at, crate::specs::Reading::remove_at))]
 fn asked(words: &mut Words<'_>, verb: Verb) -> Option<Told>
-    ensures { Takes (λ told. told) result words.new (told_by verb words.old) }
+    ensures step { Takes (λ told. told) result words.new (told_by verb words.old) }
+    ensures found { IfSome result (λ told. (verb_word verb ∷ words.old ≡ told_words told ++ words.new) × FitsTold told) }
 {
     match verb {
         Verb::Create => {

@@ -1,5 +1,5 @@
 // Reading the words of a line.
-ghost use Rattle.std.specs.Prelude.{◌≡◌, ◌^◌, ◌<◌, [], ◌∷◌, IsNone, IfSome, option_map};
+ghost use Rattle.std.specs.Prelude.{◌≡◌, ◌^◌, ◌<◌, [], ◌∷◌, ◌↔◌, IsTrue, IsNone, IfSome, option_map};
 ghost use Rattle.std.specs.Fmt.{decimal};
 ghost use Rattle.std.specs.Str.{bytes_eq};
 ghost use Rattle.nq_base.specs.Name.{IsName};
@@ -23,7 +23,8 @@ pub(crate) fn cut(bytes: &[u8], stop: u8) -> Option<(&[u8], &[u8])>
 
 // Whether a word is this one.
 pub(crate) fn is(word: &[u8], text: &[u8]) -> bool
-    ensures { result ≡ bytes_eq word.now text.now }
+    ensures test { result ≡ bytes_eq word.now text.now }
+    ensures same { IsTrue result ↔ (word.now ≡ text.now) }
 {
     word == text
 }
