@@ -1,3 +1,5 @@
+mod Again
+mod Clean
 mod Cuts
 mod Digits
 mod LineWords

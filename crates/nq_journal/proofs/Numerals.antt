@@ -1,12 +1,13 @@
 -- Decimal digits read from the left, and the number that they make.
-use Rattle.std.proofs.Common.{◌≡◌, ℕ, ◌+◌, ◌-◌, ◌*◌, ◌^◌, ◌<◌, ◌≤◌, Bool, true, ◌&&◌, nat_lt, List, [], ◌∷◌, length, drop, get_or, Some, None, refl, ap, sym, ◌∙◌, inl, inr, arith, rules, lit<}
+use Rattle.std.proofs.Common.{◌≡◌, ℕ, ◌+◌, ◌-◌, ◌*◌, ◌^◌, ◌<◌, ◌≤◌, Bool, true, false, ◌&&◌, nat_le, nat_lt, List, [], ◌∷◌, length, drop, get_or, Some, None, refl, ap, sym, ◌∙◌, inl, inr, arith, rules, lit<}
 use Rattle.std.specs.Fmt.{decimal}
-use Rattle.std.proofs.lemmas.Bool.{cases_Bool, and_parts, ltb-true, lt-ltb}
+use Rattle.std.proofs.lemmas.Bool.{cases_Bool, and_parts, leb-true, ltb-true, lt-ltb, true≢false}
 use Rattle.std.proofs.lemmas.Bool.Decides.{nat_tests, leb_tells}
 use Rattle.std.proofs.lemmas.Fmt.{decimal_digit, decimal_nonempty, first_decimal, digits_decimal, digits_value-decimal, decimal-digits_value}
 use Rattle.std.proofs.lemmas.List.{drop_all}
 use Rattle.std.proofs.lemmas.Str.Parse.{IsNumeralModel, numerals_by_fold}
 use Rattle.nq_journal.specs.Reading.{◌>>=◌, only_if, with_digit, digits_after, is_digit, is_plain, u64_of, u32_of}
+use Rattle.nq_journal.proofs.LineWords.{IsFree, IsWord}
 use Rattle.nq_journal.proofs.Options.{bind_some, only_if_some}
 use Rattle.nq_journal.proofs.Cuts.{drop_at_place}
 
@@ -113,3 +114,25 @@ u32_again n small =
     let read = u64_again n (omega arith) in
     let test = lt-ltb n (2 ^ 32) small in
     rw (read, test) refl
+
+free_from_digits : (stop : ℕ) (bytes : List ℕ) → is_digit stop ≡ false → all_digits bytes ≡ true → IsFree stop bytes
+free_from_digits stop [] other digits = tt
+free_from_digits stop (b ∷ bytes) other digits =
+    let parts = and_parts (is_digit b) (all_digits bytes) digits in
+    (λ same. true≢false (sym parts.0 ∙ ap is_digit same ∙ other), free_from_digits stop bytes other parts.1)
+
+-- no other byte is in a number
+pub free_digits : (stop n : ℕ) → is_digit stop ≡ false → n < 2 ^ 64 → IsFree stop (decimal n)
+free_digits stop n other small = free_from_digits stop (decimal n) other (digits_decimal own n small)
+
+word_from_digits : (bytes : List ℕ) → all_digits bytes ≡ true → IsWord bytes
+word_from_digits [] digits = tt
+word_from_digits (b ∷ bytes) digits =
+    let parts = and_parts (is_digit b) (all_digits bytes) digits in
+    let low = and_parts (nat_le 48 b) (nat_lt b 58) parts.0 in
+    let above : 48 ≤ b = leb-true 48 b low.0 in
+    (omega arith, word_from_digits bytes parts.1)
+
+-- a number is a word
+pub word_decimal : (n : ℕ) → n < 2 ^ 64 → IsWord (decimal n)
+word_decimal n small = word_from_digits (decimal n) (digits_decimal own n small)
