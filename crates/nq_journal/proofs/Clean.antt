@@ -20,7 +20,7 @@ abbrev pub AreWords : List (List ℕ) → Type 0
 AreWords words = AllByRecursion IsWord words
 
 -- a text without blanks is a word, by a test
-literal : (text : List ℕ) → list_all (λ b. nat_lt 32 b) text ≡ true → IsWord text
+pub literal : (text : List ℕ) → list_all (λ b. nat_lt 32 b) text ≡ true → IsWord text
 literal [] test = tt
 literal (b ∷ text) test =
     let parts = and_parts (nat_lt 32 b) (list_all (λ c. nat_lt 32 c) text) test in
@@ -97,9 +97,9 @@ of_source (Some packet) fits = (literal (codes "served") refl, (word_decimal pac
 
 of_longest : (version longest : ℕ) → longest < 2 ^ 32 → AreWords (longest_words version longest)
 of_longest version longest fits = elim (eqb_tells version 2) [
-    | inl two ↦ rw two.0 (small longest fits, tt)
-    | inr other ↦ rw other.0 tt
-    ]
+  | inl two ↦ rw two.0 (small longest fits, tt)
+  | inr other ↦ rw other.0 tt
+]
 
 -- the words of an entry are words
 pub of_entry : (version : ℕ) (entry : Entry) → Fits entry → AreWords (entry_words version entry)

@@ -2,9 +2,12 @@ mod Again
 mod Clean
 mod Cuts
 mod Digits
+mod Faulty
 mod LineWords
 mod Names
 mod Numerals
 mod Options
 mod Pieces
 mod SpanWords
+mod Tails
+mod TextLines

@@ -42,9 +42,9 @@ pub cut_found : (stop : ℕ) (bytes : List ℕ) → IsCut stop bytes (cut stop b
 unfolding cut
 cut_found stop [] = tt
 cut_found stop (b ∷ bytes) = elim (eqb_tells b stop) [
-    | inl same ↦ rw same.0 (ap (λ x. x ∷ bytes) same.1, tt)
-    | inr other ↦ rw other.0 (cut_more stop b bytes (cut stop bytes) other.1 (cut_found stop bytes))
-    ]
+  | inl same ↦ rw same.0 (ap (λ x. x ∷ bytes) same.1, tt)
+  | inr other ↦ rw other.0 (cut_more stop b bytes (cut stop bytes) other.1 (cut_found stop bytes))
+]
 
 -- no line is without a word
 with_first_words : (b : ℕ) (words : List (List ℕ)) → (first : List ℕ) × (rest : List (List ℕ)) × (with_first b words ≡ first ∷ rest)
@@ -55,9 +55,9 @@ pub some_words : (bytes : List ℕ) → (first : List ℕ) × (rest : List (List
 unfolding words_of
 some_words [] = ([], [], refl)
 some_words (b ∷ bytes) = elim (eqb_tells b 32) [
-    | inl same ↦ ([], words_of bytes, rw same.0 refl)
-    | inr other ↦ let some = with_first_words b (words_of bytes) in (some.0, some.1, rw other.0 some.2)
-    ]
+  | inl same ↦ ([], words_of bytes, rw same.0 refl)
+  | inr other ↦ let some = with_first_words b (words_of bytes) in (some.0, some.1, rw other.0 some.2)
+]
 
 -- a blank, then the words
 blank_joined : (words rest : List (List ℕ)) (first : List ℕ) → words ≡ first ∷ rest → flat_map spaced words ≡ 32 ∷ joined words
@@ -75,11 +75,11 @@ joined-words_of [] = refl
 joined-words_of (b ∷ bytes) =
     let some = some_words bytes in
     elim (eqb_tells b 32) [
-    | inl same ↦
-        rw same.0
-        (blank_joined (words_of bytes) some.1 some.0 some.2 ∙ ap (λ xs. 32 ∷ xs) (joined-words_of bytes) ∙ ap (λ x. x ∷ bytes) (sym same.1))
-    | inr other ↦
-        rw other.0 (first_joined b (words_of bytes) some.1 some.0 some.2 ∙ ap (λ xs. b ∷ xs) (joined-words_of bytes))
+      | inl same ↦
+          rw same.0
+          (blank_joined (words_of bytes) some.1 some.0 some.2 ∙ ap (λ xs. 32 ∷ xs) (joined-words_of bytes) ∙ ap (λ x. x ∷ bytes) (sym same.1))
+      | inr other ↦
+          rw other.0 (first_joined b (words_of bytes) some.1 some.0 some.2 ∙ ap (λ xs. b ∷ xs) (joined-words_of bytes))
     ]
 
 words_of-append : (word rest : List ℕ) (words : List (List ℕ)) → IsWord word → words_of rest ≡ [] ∷ words → words_of (word ++ rest) ≡ word ∷ words

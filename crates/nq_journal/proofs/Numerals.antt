@@ -76,20 +76,20 @@ plain_found word plain = grind (arith, nat_tests)
 pub u64_found : (word : List ℕ) (n : ℕ) → u64_of word ≡ Some n → (word ≡ decimal n) × (n < 2 ^ 64)
 unfolding u64_of
 u64_found word n read = elim (cases_Bool (is_plain word)) [
-    | inl plain ↦
-        let digits : digits_after 0 word ≡ Some n = rw plain at read in
-        let found = digits_found word 0 n (lit< tt) digits in
-        let first = plain_found word plain in
-        let spelled = decimal-digits_value own word found.0 first.0 first.1 (omega arith) in
-        (sym spelled ∙ ap decimal found.1, found.2)
-    | inr bare ↦ let none : None ≡ Some n = rw bare at read in cc
-    ]
+  | inl plain ↦
+      let digits : digits_after 0 word ≡ Some n = rw plain at read in
+      let found = digits_found word 0 n (lit< tt) digits in
+      let first = plain_found word plain in
+      let spelled = decimal-digits_value own word found.0 first.0 first.1 (omega arith) in
+      (sym spelled ∙ ap decimal found.1, found.2)
+  | inr bare ↦ let none : None ≡ Some n = rw bare at read in cc
+]
 
 first_digit : (n : ℕ) → n < 2 ^ 64 → is_plain (decimal n) ≡ true
 first_digit n small = elim (leb_tells 1 n) [
-    | inl some ↦ grind (arith, nat_tests, first_decimal n (omega arith) small, decimal_nonempty n small)
-    | inr none ↦ let zero : n ≡ 0 = omega arith in rw (zero, decimal_digit 0 (lit< tt)) refl
-    ]
+  | inl some ↦ grind (arith, nat_tests, first_decimal n (omega arith) small, decimal_nonempty n small)
+  | inr none ↦ let zero : n ≡ 0 = omega arith in rw (zero, decimal_digit 0 (lit< tt)) refl
+]
 
 -- a number is read
 pub u64_again : (n : ℕ) → n < 2 ^ 64 → u64_of (decimal n) ≡ Some n

@@ -1,5 +1,5 @@
 -- The first line of a text that is no journal's.
-use Rattle.std.specs.Prelude.{◌≡◌, ◌≢◌, ℕ, ◌-◌, List, [], ◌∷◌, ◌++◌, length, All}
+use Rattle.std.specs.Prelude.{◌≡◌, ◌≢◌, ℕ, ◌+◌, List, [], ◌∷◌, ◌++◌, length, All}
 use Rattle.std.specs.List.{flat_map}
 use Rattle.nq_base.specs.declared.Entry.{Entry}
 use Rattle.nq_journal.specs.Text.{IsText}
@@ -33,10 +33,12 @@ pub record Begins (bytes : List ℕ) : Type 0 where
 -- The text is no journal's, and this is its first faulty line: a journal's text begins with the lines before it, and
 -- none begins with these and with this line, where it is a whole one.
 pub record IsFaultyAt (number : ℕ) (bytes : List ℕ) : Type 0 where
+  pub count : ℕ
+  pub numbered : number ≡ count + 1
   pub front : List ℕ
   pub rest : List ℕ
   pub split : bytes ≡ front ++ rest
-  pub before : AreLines (number - 1) front
+  pub before : AreLines count front
   pub begins : Begins front
   pub wrong : (line after : List ℕ) → IsUnbroken line → rest ≡ ended line ++ after → ¬ Begins (front ++ ended line)
   pub no_journal : ¬ IsJournal bytes

@@ -6,10 +6,10 @@ use Rattle.nq_journal.proofs.saids.lost.Given as goal
 
 abbrev pub invariant-loop-word : goal.invariant-loop-word
 invariant-loop-word l = record {
-    read : with_spans l.spans.items (spans_of l.words) ≡ spans_of l.fn.words;
-    found : l.fn.words ≡ map span_word l.spans.items ++ l.words;
-    fits : All FitsSpan l.spans.items;
-  }
+  read : with_spans l.spans.items (spans_of l.words) ≡ spans_of l.fn.words;
+  found : l.fn.words ≡ map span_word l.spans.items ++ l.words;
+  fits : All FitsSpan l.spans.items;
+}
 
 abbrev pub decreases-loop-word : goal.decreases-loop-word
 decreases-loop-word l = length l.words
