@@ -1,22 +1,22 @@
 -- The first faulty line of a text that is no journal's.
-use Rattle.std.proofs.Common.{◌≡◌, ◌≢◌, ℕ, ◌+◌, ◌<◌, ◌≤◌, ◌^◌, min, List, [], ◌∷◌, ◌++◌, All, length, map, codes, refl, ap, sym, ◌∙◌, subst, inl, inr, ◌⊎◌, append_assoc, append-nil, arith}
+use Rattle.std.proofs.Common.{◌≡◌, ◌≢◌, ℕ, ◌+◌, ◌<◌, ◌≤◌, List, [], ◌∷◌, ◌++◌, length, map, codes, refl, ap, sym, ◌∙◌, subst, inl, inr, ◌⊎◌, append_assoc, append-nil, arith}
 use Rattle.std.specs.List.{AllByRecursion, flat_map}
 use Rattle.std.proofs.lemmas.Bool.Decides.{leb_tells}
-use Rattle.std.proofs.lemmas.List.{length-append, length-map, map-append}
+use Rattle.std.proofs.lemmas.List.{length-append, length-map}
 use Rattle.std.proofs.lemmas.List.Concat.{flat_map-append}
 use Rattle.std.proofs.lemmas.List.Elements.{All-nil, All-push, recursion_from_All, All-from_recursion}
 use Rattle.nq_base.specs.declared.Entry.{Entry}
-use Rattle.nq_journal.specs.Fault.{IsUnbroken, ended, AreLines, IsJournal, Begins, IsFaultyAt}
-use Rattle.nq_journal.specs.Parsing.{named, IsFault, AreEntries, IsWrong, IsTooLong, StopsAt}
-use Rattle.nq_journal.specs.Text.{Has, Fits, entry_line, head_line, end_line, journal_text, IsVersion, IsText}
+use Rattle.nq_journal.specs.Fault.{IsUnbroken, ended, AreLines, IsJournal, IsFaultyAt}
+use Rattle.nq_journal.specs.Parsing.{AreEntries, IsWrong, IsTooLong}
+use Rattle.nq_journal.specs.Text.{Has, Fits, end_line, journal_text, IsVersion}
 use Rattle.nq_journal.proofs.LineWords.{IsFree}
-use Rattle.nq_journal.proofs.Tails.{free_end, lines, IsLine, HasLine, left_line, nothing_after, head_free, text_split, IsTail, journal_tail}
-use Rattle.nq_journal.proofs.TextLines.{first_line, head, head_is, end_is, IsEntry, each, body, entry_is, body_free}
+use Rattle.nq_journal.proofs.Tails.{free_end, lines, IsLine, left_line, nothing_after, head_free, text_split, IsTail, journal_tail}
+use Rattle.nq_journal.proofs.TextLines.{first_line, head, end_is, IsEntry, each, body, entry_is, body_free}
 
 unbroken : (bytes : List ℕ) → IsFree 10 bytes → IsUnbroken bytes
 unbroken bytes free = All-from_recursion (λ b. b ≢ 10) bytes free
 
-free : (bytes : List ℕ) → IsUnbroken bytes → IsFree 10 bytes
+pub free : (bytes : List ℕ) → IsUnbroken bytes → IsFree 10 bytes
 free bytes is = recursion_from_All (λ b. b ≢ 10) bytes is
 
 -- a text of two lines, to have one

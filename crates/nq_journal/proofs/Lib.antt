@@ -8,6 +8,8 @@ mod Names
 mod Numerals
 mod Options
 mod Pieces
+mod Rests
 mod SpanWords
 mod Tails
 mod TextLines
+mod Whole

@@ -1,7 +1,7 @@
 -- The lines of a journal's text.
-use Rattle.std.proofs.Common.{◌≡◌, ◌≢◌, ℕ, ◌+◌, List, [], ◌∷◌, ◌++◌, All, map, codes, Option, Some, None, refl, ap, sym, ◌∙◌, inl, inr, ◌⊎◌, append_assoc, lit<}
+use Rattle.std.proofs.Common.{◌≡◌, ◌≢◌, ℕ, List, [], ◌∷◌, ◌++◌, codes, Some, None, refl, ap, sym, ◌∙◌, append_assoc, lit<}
 use Rattle.std.specs.Fmt.{decimal}
-use Rattle.std.specs.List.{AllByRecursion, flat_map}
+use Rattle.std.specs.List.{AllByRecursion}
 use Rattle.std.proofs.lemmas.Fmt.{decimal_digit}
 use Rattle.std.proofs.lemmas.List.Elements.{recursion_from_All}
 use Rattle.nq_base.specs.declared.Entry.{Entry}
@@ -9,7 +9,7 @@ use Rattle.nq_journal.specs.Fault.{ended}
 use Rattle.nq_journal.specs.Items.{plain}
 use Rattle.nq_journal.specs.Parsing.{AreEntries}
 use Rattle.nq_journal.specs.Reading.{cut, words_of, kind_of, entry_of}
-use Rattle.nq_journal.specs.Text.{Has, Fits, entry_words, entry_line, head_line, end_line, IsVersion}
+use Rattle.nq_journal.specs.Text.{Has, Fits, entry_words, entry_line, head_line, end_line}
 use Rattle.nq_journal.specs.Words.{joined, line}
 use Rattle.nq_journal.proofs.Again.{entry_again}
 use Rattle.nq_journal.proofs.Clean.{AreWords, of_entry}

@@ -1,5 +1,5 @@
 -- What parsing a text gives.
-use Rattle.std.specs.Prelude.{◌≡◌, ◌≢◌, ◌⊎◌, ℕ, ◌+◌, ◌-◌, ◌^◌, min, List, [], ◌∷◌, ◌++◌, length, All, map, Result, Ok, Err}
+use Rattle.std.specs.Prelude.{◌≡◌, ◌≢◌, ◌⊎◌, ℕ, ◌+◌, ◌-◌, ◌^◌, min, List, [], ◌++◌, length, All, map, Result, Ok, Err}
 use Rattle.std.specs.List.{flat_map}
 use Rattle.nq_base.specs.declared.Entry.{Entry}
 use Rattle.nq_journal.specs.declared.journal.Journal.{Journal}
