@@ -1,14 +1,15 @@
 -- A text that goes to a sink in pieces.
-use Rattle.std.proofs.Common.{◌≡◌, ℕ, ◌+◌, ◌<◌, ◌≤◌, List, [], ◌∷◌, ◌++◌, length, take, drop, get_or, Option, ap, sym, ◌∙◌, append_assoc, length-append, arith}
+use Rattle.std.proofs.Common.{◌≡◌, ℕ, ◌+◌, ◌<◌, ◌≤◌, List, [], ◌∷◌, ◌++◌, All, length, take, drop, get_or, Option, subst, ap, sym, ◌∙◌, append_assoc, length-append, arith}
 use Rattle.std.specs.List.{flat_map}
 use Rattle.std.proofs.Math.Seq.{take-append_seam, take-append-add}
 use Rattle.std.proofs.lemmas.List.{take-append-le, take-append-drop, take_more, take_all, flat_map_more, append-nil}
 use Rattle.std.proofs.lemmas.List.Concat.{flat_map-append}
+use Rattle.std.proofs.lemmas.List.Elements.{All-push}
 use Rattle.nq_base.specs.declared.Entry.{Entry}
 use Rattle.nq_io.specs.Sink.{AppendsFront}
 use Rattle.nq_io.specs.Told.{with_end}
 use Rattle.nq_io.proofs.Told.{with_end-with_end}
-use Rattle.nq_journal.specs.Text.{journal_text, head_line, entry_line, end_line}
+use Rattle.nq_journal.specs.Text.{Fits, journal_text, head_line, entry_line, end_line}
 
 -- of the text so far the sink was given the front, without a fault, and the buffer has the rest
 pub record IsGiven (before now : Option (List ℕ)) (faults_before faults_now : ℕ) (buffer so_far : List ℕ) : Type 0 where
@@ -95,3 +96,15 @@ pub text_whole : (version : ℕ) (items entries : List Entry) (place : ℕ) → 
 unfolding journal_text
 text_whole version items entries place same past =
     ap (λ es. head_line version ++ flat_map (entry_line version) es ++ end_line) (sym (take_all place items past ∙ same))
+
+-- one entry more fits
+pub fit_more : (items : List Entry) (place : ℕ) (entry : Entry) → place < length items → entry ≡ get_or items place entry → All Fits (take place items) → Fits entry → All Fits (take (place + 1) items)
+fit_more items place entry within is fit fits =
+    let P : List Entry → Type 0 = All Fits in
+    let step = take_more items place entry within ∙ ap (λ e. take place items ++ e ∷ []) (sym is) in
+    subst P (sym step) (All-push Fits (take place items) entry fit fits)
+
+-- all entries fit
+pub all_fit : (items entries : List Entry) (place : ℕ) → items ≡ entries → length items ≤ place → All Fits (take place items) → All Fits entries
+all_fit items entries place same past fit =
+    let P : List Entry → Type 0 = All Fits in subst P (take_all place items past ∙ same) fit

@@ -1,12 +1,13 @@
 -- The words of spans, one more of them.
-use Rattle.std.proofs.Common.{◌≡◌, ℕ, ◌+◌, ◌<◌, List, [], ◌∷◌, ◌++◌, length, map, take, Option, Some, None, refl, ap, sym, ◌∙◌, subst, append_assoc, append-nil, inl, inr, arith}
+use Rattle.std.proofs.Common.{◌≡◌, ℕ, ◌+◌, ◌<◌, List, [], ◌∷◌, ◌++◌, All, length, map, take, Option, Some, None, refl, ap, sym, ◌∙◌, subst, append_assoc, append-nil, inl, inr, arith}
 use Rattle.std.specs.Fmt.{decimal}
 use Rattle.std.specs.List.{flat_map, slice_get}
 use Rattle.std.proofs.lemmas.List.{take_more, map-append, flat_map_more}
+use Rattle.std.proofs.lemmas.List.Elements.{All-push}
 use Rattle.std.proofs.lemmas.Option.{slice_get_cases, slice_get_within, get_or_from_slice_get}
 use Rattle.nq_base.specs.declared.Span.{Span}
 use Rattle.nq_journal.specs.Reading.{◌>>=◌, cut, word_at, span_of, spans_of}
-use Rattle.nq_journal.specs.Text.{span_word}
+use Rattle.nq_journal.specs.Text.{FitsSpan, span_word}
 use Rattle.nq_journal.specs.Words.{spaced}
 use Rattle.nq_journal.proofs.LineWords.{IsCut, cut_found}
 
@@ -94,3 +95,9 @@ words_more old words left word front span found taken spelled =
 pub none_in_front : (words : List (List ℕ)) → word_at words ≡ None → words ≡ []
 none_in_front [] none = refl
 none_in_front (word ∷ words) none = cc
+
+-- one span more fits
+pub fit_more : (spans : List Span) (place : ℕ) (span : Span) → slice_get spans place ≡ Some span → All FitsSpan (take place spans) → FitsSpan span → All FitsSpan (take (place + 1) spans)
+fit_more spans place span found fit fits =
+    let P : List Span → Type 0 = All FitsSpan in
+    subst P (sym (taken_more spans place span found)) (All-push FitsSpan (take place spans) span fit fits)

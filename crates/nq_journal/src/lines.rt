@@ -1,9 +1,9 @@
 // Writing the lines of a journal's text.
-ghost use Rattle.std.specs.Prelude.{◌≡◌, ◌<◌, [], ◌∷◌, ◌++◌, All, map, codes, OnOk};
+ghost use Rattle.std.specs.Prelude.{◌≡◌, ◌<◌, ◌^◌, [], ◌∷◌, ◌++◌, All, map, codes, OnOk};
 ghost use Rattle.std.specs.Fmt.{decimal};
-ghost use Rattle.std.specs.List.{flat_map};
+ghost use Rattle.std.specs.List.{AllByRecursion, flat_map};
 ghost use Rattle.nq_journal.specs.Words.{spaced};
-ghost use Rattle.nq_journal.specs.Text.{span_word, told_words, said_words, mode_word, way_word, source_words, entry_line, Has};
+ghost use Rattle.nq_journal.specs.Text.{FitsSpan, FitsTold, FitsSaid, span_word, told_words, said_words, mode_word, way_word, source_words, entry_line, Has};
 
 use crate::NoMemory;
 use nq_base::{Said, Span, Spans, Told};
@@ -30,7 +30,8 @@ pub(crate) fn word(out: &mut Vec<u8>, word: &[u8]) -> Result<(), NoMemory>
 
 // Appends numbers, each as a word with the blank before it.
 pub(crate) fn numbers(out: &mut Vec<u8>, numbers: &[u64]) -> Result<(), NoMemory>
-    ensures { OnOk result (out.new.items ≡ out.old.items ++ flat_map (λ n. spaced (decimal n)) numbers.now) }
+    ensures written { OnOk result (out.new.items ≡ out.old.items ++ flat_map (λ n. spaced (decimal n)) numbers.now) }
+    ensures fit { AllByRecursion (λ n. n < 2 ^ 64) numbers.now }
 {
     for number in numbers {
         out.push(b' ')?;
@@ -41,7 +42,8 @@ pub(crate) fn numbers(out: &mut Vec<u8>, numbers: &[u64]) -> Result<(), NoMemory
 
 // Appends the words of a call, each with the blank before it.
 pub(crate) fn told(out: &mut Vec<u8>, told: &Told) -> Result<(), NoMemory>
-    ensures { OnOk result (out.new.items ≡ out.old.items ++ flat_map spaced (told_words told.now)) }
+    ensures written { OnOk result (out.new.items ≡ out.old.items ++ flat_map spaced (told_words told.now)) }
+    ensures fits { OnOk result (FitsTold told.now) }
 {
     match told {
         Told::Create { name, blocks } => {
@@ -95,7 +97,8 @@ pub(crate) fn command(out: &mut Vec<u8>, first: &[u8], numbers: &[u64]) -> Resul
 // Appends the word of a span with the blank before it.
 #[tactic(auto, unfolding(crate::specs::Text::span_word))]
 fn span(out: &mut Vec<u8>, span: &Span) -> Result<(), NoMemory>
-    ensures { OnOk result (out.new.items ≡ out.old.items ++ spaced (span_word span.now)) }
+    ensures written { OnOk result (out.new.items ≡ out.old.items ++ spaced (span_word span.now)) }
+    ensures fits { OnOk result (FitsSpan span.now) }
 {
     out.push(b' ')?;
     digits(out, u64::from(span.block.0))?;
@@ -107,7 +110,8 @@ fn span(out: &mut Vec<u8>, span: &Span) -> Result<(), NoMemory>
 
 // Appends the words of spans, each with the blank before it.
 fn spans(out: &mut Vec<u8>, spans: &Spans) -> Result<(), NoMemory>
-    ensures { OnOk result (out.new.items ≡ out.old.items ++ flat_map spaced (map span_word spans.now.items)) }
+    ensures written { OnOk result (out.new.items ≡ out.old.items ++ flat_map spaced (map span_word spans.now.items)) }
+    ensures fits { OnOk result (All FitsSpan spans.now.items) }
 {
     for place in 0..spans.len() {
         if let Some(found) = spans.get(place) {
@@ -119,7 +123,8 @@ fn spans(out: &mut Vec<u8>, spans: &Spans) -> Result<(), NoMemory>
 
 // Appends the words of an answer, each with the blank before it.
 pub(crate) fn said(out: &mut Vec<u8>, said: &Said) -> Result<(), NoMemory>
-    ensures { OnOk result (out.new.items ≡ out.old.items ++ flat_map spaced (said_words said.now)) }
+    ensures written { OnOk result (out.new.items ≡ out.old.items ++ flat_map spaced (said_words said.now)) }
+    ensures fits { OnOk result (FitsSaid said.now) }
 {
     match said {
         Said::Ok => word(out, b"ok"),

@@ -1,7 +1,7 @@
 // Printing a journal.
 ghost use Rattle.std.specs.Prelude.{◌≡◌, ◌++◌, All, OnOk};
 ghost use Rattle.nq_journal.specs.Printing.{Prints, CountsPrint};
-ghost use Rattle.nq_journal.specs.Text.{Has, IsVersion, journal_text, head_line, end_line};
+ghost use Rattle.nq_journal.specs.Text.{Has, IsVersion, IsText, journal_text, head_line, end_line};
 
 use crate::lines::numbers;
 use crate::rows::line;
@@ -29,6 +29,8 @@ pub fn print<K: Sink>(alloc: Global, journal: &Journal, version: u32, out: &mut 
     requires has { All (Has version) journal.now.entries }
     ensures puts { Prints result (journal_text version journal.now.entries) (K.held out.old) (K.held out.new) }
     ensures cause { CountsPrint result (K.faults out.old) (K.faults out.new) }
+    // What was printed is in the grammar.
+    ensures grammar { result ≡ Printed.All → IsText version journal.now.entries (journal_text version journal.now.entries) }
 {
     let mut text = Vec::new(alloc);
     let Ok(()) = head(&mut text, version) else {

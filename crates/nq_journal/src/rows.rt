@@ -2,7 +2,7 @@
 ghost use Rattle.std.specs.Prelude.{◌≡◌, [], ◌++◌, OnOk};
 ghost use Rattle.std.specs.List.{flat_map};
 ghost use Rattle.nq_journal.specs.Words.{joined, spaced};
-ghost use Rattle.nq_journal.specs.Text.{entry_words, entry_line, of_who, way_word, mode_word, source_words, longest_words};
+ghost use Rattle.nq_journal.specs.Text.{Fits, FitsWho, FitsSource, entry_words, entry_line, of_who, way_word, mode_word, source_words, longest_words};
 
 use crate::NoMemory;
 use crate::lines::{command, numbers, said, told, word};
@@ -11,7 +11,8 @@ use nq_base::{Entry, Mode, Who};
 // Appends the letter of a line and the incarnation of which it tells.
 #[tactic(auto, unfolding(crate::specs::Words::joined))]
 fn begin(out: &mut Vec<u8>, letter: &[u8], who: &Who) -> Result<(), NoMemory>
-    ensures { OnOk result (out.new.items ≡ out.old.items ++ joined (of_who letter.now who.now [])) }
+    ensures written { OnOk result (out.new.items ≡ out.old.items ++ joined (of_who letter.now who.now [])) }
+    ensures fits { OnOk result (FitsWho who.now) }
 {
     out.extend_from_slice(letter)?;
     numbers(out, &[u64::from(who.host.0), u64::from(who.inc.0)])
@@ -37,7 +38,8 @@ fn mode_name(mode: Mode) -> &'static [u8]
 
 // Appends the words of a read's source.
 fn source(out: &mut Vec<u8>, served: Option<u64>) -> Result<(), NoMemory>
-    ensures { OnOk result (out.new.items ≡ out.old.items ++ flat_map spaced (source_words served)) }
+    ensures written { OnOk result (out.new.items ≡ out.old.items ++ flat_map spaced (source_words served)) }
+    ensures fits { OnOk result (FitsSource served) }
 {
     match served {
         None => word(out, b"cached"),
@@ -58,7 +60,8 @@ fn longest_term(out: &mut Vec<u8>, version: u32, longest: u32) -> Result<(), NoM
 // Appends the words of an entry.
 #[tactic(auto, unfolding(crate::specs::Words::joined))]
 fn words(out: &mut Vec<u8>, version: u32, entry: &Entry) -> Result<(), NoMemory>
-    ensures { OnOk result (out.new.items ≡ out.old.items ++ joined (entry_words version entry.now)) }
+    ensures written { OnOk result (out.new.items ≡ out.old.items ++ joined (entry_words version entry.now)) }
+    ensures fits { OnOk result (Fits entry.now) }
 {
     match entry {
         Entry::C { who, q, told: call } => {
@@ -203,7 +206,8 @@ fn words(out: &mut Vec<u8>, version: u32, entry: &Entry) -> Result<(), NoMemory>
 // Appends the line of an entry.
 #[tactic(auto, unfolding(crate::specs::Words::line, crate::specs::Text::entry_line))]
 pub(crate) fn line(out: &mut Vec<u8>, version: u32, entry: &Entry) -> Result<(), NoMemory>
-    ensures { OnOk result (out.new.items ≡ out.old.items ++ entry_line version entry.now) }
+    ensures written { OnOk result (out.new.items ≡ out.old.items ++ entry_line version entry.now) }
+    ensures fits { OnOk result (Fits entry.now) }
 {
     words(out, version, entry)?;
     out.push(b'\n')?;
