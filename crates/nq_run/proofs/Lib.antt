@@ -1,0 +1,11 @@
+mod Endings
+mod Events
+mod Plays
+mod WordLists
+pub mod Callings
+pub mod Filled
+pub mod Numbering
+pub mod Requests
+pub mod Soundness
+pub mod Starting
+pub mod Stepping

@@ -1,0 +1,18 @@
+use Rattle.nq_run.specs.Replay.{most_bytes}
+use Rattle.nq_run.proofs.replay.run.Goals as goal
+
+pub returns-clause-ends : goal.returns-clause-ends
+unfolding most_bytes
+returns-clause-ends g c = (c.run_words.result, c.status.ensures, c.run_words.ensures.ends)
+
+pub returns-clause-limit : goal.returns-clause-limit
+unfolding most_bytes
+returns-clause-limit g c = λ is text told over. (c.run_words.result, c.status.ensures, c.run_words.ensures.limit is text told over)
+
+pub returns-clause-script : goal.returns-clause-script
+unfolding most_bytes
+returns-clause-script g c = λ is text told within number faulty. (c.run_words.result, c.status.ensures, c.run_words.ensures.script is text told within number faulty)
+
+pub returns-clause-done : goal.returns-clause-done
+unfolding most_bytes
+returns-clause-done g c = λ is text told within entries made. (c.run_words.result, c.status.ensures, c.run_words.ensures.done is text told within entries made)

@@ -1,0 +1,9 @@
+pub mod Packet
+pub mod Serving
+pub mod Calling
+pub mod Running
+pub mod Lengths
+pub mod Stepping
+pub mod Playing
+pub mod Replay
+pub mod Ending

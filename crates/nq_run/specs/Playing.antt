@@ -1,0 +1,117 @@
+-- The run of a schedule over the world, event by event.
+use Rattle.std.specs.Prelude.{◌≡◌, ◌⊎◌, ℕ, ◌+◌, true, false, ◌&&◌, Bool, List, [], ◌∷◌, length, map, reverse, zero, suc}
+use Rattle.nq_base.specs.declared.Entry.{Entry}
+use Rattle.nq_base.specs.declared.Event.{Event}
+use Rattle.nq_model.specs.World.{World, Head as Beginning, start, step, steps}
+use Rattle.nq_run.specs.Stepping.{is_there, is_sent, AreOfReplay}
+use Rattle.nq_run.specs.declared.playing.Outcome.{Outcome}
+use Rattle.nq_run.specs.declared.playing.Played.{Played}
+use Rattle.nq_script.specs.Heads.{FitsHead}
+use Rattle.nq_script.specs.Schedule.{SpellsSchedule, FirstBadLine}
+use Rattle.nq_script.specs.declared.heads.Head.{Head}
+use Rattle.nq_script.specs.declared.lines.Line.{Line}
+use Rattle.nq_script.specs.declared.scripts.Script.{Script}
+
+-- the line of one event
+abbrev pub once : Event → Line
+once event = Line.Events event 1
+
+-- the text spells a schedule of this head and these events, each on a line of its own
+abbrev pub SpellsEvents : Head → List Event → List ℕ → Type 0
+SpellsEvents head events text = SpellsSchedule head (map once events) text
+
+-- the event of a line; a line of several events has none
+abbrev pub event_of : Line → Event
+event_of (Line.Events event times) = event
+event_of other = Event.ServerTick
+
+-- the events of lines, of which each has one
+abbrev pub events_of : List Line → List Event
+events_of lines = map event_of lines
+
+-- each of the lines is that of one event
+abbrev pub AreSingle : List Line → Type 0
+AreSingle lines = lines ≡ map once (events_of lines)
+
+-- a schedule of a replay: it fits the world, and each line is that of one event of a replay with its hosts
+pub record IsReplayScript (script : Script) : Type 0 where
+  pub fits : FitsHead script.head
+  pub single : AreSingle script.lines
+  pub replay : AreOfReplay script.head.hosts (events_of script.lines)
+
+-- what a run with this head begins with; the longest term that the server grants is 60 ticks
+abbrev pub beginning : Head → Beginning
+beginning head = record { hosts = head.hosts; term = head.term; longest = 60; files = head.files }
+
+-- the world before the first event
+unfoldable pub first_world : Head → World
+first_world head = start (beginning head)
+
+-- the lengths of a head's files, in order of their ids
+abbrev pub head_lengths : Head → List ℕ
+head_lengths head = map (λ f. f.1) head.files
+
+-- whether an event can be run: the block that a call names is there, and the packet that is delivered was sent
+abbrev pub can_run : (lengths : List ℕ) → World → Event → Bool
+can_run lengths w event = is_there lengths event && is_sent w event
+
+-- each event can be run, one after another
+abbrev pub AllRun : (lengths : List ℕ) → World → List Event → Type 0
+AllRun lengths w [] = Unit {0}
+AllRun lengths w (event ∷ later) = (can_run lengths w event ≡ true) × AllRun lengths (step w event) later
+
+-- the event at this place, counted from 0, is the first that cannot be run
+abbrev pub FirstStuck : (lengths : List ℕ) → World → List Event → (place : ℕ) → Type 0
+FirstStuck lengths w [] place = ⊥
+FirstStuck lengths w (event ∷ later) zero = can_run lengths w event ≡ false
+FirstStuck lengths w (event ∷ later) (suc place) = (can_run lengths w event ≡ true) × FirstStuck lengths (step w event) later place
+
+-- what playing these events over a world does, by its answer
+abbrev pub Plays : Played → (lengths : List ℕ) → List Event → (old new : World) → Type 0
+Plays Played.All lengths events old new = AllRun lengths old events × (new ≡ steps old events)
+Plays (Played.Stuck place) lengths events old new = FirstStuck lengths old events place
+Plays Played.Memory lengths events old new = Unit {0}
+
+-- the journal of a schedule, with the oldest entry first
+abbrev pub journal_of : Head → List Event → List Entry
+journal_of head events = reverse (steps (first_world head) events).journal
+
+-- the world behind the last event of a schedule that can be run
+pub record IsRunOf (head : Head) (events : List Event) (w : World) : Type 0 where
+  pub all_run : AllRun (head_lengths head) (first_world head) events
+  pub world : w ≡ steps (first_world head) events
+
+-- the text is a schedule that can be run, and these are the entries of its journal
+pub record MakesJournal (text : List ℕ) (entries : List Entry) : Type 0 where
+  pub head : Head
+  pub events : List Event
+  pub spelled : SpellsEvents head events text
+  pub all_run : AllRun (head_lengths head) (first_world head) events
+  pub made : entries ≡ journal_of head events
+
+-- the line of an event: three lines, those of the files, and `begin` stand above the first one
+abbrev pub event_line : Head → (place : ℕ) → ℕ
+event_line head place = 4 + length head.files + place + 1
+
+-- the event on this line is the first of a schedule that cannot be run
+pub record IsStuckAt (head : Head) (events : List Event) (number : ℕ) : Type 0 where
+  pub place : ℕ
+  pub stuck : FirstStuck (head_lengths head) (first_world head) events place
+  pub line : number ≡ event_line head place
+
+-- the text is a schedule, and the event on this line is the first that cannot be run
+pub record GetsStuck (text : List ℕ) (number : ℕ) : Type 0 where
+  pub head : Head
+  pub events : List Event
+  pub spelled : SpellsEvents head events text
+  pub stuck : IsStuckAt head events number
+
+-- the first faulty line: of a text outside the grammar the first that is, and of a schedule the first that cannot be run
+abbrev pub FaultyLine : (text : List ℕ) → (number : ℕ) → Type 0
+FaultyLine text number = FirstBadLine text number ⊎ GetsStuck text number
+
+-- a world is as is said of worlds, and a faulty line as is said of lines; want of memory says nothing
+abbrev pub Comes : Outcome → (world : World → Type 0) → (line : ℕ → Type 0) → Type 0
+Comes (Outcome.Ran w) world line = world w
+Comes (Outcome.Faulty number) world line = line number
+Comes Outcome.Memory world line = Unit {0}

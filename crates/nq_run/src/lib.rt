@@ -1,0 +1,22 @@
+//! The runs of the leased file sharing protocol behind one call.
+#![tactic(auto)]
+
+mod clients;
+mod ending;
+mod files;
+mod messages;
+mod packets;
+mod playing;
+mod printing;
+mod replay;
+mod servers;
+mod steps;
+mod words;
+mod worlds;
+
+pub use nq_base::NoMemory;
+pub use replay::run;
+pub use words::Words;
+
+#[cfg(test)]
+mod tests;
