@@ -1,5 +1,6 @@
 pub mod CachedInRuns
 pub mod LeaseIntervalInRuns
+pub mod OneRequests
 pub mod RecoveryWaits
 pub mod RowsApart
 pub mod ServerAlone

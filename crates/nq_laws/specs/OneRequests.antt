@@ -1,0 +1,99 @@
+-- One request per sequence, in every run: the requests that are decided once, and the replies to them.
+use Rattle.std.specs.Prelude.{◌≡◌, ◌<◌, ℕ, List, Option, Some, None, slice_get}
+use Rattle.nq_base.specs.declared.Event.{Event}
+use Rattle.nq_base.specs.declared.Reply.{Reply}
+use Rattle.nq_base.specs.declared.Request.{Request}
+use Rattle.nq_base.specs.declared.Request.TheVariants.{Create, Write, Resize, Remove}
+use Rattle.nq_base.specs.declared.Who.{Who}
+use Rattle.nq_laws.specs.LeaseIntervalInRuns.{KeepsBounds}
+use Rattle.nq_model.specs.Client.{Client, Ticket}
+use Rattle.nq_model.specs.Hear.{inc_of}
+use Rattle.nq_model.specs.Kept.{host_row}
+use Rattle.nq_model.specs.Message.{Packet, call, reply, asker}
+use Rattle.nq_model.specs.Server.{to_host}
+use Rattle.nq_model.specs.Skew.{IsWithinSkew}
+use Rattle.nq_model.specs.World.{Head, World, from_host, run}
+
+-- the sequence of a request that is decided once
+abbrev pub sequence_of : Request → Option ℕ
+sequence_of (Create who seq name blocks) = Some seq
+sequence_of (Write who seq file block first last push body) = Some seq
+sequence_of (Resize who seq q file blocks) = Some seq
+sequence_of (Remove who seq q file) = Some seq
+sequence_of other = None
+
+-- the packet at this place is a host's request of this number, and an incarnation asks in it with this sequence
+pub record Asks (packets : List Packet) (place host xid : ℕ) (r : Request) (who : Who) (seq : ℕ) : Type 0 where
+  pub sent : slice_get packets place ≡ Some (from_host host (call xid r))
+  pub by : asker r ≡ Some who
+  pub sequence : sequence_of r ≡ Some seq
+
+-- two packets in which one incarnation asks with one sequence are copies of one packet: they come from its host, with the
+-- same number and the same request
+abbrev pub AsksOnce : World → Type 0
+AsksOnce w =
+    (i j host other x y : ℕ) (r s : Request) (who : Who) (seq : ℕ)
+    → Asks w.packets i host x r who seq
+    → Asks w.packets j other y s who seq
+    → (host ≡ who.host) × (other ≡ who.host) × (x ≡ y) × (r ≡ s)
+
+-- after every schedule, whatever was lost, repeated, reordered or restarted, however often the server crashed and however
+-- the clocks ran, each incarnation that ever ran has sent one request at most with a sequence, and copies of it
+abbrev pub OneRequestPerSequence : Type 0
+OneRequestPerSequence = (head : Head) (events : List Event) → AsksOnce (run head events)
+
+-- a request is under way: a client has it, with this number
+pub record IsUnderWay (c : Client) (xid : ℕ) (r : Request) : Type 0 where
+  pub ticket : Ticket
+  pub has : c.ticket ≡ Some ticket
+  pub number : ticket.xid ≡ xid
+  pub request : ticket.request ≡ r
+
+-- a host's client runs, and asks in the packet at this place with a sequence above the kept one of its host, of which its
+-- incarnation is the kept one
+pub record IsOpen (w : World) (host : ℕ) (c : Client) (place xid : ℕ) (r : Request) (seq : ℕ) : Type 0 where
+  pub runs : slice_get w.clients host ≡ Some c
+  pub kept : (host_row w.server.kept host).inc ≡ c.who.inc
+  pub asks : Asks w.packets place host xid r c.who seq
+  pub above : (host_row w.server.kept host).seq < seq
+
+-- an open request is the one under way; so one sequence is open at most; and no incarnation after the kept one has asked
+-- with a sequence
+pub record OpensOne (w : World) : Type 0 where
+  pub under_way : (host : ℕ) (c : Client) (place xid : ℕ) (r : Request) (seq : ℕ) → IsOpen w host c place xid r seq → IsUnderWay c xid r
+  pub one : (host : ℕ) (c : Client) (i j x y : ℕ) (r s : Request) (seq other : ℕ) → IsOpen w host c i x r seq → IsOpen w host c j y s other → seq ≡ other
+  pub none_after : (place host xid : ℕ) (r : Request) (who : Who) (seq : ℕ) → Asks w.packets place host xid r who seq → (host_row w.server.kept host).inc < who.inc → ⊥
+
+-- after every schedule within skew
+abbrev pub OneOpenInEveryRun : Type 0
+OneOpenInEveryRun =
+    (most : ℕ) (head : Head) (events : List Event)
+    → KeepsBounds most head events
+    → IsWithinSkew head.hosts most events
+    → OpensOne (run head events)
+
+-- the reply at this place comes after a request of its number from its host, in which the incarnation asks that it repeats
+pub record IsAnswer (packets : List Packet) (place host xid : ℕ) (a : Reply) : Type 0 where
+  pub earlier : ℕ
+  pub before : earlier < place
+  pub asks : Request
+  pub who : Who
+  pub sent : slice_get packets earlier ≡ Some (from_host host (call xid asks))
+  pub by : asker asks ≡ Some who
+  pub inc : inc_of a ≡ who.inc
+
+-- a client's request under way was sent before the packet at this place
+pub record WasSentBefore (packets : List Packet) (place host : ℕ) (t : Ticket) : Type 0 where
+  pub earlier : ℕ
+  pub before : earlier < place
+  pub sent : slice_get packets earlier ≡ Some (from_host host (call t.xid t.request))
+
+-- each reply comes after a request that it answers; and one that a request under way can take, as it is of that number and
+-- of the running incarnation, comes after that request's first sending
+pub record RepliesAfter (w : World) : Type 0 where
+  pub each : (place host xid : ℕ) (a : Reply) → slice_get w.packets place ≡ Some (to_host host (reply xid a)) → IsAnswer w.packets place host xid a
+  pub to_own : (place host : ℕ) (c : Client) (t : Ticket) (a : Reply) → slice_get w.clients host ≡ Some c → c.ticket ≡ Some t → slice_get w.packets place ≡ Some (to_host host (reply t.xid a)) → inc_of a ≡ c.who.inc → WasSentBefore w.packets place host t
+
+-- after every schedule
+abbrev pub RepliesComeAfter : Type 0
+RepliesComeAfter = (head : Head) (events : List Event) → RepliesAfter (run head events)
