@@ -124,7 +124,7 @@ module _ (who : Who) (host : ℕ) (ps : List Packet) (sends : List Message) (apa
   told-new (k ∷ ms) n (inl e) = not-both host who.host k n e
   told-new (k ∷ ms) n (inr i) = told-new ms n i
 
-  asked-old : (x : ℕ) (r : Request) → Asked (packets_with ps host sends) who.host x r → Asked ps who.host x r
+  pub asked-old : (x : ℕ) (r : Request) → Asked (packets_with ps host sends) who.host x r → Asked ps who.host x r
   asked-old x r i = case (in-append ps (map (from_host host) sends) (from_host who.host (call x r)) i)
     where
       case : Asked ps who.host x r ⊎ In (map (from_host host) sends) (from_host who.host (call x r)) → Asked ps who.host x r

@@ -303,7 +303,7 @@ to-server ps p (by_host host x s w e by) to i xid r d =
     (subst (λ z. In ps z) (e ∙ ap (from_host host) m ∙ ap (λ h. from_host h (call xid r)) (sym at)) i, ap is_some (ap asker (sym c.1) ∙ by))
 to-server ps p (by_server host m e) to i xid r d = let other : Party.Client host ≡ Party.Server = ap (λ q. q.to) (sym e) ∙ to in absurd (cc)
 
-received-said : (w : World) (p : Packet) → In w.packets p → p.to ≡ Party.Server → Holds w → AllSaid w.packets (receive w.server (sending_host p.sender) (length w.packets) (datagram_of p.message)).sends
+pub received-said : (w : World) (p : Packet) → In w.packets p → p.to ≡ Party.Server → Holds w → AllSaid w.packets (receive w.server (sending_host p.sender) (length w.packets) (datagram_of p.message)).sends
 received-said w p i to h =
     all-said w.packets w.server (sending_host p.sender) (length w.packets) (datagram_of p.message)
     (λ xid r d. (to-server w.packets p (h.sent p i) to i xid r d).0)
@@ -343,7 +343,7 @@ ends-none : (ps : List Packet) (t : Server) (rows : List Row) (row : Row) → Al
 unfolding ends_writing
 ends-none ps t rows row p i = absurd i
 
-tick-said : (ps : List Packet) (s : Server) (now : ℕ) → AllSaid ps (tick s now).sends
+pub tick-said : (ps : List Packet) (s : Server) (now : ℕ) → AllSaid ps (tick s now).sends
 tick-said ps s now = server-ticks s now (λ t. AllSaid ps t.sends) (record {
   waits = λ u hd l e b. quiet-none ps (at_server_time s now);
   opening = λ u hd l e b. opens-none ps (at_server_time s now) u hd;
@@ -351,7 +351,7 @@ tick-said ps s now = server-ticks s now (λ t. AllSaid ps t.sends) (record {
   ending_writing = λ row e f. ends-none ps (at_server_time s now) _ row;
 })
 
-crash-said : (ps : List Packet) (s : Server) (longest : ℕ) → AllSaid ps (crash s longest).sends
+pub crash-said : (ps : List Packet) (s : Server) (longest : ℕ) → AllSaid ps (crash s longest).sends
 unfolding crash
 crash-said ps s longest p i = absurd i
 
