@@ -360,7 +360,7 @@ start-runs most head b = record {
   unrowed = λ host c is e. let yes : c.attached ≡ true = ap (λ z. z.attached) (first-client head.term 0 head.hosts host c is) ∙ start-attached _ head.term in absurd (cc);
 }
 
-run-runs : (most : ℕ) (head : Head) (events : List Event) → KeepsBounds most head events → IsWithinSkew head.hosts most events → Runs head.hosts most (run head events) events
+pub run-runs : (most : ℕ) (head : Head) (events : List Event) → KeepsBounds most head events → IsWithinSkew head.hosts most events → Runs head.hosts most (run head events) events
 run-runs most head [] b within = start-runs most head b
 run-runs most head (e ∷ earlier) b within =
     step-runs head.hosts most (run head earlier) e earlier (b.boots 0 e (omega arith)) within (run-holds head earlier) (run-clocked head earlier)

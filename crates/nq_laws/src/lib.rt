@@ -4,8 +4,10 @@
 
 mod cached;
 mod intervals;
+mod requests;
 mod server;
 
 pub use cached::cached_at_once_in_every_run;
 pub use intervals::{lease_interval_in_every_run, lease_interval_is_met};
+pub use requests::{one_request_per_sequence, one_sequence_is_open, replies_come_after};
 pub use server::{recovery_waits, rows_stand_apart};

@@ -1,0 +1,119 @@
+-- In every run one request is sent of a sequence, one is open at most, and each reply comes after its request.
+use Rattle.std.proofs.Common.{◌≡◌, ◌<◌, ◌⊎◌, ℕ, List, Option, Some, None, refl, sym, subst, ap, ◌∙◌, arith, inl, inr}
+use Rattle.std.specs.Prelude.{slice_get}
+use Rattle.nq_base.specs.declared.Event.{Event}
+use Rattle.nq_base.specs.declared.Reply.{Reply}
+use Rattle.nq_base.specs.declared.Request.{Request}
+use Rattle.nq_base.specs.declared.Who.{Who}
+use Rattle.nq_laws.proofs.ClientFacts.{seq_of}
+use Rattle.nq_laws.proofs.ClientMoves.{some-same, none-some}
+use Rattle.nq_laws.proofs.HostLine.{IsSettled}
+use Rattle.nq_laws.proofs.KnownWorlds.{Known}
+use Rattle.nq_laws.proofs.LeaseIntervals.{run-runs}
+use Rattle.nq_laws.proofs.Packets.{Asked, in-get}
+use Rattle.nq_laws.proofs.WorldSequences.{Draws, run-draws}
+use Rattle.nq_laws.proofs.Worlds.{Holds, run-holds}
+use Rattle.nq_laws.specs.OneRequests.{sequence_of, Asks, AsksOnce, OneRequestPerSequence, IsUnderWay, IsOpen, OpensOne, OneOpenInEveryRun, IsAnswer, WasSentBefore, RepliesAfter, RepliesComeAfter}
+use Rattle.nq_model.specs.Client.{Client, Ticket}
+use Rattle.nq_model.specs.Hear.{inc_of}
+use Rattle.nq_model.specs.Kept.{host_row}
+use Rattle.nq_model.specs.Message.{call, reply, asker}
+use Rattle.nq_model.specs.Server.{to_host}
+use Rattle.nq_model.specs.World.{World, from_host, run}
+
+same-sequence : (r : Request) → seq_of r ≡ sequence_of r
+same-sequence (Request.Create who seq name blocks) = refl
+same-sequence (Request.Write who seq file block first last push body) = refl
+same-sequence (Request.Resize who seq q file blocks) = refl
+same-sequence (Request.Remove who seq q file) = refl
+same-sequence other = refl
+
+asked-of : (w : World) (place host xid : ℕ) (r : Request) (who : Who) (n : ℕ) → Asks w.packets place host xid r who n → Asked w.packets host xid r
+asked-of w place host xid r who n a = in-get w.packets place (from_host host (call xid r)) a.sent
+
+-- an incarnation asks from its host
+asks-home : (w : World) → Holds w → Draws w → (place host xid : ℕ) (r : Request) (who : Who) (n : ℕ) (o : Option Client) → slice_get w.clients host ≡ o → Asks w.packets place host xid r who n → host ≡ who.host
+asks-home w held d place host xid r who n None is a = absurd (d.lone host xid r (asked-of w place host xid r who n a) is)
+asks-home w held d place host xid r who n (Some c) is a =
+    let at = held.clients host c is in
+    sym ((at.mail.asked xid r who (subst (λ h. Asked w.packets h xid r) (sym at.here) (asked-of w place host xid r who n a)) a.by).host ∙ at.here)
+
+-- and what it asked stands at its client
+asks-here : (w : World) → Holds w → (place host xid : ℕ) (r : Request) (who : Who) (n : ℕ) (c : Client) → slice_get w.clients host ≡ Some c → Asks w.packets place host xid r who n → Asked w.packets c.who.host xid r
+asks-here w held place host xid r who n c is a = subst (λ h. Asked w.packets h xid r) (sym (held.clients host c is).here) (asked-of w place host xid r who n a)
+
+-- ---- one request of a sequence
+
+of-one-host : (w : World) → Holds w → Draws w → (i j host x y : ℕ) (r s : Request) (who : Who) (n : ℕ) (o : Option Client) → slice_get w.clients host ≡ o → Asks w.packets i host x r who n → Asks w.packets j host y s who n → (x ≡ y) × (r ≡ s)
+of-one-host w held d i j host x y r s who n None is a b = absurd (d.lone host x r (asked-of w i host x r who n a) is)
+of-one-host w held d i j host x y r s who n (Some c) is a b =
+    (d.clients host c is).once x y r s who n (asks-here w held i host x r who n c is a) (asks-here w held j host y s who n c is b) a.by b.by (same-sequence r ∙ a.sequence) (same-sequence s ∙ b.sequence)
+
+asks-once : (w : World) → Holds w → Draws w → AsksOnce w
+asks-once w held d i j host other x y r s who n a b =
+    let home : host ≡ who.host = asks-home w held d i host x r who n (slice_get w.clients host) refl a in
+    let also : other ≡ who.host = asks-home w held d j other y s who n (slice_get w.clients other) refl b in
+    let same = of-one-host w held d i j host x y r s who n (slice_get w.clients host) refl a (subst (λ h. Asks w.packets j h y s who n) (also ∙ sym home) b) in
+    (home, also, same.0, same.1)
+
+pub one-in-every-run : OneRequestPerSequence
+one-in-every-run head events = asks-once (run head events) (run-holds head events) (run-draws head events)
+
+-- ---- one open sequence
+
+under-way : (w : World) (events : List Event) → Holds w → Known w events → (host : ℕ) (c : Client) (place xid : ℕ) (r : Request) (n : ℕ) → IsOpen w host c place xid r n → IsUnderWay c xid r
+under-way w events held known host c place xid r n o = case ((known.clients host c o.runs).lined.settled o.kept xid r c.who n asked o.asks.by refl (same-sequence r ∙ o.asks.sequence))
+  where
+    asked : Asked w.packets c.who.host xid r
+    asked = asks-here w held place host xid r c.who n c o.runs o.asks
+
+    case : IsSettled c.ticket (host_row w.server.kept host).seq xid n → IsUnderWay c xid r
+    case (inl below) = let above = o.above in absurd (omega arith)
+    case (inr u) = record { ticket = u.0; has = u.1; number = u.2; request = ((held.clients host c o.runs).mail.asked xid r c.who asked o.asks.by).same refl u.0 u.1 u.2 }
+
+one-open : (w : World) (events : List Event) → Holds w → Known w events → (host : ℕ) (c : Client) (i j x y : ℕ) (r s : Request) (n m : ℕ) → IsOpen w host c i x r n → IsOpen w host c j y s m → n ≡ m
+one-open w events held known host c i j x y r s n m o p =
+    let u = under-way w events held known host c i x r n o in
+    let v = under-way w events held known host c j y s m p in
+    let one : u.ticket ≡ v.ticket = some-same u.ticket v.ticket (sym u.has ∙ v.has) in
+    let same : r ≡ s = sym u.request ∙ ap (λ z. z.request) one ∙ v.request in
+    some-same n m (sym o.asks.sequence ∙ ap sequence_of same ∙ p.asks.sequence)
+
+-- an incarnation after the kept one has only asked to be attached
+none-after : (w : World) (events : List Event) → Holds w → Draws w → Known w events → (place host xid : ℕ) (r : Request) (who : Who) (n : ℕ) (o : Option Client) → slice_get w.clients host ≡ o → Asks w.packets place host xid r who n → (host_row w.server.kept host).inc < who.inc → ⊥
+none-after w events held d known place host xid r who n None is a later = d.lone host xid r (asked-of w place host xid r who n a) is
+none-after w events held d known place host xid r who n (Some c) is a later =
+    let attaches : r ≡ Request.Attach who = (known.clients host c is).lined.above xid r who (asks-here w held place host xid r who n c is a) a.by later in
+    none-some n (ap sequence_of (sym attaches) ∙ a.sequence)
+
+opens-one : (w : World) (events : List Event) → Holds w → Draws w → Known w events → OpensOne w
+opens-one w events held d known = record {
+  under_way = under-way w events held known;
+  one = one-open w events held known;
+  none_after = λ place host xid r who n. none-after w events held d known place host xid r who n (slice_get w.clients host) refl;
+}
+
+pub one-open-in-every-run : OneOpenInEveryRun
+one-open-in-every-run most head events b within = opens-one (run head events) events (run-holds head events) (run-draws head events) (run-runs most head events b within).known
+
+-- ---- replies come after
+
+sent-before : (w : World) → Holds w → (place host : ℕ) (c : Client) (t : Ticket) (a : Reply) → slice_get w.clients host ≡ Some c → c.ticket ≡ Some t → inc_of a ≡ c.who.inc → IsAnswer w.packets place host t.xid a → WasSentBefore w.packets place host t
+sent-before w held place host c t a is has inc k =
+    let at = held.clients host c is in
+    let asked : Asked w.packets c.who.host t.xid k.asks = subst (λ h. Asked w.packets h t.xid k.asks) (sym at.here) (in-get w.packets k.earlier (from_host host (call t.xid k.asks)) k.sent) in
+    let same : t.request ≡ k.asks = (at.mail.asked t.xid k.asks k.who asked k.by).same (sym k.inc ∙ inc) t has refl in
+    record {
+      earlier = k.earlier;
+      before = k.before;
+      sent = subst (λ r. slice_get w.packets k.earlier ≡ Some (from_host host (call t.xid r))) (sym same) k.sent;
+    }
+
+replies-after : (w : World) → Holds w → Draws w → RepliesAfter w
+replies-after w held d = record {
+  each = d.answers;
+  to_own = λ place host c t a is has at inc. sent-before w held place host c t a is has inc (d.answers place host t.xid a at);
+}
+
+pub replies-come-after : RepliesComeAfter
+replies-come-after head events = replies-after (run head events) (run-holds head events) (run-draws head events)
