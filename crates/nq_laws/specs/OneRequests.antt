@@ -1,5 +1,5 @@
 -- One request per sequence, in every run: the requests that are decided once, and the replies to them.
-use Rattle.std.specs.Prelude.{◌≡◌, ◌<◌, ℕ, List, Option, Some, None, slice_get}
+use Rattle.std.specs.Prelude.{◌≡◌, ◌<◌, ℕ, List, ◌∷◌, Option, Some, None, slice_get}
 use Rattle.nq_base.specs.declared.Event.{Event}
 use Rattle.nq_base.specs.declared.Reply.{Reply}
 use Rattle.nq_base.specs.declared.Request.{Request}
@@ -97,3 +97,25 @@ pub record RepliesAfter (w : World) : Type 0 where
 -- after every schedule
 abbrev pub RepliesComeAfter : Type 0
 RepliesComeAfter = (head : Head) (events : List Event) → RepliesAfter (run head events)
+
+-- the premises are met, and not in vain: after some schedule within skew a request is open of which two packets were sent,
+-- and once the first of them came to the server there is a reply that the request under way can take
+pub record IsAskedTwice : Type 0 where
+  pub most : ℕ
+  pub head : Head
+  pub events : List Event
+  pub host : ℕ
+  pub client : Client
+  pub request : Request
+  pub seq : ℕ
+  pub ticket : Ticket
+  pub place : ℕ
+  pub answer : Reply
+  pub bounds : KeepsBounds most head events
+  pub within : IsWithinSkew head.hosts most events
+  pub first : IsOpen (run head events) host client 0 ticket.xid request seq
+  pub again : IsOpen (run head events) host client 1 ticket.xid request seq
+  pub stays : slice_get (run head (Event.Deliver 0 ∷ events)).clients host ≡ Some client
+  pub has : client.ticket ≡ Some ticket
+  pub told : slice_get (run head (Event.Deliver 0 ∷ events)).packets place ≡ Some (to_host host (reply ticket.xid answer))
+  pub inc : inc_of answer ≡ client.who.inc

@@ -1,6 +1,6 @@
 //! One request for each sequence.
 
-ghost use Rattle.nq_laws.specs.OneRequests.{OneOpenInEveryRun, OneRequestPerSequence, RepliesComeAfter};
+ghost use Rattle.nq_laws.specs.OneRequests.{IsAskedTwice, OneOpenInEveryRun, OneRequestPerSequence, RepliesComeAfter};
 
 /// After every schedule, of each incarnation of a host that ever ran, two packets with requests of one sequence are copies
 /// of one packet: the same request under the same number (RFC 1057 section 8; Macklem 1994).
@@ -19,4 +19,10 @@ pub fn one_sequence_is_open()
 /// under way can take after the first sending of that request (RFC 1057 section 8; Macklem 1994).
 pub fn replies_come_after()
     ensures { RepliesComeAfter }
+{}
+
+/// There is such a schedule, after which a request is open that was sent twice, and a reply to it can be taken once its first
+/// packet arrived.
+pub fn requests_are_met()
+    ensures { IsAskedTwice }
 {}
