@@ -226,7 +226,7 @@ idle-asks c ps host a e =
     let w = a.alone.asking.waiting e in
     (w.no_lease, λ t is. let one : w.request ≡ t = some-same w.request t (sym w.asks ∙ is) in attach-requests-none t.request (subst (λ j. fits_job j t.request ≡ true) (ap (λ z. z.job) (sym one) ∙ w.job) (a.alone.asking.ticketed t is).fits))
 
-hearing : (hosts most : ℕ) (w : World) (events : List Event) (p : Packet) (host : ℕ) (c : Client) → slice_get w.clients host ≡ Some c → In w.packets p → p.to ≡ Party.Server → Holds w → Runs hosts most w events → Hearing w.packets w.server most (sending_host p.sender) (datagram_of p.message) events c.who c.now c.xid c.attached c.ticket c.leases c.notices
+pub hearing : (hosts most : ℕ) (w : World) (events : List Event) (p : Packet) (host : ℕ) (c : Client) → slice_get w.clients host ≡ Some c → In w.packets p → p.to ≡ Party.Server → Holds w → Runs hosts most w events → Hearing w.packets w.server most (sending_host p.sender) (datagram_of p.message) events c.who c.now c.xid c.attached c.ticket c.leases c.notices
 hearing hosts most w events p host c is i to held h =
     let a = held.clients host c is in
     record {
@@ -360,11 +360,15 @@ start-runs most head b = record {
   unrowed = λ host c is e. let yes : c.attached ≡ true = ap (λ z. z.attached) (first-client head.term 0 head.hosts host c is) ∙ start-attached _ head.term in absurd (cc);
 }
 
+-- a schedule within bounds was so before its last event
+pub bounds-before : (most : ℕ) (head : Head) (e : Event) (earlier : List Event) → KeepsBounds most head (e ∷ earlier) → KeepsBounds most head earlier
+bounds-before most head e earlier b = record { hosts = b.hosts; first_long = b.first_long; first_short = b.first_short; boots = λ k d below. b.boots (suc k) d (omega arith) }
+
 pub run-runs : (most : ℕ) (head : Head) (events : List Event) → KeepsBounds most head events → IsWithinSkew head.hosts most events → Runs head.hosts most (run head events) events
 run-runs most head [] b within = start-runs most head b
 run-runs most head (e ∷ earlier) b within =
     step-runs head.hosts most (run head earlier) e earlier (b.boots 0 e (omega arith)) within (run-holds head earlier) (run-clocked head earlier)
-    (run-runs most head earlier (record { hosts = b.hosts; first_long = b.first_long; first_short = b.first_short; boots = λ k d below. b.boots (suc k) d (omega arith) }) (within-before head.hosts most e earlier within))
+    (run-runs most head earlier (bounds-before most head e earlier b) (within-before head.hosts most e earlier within))
 
 -- in every run within skew
 pub kept-in-every-run : LeaseIntervalInEveryRun

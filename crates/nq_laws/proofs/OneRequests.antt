@@ -10,6 +10,7 @@ use Rattle.nq_laws.proofs.ClientMoves.{some-same, none-some}
 use Rattle.nq_laws.proofs.HostLine.{IsSettled}
 use Rattle.nq_laws.proofs.KnownWorlds.{Known}
 use Rattle.nq_laws.proofs.LeaseIntervals.{run-runs}
+use Rattle.nq_laws.proofs.OpenRequests.{IsOpenAt, Opens, run-opens}
 use Rattle.nq_laws.proofs.Packets.{Asked, in-get}
 use Rattle.nq_laws.proofs.WorldSequences.{Draws, run-draws}
 use Rattle.nq_laws.proofs.Worlds.{Holds, run-holds}
@@ -61,23 +62,30 @@ one-in-every-run head events = asks-once (run head events) (run-holds head event
 
 -- ---- one open sequence
 
-under-way : (w : World) (events : List Event) → Holds w → Known w events → (host : ℕ) (c : Client) (place xid : ℕ) (r : Request) (n : ℕ) → IsOpen w host c place xid r n → IsUnderWay c xid r
-under-way w events held known host c place xid r n o = case ((known.clients host c o.runs).lined.settled o.kept xid r c.who n asked o.asks.by refl (same-sequence r ∙ o.asks.sequence))
+under-way : (w : World) (events : List Event) → Holds w → Known w events → (host place xid : ℕ) (c : Client) (r : Request) (n : ℕ) → slice_get w.clients host ≡ Some c → IsOpen w host place xid r c.who n → IsUnderWay c xid r
+under-way w events held known host place xid c r n is o = case ((known.clients host c is).lined.settled o.kept xid r c.who n asked o.asks.by refl (same-sequence r ∙ o.asks.sequence))
   where
     asked : Asked w.packets c.who.host xid r
-    asked = asks-here w held place host xid r c.who n c o.runs o.asks
+    asked = asks-here w held place host xid r c.who n c is o.asks
 
     case : IsSettled c.ticket (host_row w.server.kept host).seq xid n → IsUnderWay c xid r
     case (inl below) = let above = o.above in absurd (omega arith)
-    case (inr u) = record { ticket = u.0; has = u.1; number = u.2; request = ((held.clients host c o.runs).mail.asked xid r c.who asked o.asks.by).same refl u.0 u.1 u.2 }
+    case (inr u) = record { ticket = u.0; has = u.1; number = u.2; request = ((held.clients host c is).mail.asked xid r c.who asked o.asks.by).same refl u.0 u.1 u.2 }
 
-one-open : (w : World) (events : List Event) → Holds w → Known w events → (host : ℕ) (c : Client) (i j x y : ℕ) (r s : Request) (n m : ℕ) → IsOpen w host c i x r n → IsOpen w host c j y s m → n ≡ m
-one-open w events held known host c i j x y r s n m o p =
-    let u = under-way w events held known host c i x r n o in
-    let v = under-way w events held known host c j y s m p in
-    let one : u.ticket ≡ v.ticket = some-same u.ticket v.ticket (sym u.has ∙ v.has) in
-    let same : r ≡ s = sym u.request ∙ ap (λ z. z.request) one ∙ v.request in
-    some-same n m (sym o.asks.sequence ∙ ap sequence_of same ∙ p.asks.sequence)
+open-at : (w : World) (host place xid : ℕ) (r : Request) (who : Who) (n : ℕ) → IsOpen w host place xid r who n → IsOpenAt (host_row w.server.kept host) w.packets host xid r
+open-at w host place xid r who n o = record {
+  who = who;
+  seq = n;
+  asked = asked-of w place host xid r who n o.asks;
+  by = o.asks.by;
+  kept = o.kept;
+  draws = same-sequence r ∙ o.asks.sequence;
+  above = o.above;
+}
+
+one-open : (w : World) → Draws w → Opens w → (host i j x y : ℕ) (r s : Request) (who other : Who) (m n : ℕ) (o : Option Client) → slice_get w.clients host ≡ o → IsOpen w host i x r who m → IsOpen w host j y s other n → (x ≡ y) × (r ≡ s)
+one-open w d h host i j x y r s who other m n None is a b = absurd (d.lone host x r (asked-of w i host x r who m a.asks) is)
+one-open w d h host i j x y r s who other m n (Some c) is a b = h.one host c is x y r s (open-at w host i x r who m a) (open-at w host j y s other n b)
 
 -- an incarnation after the kept one has only asked to be attached
 none-after : (w : World) (events : List Event) → Holds w → Draws w → Known w events → (place host xid : ℕ) (r : Request) (who : Who) (n : ℕ) (o : Option Client) → slice_get w.clients host ≡ o → Asks w.packets place host xid r who n → (host_row w.server.kept host).inc < who.inc → ⊥
@@ -86,15 +94,15 @@ none-after w events held d known place host xid r who n (Some c) is a later =
     let attaches : r ≡ Request.Attach who = (known.clients host c is).lined.above xid r who (asks-here w held place host xid r who n c is a) a.by later in
     none-some n (ap sequence_of (sym attaches) ∙ a.sequence)
 
-opens-one : (w : World) (events : List Event) → Holds w → Draws w → Known w events → OpensOne w
-opens-one w events held d known = record {
+opens-one : (w : World) (events : List Event) → Holds w → Draws w → Known w events → Opens w → OpensOne w
+opens-one w events held d known h = record {
   under_way = under-way w events held known;
-  one = one-open w events held known;
+  one = λ host i j x y r s who other m n. one-open w d h host i j x y r s who other m n (slice_get w.clients host) refl;
   none_after = λ place host xid r who n. none-after w events held d known place host xid r who n (slice_get w.clients host) refl;
 }
 
 pub one-open-in-every-run : OneOpenInEveryRun
-one-open-in-every-run most head events b within = opens-one (run head events) events (run-holds head events) (run-draws head events) (run-runs most head events b within).known
+one-open-in-every-run most head events b within = opens-one (run head events) events (run-holds head events) (run-draws head events) (run-runs most head events b within).known (run-opens most head events b within)
 
 -- ---- replies come after
 

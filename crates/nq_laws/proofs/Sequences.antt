@@ -77,6 +77,28 @@ seqs-decides {who = who} {seq = seq} {ps = ps} xid request asks draws h = record
   drawn x r w n by inc sq (inl a) = let below = h.drawn x r w n a by inc sq in omega arith
   drawn x r w n by inc sq (inr new) = let number : seq ≡ n = some-same seq n (sym draws ∙ ap seq_of new.1 ∙ sq) in omega arith
 
+-- ---- what an incarnation sends
+
+-- each request of an incarnation before this one was in these packets
+record AddsOwn (who : Who) (ps qs : List Packet) : Type 0 where
+  before : (x : ℕ) (r : Request) (v : Who) → Asked qs who.host x r → asker r ≡ Some v → v.inc < who.inc → Asked ps who.host x r
+
+-- it sends a request of its own
+own-adds : {who : Who} {ps qs : List Packet} (xid : ℕ) (request : Request) → asker request ≡ Some who → AddsOwn who ps qs → AddsOwn who ps (qs ++ from_host who.host (call xid request) ∷ [])
+own-adds {who = who} {ps = ps} {qs = qs} xid request asks h = record { before = λ x r v asked by below. case x r v by below (asked-before qs who.host xid x request r asked) }
+  where
+    case : (x : ℕ) (r : Request) (v : Who) → asker r ≡ Some v → v.inc < who.inc → Asked qs who.host x r ⊎ ((xid ≡ x) × (request ≡ r)) → Asked ps who.host x r
+    case x r v by below (inl there) = h.before x r v there by below
+    case x r v by below (inr new) = let one : who.inc ≡ v.inc = ap (λ z. z.inc) (some-same who v (sym asks ∙ ap asker new.1 ∙ by)) in absurd (omega arith)
+
+-- it sends a packet again
+own-again : {who : Who} {ps qs : List Packet} (p : Packet) → In qs p → AddsOwn who ps qs → AddsOwn who ps (qs ++ p ∷ [])
+own-again {who = who} {qs = qs} p there h = record { before = λ x r v asked by below. h.before x r v (old (from_host who.host (call x r)) (in-last qs p (from_host who.host (call x r)) asked)) by below }
+  where
+    old : (q : Packet) → In qs q ⊎ (p ≡ q) → In qs q
+    old q (inl i) = i
+    old q (inr e) = subst (λ z. In qs z) e there
+
 -- ---- in the middle of a step
 
 abbrev SeqsIn : List Packet → Core → Type 0
@@ -85,44 +107,60 @@ SeqsIn ps k = Seqs k.who k.seq (packets_with ps k.who.host k.sends)
 last-seqs : (ps : List Packet) (who : Who) (seq : ℕ) (sends : List Message) (m : Message) → Seqs who seq (packets_with ps who.host sends ++ from_host who.host m ∷ []) → Seqs who seq (packets_with ps who.host (sends ++ m ∷ []))
 last-seqs ps who seq sends m h = subst (λ qs. Seqs who seq qs) (sym (packets-last ps who.host sends m)) h
 
--- it is the same incarnation with its mail, and its sequences
+abbrev OwnIn : List Packet → Core → Type 0
+OwnIn ps k = AddsOwn k.who ps (packets_with ps k.who.host k.sends)
+
+last-own : (ps : List Packet) (who : Who) (sends : List Message) (m : Message) → AddsOwn who ps (packets_with ps who.host sends ++ from_host who.host m ∷ []) → AddsOwn who ps (packets_with ps who.host (sends ++ m ∷ []))
+last-own ps who sends m h = subst (λ qs. AddsOwn who ps qs) (sym (packets-last ps who.host sends m)) h
+
+-- it is the same incarnation with its mail, its sequences, and requests of its own
 record Drawing (who : Who) (ps : List Packet) (k : Core) : Type 0 where
   going : Going who ps k
   seqs : SeqsIn ps k
+  own : OwnIn ps k
 
 drawing-closed : (who : Who) (ps : List Packet) (Heard : ℕ → Tag → Type 0) (Given : ℕ → Grant → ℕ → Type 0) → Closed Heard Given (Drawing who ps)
 drawing-closed who ps Heard Given =
     let m = going-closed who ps Heard Given in
     record {
-      uses = λ k file d. record { going = m.uses k file d.going; seqs = d.seqs };
-      drops = λ k file d. record { going = m.drops k file d.going; seqs = d.seqs };
-      vacates = λ k file tag can d. record { going = m.vacates k file tag can d.going; seqs = last-seqs ps k.who k.seq k.sends (call k.xid (Request.Vacated k.who file tag)) (seqs-adds k.xid (Request.Vacated k.who file tag) refl d.seqs) };
-      asks = λ k job request no_seq can d. record { going = m.asks k job request no_seq can d.going; seqs = last-seqs ps k.who k.seq k.sends (call k.xid request) (seqs-adds k.xid request no_seq d.seqs) };
-      decides = λ k job request seq can d. record { going = m.decides k job request seq can d.going; seqs = last-seqs ps k.who (k.seq + 1) k.sends (call k.xid request) (seqs-decides k.xid request can.asks seq d.seqs) };
-      again = λ k t is d. record { going = m.again k t is d.going; seqs = last-seqs ps k.who k.seq k.sends (call t.xid t.request) (seqs-again (from_host k.who.host (call t.xid t.request)) (d.going.mail.own t is).sent d.seqs) };
-      holds = λ k file g sent given free unnoticed d. record { going = m.holds k file g sent given free unnoticed d.going; seqs = d.seqs };
-      cancels = λ k file d. record { going = m.cancels k file d.going; seqs = d.seqs };
-      notes = λ k file tag heard d. record { going = m.notes k file tag heard d.going; seqs = d.seqs };
+      uses = λ k file d. record { going = m.uses k file d.going; seqs = d.seqs; own = d.own };
+      drops = λ k file d. record { going = m.drops k file d.going; seqs = d.seqs; own = d.own };
+      vacates = λ k file tag can d. record { going = m.vacates k file tag can d.going; seqs = last-seqs ps k.who k.seq k.sends (call k.xid (Request.Vacated k.who file tag)) (seqs-adds k.xid (Request.Vacated k.who file tag) refl d.seqs); own = last-own ps k.who k.sends (call k.xid (Request.Vacated k.who file tag)) (own-adds k.xid (Request.Vacated k.who file tag) refl d.own) };
+      asks = λ k job request no_seq can d. record { going = m.asks k job request no_seq can d.going; seqs = last-seqs ps k.who k.seq k.sends (call k.xid request) (seqs-adds k.xid request no_seq d.seqs); own = last-own ps k.who k.sends (call k.xid request) (own-adds k.xid request can.asks d.own) };
+      decides = λ k job request seq can d. record { going = m.decides k job request seq can d.going; seqs = last-seqs ps k.who (k.seq + 1) k.sends (call k.xid request) (seqs-decides k.xid request can.asks seq d.seqs); own = last-own ps k.who k.sends (call k.xid request) (own-adds k.xid request can.asks d.own) };
+      again = λ k t is d. record { going = m.again k t is d.going; seqs = last-seqs ps k.who k.seq k.sends (call t.xid t.request) (seqs-again (from_host k.who.host (call t.xid t.request)) (d.going.mail.own t is).sent d.seqs); own = last-own ps k.who k.sends (call t.xid t.request) (own-again (from_host k.who.host (call t.xid t.request)) (d.going.mail.own t is).sent d.own) };
+      holds = λ k file g sent given free unnoticed d. record { going = m.holds k file g sent given free unnoticed d.going; seqs = d.seqs; own = d.own };
+      cancels = λ k file d. record { going = m.cancels k file d.going; seqs = d.seqs; own = d.own };
+      notes = λ k file tag heard d. record { going = m.notes k file tag heard d.going; seqs = d.seqs; own = d.own };
     }
 
 -- ---- steps of a client
 
--- the sequences after a step
-abbrev pub Drew : (host : ℕ) → List Packet → ClientStep → Type 0
-Drew host ps t = Seqs t.client.who t.client.seq (packets_with ps host t.sends)
+-- the sequences after a step, in which requests of its own incarnation were added
+pub record Drew (host : ℕ) (ps : List Packet) (t : ClientStep) : Type 0 where
+  pub seqs : Seqs t.client.who t.client.seq (packets_with ps host t.sends)
+  pub own : (x : ℕ) (r : Request) (v : Who) → Asked (packets_with ps host t.sends) host x r → asker r ≡ Some v → v.inc < t.client.who.inc → Asked ps host x r
 
 drew : (host : ℕ) (who : Who) (ps : List Packet) (t : ClientStep) → who.host ≡ host → Both (Drawing who ps) t → Drew host ps t
-drew host who ps t here b = subst (λ h. Seqs t.client.who t.client.seq (packets_with ps h t.sends)) (ap (λ w. w.host) b.core.going.same ∙ here) b.core.seqs
+drew host who ps t here b =
+    let same : t.client.who.host ≡ host = ap (λ w. w.host) b.core.going.same ∙ here in
+    record {
+      seqs = subst (λ h. Seqs t.client.who t.client.seq (packets_with ps h t.sends)) same b.core.seqs;
+      own = subst (λ h. (x : ℕ) (r : Request) (v : Who) → Asked (packets_with ps h t.sends) h x r → asker r ≡ Some v → v.inc < t.client.who.inc → Asked ps h x r) same b.core.own.before;
+    }
+
+nothing-own : (who : Who) (ps : List Packet) → AddsOwn who ps (ps ++ [])
+nothing-own who ps = subst (λ qs. AddsOwn who ps qs) (sym (append-nil ps)) (record { before = λ x r v asked by below. asked })
 
 begun-drawing : (host : ℕ) (c : Client) (ps : List Packet) → IsAt host c ps → Seqs c.who c.seq ps → Drawing c.who ps (core_of (begun c))
-begun-drawing host c ps a h = record { going = begun-going host c ps a; seqs = subst (λ qs. Seqs c.who c.seq qs) (sym (append-nil ps)) h }
+begun-drawing host c ps a h = record { going = begun-going host c ps a; seqs = subst (λ qs. Seqs c.who c.seq qs) (sym (append-nil ps)) h; own = nothing-own c.who ps }
 
 pub call-draws : (host : ℕ) (c : Client) (ps : List Packet) (op : Call) → IsAt host c ps → Seqs c.who c.seq ps → Drew host ps (client_call c op)
 call-draws host c ps op a h = drew host c.who ps (client_call c op) a.here (call-keeps (drawing-closed c.who ps NoneHeard NoneGiven) c op a.alone (begun-drawing host c ps a h))
 
 timed-drawing : (host : ℕ) (c : Client) (ps : List Packet) (now : ℕ) → IsAt host c ps → Seqs c.who c.seq ps → Drawing c.who ps (core_of (begun (at_time c now)))
 unfolding at_time
-timed-drawing host c ps now a h = record { going = timed-going host c ps now a; seqs = subst (λ qs. Seqs c.who c.seq qs) (sym (append-nil ps)) h }
+timed-drawing host c ps now a h = record { going = timed-going host c ps now a; seqs = subst (λ qs. Seqs c.who c.seq qs) (sym (append-nil ps)) h; own = nothing-own c.who ps }
 
 pub tick-draws : (host : ℕ) (c : Client) (ps : List Packet) → IsAt host c ps → Seqs c.who c.seq ps → Drew host ps (client_tick c (c.now + 1))
 tick-draws host c ps a h = drew host c.who ps (client_tick c (c.now + 1)) a.here (tick-keeps (drawing-closed c.who ps NoneHeard NoneGiven) c (c.now + 1) (omega arith) a.alone (timed-drawing host c ps (c.now + 1) a h))
@@ -137,8 +175,12 @@ fresh-seqs who xid seq ticket ps m h = record {
 pub restart-draws : (host : ℕ) (c : Client) (ps : List Packet) → IsAt host c ps → Seqs c.who c.seq ps → Drew host ps (restart c)
 unfolding starts fresh_client
 restart-draws host c ps a h =
-    subst (λ n. Seqs (next_incarnation c.who) 1 (ps ++ from_host n (call 1 (Request.Attach (next_incarnation c.who))) ∷ [])) a.here
-    (seqs-adds 1 (Request.Attach (next_incarnation c.who)) refl (fresh-seqs c.who c.xid c.seq c.ticket ps a.mail h))
+    let who : Who = next_incarnation c.who in
+    let added : AddsOwn who ps (ps ++ from_host who.host (call 1 (Request.Attach who)) ∷ []) = own-adds 1 (Request.Attach who) refl (record { before = λ x r v asked by below. asked }) in
+    record {
+      seqs = subst (λ n. Seqs who 1 (ps ++ from_host n (call 1 (Request.Attach who)) ∷ [])) a.here (seqs-adds 1 (Request.Attach who) refl (fresh-seqs c.who c.xid c.seq c.ticket ps a.mail h));
+      own = subst (λ n. (x : ℕ) (r : Request) (v : Who) → Asked (ps ++ from_host n (call 1 (Request.Attach who)) ∷ []) n x r → asker r ≡ Some v → v.inc < who.inc → Asked ps n x r) a.here added.before;
+    }
 
 -- ---- a datagram at a client
 
@@ -164,8 +206,8 @@ reply-draws host c ps number xid r (Some t) is sent a h =
       asked = is;
       counts = counts;
       alone = a.alone;
-      spent = λ other. record { going = record { same = refl; mail = spent; calls = before.going.calls }; seqs = before.seqs };
-      attached = λ job. record { going = record { same = refl; mail = spent; calls = before.going.calls }; seqs = before.seqs };
+      spent = λ other. record { going = record { same = refl; mail = spent; calls = before.going.calls }; seqs = before.seqs; own = before.own };
+      attached = λ job. record { going = record { same = refl; mail = spent; calls = before.going.calls }; seqs = before.seqs; own = before.own };
       brings = λ file on g grants. (on, (a.mail.replied xid r (subst (λ n. Told ps n (reply xid r)) (sym a.here) sent) inc).wants t is (sym same) g grants file on);
       only = λ file g at given. given;
     }

@@ -47,13 +47,17 @@ within-bounds (suc zero) d below = tt
 within-bounds (suc (suc zero)) d below = tt
 within-bounds (suc (suc (suc k))) d below = absurd (omega arith)
 
-first-open : IsOpen (run two-hosts one-create) 0 creator 0 1 create 1
+runs : slice_get (run two-hosts one-create).clients 0 ≡ Some creator
 unfolding filled zeros begins_call is_called at_time sends_again fresh_client attached_client starts new_file sends_request after_seq after_number boot answers empty_table after_server after_client start
-first-open = record { runs = refl; kept = refl; asks = record { sent = refl; by = refl; sequence = refl }; above = omega arith }
+runs = refl
 
-again-open : IsOpen (run two-hosts one-create) 0 creator 1 1 create 1
+first-open : IsOpen (run two-hosts one-create) 0 0 1 create creator.who 1
 unfolding filled zeros begins_call is_called at_time sends_again fresh_client attached_client starts new_file sends_request after_seq after_number boot answers empty_table after_server after_client start
-again-open = record { runs = refl; kept = refl; asks = record { sent = refl; by = refl; sequence = refl }; above = omega arith }
+first-open = record { kept = refl; asks = record { sent = refl; by = refl; sequence = refl }; above = omega arith }
+
+again-open : IsOpen (run two-hosts one-create) 0 1 1 create creator.who 1
+unfolding filled zeros begins_call is_called at_time sends_again fresh_client attached_client starts new_file sends_request after_seq after_number boot answers empty_table after_server after_client start
+again-open = record { kept = refl; asks = record { sent = refl; by = refl; sequence = refl }; above = omega arith }
 
 stays : slice_get (run two-hosts (Event.Deliver 0 ∷ one-create)).clients 0 ≡ Some creator
 unfolding filled zeros decides creates commits begins_call is_called at_time sends_again fresh_client attached_client starts new_file with_row with_new_file sends_request after_seq after_number quiet says keeping keeping_with boot answers empty_table after_server after_client start
@@ -85,6 +89,7 @@ asked-twice = record {
   answer = Reply.Create 1 2;
   bounds = record { hosts = omega arith; first_long = omega arith; first_short = omega arith; boots = within-bounds };
   within = skew-test-is-sound 2 60 one-create refl;
+  runs = runs;
   first = first-open;
   again = again-open;
   stays = stays;

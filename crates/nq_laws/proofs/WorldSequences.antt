@@ -59,7 +59,7 @@ client-draws w host c t is new held h = record {
   case other d true same there =
       let one : other ≡ host = same-number other host same in
       let is : d ≡ t.client = get-set-same w.clients host t.client d (subst (λ n. slice_get (slice_set w.clients host t.client) n ≡ Some d) one there) in
-      subst (λ z. Seqs z.who z.seq (packets_with w.packets host t.sends)) (sym is) new
+      subst (λ z. Seqs z.who z.seq (packets_with w.packets host t.sends)) (sym is) new.seqs
   case other d false differs there =
       let before : slice_get w.clients other ≡ Some d = sym (get-set-other w.clients host other t.client (apart other differs)) ∙ there in
       let here : d.who.host ≡ other = (held.clients other d before).here in
@@ -92,7 +92,7 @@ not-said ps host xid r (said_reply other y a e k) = not-both host other (call xi
 not-said ps host xid r (said_error other y er e) = not-both host other (call xid r) (error y er) e
 not-said ps host xid r (said_notice y row e) = not-both host row.who.host (call xid r) (call y (Request.Evicted row.who row.file row.tag)) e
 
-asked-before-server : (ps sends : List Packet) → AllSaid ps sends → (host xid : ℕ) (r : Request) → Asked (ps ++ sends) host xid r → Asked ps host xid r
+pub asked-before-server : (ps sends : List Packet) → AllSaid ps sends → (host xid : ℕ) (r : Request) → Asked (ps ++ sends) host xid r → Asked ps host xid r
 asked-before-server ps sends said host xid r asked = case (in-append ps sends (from_host host (call xid r)) asked)
   where
     case : Asked ps host xid r ⊎ In sends (from_host host (call xid r)) → Asked ps host xid r

@@ -49,19 +49,18 @@ pub record IsUnderWay (c : Client) (xid : ℕ) (r : Request) : Type 0 where
   pub number : ticket.xid ≡ xid
   pub request : ticket.request ≡ r
 
--- a host's client runs, and asks in the packet at this place with a sequence above the kept one of its host, of which its
--- incarnation is the kept one
-pub record IsOpen (w : World) (host : ℕ) (c : Client) (place xid : ℕ) (r : Request) (seq : ℕ) : Type 0 where
-  pub runs : slice_get w.clients host ≡ Some c
-  pub kept : (host_row w.server.kept host).inc ≡ c.who.inc
-  pub asks : Asks w.packets place host xid r c.who seq
+-- a request is open: in the packet at this place an incarnation that is the kept one of its host asks with a sequence above
+-- the kept one
+pub record IsOpen (w : World) (host place xid : ℕ) (r : Request) (who : Who) (seq : ℕ) : Type 0 where
+  pub asks : Asks w.packets place host xid r who seq
+  pub kept : (host_row w.server.kept host).inc ≡ who.inc
   pub above : (host_row w.server.kept host).seq < seq
 
--- an open request is the one under way; so one sequence is open at most; and no incarnation after the kept one has asked
--- with a sequence
+-- an open request of a client that runs is the one that it has under way; each host has one open request at most, and
+-- copies of it, whether its incarnation still runs or not; and no incarnation after the kept one has asked with a sequence
 pub record OpensOne (w : World) : Type 0 where
-  pub under_way : (host : ℕ) (c : Client) (place xid : ℕ) (r : Request) (seq : ℕ) → IsOpen w host c place xid r seq → IsUnderWay c xid r
-  pub one : (host : ℕ) (c : Client) (i j x y : ℕ) (r s : Request) (seq other : ℕ) → IsOpen w host c i x r seq → IsOpen w host c j y s other → seq ≡ other
+  pub under_way : (host place xid : ℕ) (c : Client) (r : Request) (seq : ℕ) → slice_get w.clients host ≡ Some c → IsOpen w host place xid r c.who seq → IsUnderWay c xid r
+  pub one : (host i j x y : ℕ) (r s : Request) (who other : Who) (m n : ℕ) → IsOpen w host i x r who m → IsOpen w host j y s other n → (x ≡ y) × (r ≡ s)
   pub none_after : (place host xid : ℕ) (r : Request) (who : Who) (seq : ℕ) → Asks w.packets place host xid r who seq → (host_row w.server.kept host).inc < who.inc → ⊥
 
 -- after every schedule within skew
@@ -113,8 +112,9 @@ pub record IsAskedTwice : Type 0 where
   pub answer : Reply
   pub bounds : KeepsBounds most head events
   pub within : IsWithinSkew head.hosts most events
-  pub first : IsOpen (run head events) host client 0 ticket.xid request seq
-  pub again : IsOpen (run head events) host client 1 ticket.xid request seq
+  pub runs : slice_get (run head events).clients host ≡ Some client
+  pub first : IsOpen (run head events) host 0 ticket.xid request client.who seq
+  pub again : IsOpen (run head events) host 1 ticket.xid request client.who seq
   pub stays : slice_get (run head (Event.Deliver 0 ∷ events)).clients host ≡ Some client
   pub has : client.ticket ≡ Some ticket
   pub told : slice_get (run head (Event.Deliver 0 ∷ events)).packets place ≡ Some (to_host host (reply ticket.xid answer))
