@@ -1,5 +1,5 @@
 -- In every run one request is sent of a sequence, one is open at most, and each reply comes after its request.
-use Rattle.std.proofs.Common.{◌≡◌, ◌<◌, ◌⊎◌, ℕ, List, Option, Some, None, refl, sym, subst, ap, ◌∙◌, arith, inl, inr}
+use Rattle.std.proofs.Common.{◌≡◌, ◌<◌, ◌≤◌, ◌⊎◌, ℕ, List, Option, Some, None, refl, sym, subst, ap, ◌∙◌, arith, inl, inr}
 use Rattle.std.specs.Prelude.{slice_get}
 use Rattle.nq_base.specs.declared.Event.{Event}
 use Rattle.nq_base.specs.declared.Reply.{Reply}
@@ -12,6 +12,7 @@ use Rattle.nq_laws.proofs.KnownWorlds.{Known}
 use Rattle.nq_laws.proofs.LeaseIntervals.{run-runs}
 use Rattle.nq_laws.proofs.OpenRequests.{IsOpenAt, Opens, run-opens}
 use Rattle.nq_laws.proofs.Packets.{Asked, in-get}
+use Rattle.nq_laws.proofs.SentTimes.{sent-in-order}
 use Rattle.nq_laws.proofs.WorldSequences.{Draws, run-draws}
 use Rattle.nq_laws.proofs.Worlds.{Holds, run-holds}
 use Rattle.nq_laws.specs.OneRequests.{sequence_of, Asks, AsksOnce, OneRequestPerSequence, IsUnderWay, IsOpen, OpensOne, OneOpenInEveryRun, IsAnswer, WasSentBefore, RepliesAfter, RepliesComeAfter}
@@ -20,7 +21,7 @@ use Rattle.nq_model.specs.Hear.{inc_of}
 use Rattle.nq_model.specs.Kept.{host_row}
 use Rattle.nq_model.specs.Message.{call, reply, asker}
 use Rattle.nq_model.specs.Server.{to_host}
-use Rattle.nq_model.specs.World.{World, from_host, run}
+use Rattle.nq_model.specs.World.{Head, World, from_host, run}
 
 same-sequence : (r : Request) → seq_of r ≡ sequence_of r
 same-sequence (Request.Create who seq name blocks) = refl
@@ -106,22 +107,22 @@ one-open-in-every-run most head events b within = opens-one (run head events) ev
 
 -- ---- replies come after
 
-sent-before : (w : World) → Holds w → (place host : ℕ) (c : Client) (t : Ticket) (a : Reply) → slice_get w.clients host ≡ Some c → c.ticket ≡ Some t → inc_of a ≡ c.who.inc → IsAnswer w.packets place host t.xid a → WasSentBefore w.packets place host t
-sent-before w held place host c t a is has inc k =
-    let at = held.clients host c is in
+sent-before : (head : Head) (events : List Event) (place host : ℕ) (c : Client) (t : Ticket) (a : Reply) → slice_get (run head events).clients host ≡ Some c → c.ticket ≡ Some t → inc_of a ≡ c.who.inc → IsAnswer (run head events).packets place host t.xid a → WasSentBefore head events place host t
+sent-before head events place host c t a is has inc k =
+    let w : World = run head events in
+    let at = (run-holds head events).clients host c is in
     let asked : Asked w.packets c.who.host t.xid k.asks = subst (λ h. Asked w.packets h t.xid k.asks) (sym at.here) (in-get w.packets k.earlier (from_host host (call t.xid k.asks)) k.sent) in
     let same : t.request ≡ k.asks = (at.mail.asked t.xid k.asks k.who asked k.by).same (sym k.inc ∙ inc) t has refl in
+    let order = k.before in
     record {
       earlier = k.earlier;
       before = k.before;
       sent = subst (λ r. slice_get w.packets k.earlier ≡ Some (from_host host (call t.xid r))) (sym same) k.sent;
+      clock = sent-in-order head events k.earlier place (omega arith);
     }
 
-replies-after : (w : World) → Holds w → Draws w → RepliesAfter w
-replies-after w held d = record {
-  each = d.answers;
-  to_own = λ place host c t a is has at inc. sent-before w held place host c t a is has inc (d.answers place host t.xid a at);
-}
-
 pub replies-come-after : RepliesComeAfter
-replies-come-after head events = replies-after (run head events) (run-holds head events) (run-draws head events)
+replies-come-after head events = record {
+  each = (run-draws head events).answers;
+  to_own = λ place host c t a is has at inc. sent-before head events place host c t a is has inc ((run-draws head events).answers place host t.xid a at);
+}

@@ -1,5 +1,5 @@
 -- One request per sequence, in every run: the requests that are decided once, and the replies to them.
-use Rattle.std.specs.Prelude.{◌≡◌, ◌<◌, ℕ, List, ◌∷◌, Option, Some, None, slice_get}
+use Rattle.std.specs.Prelude.{◌≡◌, ◌<◌, ◌≤◌, ℕ, List, [], ◌∷◌, Option, Some, None, length, nat_lt, slice_get, if◌then◌else◌}
 use Rattle.nq_base.specs.declared.Event.{Event}
 use Rattle.nq_base.specs.declared.Reply.{Reply}
 use Rattle.nq_base.specs.declared.Request.{Request}
@@ -81,21 +81,30 @@ pub record IsAnswer (packets : List Packet) (place host xid : ℕ) (a : Reply) :
   pub by : asker asks ≡ Some who
   pub inc : inc_of a ≡ who.inc
 
--- a client's request under way was sent before the packet at this place
-pub record WasSentBefore (packets : List Packet) (place host : ℕ) (t : Ticket) : Type 0 where
+-- the server's clock when the packet at this place was sent, in a schedule that is told with its newest event first
+abbrev pub sent_time : Head → List Event → (place : ℕ) → ℕ
+sent_time head [] place = 0
+sent_time head (event ∷ earlier) place =
+    if nat_lt place (length (run head earlier).packets)
+    then sent_time head earlier place
+    else (run head (event ∷ earlier)).server.now
+
+-- a client's request under way was sent before the packet at this place, and no later by the server's clock
+pub record WasSentBefore (head : Head) (events : List Event) (place host : ℕ) (t : Ticket) : Type 0 where
   pub earlier : ℕ
   pub before : earlier < place
-  pub sent : slice_get packets earlier ≡ Some (from_host host (call t.xid t.request))
+  pub sent : slice_get (run head events).packets earlier ≡ Some (from_host host (call t.xid t.request))
+  pub clock : sent_time head events earlier ≤ sent_time head events place
 
 -- each reply comes after a request that it answers; and one that a request under way can take, as it is of that number and
 -- of the running incarnation, comes after that request's first sending
-pub record RepliesAfter (w : World) : Type 0 where
-  pub each : (place host xid : ℕ) (a : Reply) → slice_get w.packets place ≡ Some (to_host host (reply xid a)) → IsAnswer w.packets place host xid a
-  pub to_own : (place host : ℕ) (c : Client) (t : Ticket) (a : Reply) → slice_get w.clients host ≡ Some c → c.ticket ≡ Some t → slice_get w.packets place ≡ Some (to_host host (reply t.xid a)) → inc_of a ≡ c.who.inc → WasSentBefore w.packets place host t
+pub record RepliesAfter (head : Head) (events : List Event) : Type 0 where
+  pub each : (place host xid : ℕ) (a : Reply) → slice_get (run head events).packets place ≡ Some (to_host host (reply xid a)) → IsAnswer (run head events).packets place host xid a
+  pub to_own : (place host : ℕ) (c : Client) (t : Ticket) (a : Reply) → slice_get (run head events).clients host ≡ Some c → c.ticket ≡ Some t → slice_get (run head events).packets place ≡ Some (to_host host (reply t.xid a)) → inc_of a ≡ c.who.inc → WasSentBefore head events place host t
 
 -- after every schedule
 abbrev pub RepliesComeAfter : Type 0
-RepliesComeAfter = (head : Head) (events : List Event) → RepliesAfter (run head events)
+RepliesComeAfter = (head : Head) (events : List Event) → RepliesAfter head events
 
 -- the premises are met, and not in vain: after some schedule within skew a request is open of which two packets were sent,
 -- and once the first of them came to the server there is a reply that the request under way can take

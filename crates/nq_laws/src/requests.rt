@@ -8,15 +8,16 @@ pub fn one_request_per_sequence()
     ensures { OneRequestPerSequence }
 {}
 
-/// After every schedule within skew a request with a sequence above the kept one of its host, of the incarnation that runs
-/// and is kept, is the client's request under way, so that one sequence is open at most; and no incarnation after the kept
-/// one has sent a request with a sequence (Macklem 1994).
-pub fn one_sequence_is_open()
+/// After every schedule within skew each host has one open request at most, of the kept incarnation with a sequence above
+/// the kept one, whether that incarnation runs or not, and copies of it. Where it runs, it is the client's request under way.
+/// No incarnation after the kept one has sent a request with a sequence (Macklem 1994).
+pub fn one_request_is_open()
     ensures { OneOpenInEveryRun }
 {}
 
 /// After every schedule each reply stands in the packets after a request that it answers, and one that a client's request
-/// under way can take after the first sending of that request (RFC 1057 section 8; Macklem 1994).
+/// under way can take after the first sending of that request, and no sooner by the server's clock (RFC 1057 section 8;
+/// Macklem 1994).
 pub fn replies_come_after()
     ensures { RepliesComeAfter }
 {}
