@@ -47,6 +47,10 @@ within-bounds (suc zero) d below = tt
 within-bounds (suc (suc zero)) d below = tt
 within-bounds (suc (suc (suc k))) d below = absurd (omega arith)
 
+restarts-within : All (BootsWithin 60) (Event.Restart 0 ∷ one-create)
+restarts-within zero d below = tt
+restarts-within (suc k) d below = within-bounds k d (omega arith)
+
 runs : slice_get (run two-hosts one-create).clients 0 ≡ Some creator
 unfolding filled zeros begins_call is_called at_time sends_again fresh_client attached_client starts new_file sends_request after_seq after_number boot answers empty_table after_server after_client start
 runs = refl
@@ -58,6 +62,11 @@ first-open = record { kept = refl; asks = record { sent = refl; by = refl; seque
 again-open : IsOpen (run two-hosts one-create) 0 1 1 create creator.who 1
 unfolding filled zeros begins_call is_called at_time sends_again fresh_client attached_client starts new_file sends_request after_seq after_number boot answers empty_table after_server after_client start
 again-open = record { kept = refl; asks = record { sent = refl; by = refl; sequence = refl }; above = omega arith }
+
+-- the client restarts: its request stays open
+outlives : IsOpen (run two-hosts (Event.Restart 0 ∷ one-create)) 0 0 1 create creator.who 1
+unfolding filled zeros begins_call is_called at_time sends_again fresh_client attached_client starts new_file sends_request after_seq after_number boot answers empty_table after_server after_client start
+outlives = record { kept = refl; asks = record { sent = refl; by = refl; sequence = refl }; above = omega arith }
 
 stays : slice_get (run two-hosts (Event.Deliver 0 ∷ one-create)).clients 0 ≡ Some creator
 unfolding filled zeros decides creates commits begins_call is_called at_time sends_again fresh_client attached_client starts new_file with_row with_new_file sends_request after_seq after_number quiet says keeping keeping_with boot answers empty_table after_server after_client start
@@ -92,6 +101,9 @@ asked-twice = record {
   runs = runs;
   first = first-open;
   again = again-open;
+  bounds_restarted = record { hosts = omega arith; first_long = omega arith; first_short = omega arith; boots = restarts-within };
+  within_restarted = skew-test-is-sound 2 60 (Event.Restart 0 ∷ one-create) refl;
+  outlives = outlives;
   stays = stays;
   has = has;
   told = told;

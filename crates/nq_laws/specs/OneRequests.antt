@@ -106,8 +106,9 @@ pub record RepliesAfter (head : Head) (events : List Event) : Type 0 where
 abbrev pub RepliesComeAfter : Type 0
 RepliesComeAfter = (head : Head) (events : List Event) → RepliesAfter head events
 
--- the premises are met, and not in vain: after some schedule within skew a request is open of which two packets were sent,
--- and once the first of them came to the server there is a reply that the request under way can take
+-- the premises are met, and not in vain: after some schedule within skew a request is open of which two packets were sent;
+-- after a restart of its client it is open still; and once the first packet came to the server instead, there is a reply
+-- that the request under way can take
 pub record IsAskedTwice : Type 0 where
   pub most : ℕ
   pub head : Head
@@ -124,6 +125,9 @@ pub record IsAskedTwice : Type 0 where
   pub runs : slice_get (run head events).clients host ≡ Some client
   pub first : IsOpen (run head events) host 0 ticket.xid request client.who seq
   pub again : IsOpen (run head events) host 1 ticket.xid request client.who seq
+  pub bounds_restarted : KeepsBounds most head (Event.Restart host ∷ events)
+  pub within_restarted : IsWithinSkew head.hosts most (Event.Restart host ∷ events)
+  pub outlives : IsOpen (run head (Event.Restart host ∷ events)) host 0 ticket.xid request client.who seq
   pub stays : slice_get (run head (Event.Deliver 0 ∷ events)).clients host ≡ Some client
   pub has : client.ticket ≡ Some ticket
   pub told : slice_get (run head (Event.Deliver 0 ∷ events)).packets place ≡ Some (to_host host (reply ticket.xid answer))

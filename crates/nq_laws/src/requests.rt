@@ -22,8 +22,8 @@ pub fn replies_come_after()
     ensures { RepliesComeAfter }
 {}
 
-/// There is such a schedule, after which a request is open that was sent twice, and a reply to it can be taken once its first
-/// packet arrived.
+/// There is such a schedule, after which a request is open that was sent twice; it stays open where its client restarts, and a
+/// reply to it can be taken where its first packet arrives.
 pub fn requests_are_met()
     ensures { IsAskedTwice }
 {}
