@@ -1,12 +1,12 @@
 -- In every run one request is sent of a sequence, one is open at most, and each reply comes after its request.
-use Rattle.std.proofs.Common.{◌≡◌, ◌<◌, ◌≤◌, ◌⊎◌, ℕ, List, Option, Some, None, refl, sym, subst, ap, ◌∙◌, arith, inl, inr}
+use Rattle.std.proofs.Common.{◌≡◌, ◌<◌, ℕ, List, Option, Some, None, refl, sym, subst, ap, ◌∙◌, arith, inl, inr}
 use Rattle.std.specs.Prelude.{slice_get}
 use Rattle.nq_base.specs.declared.Event.{Event}
 use Rattle.nq_base.specs.declared.Reply.{Reply}
 use Rattle.nq_base.specs.declared.Request.{Request}
 use Rattle.nq_base.specs.declared.Who.{Who}
 use Rattle.nq_laws.proofs.ClientFacts.{seq_of}
-use Rattle.nq_laws.proofs.ClientMoves.{some-same, none-some}
+use Rattle.nq_laws.proofs.ClientMoves.{none-some}
 use Rattle.nq_laws.proofs.HostLine.{IsSettled}
 use Rattle.nq_laws.proofs.KnownWorlds.{Known}
 use Rattle.nq_laws.proofs.LeaseIntervals.{run-runs}
@@ -15,12 +15,11 @@ use Rattle.nq_laws.proofs.Packets.{Asked, in-get}
 use Rattle.nq_laws.proofs.SentTimes.{sent-in-order}
 use Rattle.nq_laws.proofs.WorldSequences.{Draws, run-draws}
 use Rattle.nq_laws.proofs.Worlds.{Holds, run-holds}
-use Rattle.nq_laws.specs.OneRequests.{sequence_of, Asks, AsksOnce, OneRequestPerSequence, IsUnderWay, IsOpen, OpensOne, OneOpenInEveryRun, IsAnswer, WasSentBefore, RepliesAfter, RepliesComeAfter}
+use Rattle.nq_laws.specs.OneRequests.{sequence_of, Asks, AsksOnce, OneRequestPerSequence, IsUnderWay, IsOpen, OpensOne, OneOpenInEveryRun, IsAnswer, WasSentBefore, RepliesComeAfter}
 use Rattle.nq_model.specs.Client.{Client, Ticket}
 use Rattle.nq_model.specs.Hear.{inc_of}
 use Rattle.nq_model.specs.Kept.{host_row}
-use Rattle.nq_model.specs.Message.{call, reply, asker}
-use Rattle.nq_model.specs.Server.{to_host}
+use Rattle.nq_model.specs.Message.{call}
 use Rattle.nq_model.specs.World.{Head, World, from_host, run}
 
 same-sequence : (r : Request) → seq_of r ≡ sequence_of r

@@ -1,5 +1,5 @@
 -- Packets by place: each reply stands after a request that it answers.
-use Rattle.std.proofs.Common.{◌≡◌, ◌<◌, ◌≤◌, ◌⊎◌, ℕ, zero, suc, ◌+◌, List, [], ◌∷◌, ◌++◌, Option, Some, None, refl, ap, arith, inl, inr, length}
+use Rattle.std.proofs.Common.{◌≡◌, ◌<◌, ◌≤◌, ◌⊎◌, ℕ, zero, suc, List, [], ◌∷◌, ◌++◌, Some, ap, arith, inl, inr, length}
 use Rattle.std.specs.Prelude.{slice_get}
 use Rattle.nq_base.specs.declared.Reply.{Reply}
 use Rattle.nq_laws.proofs.ClientMoves.{none-some}

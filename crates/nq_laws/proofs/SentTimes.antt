@@ -1,5 +1,5 @@
 -- Packets are sent in the order of their places, by the server's clock too.
-use Rattle.std.proofs.Common.{◌≡◌, ◌≤◌, ℕ, ◌+◌, true, false, List, [], ◌∷◌, arith, length, nat_lt}
+use Rattle.std.proofs.Common.{◌≤◌, ℕ, List, [], ◌∷◌, arith, length, nat_lt}
 use Rattle.nq_base.specs.declared.Event.{Event}
 use Rattle.nq_laws.proofs.Rows.{choice}
 use Rattle.nq_laws.proofs.Tests.{is-below, is-not-below}
@@ -24,7 +24,7 @@ sent-in-order head [] i j order = omega arith
 sent-in-order head (e ∷ earlier) i j order =
     choice (λ time. sent_time head (e ∷ earlier) i ≤ time) (nat_lt j (length (run head earlier).packets)) (sent_time head earlier j) (run head (e ∷ earlier)).server.now
     (λ there.
-      choice (λ time. time ≤ sent_time head earlier j) (nat_lt i (length (run head earlier).packets)) (sent_time head earlier i) (run head (e ∷ earlier)).server.now
-      (λ also. sent-in-order head earlier i j order)
-      (λ new. let below = is-below j (length (run head earlier).packets) there in let past = is-not-below i (length (run head earlier).packets) new in absurd (omega arith)))
+    choice (λ time. time ≤ sent_time head earlier j) (nat_lt i (length (run head earlier).packets)) (sent_time head earlier i) (run head (e ∷ earlier)).server.now
+    (λ also. sent-in-order head earlier i j order)
+    (λ new. let below = is-below j (length (run head earlier).packets) there in let past = is-not-below i (length (run head earlier).packets) new in absurd (omega arith)))
     (λ new. sent-by-now head (e ∷ earlier) i)

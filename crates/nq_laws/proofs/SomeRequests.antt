@@ -1,5 +1,5 @@
 -- A file is created: its request is sent twice, and the first packet of it is answered.
-use Rattle.std.proofs.Common.{◌≡◌, zero, suc, true, List, [], ◌∷◌, Option, Some, None, refl, arith}
+use Rattle.std.proofs.Common.{◌≡◌, zero, suc, List, [], ◌∷◌, Some, refl, arith}
 use Rattle.std.specs.Prelude.{slice_get, unwrap_or, All}
 use Rattle.nq_base.specs.Block.{filled, zeros}
 use Rattle.nq_base.specs.declared.Call.{Call}
@@ -9,18 +9,16 @@ use Rattle.nq_base.specs.declared.Request.{Request}
 use Rattle.nq_laws.specs.LeaseIntervalInRuns.{BootsWithin}
 use Rattle.nq_laws.specs.OneRequests.{IsOpen, IsAskedTwice}
 use Rattle.nq_model.proofs.SkewTest.{skew-test-is-sound}
-use Rattle.nq_model.specs.Ask.{grant_of, sharing_row, caching_row, shared_again, renewed_row, put_off, free, put_off_by_own, granted, no_lease}
 use Rattle.nq_model.specs.Client.{Client, Job, Ticket}
-use Rattle.nq_model.specs.ClientStep.{begins_call, is_called, says_busy, at_time, sends_again, fresh_client, attached_client, starts}
-use Rattle.nq_model.specs.Decide.{decides, creates, writes_through, stores, wrote, stores_recovering, resizes, removes, puts_off, commits}
-use Rattle.nq_model.specs.Hear.{vacates_lease, loses, without_lease, granted_lease, holds, caches_block, purges, knows_revision, marks_through, ends_push, spends, attached, pauses, cancels, notes_notice}
-use Rattle.nq_model.specs.Kept.{new_file, written_file, resized_file, fenced_file, with_row, with_files, with_new_file}
+use Rattle.nq_model.specs.ClientStep.{begins_call, is_called, at_time, sends_again, fresh_client, attached_client, starts}
+use Rattle.nq_model.specs.Decide.{decides, creates, commits}
+use Rattle.nq_model.specs.Kept.{new_file, with_row, with_new_file}
 use Rattle.nq_model.specs.Message.{reply}
-use Rattle.nq_model.specs.Send.{sends_request, after_seq, after_number, takes_push, gives_up}
-use Rattle.nq_model.specs.Server.{to_host, quiet, drops, says, after_notices, keeping, keeping_with, with_table}
-use Rattle.nq_model.specs.ServerStep.{attaches, tells_later, serves, leases, vacates, ends_writing, opens, boot, crash}
-use Rattle.nq_model.specs.Settle.{answers, after_read, reads_cached, after_write, marks_written}
-use Rattle.nq_model.specs.Table.{empty_table, with_rows, after_draw}
+use Rattle.nq_model.specs.Send.{sends_request, after_seq, after_number}
+use Rattle.nq_model.specs.Server.{to_host, quiet, says, keeping, keeping_with}
+use Rattle.nq_model.specs.ServerStep.{boot}
+use Rattle.nq_model.specs.Settle.{answers}
+use Rattle.nq_model.specs.Table.{empty_table}
 use Rattle.nq_model.specs.World.{Head, after_server, after_client, start, run}
 
 -- two hosts, one file of one block

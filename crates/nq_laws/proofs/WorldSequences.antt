@@ -1,23 +1,21 @@
 -- In every run: the sequences that each client drew, who asks, and the places of replies.
-use Rattle.std.proofs.Common.{◌≡◌, ◌≢◌, ◌⊎◌, ℕ, zero, suc, ◌+◌, Bool, true, false, ◌==◌, List, [], ◌∷◌, ◌++◌, Option, Some, None, map, refl, sym, subst, ap, ◌∙◌, arith, inl, inr, length}
+use Rattle.std.proofs.Common.{◌≡◌, ◌≢◌, ◌⊎◌, ℕ, zero, suc, ◌+◌, Bool, true, false, ◌==◌, List, [], ◌∷◌, ◌++◌, Option, Some, None, map, refl, sym, subst, ◌∙◌, inl, inr, length}
 use Rattle.std.specs.Prelude.{slice_get, slice_set}
 use Rattle.nq_base.specs.declared.Event.{Event}
 use Rattle.nq_base.specs.declared.Party.{Party}
 use Rattle.nq_base.specs.declared.Reply.{Reply}
 use Rattle.nq_base.specs.declared.Request.{Request}
-use Rattle.nq_base.specs.declared.Who.{Who}
-use Rattle.nq_laws.proofs.ClientFacts.{seq_of}
 use Rattle.nq_laws.proofs.ClientMoves.{none-some}
 use Rattle.nq_laws.proofs.ClientRestarts.{asked-old}
 use Rattle.nq_laws.proofs.Mail.{packets_with}
-use Rattle.nq_laws.proofs.Packets.{In, in-append, in-get, Asked, Told, message-same, told-same, not-both, reply-same}
+use Rattle.nq_laws.proofs.Packets.{In, in-append, in-get, Asked, Told, told-same, not-both, reply-same}
 use Rattle.nq_laws.proofs.Places.{Answers, answers-more}
 use Rattle.nq_laws.proofs.Rows.{same-number, number-same}
 use Rattle.nq_laws.proofs.Sequences.{Seqs, seqs-more, Drew, DrewIf, call-draws, tick-draws, restart-draws, hear-draws}
 use Rattle.nq_laws.proofs.ServerSays.{IsReplyTo, IsSaid, said_reply, said_error, said_notice, AllSaid}
-use Rattle.nq_laws.proofs.Worlds.{IsAt, Holds, get-set-same, get-set-other, first-client, to-told, received-said, tick-said, crash-said, run-holds}
+use Rattle.nq_laws.proofs.Worlds.{IsAt, Holds, get-set-same, get-set-other, to-told, received-said, tick-said, crash-said, run-holds}
 use Rattle.nq_model.specs.Client.{Client, ClientStep}
-use Rattle.nq_model.specs.ClientStep.{client_call, client_tick, restart, fresh_client, attached_client}
+use Rattle.nq_model.specs.ClientStep.{client_call, client_tick, restart}
 use Rattle.nq_model.specs.Hear.{hear}
 use Rattle.nq_model.specs.Message.{Message, Packet, call, reply, error, datagram_of}
 use Rattle.nq_model.specs.Server.{ServerStep, to_host}

@@ -9,5 +9,7 @@ mod server;
 
 pub use cached::cached_at_once_in_every_run;
 pub use intervals::{lease_interval_in_every_run, lease_interval_is_met};
-pub use requests::{one_request_is_open, one_request_per_sequence, replies_come_after, requests_are_met};
+pub use requests::{
+    one_request_is_open, one_request_per_sequence, replies_come_after, requests_are_met,
+};
 pub use server::{recovery_waits, rows_stand_apart};
