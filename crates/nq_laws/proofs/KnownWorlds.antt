@@ -121,7 +121,7 @@ held-covered w events held h host c l is holds caching runs =
     subst (λ n. IsCovered w.server w.server.phase c.who l.file l.mode l.tag (cover_end n (l.expiry - l.term) l.term events)) a.here
     ((h.clients host c is).covered.held l.file l holds caching (omega arith))
 
-takeable : (w : World) (host : ℕ) (c : Client) (t : Ticket) (file : ℕ) (g : Grant) → IsAt host c w.packets → Holds w → CanTake w host c t file g → IsTakeable w.packets c.who c.ticket file g t
+pub takeable : (w : World) (host : ℕ) (c : Client) (t : Ticket) (file : ℕ) (g : Grant) → IsAt host c w.packets → Holds w → CanTake w host c t file g → IsTakeable w.packets c.who c.ticket file g t
 takeable w host c t file g a held k = record {
   x = k.xid;
   a = k.answer;

@@ -52,7 +52,7 @@ pub record Served (most : ℕ) (s : Server) : Type 0 where
   pub lines : LinesFitOf s
   pub opened : HasServed s.kept
 
-none-served : (most : ℕ) (s : Server) → Served most s → NoneRecoveringOf s
+pub none-served : (most : ℕ) (s : Server) → Served most s → NoneRecoveringOf s
 none-served most s f = none-of-boots s.kept.boot s.kept.opened s.phase s.table f.boots
 
 -- the boots of a kept state are those of another
@@ -283,7 +283,7 @@ ends-sends : (s : Server) (rows : List Row) (row : Row) → (ends_writing s rows
 unfolding ends_writing
 ends-sends s rows row = refl
 
-tick-sends : (s : Server) (now : ℕ) → (tick s now).sends ≡ []
+pub tick-sends : (s : Server) (now : ℕ) → (tick s now).sends ≡ []
 tick-sends s now = server-ticks s now (λ t. t.sends ≡ []) (record {
   waits = λ until heard last p goes_on. quiet-sends _;
   opening = λ until heard last p over. opens-sends _ until heard;
@@ -291,7 +291,7 @@ tick-sends s now = server-ticks s now (λ t. t.sends ≡ []) (record {
   ending_writing = λ row p due. ends-sends _ _ row;
 })
 
-crash-sends : (s : Server) (longest : ℕ) → (crash s longest).sends ≡ []
+pub crash-sends : (s : Server) (longest : ℕ) → (crash s longest).sends ≡ []
 unfolding crash
 crash-sends s longest = refl
 

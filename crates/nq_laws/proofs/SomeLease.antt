@@ -19,11 +19,11 @@ use Rattle.nq_model.specs.Table.{empty_table, with_rows, after_draw}
 use Rattle.nq_model.specs.World.{Head, after_server, after_client, start, run}
 
 -- two hosts, one file of one block
-abbrev two-hosts : Head
+abbrev pub two-hosts : Head
 two-hosts = record { hosts = 2; term = 30; longest = 60; files = (97 ∷ [], 1) ∷ [] }
 
 -- host 0 reads, and its packets arrive; the newest event first
-abbrev one-read : List Event
+abbrev pub one-read : List Event
 one-read = Event.Deliver 1 ∷ Event.Deliver 0 ∷ Event.Call 0 (Call.Read 1 0) ∷ []
 
 within-bounds : All (BootsWithin 60) one-read
