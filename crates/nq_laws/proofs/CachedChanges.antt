@@ -5,10 +5,10 @@ use Rattle.std.specs.Option.{option_map}
 use Rattle.std.specs.Prelude.{slice_get, slice_set}
 use Rattle.nq_base.specs.declared.Call.{Call}
 use Rattle.nq_laws.proofs.CachedReads.{cached-in-every-run}
-use Rattle.nq_laws.proofs.ClientLists.{used-lease-found, number-other}
-use Rattle.nq_laws.proofs.ClientMoves.{none-some}
-use Rattle.nq_laws.proofs.Rows.{find-passes, find-filter, same-number, number-same, both-true, false-not, choice}
-use Rattle.nq_laws.proofs.Worlds.{get-set-other}
+use Rattle.nq_client_steps.proofs.ClientLists.{used-lease-found, number-other}
+use Rattle.nq_client_steps.proofs.ClientMoves.{none-some}
+use Rattle.nq_server_steps.proofs.Rows.{find-passes, find-filter, same-number, number-same, both-true, false-not, choice}
+use Rattle.nq_run_steps.proofs.Worlds.{get-set-other}
 use Rattle.nq_laws.specs.CachedChanges.{ReadsBlock, IsAsItWas, ChangesNothingElse, CachedReadsChangeNothingElse}
 use Rattle.nq_laws.specs.CachedInRuns.{IsReady}
 use Rattle.nq_model.specs.CachedAtOnce.{AnswersAtOnce, after_cached}

@@ -1,0 +1,9 @@
+pub mod Covers
+pub mod Hearing
+pub mod ServerEffects
+pub mod ServerChanges
+pub mod ServerHears
+pub mod ServerLives
+pub mod Unrowed
+pub mod LeaseIntervals
+pub mod SomeLease

@@ -1,0 +1,7 @@
+pub mod Sequences
+pub mod Places
+pub mod WorldSequences
+pub mod OpenRequests
+pub mod SentTimes
+pub mod OneRequests
+pub mod SomeRequests

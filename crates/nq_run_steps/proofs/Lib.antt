@@ -1,0 +1,14 @@
+pub mod Packets
+pub mod ServerSays
+pub mod Mail
+pub mod Worlds
+pub mod CoverFacts
+pub mod HostLine
+pub mod TagFacts
+pub mod ClientKnows
+pub mod Clocks
+pub mod ServerKnows
+pub mod ClientSteps
+pub mod ClientRestarts
+pub mod WorldClocks
+pub mod KnownWorlds

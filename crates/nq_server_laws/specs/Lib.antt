@@ -1,0 +1,3 @@
+pub mod RecoveryWaits
+pub mod RowsApart
+pub mod ServerAlone

@@ -1,0 +1,9 @@
+pub mod Rows
+pub mod Tests
+pub mod AskCases
+pub mod ServerOutcomes
+pub mod ServerCases
+pub mod ServerMoves
+pub mod RowChanges
+pub mod KeptChanges
+pub mod TableFits

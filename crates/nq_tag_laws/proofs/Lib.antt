@@ -1,0 +1,5 @@
+pub mod GrantRows
+pub mod TagOrder
+pub mod TagSources
+pub mod TagWorlds
+pub mod SomeVacated
