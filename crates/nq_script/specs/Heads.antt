@@ -51,9 +51,11 @@ file_line f = spaced (codes "file" ∷ f.0 ∷ decimal f.1 ∷ [])
 abbrev pub version_line : List ℕ
 version_line = codes "nqnfs-schedule 1"
 
+-- the line that says how many hosts there are
 abbrev pub hosts_line : ℕ → List ℕ
 hosts_line hosts = spaced (codes "hosts" ∷ decimal hosts ∷ [])
 
+-- the line that says for which term clients ask
 abbrev pub term_line : ℕ → List ℕ
 term_line term = spaced (codes "term" ∷ decimal term ∷ [])
 

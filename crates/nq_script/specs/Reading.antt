@@ -34,6 +34,7 @@ number_of most [] = None
 number_of most (c ∷ []) = digits_of most 0 (c ∷ [])
 number_of most (c ∷ d ∷ cs) = if c == 48 then None else digits_of most 0 (c ∷ d ∷ cs)
 
+-- the second step, if the first gives something
 infixl 10 ◌>>=◌
 abbrev pub ◌>>=◌ : {A B : Type 0} → Option A → (A → Option B) → Option B
 None >>= f = None
@@ -51,23 +52,27 @@ number_then text = do
   value ← number_of 4294967295 parts.0
   Some (value, parts.1)
 
+-- two numbers below 2 ^ 32 with a blank between them
 unfoldable pub two_numbers : List ℕ → Option (ℕ × ℕ)
 two_numbers text = do
   first ← number_then text
   second ← number_of 4294967295 first.1
   Some (first.0, second)
 
+-- three numbers below 2 ^ 32 with blanks between them
 unfoldable pub three_numbers : List ℕ → Option (ℕ × ℕ × ℕ)
 three_numbers text = do
   first ← number_then text
   others ← two_numbers first.1
   Some (first.0, others.0, others.1)
 
+-- what `fetch` tells by the words behind it
 unfoldable pub fetch_of : List ℕ → Option Told
 fetch_of text = do
   found ← two_numbers text
   Some (Told.Fetch found.0 found.1)
 
+-- what `put` tells by the words behind it
 unfoldable pub put_of : List ℕ → Option Told
 put_of text = do
   found ← three_numbers text
@@ -86,6 +91,7 @@ call_line hosts text = do
   told ← told_of host.1
   if nat_lt host.0 hosts then Some (ToldLine.Call host.0 told) else None
 
+-- the delivery of a packet
 unfoldable pub deliver_line : List ℕ → Option ToldLine
 deliver_line text = do
   packet ← number_of 18446744073709551615 text
