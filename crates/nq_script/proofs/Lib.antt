@@ -13,3 +13,4 @@ pub mod Whole
 pub mod EventLines
 pub mod Printing
 pub mod LineLengths
+pub mod Deciding

@@ -1,6 +1,6 @@
 //! What holds of the grammar, whatever the program does.
 
-ghost use Rattle.std.specs.Prelude.{◌≡◌, ◌≤◌, ◌++◌, ◌∷◌, [], ℕ, List, length, map, codes};
+ghost use Rattle.std.specs.Prelude.{◌≡◌, ◌≤◌, ◌++◌, ◌∷◌, ◌⊎◌, [], ℕ, List, length, map, codes};
 ghost use Rattle.std.specs.List.{AllByRecursion};
 ghost use Rattle.nq_base.specs.declared.Event.{Event};
 ghost use Rattle.nq_script.specs.Heads.{FitsHead, head_lines};
@@ -19,6 +19,11 @@ pub fn one_reading()
 pub fn one_fault()
     ensures once { (text : List ℕ) (m n : ℕ) → FirstBadLine text m → FirstBadLine text n → m ≡ n }
     ensures none { (text : List ℕ) (n : ℕ) (head : Head) (lines : List Line) → SpellsSchedule head lines text → FirstBadLine text n → ⊥ }
+{}
+
+/// Each text spells a schedule, or has a first line that is wrong.
+pub fn each_text()
+    ensures { (text : List ℕ) → ((head : Head) × (lines : List Line) × SpellsSchedule head lines text) ⊎ ((number : ℕ) × FirstBadLine text number) }
 {}
 
 /// The text of a head, the lines of events of its hosts, each with its line feed, and `end` spell these events.

@@ -19,7 +19,7 @@ mod words;
 pub use calls::parse_call;
 pub use faults::ScriptFault;
 pub use heads::{Head, HeadOut, parse_head};
-pub use laws::{lines_are_short, one_fault, one_reading, printed_again};
+pub use laws::{each_text, lines_are_short, one_fault, one_reading, printed_again};
 pub use lines::{Line, parse_line};
 pub use print::{print_event, print_head};
 pub use schedules::Schedule;

@@ -309,5 +309,6 @@ fn schedules_keep_their_order(rt: HostRuntime) -> Result<(), NoMemory> {
     one_fault();
     printed_again();
     lines_are_short();
+    each_text();
     Ok(())
 }
