@@ -27,7 +27,7 @@ find-in-step : (p : Row → Bool) (y r : Row) (rows : List Row) (b : Bool) → (
 find-in-step p y r rows true rest e = inl (some-same y r e)
 find-in-step p y r rows false rest e = inr (rest e)
 
-find-in : (p : Row → Bool) (rows : List Row) (r : Row) → find p rows ≡ Some r → In rows r
+pub find-in : (p : Row → Bool) (rows : List Row) (r : Row) → find p rows ≡ Some r → In rows r
 find-in p [] r e = none-some r e
 find-in p (y ∷ rows) r e = find-in-step p y r rows (p y) (find-in p rows r) e
 

@@ -1,4 +1,5 @@
 pub mod GrantRows
+pub mod RowNumbers
 pub mod TagOrder
 pub mod TagSources
 pub mod TagWorlds

@@ -83,11 +83,11 @@ grows-crash s longest b = grows-boot s.kept longest s.now (standing s) (opened-b
 -- ---- each event does to the server one of these
 
 -- what holds of a server after each of its steps, and where it takes none
-record Moves (s : Server) (Q : Server → Type 0) : Type 0 where
-  stays : Q s
-  hears : (sender next : ℕ) (d : Datagram) → Q (receive s sender next d).server
-  ticks : Q (tick s (s.now + 1)).server
-  crashes : (longest : ℕ) → Q (crash s longest).server
+pub record Moves (s : Server) (Q : Server → Type 0) : Type 0 where
+  pub stays : Q s
+  pub hears : (sender next : ℕ) (d : Datagram) → Q (receive s sender next d).server
+  pub ticks : Q (tick s (s.now + 1)).server
+  pub crashes : (longest : ℕ) → Q (crash s longest).server
 
 after-client : (w : World) (host : ℕ) (f : Client → ClientStep) (o : Option Client) → (at_client w host f o).server ≡ w.server
 unfolding after_client
@@ -112,7 +112,7 @@ delivers-some : (w : World) (k : ℕ) (o : Option Packet) (Q : Server → Type 0
 delivers-some w k None Q m = m.stays
 delivers-some w k (Some p) Q m = delivers w k p p.to Q m
 
-steps-server : (w : World) (e : Event) (Q : Server → Type 0) → Moves w.server Q → Q (step w e).server
+pub steps-server : (w : World) (e : Event) (Q : Server → Type 0) → Moves w.server Q → Q (step w e).server
 unfolding after_server
 steps-server w (Event.Call host op) Q m = subst Q (sym (after-client w host (λ c. client_call c op) (slice_get w.clients host))) m.stays
 steps-server w (Event.Deliver k) Q m = delivers-some w k (slice_get w.packets k) Q m

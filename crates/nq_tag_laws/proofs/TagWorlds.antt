@@ -1,5 +1,5 @@
 -- In every run within skew each tag was drawn, and what was given up is past.
-use Rattle.std.proofs.Common.{◌≡◌, ◌≢◌, ◌≤◌, ◌⊎◌, ℕ, zero, suc, ◌+◌, ◌==◌, Bool, true, false, List, [], ◌∷◌, ◌++◌, Option, Some, None, map, length, refl, sym, subst, ap, ◌∙◌, arith, inl, inr}
+use Rattle.std.proofs.Common.{◌≡◌, ◌≢◌, ◌<◌, ◌≤◌, ◌⊎◌, ℕ, zero, suc, ◌+◌, ◌==◌, Bool, true, false, List, [], ◌∷◌, ◌++◌, Option, Some, None, map, length, refl, sym, subst, ap, ◌∙◌, arith, inl, inr}
 use Rattle.std.specs.Prelude.{slice_get, slice_set}
 use Rattle.nq_base.specs.declared.Event.{Event}
 use Rattle.nq_base.specs.declared.Grant.{Grant}
@@ -15,6 +15,7 @@ use Rattle.nq_tag_laws.proofs.GrantRows.{IsBacked, all-backed}
 use Rattle.nq_run_steps.proofs.KnownWorlds.{takeable}
 use Rattle.nq_lease_laws.proofs.LeaseIntervals.{Runs, run-runs, hearing, none-served, tick-sends, crash-sends}
 use Rattle.nq_run_steps.proofs.Packets.{In, in-append, in-get, Told, Asked, message-same, not-both}
+use Rattle.nq_tag_laws.proofs.RowNumbers.{row-numbered}
 use Rattle.nq_server_steps.proofs.Rows.{same-number, number-same}
 use Rattle.nq_lease_laws.proofs.ServerEffects.{standing-serving}
 use Rattle.nq_lease_laws.proofs.ServerHears.{hears-effect}
@@ -129,17 +130,25 @@ server-told T w t said h = record {
   sender host m (inl old) = h.senders host m old
   sender host m (inr new) = absurd ((said (from_host host m) new).1 host m refl)
 
--- a tag is of the boot of a table, and among those that it has drawn
+-- a tag is of the boot of a table, and among those that it has drawn, which are numbered from 1 on
 abbrev IsOf : Table → Tag → Type 0
-IsOf table tag = (table.boot ≡ tag.boot) × (tag.number ≤ table.drawn)
+IsOf table tag = (table.boot ≡ tag.boot) × (1 ≤ tag.number) × (tag.number ≤ table.drawn)
 
-row-of : (s : Server) → StandingFitsOf s → (file host : ℕ) (row : Row) → find_row file host (standing s).rows ≡ Some row → IsOf (standing s) row.tag
-row-of s stood file host row found = let r = stood.fits file host row found in (sym r.tag_boot, r.drawn_before)
+-- each row that stands is numbered so
+abbrev AreNumbered : Server → Type 0
+AreNumbered s = (file host : ℕ) (row : Row) → find_row file host (standing s).rows ≡ Some row → (0 < row.tag.number) × (0 < row.since.number)
 
-since-of : (s : Server) → StandingFitsOf s → (file host : ℕ) (row : Row) → find_row file host (standing s).rows ≡ Some row → IsOf (standing s) row.since
-since-of s stood file host row found =
+row-of : (s : Server) → StandingFitsOf s → AreNumbered s → (file host : ℕ) (row : Row) → find_row file host (standing s).rows ≡ Some row → IsOf (standing s) row.tag
+row-of s stood numbered file host row found =
     let r = stood.fits file host row found in
-    (sym r.since_boot, let a = r.in_order in let c = r.drawn_before in omega arith)
+    let n = (numbered file host row found).0 in
+    (sym r.tag_boot, omega arith, r.drawn_before)
+
+since-of : (s : Server) → StandingFitsOf s → AreNumbered s → (file host : ℕ) (row : Row) → find_row file host (standing s).rows ≡ Some row → IsOf (standing s) row.since
+since-of s stood numbered file host row found =
+    let r = stood.fits file host row found in
+    let n = (numbered file host row found).1 in
+    (sym r.since_boot, omega arith, let a = r.in_order in let c = r.drawn_before in omega arith)
 
 -- a row of the server's own table stands
 own-stands : (s : Server) (phase : Phase) → NoneRecovering phase s.table → (file host : ℕ) (row : Row) → find_row file host s.table.rows ≡ Some row → find_row file host (standing_in phase s.table).rows ≡ Some row
@@ -192,6 +201,8 @@ record Grows (T U : Tag → Type 0) (s t : Server) : Type 0 where
   before : (tag : Tag) → IsOf (standing s) tag → U tag
   now : (tag : Tag) → IsOf (standing t) tag → U tag
   stood : StandingFitsOf t
+  numbered_before : AreNumbered s
+  numbered : AreNumbered t
 
 received-told : (T U : Tag → Type 0) (hosts most : ℕ) (w : World) (events : List Event) (p : Packet) → In w.packets p → p.to ≡ Party.Server → IsSent p → Holds w → Runs hosts most w events → Grows T U w.server (receive w.server (sending_host p.sender) (length w.packets) (datagram_of p.message)).server → AllTold T w → AllTold U (after_server w (receive w.server (sending_host p.sender) (length w.packets) (datagram_of p.message)))
 received-told T U hosts most w events p i to (by_server host m e) held r g h = let other : Party.Client host ≡ Party.Server = ap (λ q. q.to) (sym e) ∙ to in absurd (cc)
@@ -205,12 +216,12 @@ received-told T U hosts most w events p i to (by_host host xid q who e asks) hel
     there = h.senders host (call xid q) (subst (λ z. In w.packets z) e i)
 
     before : (file host : ℕ) (row : Row) → find_row file host w.server.table.rows ≡ Some row → U row.tag
-    before file host row found = g.before row.tag (row-of w.server r.served.stood file host row (own-stands w.server w.server.phase (none-served most w.server r.served) file host row found))
+    before file host row found = g.before row.tag (row-of w.server r.served.stood g.numbered_before file host row (own-stands w.server w.server.phase (none-served most w.server r.served) file host row found))
 
     after : (file host : ℕ) (row : Row) → t.server.phase ≡ serving → find_row file host t.server.table.rows ≡ Some row → U row.tag × U row.since
     after file host row serves found =
         let stands : find_row file host (standing t.server).rows ≡ Some row = ap (λ z. find_row file host z.rows) (standing-serving t.server serves) ∙ found in
-        (g.now row.tag (row-of t.server g.stood file host row stands), g.now row.since (since-of t.server g.stood file host row stands))
+        (g.now row.tag (row-of t.server g.stood g.numbered file host row stands), g.now row.since (since-of t.server g.stood g.numbered file host row stands))
 
     effect : Effect w.packets w.server t there.0.who there.0.ticket there.0.leases
     effect = hears-effect w.packets w.server most (sending_host p.sender) (length w.packets) (datagram_of p.message) events there.0.who there.0.now there.0.xid there.0.attached there.0.ticket there.0.leases there.0.notices (hearing hosts most w events p host there.0 there.1 i to held r)
@@ -251,10 +262,10 @@ start-told T head = record {
 }
 
 drawn-now : (head : Head) (events : List Event) (tag : Tag) → IsOf (standing (run head events).server) tag → WasDrawn head events tag
-drawn-now head events tag h = record { later = []; earlier = events; moment = refl; by_boot = h.0; among = h.1 }
+drawn-now head events tag h = record { later = []; earlier = events; moment = refl; by_boot = h.0; counted = h.1; among = h.2 }
 
 drawn-before : (head : Head) (e : Event) (events : List Event) (tag : Tag) → WasDrawn head events tag → WasDrawn head (e ∷ events) tag
-drawn-before head e events tag h = record { later = e ∷ h.later; earlier = h.earlier; moment = ap (λ es. e ∷ es) h.moment; by_boot = h.by_boot; among = h.among }
+drawn-before head e events tag h = record { later = e ∷ h.later; earlier = h.earlier; moment = ap (λ es. e ∷ es) h.moment; by_boot = h.by_boot; counted = h.counted; among = h.among }
 
 bounds-before : (most : ℕ) (head : Head) (e : Event) (events : List Event) → KeepsBounds most head (e ∷ events) → KeepsBounds most head events
 bounds-before most head e events b = record { hosts = b.hosts; first_long = b.first_long; first_short = b.first_short; boots = λ k d below. b.boots (suc k) d (omega arith) }
@@ -270,6 +281,8 @@ run-told most head (e ∷ earlier) b within =
       before = λ tag h. drawn-before head e earlier tag (drawn-now head earlier tag h);
       now = drawn-now head (e ∷ earlier);
       stood = (run-runs most head (e ∷ earlier) b within).served.stood;
+      numbered_before = row-numbered head earlier;
+      numbered = row-numbered head (e ∷ earlier);
     })
     (run-told most head earlier b' within')
 
@@ -289,8 +302,8 @@ known-drawn most head events tag b within known = case known
     case (of_evicted k p xid who file sent says) = (told.packets p (in-get (run head events).packets k p sent)).evicted xid who file tag says
     case (of_grant k p xid answer g sent says gives same) = subst (WasDrawn head events) same ((told.packets p (in-get (run head events).packets k p sent)).granted xid answer g says gives).0
     case (of_grant_chain k p xid answer g sent says gives same) = subst (WasDrawn head events) same ((told.packets p (in-get (run head events).packets k p sent)).granted xid answer g says gives).1
-    case (of_row file host row stands same) = subst (WasDrawn head events) same (drawn-now head events row.tag (row-of (run head events).server stood file host row stands))
-    case (of_chain file host row stands same) = subst (WasDrawn head events) same (drawn-now head events row.since (since-of (run head events).server stood file host row stands))
+    case (of_row file host row stands same) = subst (WasDrawn head events) same (drawn-now head events row.tag (row-of (run head events).server stood (row-numbered head events) file host row stands))
+    case (of_chain file host row stands same) = subst (WasDrawn head events) same (drawn-now head events row.since (since-of (run head events).server stood (row-numbered head events) file host row stands))
 
 -- what was drawn is no later than the table that stands
 up-to-now : (head : Head) (events : List Event) (tag : Tag) → WasDrawn head events tag → IsUpTo (standing (run head events).server) tag

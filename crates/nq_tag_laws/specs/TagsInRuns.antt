@@ -29,12 +29,14 @@ pub data IsKnown (w : World) (tag : Tag) : Type 0 where
   of_row : (file host : ℕ) (row : Row) → find_row file host (standing w.server).rows ≡ Some row → row.tag ≡ tag → IsKnown w tag
   of_chain : (file host : ℕ) (row : Row) → find_row file host (standing w.server).rows ≡ Some row → row.since ≡ tag → IsKnown w tag
 
--- a tag was drawn: at some moment of the run the table of the boot that it names stood, which had drawn so many tags
+-- a tag was drawn: at some moment of the run the table of the boot that it names stood, and it was among the tags that this
+-- table had drawn, which are numbered from 1 on
 pub record WasDrawn (head : Head) (events : List Event) (tag : Tag) : Type 0 where
   pub later : List Event
   pub earlier : List Event
   pub moment : events ≡ later ++ earlier
   pub by_boot : (standing (run head earlier).server).boot ≡ tag.boot
+  pub counted : 1 ≤ tag.number
   pub among : tag.number ≤ (standing (run head earlier).server).drawn
 
 -- a tag is no later than the table that stands: of an earlier boot, or of the same one and among those that it has drawn

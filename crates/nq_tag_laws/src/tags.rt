@@ -3,8 +3,8 @@
 ghost use Rattle.nq_tag_laws.specs.TagsInRuns.{IsPastSometime, StandingTableGrows, TagsAreDrawnInOrder, VacatedTagsArePast};
 
 /// After every schedule that is within skew, each tag of a lease that is held, of a notice that waits, of a packet or of a
-/// row that stands was drawn by a boot that is no later than the one that served last, and is below each tag that the
-/// server draws later (Macklem 1994).
+/// row that stands was drawn: at some moment the table of the boot that it names stood, and had drawn it. That boot is no
+/// later than the one whose table stands now, and the tag is below each that the server draws later (Macklem 1994).
 pub fn tags_are_drawn_in_order()
     ensures { TagsAreDrawnInOrder }
 {}
@@ -22,7 +22,8 @@ pub fn vacated_tags_are_past()
     ensures { VacatedTagsArePast }
 {}
 
-/// There is such a schedule, after which a client gave up a lease, holds another on the file, and can take a third.
+/// There is such a schedule, after which a client gave up a lease, holds another on the file, and can take a third: the
+/// premises of both laws on tags are met.
 pub fn vacated_tags_are_met()
     ensures { IsPastSometime }
 {}
