@@ -379,7 +379,7 @@ fn has_told(version: u32, told: &Told) -> bool
 }
 
 // Whether a version has an entry.
-fn has(version: u32, entry: &Entry) -> bool
+pub(crate) fn has(version: u32, entry: &Entry) -> bool
     ensures test { result ≡ has version entry.now }
     ensures has { IsTrue result ↔ Has version entry.now }
 {

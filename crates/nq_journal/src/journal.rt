@@ -1,7 +1,9 @@
 // The journal of a run.
-ghost use Rattle.std.specs.Prelude.{◌≡◌, ◌≤◌, ◌+◌, [], ◌∷◌, ◌++◌, length, slice_get, Some, IsOk, IfOk, OnOk, OnErr, IfSome, IsNone, IsTrue, ◌↔◌};
+ghost use Rattle.std.specs.Prelude.{◌≡◌, ◌≤◌, ◌+◌, [], ◌∷◌, ◌++◌, length, slice_get, Some, IsOk, IfOk, OnOk, OnErr, IfSome, IsNone, IsTrue, ◌↔◌, All};
+ghost use Rattle.nq_journal.specs.Text.{Has};
 
 use crate::NoMemory;
+use crate::entries::has;
 use nq_base::Entry;
 use std::alloc::Global;
 use std::marker::Model;
@@ -76,6 +78,13 @@ impl Journal {
         ensures some { IfSome result (λ entry. slice_get self.now.entries place ≡ Some entry.now) }
     {
         self.entries.get(place)
+    }
+
+    /// Whether a version of the text has each entry, so that the journal can be printed in it.
+    pub fn is_in(&self, version: u32) -> bool
+        ensures { IsTrue result ↔ All (Has version) self.now.entries }
+    {
+        self.entries.iter().all(|entry| has(version, entry))
     }
 
     // All entries, in order.
