@@ -31,55 +31,57 @@ shorter rest line after cuts =
 -- the text ends here
 pub ends_here : (version : ℕ) (entries : List Entry) (bytes rest line after : List ℕ) → AreEntries version entries → bytes ≡ lines version entries ++ rest → Some (line, after) ≡ cut 10 rest → line ≡ codes "end" → after ≡ [] → Ends version entries bytes
 ends_here version entries bytes rest line after are split cuts last none = record {
-    are = are;
-    split =
+  are = are;
+  split =
       split
       ∙ ap (λ xs. lines version entries ++ xs)
-        ((cut_line rest line after cuts).0 ∙ ap (λ xs. ended line ++ xs) none ∙ append-nil (ended line) ∙ ap ended last ∙ sym end_is);
-  }
+      ((cut_line rest line after cuts).0 ∙ ap (λ xs. ended line ++ xs) none ∙ append-nil (ended line) ∙ ap ended last ∙ sym end_is);
+}
 
 -- something stands behind the end
 pub goes_on : (version : ℕ) (entries : List Entry) (number next : ℕ) (bytes rest line after : List ℕ) → AreEntries version entries → number ≡ named (length entries + 2) → next ≡ min (number + 1) (2 ^ 32 - 1) → bytes ≡ lines version entries ++ rest → Some (line, after) ≡ cut 10 rest → line ≡ codes "end" → after ≢ [] → StopsAt version next bytes
 goes_on version entries number next bytes rest line after are at next_is split cuts last some = record {
-    entries = entries;
-    are = are;
-    left = rest;
-    split = split;
-    why =
-      inr
-      (omega arith,
-      record {
-        after = after;
-        some = some;
-        split = (cut_line rest line after cuts).0 ∙ ap (λ xs. ended xs ++ after) last ∙ ap (λ xs. xs ++ after) (sym end_is);
-      });
-  }
+  entries = entries;
+  are = are;
+  left = rest;
+  split = split;
+  why =
+      inr (
+        omega arith,
+        record {
+          after = after;
+          some = some;
+          split = (cut_line rest line after cuts).0 ∙ ap (λ xs. ended xs ++ after) last ∙ ap (λ xs. xs ++ after) (sym end_is);
+        },
+      );
+}
 
 -- a line that is not read
 pub not_read : (version : ℕ) (entries : List Entry) (number : ℕ) (bytes rest line after : List ℕ) → AreEntries version entries → number ≡ named (length entries + 2) → bytes ≡ lines version entries ++ rest → Some (line, after) ≡ cut 10 rest → line ≢ codes "end" → entry_of version (words_of line) ≡ None → StopsAt version number bytes
 not_read version entries number bytes rest line after are at split cuts other none =
     let cut_here = cut_line rest line after cuts in
     let same = λ (line' after' : List ℕ) (is : IsUnbroken line') (split' : rest ≡ ended line' ++ after').
-        (first_line line line' after after' cut_here.1 (free line' is) (sym cut_here.0 ∙ split')).0 in
+    (first_line line line' after after' cut_here.1 (free line' is) (sym cut_here.0 ∙ split')).0 in
     record {
       entries = entries;
       are = are;
       left = rest;
       split = split;
       why =
-        inl
-        (at,
-        record {
-          no_end = λ line' after' is split' last.
-              other (same line' after' is split' ∙ append_cancel_right line' (codes "end") (10 ∷ []) (last ∙ end_is));
-          no_entry = λ line' after' entry is split' fits has spelled.
-              let spelling = append_cancel_right line' (body version entry) (10 ∷ []) (spelled ∙ entry_is version entry) in
-              let read =
-                sym none
-                ∙ ap (λ xs. entry_of version (words_of xs)) (same line' after' is split' ∙ spelling)
-                ∙ body_again version entry (has, fits) in
-              cc;
-        });
+          inl (
+            at,
+            record {
+              no_end = λ line' after' is split' last.
+                  other (same line' after' is split' ∙ append_cancel_right line' (codes "end") (10 ∷ []) (last ∙ end_is));
+              no_entry = λ line' after' entry is split' fits has spelled.
+                  let spelling = append_cancel_right line' (body version entry) (10 ∷ []) (spelled ∙ entry_is version entry) in
+                  let read =
+                  sym none
+                  ∙ ap (λ xs. entry_of version (words_of xs)) (same line' after' is split' ∙ spelling)
+                  ∙ body_again version entry (has, fits) in
+                  cc;
+            },
+          );
     }
 
 pub not_free : (line after : List ℕ) → IsFree 10 (line ++ 10 ∷ after) → ⊥
@@ -93,38 +95,39 @@ unfinished version entries number bytes rest are at split none =
     let whole : IsFree 10 rest = subst P (sym none) (cut_found 10 rest) in
     let Q : List ℕ → Type 0 = IsFree 10 in
     let never = λ (line after : List ℕ) (split' : rest ≡ ended line ++ after).
-        not_free line after (subst Q (split' ∙ line_in_front line after) whole) in
+    not_free line after (subst Q (split' ∙ line_in_front line after) whole) in
     record {
       entries = entries;
       are = are;
       left = rest;
       split = split;
       why =
-        inl
-        (at,
-        record {
-          no_end = λ line after is split' last. never line after split';
-          no_entry = λ line after entry is split' fits has spelled. never line after split';
-        });
+          inl (
+            at,
+            record {
+              no_end = λ line after is split' last. never line after split';
+              no_entry = λ line after entry is split' fits has spelled. never line after split';
+            },
+          );
     }
 
 -- a line that is read
 pub one_more : (version : ℕ) (entries : List Entry) (entry : Entry) (bytes rest line after : List ℕ) → bytes ≡ lines version entries ++ rest → Some (line, after) ≡ cut 10 rest → words_of line ≡ entry_words version entry ++ [] → bytes ≡ lines version (entries ++ entry ∷ []) ++ after
 one_more version entries entry bytes rest line after split cuts spelled =
     let is : line ≡ body version entry =
-        sym (joined-words_of line) ∙ ap joined (spelled ∙ append-nil (entry_words version entry)) in
+    sym (joined-words_of line) ∙ ap joined (spelled ∙ append-nil (entry_words version entry)) in
     split
     ∙ ap (λ xs. lines version entries ++ xs)
-      ((cut_line rest line after cuts).0 ∙ ap (λ xs. ended xs ++ after) is ∙ ap (λ xs. xs ++ after) (sym (entry_is version entry)))
+    ((cut_line rest line after cuts).0 ∙ ap (λ xs. ended xs ++ after) is ∙ ap (λ xs. xs ++ after) (sym (entry_is version entry)))
     ∙ sym (append_assoc (lines version entries) (entry_line version entry) after)
     ∙ ap (λ xs. (lines version entries ++ xs) ++ after) (sym (append-nil (entry_line version entry)))
     ∙ ap (λ xs. xs ++ after) (sym (flat_map-append (entry_line version) entries (entry ∷ [])))
 
 pub entries_more : (version : ℕ) (entries : List Entry) (entry : Entry) → AreEntries version entries → Has version entry → Fits entry → AreEntries version (entries ++ entry ∷ [])
 entries_more version entries entry are has fits = record {
-    has = All-push (Has version) entries entry are.has has;
-    fits = All-push Fits entries entry are.fits fits;
-  }
+  has = All-push (Has version) entries entry are.has has;
+  fits = All-push Fits entries entry are.fits fits;
+}
 
 -- whole texts
 
@@ -132,16 +135,16 @@ entries_more version entries entry are has fits = record {
 pub stops : (version number : ℕ) (bytes line rest : List ℕ) → IsVersion version → ended line ≡ head_line version → bytes ≡ ended line ++ rest → StopsAt version number rest → IsFault number bytes
 stops version number bytes line rest is first split stop =
     let whole =
-        split
-        ∙ ap (λ xs. xs ++ rest) (first ∙ head_is version)
-        ∙ ap (λ xs. ended (head version) ++ xs) stop.split in
+    split
+    ∙ ap (λ xs. xs ++ rest) (first ∙ head_is version)
+    ∙ ap (λ xs. ended (head version) ++ xs) stop.split in
     elim stop.why [
-    | inl wrong ↦ record {
+      | inl wrong ↦ record {
         line = length stop.entries + 2;
         faulty = wrong_line version stop.entries stop.left bytes is stop.are whole wrong.1;
         is_named = wrong.0;
       }
-    | inr long ↦ record {
+      | inr long ↦ record {
         line = length stop.entries + 3;
         faulty = long_text version stop.entries stop.left bytes is stop.are whole long.1;
         is_named = long.0;
@@ -151,18 +154,18 @@ stops version number bytes line rest is first split stop =
 -- a rest that ends makes a text
 pub ends : (version : ℕ) (entries : List Entry) (bytes line rest : List ℕ) → IsVersion version → ended line ≡ head_line version → bytes ≡ ended line ++ rest → Ends version entries rest → IsTextOf entries bytes
 ends version entries bytes line rest is first split end = record {
-    version = version;
-    text = record {
-      version_known = is;
-      has = end.are.has;
-      fits = end.are.fits;
-      spelled =
+  version = version;
+  text = record {
+    version_known = is;
+    has = end.are.has;
+    fits = end.are.fits;
+    spelled =
         split
         ∙ ap (λ xs. xs ++ rest) (first ∙ head_is version)
         ∙ ap (λ xs. ended (head version) ++ xs) end.split
         ∙ sym (text_split version entries);
-    };
-  }
+  };
+}
 
 -- tests
 

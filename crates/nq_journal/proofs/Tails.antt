@@ -45,12 +45,12 @@ pub left_line : (version : ℕ) (front entries : List Entry) (left : List ℕ) �
 left_line version [] [] left fronts are same =
     record { line = codes "end"; after = []; free = free_end; split = same ∙ end_cons; is = inl refl }
 left_line version [] (entry ∷ entries) left fronts are same = record {
-    line = body version entry;
-    after = lines version entries ++ end_line;
-    free = body_free version entry are.0.1;
-    split = same ∙ lines_cons version entry entries end_line;
-    is = inr (entry, are.0, refl);
-  }
+  line = body version entry;
+  after = lines version entries ++ end_line;
+  free = body_free version entry are.0.1;
+  split = same ∙ lines_cons version entry entries end_line;
+  is = inr (entry, are.0, refl);
+}
 left_line version (first ∷ front) [] left fronts are same =
     let split = sym (lines_cons version first front left) ∙ same ∙ end_cons in
     let parts = first_line (body version first) (codes "end") (lines version front ++ left) [] (body_free version first fronts.0.1) free_end split in
@@ -81,7 +81,7 @@ nothing_after version (first ∷ front) (entry ∷ entries) after fronts are sam
 same_body : (version : ℕ) (x y : Entry) → IsEntry version x → IsEntry version y → body version x ≡ body version y → plain x ≡ plain y
 same_body version x y is_x is_y same =
     let read : Some (plain x) ≡ Some (plain y) =
-        sym (body_again version x is_x) ∙ ap (λ xs. entry_of version (words_of xs)) same ∙ body_again version y is_y in
+    sym (body_again version x is_x) ∙ ap (λ xs. entry_of version (words_of xs)) same ∙ body_again version y is_y in
     cc
 
 -- the same lines are those of the same entries

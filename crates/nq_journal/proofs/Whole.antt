@@ -35,8 +35,8 @@ no_version bytes first rest cuts none =
     at_first bytes
     (no_head bytes
     (λ line after is split version is_version same.
-        let parts = first_line first line rest after at.1 is (sym at.0 ∙ split) in
-        none version is_version (ap ended (parts.0 ∙ same) ∙ sym (head_is version))))
+    let parts = first_line first line rest after at.1 is (sym at.0 ∙ split) in
+    none version is_version (ap ended (parts.0 ∙ same) ∙ sym (head_is version))))
 
 -- behind a first line the rest decides
 pub by_rest : (version : ℕ) (bytes first rest : List ℕ) (r : Result Journal JournalFault) → IsVersion version → ended first ≡ head_line version → Some (first, rest) ≡ cut 10 bytes → ParsesRest version rest r → Parses bytes r

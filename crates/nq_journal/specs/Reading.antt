@@ -10,8 +10,8 @@ use Rattle.nq_base.specs.declared.Tag.{Tag}
 use Rattle.nq_base.specs.declared.Told.{Told}
 use Rattle.nq_base.specs.declared.Who.{Who}
 use Rattle.nq_journal.specs.Text.{entry_words, Fits}
-use Rattle.nq_journal.specs.declared.entries.Kind.{Kind}
-use Rattle.nq_journal.specs.declared.tolds.Verb.{Verb}
+use Rattle.nq_journal.specs.declared.read_entries.Kind.{Kind}
+use Rattle.nq_journal.specs.declared.read_calls.Verb.{Verb}
 
 infixl 10 ◌>>=◌
 -- goes on with the value of a step, or ends where there is none

@@ -3,7 +3,7 @@ ghost use Rattle.std.specs.Prelude.{◌≡◌, ◌≤◌, ◌+◌, [], ◌∷◌
 ghost use Rattle.nq_journal.specs.Text.{Has};
 
 use crate::NoMemory;
-use crate::entries::has;
+use crate::read_entries::has;
 use nq_base::Entry;
 use std::alloc::Global;
 use std::marker::Model;

@@ -1,16 +1,16 @@
 //! The journal of a run: its entries, and their text, printed and parsed.
 #![tactic(auto)]
 
-mod entries;
 mod journal;
-mod lines;
 mod no_memory;
 mod parsing;
 mod printing;
-mod rows;
-mod saids;
-mod tolds;
-mod words;
+mod read_answers;
+mod read_calls;
+mod read_entries;
+mod read_words;
+mod write_entries;
+mod write_words;
 
 pub use journal::Journal;
 pub use no_memory::NoMemory;

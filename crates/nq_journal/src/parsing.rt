@@ -6,8 +6,8 @@ ghost use Rattle.nq_journal.specs.Parsing.{Parses, GivesEntries, GivesFault, Par
 ghost use Rattle.nq_journal.specs.Text.{IsVersion, IsText, head_line};
 ghost use Rattle.nq_journal.specs.declared.parsing.JournalFault.TheVariants.{Memory};
 
-use crate::entries::entry;
-use crate::words::{cut, is};
+use crate::read_entries::entry_of;
+use crate::read_words::{cut, is};
 use crate::{Journal, NoMemory};
 use std::alloc::Global;
 use thiserror::Error;
@@ -89,7 +89,7 @@ fn parse_rest(alloc: Global, version: u32, mut rest: &[u8]) -> Result<Journal, J
             }
             return Err(JournalFault::Line(number.saturating_add(1)));
         }
-        let Some(entry) = entry(alloc, version, line)? else {
+        let Some(entry) = entry_of(alloc, version, line)? else {
             return Err(JournalFault::Line(number));
         };
         journal.push(entry)?;

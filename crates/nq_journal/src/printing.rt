@@ -3,8 +3,8 @@ ghost use Rattle.std.specs.Prelude.{◌≡◌, ◌++◌, All, OnOk};
 ghost use Rattle.nq_journal.specs.Printing.{Prints, CountsPrint};
 ghost use Rattle.nq_journal.specs.Text.{Has, IsVersion, IsText, journal_text, head_line, end_line};
 
-use crate::lines::numbers;
-use crate::rows::line;
+use crate::write_entries::push_line;
+use crate::write_words::push_numbers;
 use crate::{Journal, NoMemory};
 use nq_io::{Put, Sink};
 use std::alloc::Global;
@@ -33,11 +33,11 @@ pub fn print<K: Sink>(alloc: Global, journal: &Journal, version: u32, out: &mut 
     ensures grammar { result ≡ Printed.All → IsText version journal.now.entries (journal_text version journal.now.entries) }
 {
     let mut text = Vec::new(alloc);
-    let Ok(()) = head(&mut text, version) else {
+    let Ok(()) = push_head(&mut text, version) else {
         return Printed::Memory;
     };
     for entry in journal.entries() {
-        let Ok(()) = line(&mut text, version, entry) else {
+        let Ok(()) = push_line(&mut text, version, entry) else {
             return Printed::Memory;
         };
         if text.len() >= PIECE {
@@ -47,7 +47,7 @@ pub fn print<K: Sink>(alloc: Global, journal: &Journal, version: u32, out: &mut 
             }
         }
     }
-    let Ok(()) = end(&mut text) else {
+    let Ok(()) = push_end(&mut text) else {
         return Printed::Memory;
     };
     match out.put(&text) {
@@ -58,18 +58,18 @@ pub fn print<K: Sink>(alloc: Global, journal: &Journal, version: u32, out: &mut 
 
 // Appends the first line.
 #[tactic(auto, unfolding(crate::specs::Words::joined, crate::specs::Words::line, crate::specs::Text::head_line))]
-fn head(out: &mut Vec<u8>, version: u32) -> Result<(), NoMemory>
+fn push_head(out: &mut Vec<u8>, version: u32) -> Result<(), NoMemory>
     ensures { OnOk result (out.new.items ≡ out.old.items ++ head_line version) }
 {
     out.extend_from_slice(b"nqnfs-journal")?;
-    numbers(out, &[u64::from(version)])?;
+    push_numbers(out, &[u64::from(version)])?;
     out.push(b'\n')?;
     Ok(())
 }
 
 // Appends the last line.
 #[tactic(auto, unfolding(crate::specs::Words::joined, crate::specs::Words::line, crate::specs::Text::end_line))]
-fn end(out: &mut Vec<u8>) -> Result<(), NoMemory>
+fn push_end(out: &mut Vec<u8>) -> Result<(), NoMemory>
     ensures { OnOk result (out.new.items ≡ out.old.items ++ end_line) }
 {
     out.extend_from_slice(b"end\n")?;

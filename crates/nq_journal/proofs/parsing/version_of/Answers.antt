@@ -17,6 +17,6 @@ pub returns-else-is-2-clause-none : goal.returns-else-is-2-clause-none
 returns-else-is-2-clause-none c = λ _ version is same.
     let named = append_cancel_right c.args.line.now (head version) (10 ∷ []) (same ∙ head_is version) in
     elim is [
-    | inl one ↦ true≢false (sym (c.is.ensures.same.1 (named ∙ ap head one ∙ head_1)) ∙ c.if-is.false)
-    | inr two ↦ true≢false (sym (c.is-else-is.ensures.same.1 (named ∙ ap head two ∙ head_2)) ∙ c.if-is-2.false)
+      | inl one ↦ true≢false (sym (c.is.ensures.same.1 (named ∙ ap head one ∙ head_1)) ∙ c.if-is.false)
+      | inr two ↦ true≢false (sym (c.is-else-is.ensures.same.1 (named ∙ ap head two ∙ head_2)) ∙ c.if-is-2.false)
     ]

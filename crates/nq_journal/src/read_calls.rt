@@ -1,0 +1,117 @@
+// Reading calls.
+ghost use Rattle.std.specs.Prelude.{◌≡◌, ◌∷◌, ◌++◌, IfSome};
+ghost use Rattle.nq_journal.specs.Reading.{Takes, verb_of, verb_word, told_at, told_by};
+ghost use Rattle.nq_journal.specs.Text.{told_words, FitsTold};
+
+use crate::read_words::{Words, is};
+use nq_base::{FileId, Told};
+
+// What a call asks for.
+#[derive(Clone, Copy)]
+enum Verb {
+    Create,
+    Lookup,
+    Attr,
+    Read,
+    Fetch,
+    Write,
+    Put,
+    Sync,
+    Resize,
+    Remove,
+}
+
+// What a word asks for.
+#[tactic(auto, unfolding(crate::specs::Reading::verb_of))]
+fn verb_of(word: &[u8]) -> Option<Verb>
+    ensures step { result ≡ verb_of word.now }
+    ensures found { IfSome result (λ verb. word.now ≡ verb_word verb) }
+{
+    if is(word, b"create") {
+        Some(Verb::Create)
+    } else if is(word, b"lookup") {
+        Some(Verb::Lookup)
+    } else if is(word, b"attr") {
+        Some(Verb::Attr)
+    } else if is(word, b"read") {
+        Some(Verb::Read)
+    } else if is(word, b"fetch") {
+        Some(Verb::Fetch)
+    } else if is(word, b"write") {
+        Some(Verb::Write)
+    } else if is(word, b"put") {
+        Some(Verb::Put)
+    } else if is(word, b"sync") {
+        Some(Verb::Sync)
+    } else if is(word, b"resize") {
+        Some(Verb::Resize)
+    } else if is(word, b"remove") {
+        Some(Verb::Remove)
+    } else {
+        None
+    }
+}
+
+// Takes the words of a call.
+#[tactic(auto, unfolding(crate::specs::Reading::told_at))]
+pub(crate) fn take_told(words: &mut Words<'_>) -> Option<Told>
+    ensures step { Takes (λ told. told) result words.new (told_at words.old) }
+    ensures found { IfSome result (λ told. (words.old ≡ told_words told ++ words.new) × FitsTold told) }
+{
+    let verb = verb_of(words.next()?)?;
+    take_asked(words, verb)
+}
+
+// Takes what such a call names.
+#[tactic(auto, unfolding(crate::specs::Reading::create_at, crate::specs::Reading::lookup_at, crate::specs::Reading::attr_at, crate::specs::Reading::read_at, crate::specs::Reading::fetch_at, crate::specs::Reading::write_at, crate::specs::Reading::put_at, crate::specs::Reading::sync_at, crate::specs::Reading::resize_at, crate::specs::Reading::remove_at))]
+fn take_asked(words: &mut Words<'_>, verb: Verb) -> Option<Told>
+    ensures step { Takes (λ told. told) result words.new (told_by verb words.old) }
+    ensures found { IfSome result (λ told. (verb_word verb ∷ words.old ≡ told_words told ++ words.new) × FitsTold told) }
+{
+    match verb {
+        Verb::Create => {
+            let name = words.name()?;
+            let blocks = words.u32()?;
+            Some(Told::Create { name, blocks })
+        }
+        Verb::Lookup => {
+            let name = words.name()?;
+            Some(Told::Lookup { name })
+        }
+        Verb::Attr => {
+            let file = FileId(words.u32()?);
+            Some(Told::Attr { file })
+        }
+        Verb::Read => {
+            let (file, block) = words.place()?;
+            Some(Told::Read { file, block })
+        }
+        Verb::Fetch => {
+            let (file, block) = words.place()?;
+            Some(Told::Fetch { file, block })
+        }
+        Verb::Write => {
+            let (file, block) = words.place()?;
+            let value = words.u32()?;
+            Some(Told::Write { file, block, value })
+        }
+        Verb::Put => {
+            let (file, block) = words.place()?;
+            let value = words.u32()?;
+            Some(Told::WriteSync { file, block, value })
+        }
+        Verb::Sync => {
+            let file = FileId(words.u32()?);
+            Some(Told::Sync { file })
+        }
+        Verb::Resize => {
+            let file = FileId(words.u32()?);
+            let blocks = words.u32()?;
+            Some(Told::Resize { file, blocks })
+        }
+        Verb::Remove => {
+            let file = FileId(words.u32()?);
+            Some(Told::Remove { file })
+        }
+    }
+}

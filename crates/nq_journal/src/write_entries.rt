@@ -1,0 +1,211 @@
+// Writing the entries of a journal, a line each.
+ghost use Rattle.std.specs.Prelude.{◌≡◌, [], ◌++◌, OnOk};
+ghost use Rattle.std.specs.List.{flat_map};
+ghost use Rattle.nq_journal.specs.Words.{joined, spaced};
+ghost use Rattle.nq_journal.specs.Text.{Fits, FitsWho, FitsSource, entry_words, entry_line, of_who, way_word, mode_word, source_words, longest_words};
+
+use crate::NoMemory;
+use crate::write_words::{push_command, push_numbers, push_said, push_told, push_word};
+use nq_base::{Entry, Mode, Who};
+
+// Appends the letter of a line and the incarnation of which it tells.
+#[tactic(auto, unfolding(crate::specs::Words::joined))]
+fn push_who(out: &mut Vec<u8>, letter: &[u8], who: &Who) -> Result<(), NoMemory>
+    ensures written { OnOk result (out.new.items ≡ out.old.items ++ joined (of_who letter.now who.now [])) }
+    ensures fits { OnOk result (FitsWho who.now) }
+{
+    out.extend_from_slice(letter)?;
+    push_numbers(out, &[u64::from(who.host.0), u64::from(who.inc.0)])
+}
+
+// The word of a write's way.
+fn way_name(through: bool) -> &'static [u8]
+    ensures { result.now ≡ way_word through }
+{
+    if through { b"through" } else { b"delayed" }
+}
+
+// The word of a mode.
+fn mode_name(mode: Mode) -> &'static [u8]
+    ensures { result.now ≡ mode_word mode }
+{
+    match mode {
+        Mode::NonCaching => b"noncaching",
+        Mode::Reading => b"reading",
+        Mode::Writing => b"writing",
+    }
+}
+
+// Appends the words of a read's source.
+fn push_source(out: &mut Vec<u8>, served: Option<u64>) -> Result<(), NoMemory>
+    ensures written { OnOk result (out.new.items ≡ out.old.items ++ flat_map spaced (source_words served)) }
+    ensures fits { OnOk result (FitsSource served) }
+{
+    match served {
+        None => push_word(out, b"cached"),
+        Some(packet) => push_command(out, b"served", &[packet]),
+    }
+}
+
+// Appends the longest term, where the version tells it.
+fn push_longest(out: &mut Vec<u8>, version: u32, longest: u32) -> Result<(), NoMemory>
+    ensures { OnOk result (out.new.items ≡ out.old.items ++ flat_map spaced (longest_words version longest)) }
+{
+    if version == 2 {
+        push_numbers(out, &[u64::from(longest)])?;
+    }
+    Ok(())
+}
+
+// Appends the words of an entry.
+#[tactic(auto, unfolding(crate::specs::Words::joined))]
+fn push_words(out: &mut Vec<u8>, version: u32, entry: &Entry) -> Result<(), NoMemory>
+    ensures written { OnOk result (out.new.items ≡ out.old.items ++ joined (entry_words version entry.now)) }
+    ensures fits { OnOk result (Fits entry.now) }
+{
+    match entry {
+        Entry::C { who, q, told } => {
+            push_who(out, b"C", who)?;
+            push_numbers(out, &[*q])?;
+            push_told(out, told)
+        }
+        Entry::W {
+            who,
+            file,
+            block,
+            number,
+            value,
+            through,
+        } => {
+            push_who(out, b"W", who)?;
+            push_numbers(
+                out,
+                &[
+                    u64::from(file.0),
+                    u64::from(block.0),
+                    number.0,
+                    u64::from(*value),
+                ],
+            )?;
+            push_word(out, way_name(*through))
+        }
+        Entry::R {
+            who,
+            q,
+            file,
+            block,
+            value,
+            served,
+        } => {
+            push_who(out, b"R", who)?;
+            push_numbers(
+                out,
+                &[*q, u64::from(file.0), u64::from(block.0), u64::from(*value)],
+            )?;
+            push_source(out, *served)
+        }
+        Entry::S {
+            who,
+            file,
+            block,
+            first,
+            last,
+            now,
+        } => {
+            push_who(out, b"S", who)?;
+            push_numbers(
+                out,
+                &[
+                    u64::from(file.0),
+                    u64::from(block.0),
+                    first.0,
+                    last.0,
+                    now.0,
+                ],
+            )
+        }
+        Entry::L {
+            who,
+            file,
+            block,
+            first,
+            last,
+        } => {
+            push_who(out, b"L", who)?;
+            push_numbers(
+                out,
+                &[u64::from(file.0), u64::from(block.0), first.0, last.0],
+            )
+        }
+        Entry::G {
+            who,
+            file,
+            mode,
+            tag,
+            term,
+            now,
+        } => {
+            push_who(out, b"G", who)?;
+            push_numbers(out, &[u64::from(file.0)])?;
+            push_word(out, mode_name(*mode))?;
+            push_numbers(
+                out,
+                &[u64::from(tag.boot), tag.number, u64::from(*term), now.0],
+            )
+        }
+        Entry::F {
+            who,
+            file,
+            until,
+            heard,
+            now,
+        } => {
+            push_who(out, b"F", who)?;
+            push_numbers(out, &[u64::from(file.0), until.0, heard.0, now.0])
+        }
+        Entry::O {
+            boot,
+            until,
+            heard,
+            now,
+        } => {
+            out.extend_from_slice(b"O")?;
+            push_numbers(out, &[u64::from(*boot), until.0, heard.0, now.0])
+        }
+        Entry::B { who } => push_who(out, b"B", who),
+        Entry::X { boot, now, longest } => {
+            out.extend_from_slice(b"X")?;
+            push_numbers(out, &[u64::from(*boot), now.0])?;
+            push_longest(out, version, *longest)
+        }
+        Entry::Z {
+            who,
+            q,
+            file,
+            from,
+            to,
+        } => {
+            push_who(out, b"Z", who)?;
+            push_numbers(
+                out,
+                &[*q, u64::from(file.0), u64::from(*from), u64::from(*to)],
+            )
+        }
+        Entry::A { who, q, said } => {
+            push_who(out, b"A", who)?;
+            push_numbers(out, &[*q])?;
+            push_said(out, said)
+        }
+    }
+}
+
+// Appends the line of an entry.
+#[tactic(auto, unfolding(crate::specs::Words::line, crate::specs::Text::entry_line))]
+pub(crate) fn push_line(out: &mut Vec<u8>, version: u32, entry: &Entry) -> Result<(), NoMemory>
+    ensures written { OnOk result (out.new.items ≡ out.old.items ++ entry_line version entry.now) }
+    ensures fits { OnOk result (Fits entry.now) }
+{
+    push_words(out, version, entry)?;
+    out.push(b'\n')?;
+    Ok(())
+}
