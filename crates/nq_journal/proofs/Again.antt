@@ -14,7 +14,10 @@ use Rattle.nq_base.specs.declared.Tag.{Tag}
 use Rattle.nq_base.specs.declared.Told.{Told}
 use Rattle.nq_base.specs.declared.Who.{Who}
 use Rattle.nq_journal.specs.Items.{plain, plain_said}
-use Rattle.nq_journal.specs.Reading.{span_of, u64_at, u32_at, name_at, who_at, place_at, create_at, lookup_at, attr_at, read_at, fetch_at, write_at, put_at, sync_at, resize_at, remove_at, verb_of, told_at, spans_of, lost_at, by_at, value_at, ok_at, bare_of, bare_at, said_at, mode_of, mode_at, tag_at, way_of, way_at, source_at, longest_at, kind_of, c_at, w_at, r_at, s_at, l_at, g_at, f_at, o_at, b_at, x_at, z_at, a_at, has_told, entry_of}
+use Rattle.nq_journal.specs.Reading.{u64_at, u32_at, name_at, who_at, place_at, tag_at}
+use Rattle.nq_journal.specs.ReadingCalls.{create_at, lookup_at, attr_at, read_at, fetch_at, write_at, put_at, sync_at, resize_at, remove_at, verb_of, told_at}
+use Rattle.nq_journal.specs.ReadingAnswers.{span_of, spans_of, lost_at, by_at, value_at, ok_at, bare_of, bare_at, said_at}
+use Rattle.nq_journal.specs.ReadingEntries.{mode_of, mode_at, way_of, way_at, source_at, longest_at, kind_of, c_at, w_at, r_at, s_at, l_at, g_at, f_at, o_at, b_at, x_at, z_at, a_at, has_told, entry_of}
 use Rattle.nq_journal.specs.Text.{told_words, span_word, said_words, mode_word, way_word, source_words, longest_words, entry_words, FitsWho, FitsTold, FitsSpan, FitsSaid, FitsSource, Fits, HasTold, Has}
 use Rattle.nq_journal.proofs.LineWords.{cut_again}
 use Rattle.nq_journal.proofs.Names.{name_again}

@@ -1,6 +1,7 @@
 -- Decimal digits read from the left, and the number that they make.
-use Rattle.std.proofs.Common.{◌≡◌, ℕ, ◌+◌, ◌-◌, ◌*◌, ◌^◌, ◌<◌, ◌≤◌, Bool, true, false, ◌&&◌, nat_le, nat_lt, List, [], ◌∷◌, length, drop, get_or, Some, None, refl, ap, sym, ◌∙◌, inl, inr, arith, rules, lit<}
+use Rattle.std.proofs.Common.{◌≡◌, ℕ, ◌+◌, ◌-◌, ◌*◌, ◌^◌, ◌<◌, ◌≤◌, Bool, true, false, ◌&&◌, nat_le, nat_lt, List, [], ◌∷◌, length, drop, get_or, Option, Some, None, refl, ap, sym, ◌∙◌, inl, inr, arith, rules, lit<}
 use Rattle.std.specs.Fmt.{decimal}
+use Rattle.std.specs.Option.{IfSome}
 use Rattle.std.proofs.lemmas.Bool.{cases_Bool, and_parts, leb-true, ltb-true, lt-ltb, true≢false}
 use Rattle.std.proofs.lemmas.Bool.Decides.{nat_tests, leb_tells}
 use Rattle.std.proofs.lemmas.Fmt.{decimal_digit, decimal_nonempty, first_decimal, digits_decimal, digits_value-decimal, decimal-digits_value}
@@ -136,3 +137,11 @@ word_from_digits (b ∷ bytes) digits =
 -- a number is a word
 pub word_decimal : (n : ℕ) → n < 2 ^ 64 → IsWord (decimal n)
 word_decimal n small = word_from_digits (decimal n) (digits_decimal own n small)
+
+-- what digits make is spelled so
+pub plain_spelled : (word : List ℕ) (r : Option ℕ) → is_plain word ≡ true → r ≡ digits_after 0 word → IfSome r (λ n. word ≡ decimal n)
+unfolding u64_of
+plain_spelled word None plain read = tt
+plain_spelled word (Some n) plain read =
+    let whole : u64_of word ≡ Some n = rw plain (sym read) in
+    (u64_found word n whole).0

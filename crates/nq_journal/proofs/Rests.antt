@@ -7,7 +7,8 @@ use Rattle.std.proofs.lemmas.List.Elements.{All-push}
 use Rattle.nq_base.specs.declared.Entry.{Entry}
 use Rattle.nq_journal.specs.Fault.{IsUnbroken, ended}
 use Rattle.nq_journal.specs.Parsing.{named, IsFault, IsTextOf, AreEntries, StopsAt, Ends}
-use Rattle.nq_journal.specs.Reading.{cut, words_of, entry_of}
+use Rattle.nq_journal.specs.Reading.{cut, words_of}
+use Rattle.nq_journal.specs.ReadingEntries.{entry_of}
 use Rattle.nq_journal.specs.Text.{Has, Fits, entry_words, entry_line, head_line, IsVersion}
 use Rattle.nq_journal.specs.Words.{joined}
 use Rattle.nq_journal.proofs.Faulty.{free, wrong_line, long_text}

@@ -6,7 +6,8 @@ use Rattle.nq_base.specs.declared.Entry.{Entry}
 use Rattle.nq_journal.specs.Fault.{ended, IsJournal}
 use Rattle.nq_journal.specs.Items.{plain}
 use Rattle.nq_journal.specs.Parsing.{AreEntries}
-use Rattle.nq_journal.specs.Reading.{words_of, entry_of}
+use Rattle.nq_journal.specs.Reading.{words_of}
+use Rattle.nq_journal.specs.ReadingEntries.{entry_of}
 use Rattle.nq_journal.specs.Text.{entry_line, head_line, end_line, journal_text, IsVersion, IsText}
 use Rattle.nq_journal.proofs.Clean.{literal}
 use Rattle.nq_journal.proofs.LineWords.{IsFree, free_joined}

@@ -8,7 +8,8 @@ use Rattle.nq_base.specs.declared.Entry.{Entry}
 use Rattle.nq_journal.specs.Fault.{ended}
 use Rattle.nq_journal.specs.Items.{plain}
 use Rattle.nq_journal.specs.Parsing.{AreEntries}
-use Rattle.nq_journal.specs.Reading.{cut, words_of, kind_of, entry_of}
+use Rattle.nq_journal.specs.Reading.{cut, words_of}
+use Rattle.nq_journal.specs.ReadingEntries.{kind_of, entry_of}
 use Rattle.nq_journal.specs.Text.{Has, Fits, entry_words, entry_line, head_line, end_line}
 use Rattle.nq_journal.specs.Words.{joined, line}
 use Rattle.nq_journal.proofs.Again.{entry_again}

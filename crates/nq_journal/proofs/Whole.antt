@@ -1,15 +1,18 @@
 -- What a whole text gives.
-use Rattle.std.proofs.Common.{◌≡◌, ◌≢◌, ℕ, List, ◌++◌, map, Option, Some, None, Result, Ok, Err, refl, ap, sym, ◌∙◌, subst}
+use Rattle.std.proofs.Common.{◌≡◌, [], ◌∷◌, ◌≢◌, ℕ, List, ◌++◌, codes, map, Option, Some, None, Result, Ok, Err, refl, ap, sym, ◌∙◌, subst}
 use Rattle.std.specs.List.{AllByRecursion}
 use Rattle.nq_base.specs.declared.Entry.{Entry}
+use Rattle.nq_base.specs.declared.Said.{Said}
+use Rattle.std.specs.Fmt.{decimal}
+use Rattle.nq_journal.specs.Words.{line}
 use Rattle.nq_journal.specs.declared.journal.Journal.{Journal}
 use Rattle.nq_journal.specs.declared.parsing.JournalFault.{JournalFault}
 use Rattle.nq_journal.specs.declared.parsing.JournalFault.TheVariants as fault
 use Rattle.nq_journal.specs.Fault.{ended, IsJournal, IsFaultyAt}
-use Rattle.nq_journal.specs.Items.{plain}
+use Rattle.nq_journal.specs.Items.{plain, plain_said}
 use Rattle.nq_journal.specs.Parsing.{named, IsFault, Parses, GivesEntries, GivesFault, ParsesRest}
 use Rattle.nq_journal.specs.Reading.{cut}
-use Rattle.nq_journal.specs.Text.{IsText, IsVersion, head_line, end_line}
+use Rattle.nq_journal.specs.Text.{said_words, entry_words, entry_line, journal_text, of_who, IsText, IsVersion, head_line, end_line}
 use Rattle.nq_journal.proofs.Faulty.{no_head, one_fault}
 use Rattle.nq_journal.proofs.LineWords.{IsFree, IsCut, cut_found}
 use Rattle.nq_journal.proofs.Rests.{cut_line, not_free, stops, ends}
@@ -75,3 +78,43 @@ only_fault bytes (Ok journal) parsed line is =
 only_fault bytes (Err (fault.Line number)) parsed line is =
     parsed.is_named ∙ ap named (one_fault parsed.line line bytes parsed.faulty is)
 only_fault bytes (Err fault.Memory) parsed line is = tt
+
+-- room is not in the text
+
+plain_said_words : (said : Said) → said_words (plain_said said) ≡ said_words said
+plain_said_words Said.Ok = refl
+plain_said_words (Said.OkValue value) = refl
+plain_said_words (Said.OkBy value packet) = refl
+plain_said_words (Said.Lost spans) = refl
+plain_said_words Said.Busy = refl
+plain_said_words Said.Stale = refl
+plain_said_words Said.NoEntry = refl
+plain_said_words Said.Exists = refl
+plain_said_words Said.NoSpace = refl
+plain_said_words Said.Range = refl
+plain_said_words Said.DirtyFull = refl
+
+plain_words : (version : ℕ) (entry : Entry) → entry_words version (plain entry) ≡ entry_words version entry
+plain_words version (Entry.C who q told) = refl
+plain_words version (Entry.W who file block number value through) = refl
+plain_words version (Entry.R who q file block value served) = refl
+plain_words version (Entry.S who file block first last now) = refl
+plain_words version (Entry.L who file block first last) = refl
+plain_words version (Entry.G who file mode tag term now) = refl
+plain_words version (Entry.F who file until heard now) = refl
+plain_words version (Entry.O boot until heard now) = refl
+plain_words version (Entry.B who) = refl
+plain_words version (Entry.X boot now longest) = refl
+plain_words version (Entry.Z who q file from to) = refl
+plain_words version (Entry.A who q said) = ap (λ ws. of_who (codes "A") who (decimal q ∷ ws)) (plain_said_words said)
+
+plain_lines : (version : ℕ) (entries : List Entry) → lines version (map plain entries) ≡ lines version entries
+unfolding entry_line
+plain_lines version [] = refl
+plain_lines version (entry ∷ entries) =
+    ap (λ ws. line ws ++ lines version (map plain entries)) (plain_words version entry)
+    ∙ ap (λ xs. entry_line version entry ++ xs) (plain_lines version entries)
+
+pub plain_text : (version : ℕ) (entries : List Entry) → journal_text version (map plain entries) ≡ journal_text version entries
+unfolding journal_text
+plain_text version entries = ap (λ xs. head_line version ++ xs ++ end_line) (plain_lines version entries)

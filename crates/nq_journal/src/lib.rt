@@ -2,6 +2,7 @@
 #![tactic(auto)]
 
 mod journal;
+pub mod laws;
 mod no_memory;
 mod parsing;
 mod printing;

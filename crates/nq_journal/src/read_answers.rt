@@ -2,7 +2,8 @@
 ghost use Rattle.std.specs.Prelude.{◌≡◌, [], ◌∷◌, ◌++◌, codes, option_map, IfSome, IfOk};
 ghost use Rattle.std.specs.Fmt.{decimal};
 ghost use Rattle.nq_journal.specs.Items.{plain_said};
-ghost use Rattle.nq_journal.specs.Reading.{Takes, span_of, lost_at, by_at, value_at, ok_at, bare_of, bare_at, said_at};
+ghost use Rattle.nq_journal.specs.Reading.{Takes};
+ghost use Rattle.nq_journal.specs.ReadingAnswers.{span_of, lost_at, by_at, value_at, ok_at, bare_of, bare_at, said_at};
 ghost use Rattle.nq_journal.specs.Text.{span_word, said_words, FitsSpan, FitsSaid};
 
 use crate::NoMemory;
@@ -11,7 +12,7 @@ use nq_base::{BlockNo, Number, Said, Span, Spans};
 use std::alloc::Global;
 
 // The span that a word spells.
-#[tactic(auto, unfolding(crate::specs::Reading::span_of))]
+#[tactic(auto, unfolding(crate::specs::ReadingAnswers::span_of))]
 fn span_of(word: &[u8]) -> Option<Span>
     ensures step { result ≡ span_of word.now }
     ensures found { IfSome result (λ span. (word.now ≡ span_word span) × FitsSpan span) }
@@ -40,7 +41,7 @@ fn take_lost(alloc: Global, words: &mut Words<'_>) -> Result<Option<Said>, NoMem
 }
 
 // Takes the packet that brought a value.
-#[tactic(auto, unfolding(crate::specs::Reading::by_at))]
+#[tactic(auto, unfolding(crate::specs::ReadingAnswers::by_at))]
 fn take_by(words: &mut Words<'_>, value: u32) -> Option<Said>
     ensures step { Takes plain_said result words.new (by_at value words.old) }
     ensures found { IfSome result (λ s. (codes "ok" ∷ decimal value ∷ words.old ≡ said_words s ++ words.new) × FitsSaid s) }
@@ -55,7 +56,7 @@ fn take_by(words: &mut Words<'_>, value: u32) -> Option<Said>
 }
 
 // Takes a value, and the packet that brought it, where one did.
-#[tactic(auto, unfolding(crate::specs::Reading::value_at))]
+#[tactic(auto, unfolding(crate::specs::ReadingAnswers::value_at))]
 fn take_value(words: &mut Words<'_>) -> Option<Said>
     ensures step { Takes plain_said result words.new (value_at words.old) }
     ensures found { IfSome result (λ s. (codes "ok" ∷ words.old ≡ said_words s ++ words.new) × FitsSaid s) }
@@ -69,7 +70,7 @@ fn take_value(words: &mut Words<'_>) -> Option<Said>
 }
 
 // Takes what stands behind the word `ok`.
-#[tactic(auto, unfolding(crate::specs::Reading::ok_at))]
+#[tactic(auto, unfolding(crate::specs::ReadingAnswers::ok_at))]
 fn take_ok(words: &mut Words<'_>) -> Option<Said>
     ensures step { Takes plain_said result words.new (ok_at words.old) }
     ensures found { IfSome result (λ s. (codes "ok" ∷ words.old ≡ said_words s ++ words.new) × FitsSaid s) }
@@ -82,7 +83,7 @@ fn take_ok(words: &mut Words<'_>) -> Option<Said>
 }
 
 // The answer that a word alone spells.
-#[tactic(auto, unfolding(crate::specs::Reading::bare_of))]
+#[tactic(auto, unfolding(crate::specs::ReadingAnswers::bare_of))]
 fn bare_of(word: &[u8]) -> Option<Said>
     ensures step { option_map plain_said result ≡ bare_of word.now }
     ensures found { IfSome result (λ s. (word.now ∷ [] ≡ said_words s) × FitsSaid s) }
@@ -107,7 +108,7 @@ fn bare_of(word: &[u8]) -> Option<Said>
 }
 
 // Takes the words of an answer.
-#[tactic(auto, unfolding(crate::specs::Reading::said_at, crate::specs::Reading::bare_at))]
+#[tactic(auto, unfolding(crate::specs::ReadingAnswers::said_at, crate::specs::ReadingAnswers::bare_at))]
 pub(crate) fn take_said(alloc: Global, words: &mut Words<'_>) -> Result<Option<Said>, NoMemory>
     ensures step { IfOk result (λ said. Takes plain_said said words.new (said_at words.old)) }
     ensures found { IfOk result (λ said. IfSome said (λ s. (words.old ≡ said_words s ++ words.new) × FitsSaid s)) }

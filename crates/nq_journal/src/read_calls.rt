@@ -1,6 +1,7 @@
 // Reading calls.
 ghost use Rattle.std.specs.Prelude.{◌≡◌, ◌∷◌, ◌++◌, IfSome};
-ghost use Rattle.nq_journal.specs.Reading.{Takes, verb_of, verb_word, told_at, told_by};
+ghost use Rattle.nq_journal.specs.Reading.{Takes};
+ghost use Rattle.nq_journal.specs.ReadingCalls.{verb_of, verb_word, told_at, told_by};
 ghost use Rattle.nq_journal.specs.Text.{told_words, FitsTold};
 
 use crate::read_words::{Words, is};
@@ -22,7 +23,7 @@ enum Verb {
 }
 
 // What a word asks for.
-#[tactic(auto, unfolding(crate::specs::Reading::verb_of))]
+#[tactic(auto, unfolding(crate::specs::ReadingCalls::verb_of))]
 fn verb_of(word: &[u8]) -> Option<Verb>
     ensures step { result ≡ verb_of word.now }
     ensures found { IfSome result (λ verb. word.now ≡ verb_word verb) }
@@ -53,7 +54,7 @@ fn verb_of(word: &[u8]) -> Option<Verb>
 }
 
 // Takes the words of a call.
-#[tactic(auto, unfolding(crate::specs::Reading::told_at))]
+#[tactic(auto, unfolding(crate::specs::ReadingCalls::told_at))]
 pub(crate) fn take_told(words: &mut Words<'_>) -> Option<Told>
     ensures step { Takes (λ told. told) result words.new (told_at words.old) }
     ensures found { IfSome result (λ told. (words.old ≡ told_words told ++ words.new) × FitsTold told) }
@@ -63,7 +64,7 @@ pub(crate) fn take_told(words: &mut Words<'_>) -> Option<Told>
 }
 
 // Takes what such a call names.
-#[tactic(auto, unfolding(crate::specs::Reading::create_at, crate::specs::Reading::lookup_at, crate::specs::Reading::attr_at, crate::specs::Reading::read_at, crate::specs::Reading::fetch_at, crate::specs::Reading::write_at, crate::specs::Reading::put_at, crate::specs::Reading::sync_at, crate::specs::Reading::resize_at, crate::specs::Reading::remove_at))]
+#[tactic(auto, unfolding(crate::specs::ReadingCalls::create_at, crate::specs::ReadingCalls::lookup_at, crate::specs::ReadingCalls::attr_at, crate::specs::ReadingCalls::read_at, crate::specs::ReadingCalls::fetch_at, crate::specs::ReadingCalls::write_at, crate::specs::ReadingCalls::put_at, crate::specs::ReadingCalls::sync_at, crate::specs::ReadingCalls::resize_at, crate::specs::ReadingCalls::remove_at))]
 fn take_asked(words: &mut Words<'_>, verb: Verb) -> Option<Told>
     ensures step { Takes (λ told. told) result words.new (told_by verb words.old) }
     ensures found { IfSome result (λ told. (verb_word verb ∷ words.old ≡ told_words told ++ words.new) × FitsTold told) }

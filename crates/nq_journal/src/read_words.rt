@@ -60,19 +60,11 @@ fn is_plain(word: &[u8]) -> bool
 
 // The number below 2^64 that a word spells.
 #[tactic(auto, unfolding(crate::specs::Reading::u64_of))]
-fn checked(word: &[u8]) -> Option<u64>
-    ensures { result ≡ u64_of word.now }
-{
-    if is_plain(word) { digits(word) } else { None }
-}
-
-// The same, and that a word spells it.
-#[tactic(auto, using(crate::proofs::Numerals::u64_found))]
 pub(crate) fn number(word: &[u8]) -> Option<u64>
     ensures step { result ≡ u64_of word.now }
     ensures found { IfSome result (λ n. word.now ≡ decimal n) }
 {
-    checked(word)
+    if is_plain(word) { digits(word) } else { None }
 }
 
 // The number below 2^32 that a word spells.

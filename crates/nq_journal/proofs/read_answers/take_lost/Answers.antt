@@ -1,6 +1,6 @@
 use Rattle.std.proofs.Common.{◌∷◌, ◌++◌, map, codes, refl, sym, ap, ◌∙◌}
 use Rattle.std.proofs.lemmas.List.Elements.{All-push}
-use Rattle.nq_journal.specs.Reading.{lost_at}
+use Rattle.nq_journal.specs.ReadingAnswers.{lost_at}
 use Rattle.nq_journal.specs.Text.{FitsSpan, span_word}
 use Rattle.nq_journal.proofs.SpanWords.{spans_none, spans_more, spans_end, words_more, none_in_front}
 use Rattle.nq_journal.proofs.read_answers.take_lost.Goals as goal

@@ -1,5 +1,5 @@
 use Rattle.std.proofs.Common.{◌≡◌, ◌++◌, All, length, map}
-use Rattle.nq_journal.specs.Reading.{spans_of}
+use Rattle.nq_journal.specs.ReadingAnswers.{spans_of}
 use Rattle.nq_journal.specs.Text.{span_word, FitsSpan}
 use Rattle.nq_journal.proofs.SpanWords.{with_spans}
 use Rattle.nq_journal.proofs.read_answers.take_lost.Given as goal
