@@ -18,3 +18,6 @@ pub use no_memory::NoMemory;
 pub use nq_base::{Entry, Said, Span, Spans, Told};
 pub use parsing::{JournalFault, parse};
 pub use printing::{Printed, print};
+
+#[cfg(test)]
+mod tests;
