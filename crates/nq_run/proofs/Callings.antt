@@ -1,27 +1,22 @@
 -- What the calls of a client and the replies to it bring.
-use Rattle.std.proofs.Common.{◌≡◌, ℕ, add-zero, ◌≢◌, ◌+◌, Bool, true, false, not, cond, is_some, filter, ◌==◌, List, [], ◌∷◌, ◌++◌, map, Option, Some, None, refl, ap, sym, ◌∙◌}
+use Rattle.std.proofs.Common.{◌≡◌, ℕ, add-zero, ◌≢◌, ◌+◌, Bool, true, false, not, cond, is_some, filter, ◌==◌, List, [], ◌∷◌, map, Option, Some, None, refl, ap}
 use Rattle.std.proofs.lemmas.Bool.{eq-eqb, ne_eqb}
 use Rattle.std.proofs.lemmas.List.Elements.{All-nil, All-cons}
 use Rattle.nq_journal.specs.Text.{Has}
-use Rattle.nq_base.specs.Block.{filled, value_of}
-use Rattle.nq_base.specs.declared.Answer.{Answer}
 use Rattle.nq_base.specs.declared.Entry.{Entry}
 use Rattle.nq_base.specs.declared.Said.{Said}
-use Rattle.nq_base.specs.declared.Told.{Told}
 use Rattle.nq_base.proofs.Filling.{filled-value}
 use Rattle.nq_model.specs.Client.{Revision as Known, put_revision}
 use Rattle.nq_model.specs.Hear.{spends, pauses, marks_through, purges, knows_revision}
 use Rattle.nq_model.specs.Settle.{answers}
 use Rattle.nq_model.specs.ClientStep.{begins_call, is_called, says_busy, told}
 use Rattle.nq_model.specs.Send.{sends_request, after_number}
-use Rattle.nq_model.specs.World.{from_host}
 use Rattle.nq_run.specs.Packet.{first_of, call_of, put_of, writes_of, asked_of, request_packet}
 use Rattle.nq_run.specs.Calling.{first_client, known_of, Calls, Hears}
 use Rattle.nq_run.specs.declared.clients.Revision.{Revision}
 use Rattle.nq_run.specs.declared.clients.UnderWay.{UnderWay}
 use Rattle.nq_run.specs.declared.messages.BlockCall.{BlockCall}
 use Rattle.nq_run.specs.declared.messages.BlockCall.TheVariants.{Fetch, Put}
-use Rattle.nq_run.specs.declared.messages.Called.{Called}
 use Rattle.nq_run.specs.declared.messages.Reply.{Reply}
 
 -- the first version of journals has these calls

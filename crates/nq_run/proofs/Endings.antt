@@ -1,5 +1,5 @@
 -- The end of a run whose input was read.
-use Rattle.std.proofs.Common.{◌≡◌, ℕ, List, Option, Some, ◌⊎◌, inl, inr, subst}
+use Rattle.std.proofs.Common.{◌≡◌, ℕ, List, Option, Some, inl, inr, subst}
 use Rattle.std.specs.Option.{IfSome}
 use Rattle.nq_io.specs.Whole.{IsAll}
 use Rattle.nq_run.specs.Ending.{EndsText, IsFault, IsUnlessFault}

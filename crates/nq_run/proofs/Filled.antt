@@ -1,7 +1,7 @@
 -- Blocks that are filled with numbers.
-use Rattle.std.proofs.Common.{◌≡◌, ℕ, List, ◌∷◌, map, replicate, slice_set, zero, suc, refl, ap, sym}
+use Rattle.std.proofs.Common.{◌≡◌, ℕ, List, ◌∷◌, map, replicate, slice_set, zero, suc, refl, ap}
 use Rattle.std.proofs.lemmas.List.{map-set}
-use Rattle.nq_base.specs.Block.{filled, zeros, value_of}
+use Rattle.nq_base.specs.Block.{filled, zeros}
 use Rattle.nq_base.proofs.Filling.{filled-value}
 
 -- blocks that are filled with 0 are blocks of zeros

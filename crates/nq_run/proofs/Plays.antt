@@ -1,23 +1,23 @@
 -- Runs of schedules: their steps, that they end in one way, and the lengths of files.
-use Rattle.std.proofs.Common.{◌≡◌, ℕ, ◌+◌, ◌<◌, ◌≤◌, ◌&&◌, Bool, true, false, List, [], ◌∷◌, length, map, reverse, drop, get_or, ◌⊎◌, inl, inr, Some, None, slice_get, zero, suc, refl, ap, sym, subst, ◌∙◌, arith, add-one}
+use Rattle.std.proofs.Common.{◌≡◌, ℕ, ◌+◌, ◌<◌, ◌≤◌, ◌&&◌, Bool, true, false, List, [], ◌∷◌, length, map, reverse, drop, ◌⊎◌, inl, inr, Some, None, slice_get, zero, suc, refl, ap, sym, subst, ◌∙◌, arith}
 use Rattle.std.proofs.lemmas.List.{drop_more, drop_all, length-replicate}
 use Rattle.std.proofs.lemmas.Option.{slice_get_within, get_or_from_slice_get, slice_get-get_or, slice_get-map}
 use Rattle.nq_base.specs.declared.Call.{Call}
 use Rattle.nq_base.specs.declared.Entry.{Entry}
 use Rattle.nq_base.specs.declared.Event.{Event}
-use Rattle.nq_model.specs.Kept.{File, new_file, blocks_of}
+use Rattle.nq_model.specs.Kept.{new_file}
 use Rattle.nq_model.specs.ServerStep.{boot}
 use Rattle.nq_model.specs.World.{World, start, step, steps, first_files}
 use Rattle.nq_run.specs.Lengths.{lengths_in}
 use Rattle.nq_run.specs.Serving.{lengths}
-use Rattle.nq_run.specs.Playing.{IsReplayScript, SpellsEvents, AreSingle, once, event_of, events_of, AllRun, FirstStuck, Comes, IsRunOf, IsStuckAt, MakesJournal, GetsStuck, FaultyLine, can_run, event_line, first_world, beginning, head_lengths}
+use Rattle.nq_run.specs.Playing.{IsReplayScript, SpellsEvents, AreSingle, once, event_of, events_of, AllRun, FirstStuck, Comes, IsRunOf, IsStuckAt, MakesJournal, GetsStuck, FaultyLine, can_run, event_line, first_world, head_lengths}
 use Rattle.nq_run.specs.Stepping.{Took, Steps, is_there, is_sent, IsOfReplay, AreOfReplay}
 use Rattle.nq_run.specs.declared.playing.Outcome.{Outcome}
 use Rattle.nq_run.specs.declared.steps.Stepped.{Stepped}
 use Rattle.nq_run.proofs.Starting.{length-first_clients}
 use Rattle.nq_script.specs.Calls.{SpellsCall}
 use Rattle.nq_script.specs.Faults.{Names, Answers}
-use Rattle.nq_script.specs.Lines.{SpellsLine, SpellsEvents as SpellsLineEvents}
+use Rattle.nq_script.specs.Lines.{SpellsLine}
 use Rattle.nq_script.specs.Schedule.{NamesEvents, SpellsLines, SpellsSchedule, FirstBadLine}
 use Rattle.nq_script.specs.declared.lines.Line.{Line}
 use Rattle.nq_script.specs.declared.scripts.Script.{Script}

@@ -1,5 +1,5 @@
 -- What a server answers to the requests of attached hosts.
-use Rattle.std.proofs.Common.{◌≡◌, ℕ, ◌+◌, ◌-◌, ◌<◌, ◌≤◌, Bool, true, false, List, [], ◌∷◌, length, map, Option, Some, None, ◌⊎◌, inl, inr, get_or, zero, suc, slice_get, slice_set, refl, ap, sym, ◌∙◌, arith}
+use Rattle.std.proofs.Common.{◌≡◌, ℕ, ◌+◌, ◌<◌, ◌≤◌, true, List, [], ◌∷◌, length, Some, None, ◌⊎◌, inl, inr, get_or, zero, suc, slice_get, slice_set, refl, ap, sym, ◌∙◌, arith}
 use Rattle.std.proofs.lemmas.List.{length-set}
 use Rattle.std.proofs.lemmas.Bool.{eq-eqb, ne_eqb, lt-ltb, le-ltb, lt-leb}
 use Rattle.std.proofs.lemmas.Option.{get_or_from_slice_get}
@@ -7,11 +7,10 @@ use Rattle.std.proofs.lemmas.Result.{IfOk-weaker}
 use Rattle.std.specs.Prelude.{Result, IfOk}
 use Rattle.std.proofs.lemmas.List.Elements.{All-nil, All-cons}
 use Rattle.nq_journal.specs.Text.{Has}
-use Rattle.nq_base.specs.Block.{filled, value_of}
+use Rattle.nq_base.specs.Block.{filled}
 use Rattle.nq_base.specs.declared.Entry.{Entry}
 use Rattle.nq_base.specs.declared.HostRow.{HostRow}
 use Rattle.nq_base.specs.declared.NoMemory.{NoMemory}
-use Rattle.nq_base.specs.declared.Request.{Request as Asked}
 use Rattle.nq_base.specs.declared.Verdict.{Verdict}
 use Rattle.nq_base.proofs.Filling.{filled-value}
 use Rattle.nq_model.specs.Decide.{commits, writes_through}

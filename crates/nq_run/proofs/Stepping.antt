@@ -1,18 +1,16 @@
 -- The steps of a world of puts and fetches.
-use Rattle.std.proofs.Common.{◌≡◌, ℕ, ◌+◌, List, [], ◌∷◌, ◌++◌, map, reverse, length, get_or, slice_get, slice_set, Option, Some, None, refl, ap, sym, subst, ◌∙◌, append_assoc}
+use Rattle.std.proofs.Common.{◌≡◌, ℕ, ◌+◌, List, [], ◌∷◌, ◌++◌, map, reverse, length, slice_get, slice_set, Option, Some, None, refl, ap, sym, subst, ◌∙◌, append_assoc}
 use Rattle.std.proofs.lemmas.List.{map-append, reverse-append, append-nil, length-map, set-get_or}
-use Rattle.std.proofs.lemmas.Option.{slice_get-map, get_or_from_slice_get}
+use Rattle.std.proofs.lemmas.Option.{get_or_from_slice_get}
 use Rattle.nq_base.specs.declared.Entry.{Entry}
 use Rattle.nq_base.specs.declared.Event.{Event}
-use Rattle.nq_base.specs.declared.HostRow.{HostRow}
 use Rattle.nq_model.specs.Client.{Client, ClientStep}
 use Rattle.nq_model.specs.ClientStep.{client_call}
-use Rattle.nq_model.specs.Kept.{File}
 use Rattle.nq_model.specs.Message.{request, reply}
 use Rattle.nq_model.specs.Server.{Server}
 use Rattle.nq_model.specs.ServerStep.{receive}
 use Rattle.nq_model.specs.World.{World, step, deliver, deliver_to_client, at_client, from_host, after_client, after_server, after_hearing}
-use Rattle.nq_run.specs.Packet.{call_of, packet_of, sent_of, request_of, reply_of, request_packet, reply_packet, asked_by, answered_to}
+use Rattle.nq_run.specs.Packet.{call_of, packet_of, sent_of, request_of, reply_of, reply_packet, asked_by, answered_to}
 use Rattle.nq_run.specs.Serving.{Serves, entries_of, replied}
 use Rattle.nq_run.specs.Calling.{Calls, Hears, heard, state_after, sends_after, entries_after}
 use Rattle.nq_run.specs.Running.{world_of}

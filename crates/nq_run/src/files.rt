@@ -1,6 +1,6 @@
 //! A file of which each block is filled with a number.
 
-ghost use Rattle.std.specs.Prelude.{◌≡◌, ◌≤◌, nat_lt, ◌<◌, ◌+◌, length, replicate, slice_get, Some, IfOk, OnErr};
+ghost use Rattle.std.specs.Prelude.{◌≡◌, ◌≤◌, nat_lt, ◌<◌, ◌+◌, length, slice_get, Some, IfOk, OnErr};
 ghost use Rattle.nq_base.specs.Block.{filled};
 ghost use Rattle.nq_model.specs.Kept.{new_file, written_file};
 ghost use Rattle.nq_model.specs.World.{first_files};

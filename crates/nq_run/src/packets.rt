@@ -1,6 +1,6 @@
 //! All packets of a run, in the order in which they were sent.
 
-ghost use Rattle.std.specs.Prelude.{◌≡◌, ◌≤◌, [], ◌∷◌, ◌++◌, length, slice_get, OnOk, OnErr};
+ghost use Rattle.std.specs.Prelude.{◌≡◌, ◌≤◌, [], ◌∷◌, ◌++◌, length, slice_get, OnOk};
 
 use crate::messages::Packet;
 use nq_base::NoMemory;

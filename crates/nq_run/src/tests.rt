@@ -178,15 +178,15 @@ fn other_words_are_told_the_usage(rt: HostRuntime) -> Result<(), Fail> {
 #[test]
 fn the_limit_on_bytes_names_the_line_that_passes_it(rt: HostRuntime) -> Result<(), Fail> {
     let alloc = rt.alloc();
-    let mut long = vec![in alloc; b'x'; 16_777_217]?;
-    long[16] = b'\n';
-    long[16_777_216] = b'\n';
+    let mut long = b"nqnfs-schedule 1\n".to_vec(alloc)?;
+    long.resize(16_777_216, b'x')?;
+    let (status, printed) = replayed(alloc, &long, &[], &[])?;
+    assert_eq!(rt; status, 2);
+    assert_eq!(rt; printed.as_slice(), b"script line 2\n".as_slice());
+    long.push(b'x')?;
     let (status, printed) = replayed(alloc, &long, &[], &[])?;
     assert_eq!(rt; status, 9);
     assert_eq!(rt; printed.as_slice(), b"limit line 2 bytes\n".as_slice());
-    let (status, printed) = replayed(alloc, &long[..16_777_216], &[], &[])?;
-    assert_eq!(rt; status, 2);
-    assert_eq!(rt; printed.as_slice(), b"script line 1\n".as_slice());
     Ok(())
 }
 

@@ -1,7 +1,6 @@
-use Rattle.std.proofs.Common.{◌≡◌, ap}
+use Rattle.std.proofs.Common.{◌≡◌}
 use Rattle.nq_run.proofs.Plays.{makes_journal, gets_stuck, outside, names_bad}
 use Rattle.nq_run.proofs.playing.play_text.Goals as goal
-use Rattle.nq_script.specs.Faults.{Answers, Names}
 
 pub returns-in-Ok-clause-runs : goal.returns-in-Ok-clause-runs
 returns-in-Ok-clause-runs c = makes_journal _ _ _ _ c.in-Ok.ensures.only c.play_script.ensures

@@ -1,6 +1,4 @@
-use Rattle.std.proofs.Common.{◌≡◌, refl}
-use Rattle.nq_base.specs.declared.Call.{Call}
-use Rattle.nq_run.specs.Stepping.{IsPutOrFetch}
+use Rattle.std.proofs.Common.{refl}
 use Rattle.nq_run.proofs.Events.{filled_again}
 use Rattle.nq_run.proofs.steps.block_call.Goals as goal
 

@@ -1,4 +1,4 @@
-use Rattle.std.proofs.Common.{◌≡◌, ◌+◌, is_some, true, false, sym, ◌∙◌, arith}
+use Rattle.std.proofs.Common.{sym}
 use Rattle.nq_run.proofs.Callings.{call-busy, call-sent}
 use Rattle.nq_run.proofs.clients.Client.call.Goals as goal
 

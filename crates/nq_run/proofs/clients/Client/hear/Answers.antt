@@ -1,4 +1,4 @@
-use Rattle.std.proofs.Common.{◌≡◌, Some, None, sym, ◌∙◌, arith}
+use Rattle.std.proofs.Common.{sym, ◌∙◌}
 use Rattle.nq_run.proofs.Callings.{hear-idle, hear-refused, hear-other, hear-read, hear-write, hear-old, hear-write_for_fetch, hear-read_for_put}
 use Rattle.nq_run.proofs.clients.Client.hear.Goals as goal
 use Rattle.nq_run.proofs.clients.Client.hear.Goals.{in_default-Old-via-in-None+in-Old, in_default-Old-via-in-Some+in-Old}

@@ -1,4 +1,3 @@
-use Rattle.std.proofs.Common.{◌<◌, sym}
 use Rattle.std.proofs.lemmas.Option.{MatchOption-at_some}
 use Rattle.nq_run.proofs.Numbering.{has_block-at, ReadsBlock-here}
 use Rattle.nq_run.proofs.Requests.{read-served}

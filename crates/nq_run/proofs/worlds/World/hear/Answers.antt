@@ -1,4 +1,4 @@
-use Rattle.std.proofs.Common.{◌≡◌, Some, slice_get, length, sym, ◌∙◌, refl}
+use Rattle.std.proofs.Common.{length, sym, refl}
 use Rattle.std.proofs.lemmas.Option.{slice_get_read}
 use Rattle.nq_run.proofs.Soundness.{sound-reply}
 use Rattle.nq_run.proofs.Stepping.{step-reply}

@@ -1,4 +1,4 @@
-use Rattle.std.proofs.Common.{◌≡◌, Some, slice_get, length, sym, ◌∙◌}
+use Rattle.std.proofs.Common.{sym}
 use Rattle.nq_run.proofs.Stepping.{step-request}
 use Rattle.nq_run.proofs.worlds.World.receive.Goals as goal
 

@@ -1,5 +1,3 @@
-use Rattle.std.proofs.Common.{subst, sym}
-use Rattle.nq_run.specs.Stepping.{Steps}
 use Rattle.nq_run.proofs.Events.{steps-call, steps-deliver}
 use Rattle.nq_run.proofs.worlds.World.step.Goals as goal
 
