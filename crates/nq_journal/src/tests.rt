@@ -75,6 +75,13 @@ A 0 1 3 ok 8 by 12
 end
 ";
 
+fn who(host: u32, inc: u32) -> Who {
+    Who {
+        host: Host(host),
+        inc: Inc(inc),
+    }
+}
+
 // Whether a text is parsed and printed again.
 fn comes_back(alloc: Global, text: &[u8], version: u32) -> Result<bool, Fail>
     requires { IsVersion version }
@@ -122,16 +129,12 @@ fn a_put_is_one_entry(rt: HostRuntime) -> Result<(), Fail> {
 #[test]
 fn entries_are_printed_in_order(rt: HostRuntime) -> Result<(), Fail> {
     let alloc = rt.alloc();
-    let who = Who {
-        host: Host(1),
-        inc: Inc(2),
-    };
     let mut journal = Journal::new(alloc)?;
     assert!(rt; journal.is_empty());
     journal.reserve(2)?;
-    journal.push(Entry::B { who })?;
+    journal.push(Entry::B { who: who(1, 2) })?;
     journal.push(Entry::W {
-        who,
+        who: who(1, 2),
         file: FileId(3),
         block: BlockNo(4),
         number: Number(5),
@@ -159,13 +162,9 @@ fn only_version_2_has_changed_lengths(rt: HostRuntime) -> Result<(), Fail> {
 #[test]
 fn a_sink_that_fails_has_the_front(rt: HostRuntime) -> Result<(), Fail> {
     let alloc = rt.alloc();
-    let who = Who {
-        host: Host(0),
-        inc: Inc(1),
-    };
     let mut journal = Journal::new(alloc)?;
     for _ in 0..4000 {
-        journal.push(Entry::B { who })?;
+        journal.push(Entry::B { who: who(0, 1) })?;
     }
     assert!(rt; journal.is_in(1));
     let mut sink = MemSink::new(alloc, 30_000, vec![in alloc; 1]?)?;
