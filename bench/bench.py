@@ -36,10 +36,10 @@ def of_events(count):
     return itertools.islice(lines(), count)
 
 
-def of_bytes(size):
+def of_bytes(size, events):
     """The most whole lines for which the text stays within the size."""
     left = size - len(HEAD) - len("end\n")
-    for line in lines():
+    for line in events:
         left -= len(line) + 1
         if left < 0:
             return
@@ -85,7 +85,8 @@ def main():
         ("10,000 events", of_events(10_000)),
         ("100,000 events", of_events(100_000)),
         ("100,000 deliveries of one request", of_repeats(100_000)),
-        ("16 MiB", of_bytes(MOST_INPUT)),
+        ("16 MiB", of_bytes(MOST_INPUT, lines())),
+        ("16 MiB of deliveries of one request", of_bytes(MOST_INPUT, of_repeats(2_000_000))),
     ]
     print(f"{'input':36} {'bytes':>10} {'events':>9} {'seconds':>8} {'events/s':>10} {'MB':>6} status  printed")
     failed = False
