@@ -4,6 +4,7 @@ pub mod Worked
 pub mod MixedOne
 pub mod MixedTwo
 pub mod MixedThree
+pub mod Skews
 pub mod NotLegal
 pub mod NotOrdered
 pub mod NotOfTheirCall

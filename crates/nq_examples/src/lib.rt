@@ -3,6 +3,7 @@
 
 mod laws;
 mod runs;
+mod skews;
 
 pub use laws::{
     mixed_journals_break_no_law, unaccounted_journals, unexcused_journals, unlawful_reads,
@@ -13,3 +14,4 @@ pub use runs::{
     mixed_schedules_run_as_given, resizing_schedules_run_as_given,
     worked_schedules_are_within_skew, worked_schedules_run_as_given,
 };
+pub use skews::one_tick_more_is_not_within_skew;
