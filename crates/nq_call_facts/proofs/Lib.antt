@@ -1,0 +1,9 @@
+pub mod Entries
+pub mod Placed
+pub mod Quiet
+pub mod CallFacts
+pub mod CallMoves
+pub mod ClientMoves
+pub mod ClientParts
+pub mod ClientCalls
+pub mod ClientEvents

@@ -1,0 +1,2 @@
+pub mod OrderedCalls
+pub mod SomeCalls

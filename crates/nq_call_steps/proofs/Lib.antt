@@ -1,0 +1,8 @@
+pub mod CallsFit
+pub mod CallWorlds
+pub mod ServerCalls
+pub mod Refusals
+pub mod ServerHears
+pub mod ServerAnswers
+pub mod ServerDecides
+pub mod RunCalls
