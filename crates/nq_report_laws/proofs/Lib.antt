@@ -1,0 +1,15 @@
+pub mod Tallies
+pub mod Told
+pub mod Journals
+pub mod JournalMoves
+pub mod LossMoves
+pub mod Books
+pub mod BookFits
+pub mod ServerQuiet
+pub mod BookNone
+pub mod BookOrder
+pub mod OtherFits
+pub mod BookSettle
+pub mod BookHear
+pub mod ReportedRuns
+pub mod SomeLoss

@@ -1,0 +1,155 @@
+-- Sums over lists, and what is in a list after each change of it.
+use Rattle.std.proofs.Common.{◌≡◌, ◌≤◌, ◌⊎◌, ℕ, ◌+◌, Bool, true, false, not, List, [], ◌∷◌, ◌++◌, Some, map, reverse, filter, find, if◌then◌else◌, refl, sym, subst, ap, arith, inl, inr}
+use Rattle.std.proofs.lemmas.Grind.{reverse_onto}
+use Rattle.nq_model.specs.Journal.{Each, Exists}
+
+-- ---- sums
+
+pub tally : {X : Type 0} → (X → ℕ) → List X → ℕ
+tally f [] = 0
+tally f (x ∷ xs) = f x + tally f xs
+
+pub tally-nil : {X : Type 0} (f : X → ℕ) → tally f [] ≡ 0
+unfolding tally
+tally-nil f = refl
+
+pub tally-cons : {X : Type 0} (f : X → ℕ) (x : X) (xs : List X) → tally f (x ∷ xs) ≡ f x + tally f xs
+unfolding tally
+tally-cons f x xs = refl
+
+pub tally-append : {X : Type 0} (f : X → ℕ) (xs ys : List X) → tally f (xs ++ ys) ≡ tally f xs + tally f ys
+unfolding tally
+tally-append f [] ys = omega arith
+tally-append f (x ∷ xs) ys = let rest = tally-append f xs ys in omega arith
+
+pub tally-reverse : {X : Type 0} (f : X → ℕ) (xs : List X) → tally f (reverse xs) ≡ tally f xs
+unfolding tally
+tally-reverse f [] = refl
+tally-reverse f (x ∷ xs) =
+    let turned : tally f (reverse (x ∷ xs)) ≡ tally f (reverse xs ++ x ∷ []) = ap (tally f) (reverse_onto xs x []) in
+    let split = tally-append f (reverse xs) (x ∷ []) in
+    let rest = tally-reverse f xs in
+    omega arith
+
+pub tally-map : {X Y : Type 0} (f : Y → ℕ) (g : X → ℕ) (h : X → Y) (xs : List X) → ((x : X) → f (h x) ≡ g x) → tally f (map h xs) ≡ tally g xs
+unfolding tally
+tally-map f g h [] same = refl
+tally-map f g h (x ∷ xs) same = let here = same x in let rest = tally-map f g h xs same in omega arith
+
+-- what passes a test and what does not make up the whole
+split-step : {X : Type 0} (f : X → ℕ) (x : X) (b : Bool) (passes others xs : List X) → tally f passes + tally f others ≡ tally f xs → tally f (if b then x ∷ passes else passes) + tally f (if not b then x ∷ others else others) ≡ f x + tally f xs
+unfolding tally
+split-step f x true passes others xs rest = omega arith
+split-step f x false passes others xs rest = omega arith
+
+pub tally-split : {X : Type 0} (f : X → ℕ) (p : X → Bool) (xs : List X) → tally f (filter p xs) + tally f (filter (λ x. not (p x)) xs) ≡ tally f xs
+unfolding tally
+tally-split f p [] = refl
+tally-split f p (x ∷ xs) = split-step f x (p x) (filter p xs) (filter (λ y. not (p y)) xs) xs (tally-split f p xs)
+
+-- ---- what is in a list
+
+abbrev pub IsOne : {X : Type 0} → List X → X → Type 0
+IsOne xs x = Exists (λ y. y ≡ x) xs
+
+-- one that is there counts
+pub tally-one : {X : Type 0} (f : X → ℕ) (x : X) (xs : List X) → IsOne xs x → f x ≤ tally f xs
+unfolding tally
+tally-one f x [] h = absurd h
+tally-one f x (y ∷ xs) (inl e) = let same : f y ≡ f x = ap f e in omega arith
+tally-one f x (y ∷ xs) (inr h) = let rest = tally-one f x xs h in omega arith
+
+pub exists-map : {X : Type 0} (F G : X → Type 0) (xs : List X) → ((x : X) → F x → G x) → Exists F xs → Exists G xs
+exists-map F G [] f h = h
+exists-map F G (x ∷ xs) f (inl h) = inl (f x h)
+exists-map F G (x ∷ xs) f (inr h) = inr (exists-map F G xs f h)
+
+pub exists-left : {X : Type 0} (F : X → Type 0) (xs ys : List X) → Exists F xs → Exists F (xs ++ ys)
+exists-left F [] ys h = absurd h
+exists-left F (x ∷ xs) ys (inl h) = inl h
+exists-left F (x ∷ xs) ys (inr h) = inr (exists-left F xs ys h)
+
+pub exists-right : {X : Type 0} (F : X → Type 0) (xs ys : List X) → Exists F ys → Exists F (xs ++ ys)
+exists-right F [] ys h = h
+exists-right F (x ∷ xs) ys h = inr (exists-right F xs ys h)
+
+pub exists-append : {X : Type 0} (F : X → Type 0) (xs ys : List X) → Exists F (xs ++ ys) → Exists F xs ⊎ Exists F ys
+exists-append F [] ys h = inr h
+exists-append F (x ∷ xs) ys (inl h) = inl (inl h)
+exists-append F (x ∷ xs) ys (inr h) = step (exists-append F xs ys h)
+  where
+    step : Exists F xs ⊎ Exists F ys → (F x ⊎ Exists F xs) ⊎ Exists F ys
+    step (inl a) = inl (inr a)
+    step (inr b) = inr b
+
+pub exists-reverse : {X : Type 0} (F : X → Type 0) (xs : List X) → Exists F xs → Exists F (reverse xs)
+exists-reverse F [] h = absurd h
+exists-reverse F (x ∷ xs) (inl h) = subst (Exists F) (sym (reverse_onto xs x [])) (exists-right F (reverse xs) (x ∷ []) (inl h))
+exists-reverse F (x ∷ xs) (inr h) = subst (Exists F) (sym (reverse_onto xs x [])) (exists-left F (reverse xs) (x ∷ []) (exists-reverse F xs h))
+
+-- what is so of each is so of one that is there
+pub each-one : {X : Type 0} (F : X → Type 0) (xs : List X) (x : X) → Each F xs → IsOne xs x → F x
+each-one F [] x all h = absurd h
+each-one F (y ∷ xs) x all (inl e) = subst F e all.0
+each-one F (y ∷ xs) x all (inr h) = each-one F xs x all.1 h
+
+pub each-map : {X : Type 0} (F G : X → Type 0) (xs : List X) → ((x : X) → F x → G x) → Each F xs → Each G xs
+each-map F G [] f h = tt
+each-map F G (x ∷ xs) f h = (f x h.0, each-map F G xs f h.1)
+
+pub each-append : {X : Type 0} (F : X → Type 0) (xs ys : List X) → Each F xs → Each F ys → Each F (xs ++ ys)
+each-append F [] ys h k = k
+each-append F (x ∷ xs) ys h k = (h.0, each-append F xs ys h.1 k)
+
+pub each-reverse : {X : Type 0} (F : X → Type 0) (xs : List X) → Each F xs → Each F (reverse xs)
+each-reverse F [] h = tt
+each-reverse F (x ∷ xs) h = subst (Each F) (sym (reverse_onto xs x [])) (each-append F (reverse xs) (x ∷ []) (each-reverse F xs h.1) (h.0, tt))
+
+pub each-mapped : {X Y : Type 0} (F : Y → Type 0) (g : X → Y) (xs : List X) → ((x : X) → IsOne xs x → F (g x)) → Each F (map g xs)
+each-mapped F g [] f = tt
+each-mapped F g (x ∷ xs) f = (f x (inl refl), each-mapped F g xs (λ y h. f y (inr h)))
+
+-- the elements that pass a test
+filter-step : {X : Type 0} (p : X → Bool) (x y : X) (xs : List X) (b : Bool) → p y ≡ b → (IsOne (filter p xs) x → IsOne xs x × (p x ≡ true)) → IsOne (if b then y ∷ filter p xs else filter p xs) x → ((y ≡ x) ⊎ IsOne xs x) × (p x ≡ true)
+filter-step p x y xs true e rest (inl same) = (inl same, subst (λ z. p z ≡ true) same e)
+filter-step p x y xs true e rest (inr h) = let k = rest h in (inr k.0, k.1)
+filter-step p x y xs false e rest h = let k = rest h in (inr k.0, k.1)
+
+pub one-passed : {X : Type 0} (p : X → Bool) (x : X) (xs : List X) → IsOne (filter p xs) x → IsOne xs x × (p x ≡ true)
+one-passed p x [] h = absurd h
+one-passed p x (y ∷ xs) h = filter-step p x y xs (p y) refl (one-passed p x xs) h
+
+passes-step : {X : Type 0} (p : X → Bool) (x y : X) (xs : List X) (b : Bool) → p y ≡ b → p x ≡ true → (IsOne xs x → IsOne (filter p xs) x) → (y ≡ x) ⊎ IsOne xs x → IsOne (if b then y ∷ filter p xs else filter p xs) x
+passes-step p x y xs true e pass rest (inl same) = inl same
+passes-step p x y xs true e pass rest (inr h) = inr (rest h)
+passes-step p x y xs false e pass rest (inl same) = let no : p x ≡ false = subst (λ z. p z ≡ false) same e in absurd (cc)
+passes-step p x y xs false e pass rest (inr h) = rest h
+
+pub one-passes : {X : Type 0} (p : X → Bool) (x : X) (xs : List X) → p x ≡ true → IsOne xs x → IsOne (filter p xs) x
+one-passes p x [] pass h = h
+one-passes p x (y ∷ xs) pass h = passes-step p x y xs (p y) refl pass (one-passes p x xs pass) h
+
+pub one-mapped : {X Y : Type 0} (g : X → Y) (xs : List X) (y : Y) → IsOne (map g xs) y → (x : X) × IsOne xs x × (g x ≡ y)
+one-mapped g [] y h = absurd h
+one-mapped g (x ∷ xs) y (inl e) = (x, inl refl, e)
+one-mapped g (x ∷ xs) y (inr h) = let k = one-mapped g xs y h in (k.0, inr k.1, k.2)
+
+pub one-maps : {X Y : Type 0} (g : X → Y) (xs : List X) (x : X) → IsOne xs x → IsOne (map g xs) (g x)
+one-maps g [] x h = absurd h
+one-maps g (y ∷ xs) x (inl e) = inl (ap g e)
+one-maps g (y ∷ xs) x (inr h) = inr (one-maps g xs x h)
+
+found-step : {X : Type 0} (p : X → Bool) (x y : X) (xs : List X) (b : Bool) → (find p xs ≡ Some x → IsOne xs x) → (if b then Some y else find p xs) ≡ Some x → (y ≡ x) ⊎ IsOne xs x
+found-step p x y xs true rest e = inl cc
+found-step p x y xs false rest e = inr (rest e)
+
+pub one-found : {X : Type 0} (p : X → Bool) (x : X) (xs : List X) → find p xs ≡ Some x → IsOne xs x
+one-found p x [] e = absurd (cc)
+one-found p x (y ∷ xs) e = found-step p x y xs (p y) (one-found p x xs) e
+
+-- where an element is found and all that passes a test with it is taken away, the rest counts less by that element at least
+pub tally-taken : {X : Type 0} (f : X → ℕ) (p : X → Bool) (x : X) (xs : List X) → IsOne xs x → p x ≡ true → tally f (filter (λ y. not (p y)) xs) + f x ≤ tally f xs
+tally-taken f p x xs there pass =
+    let split = tally-split f p xs in
+    let counts = tally-one f x (filter p xs) (one-passes p x xs pass there) in
+    omega arith
