@@ -1,0 +1,10 @@
+pub mod WritesFit
+pub mod ServerTells
+pub mod JournalMoves
+pub mod PushLists
+pub mod FactMoves
+pub mod FactPushes
+pub mod FactServer
+pub mod ClientFates
+pub mod HeardFates
+pub mod StepFates
