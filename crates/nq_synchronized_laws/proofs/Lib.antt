@@ -1,0 +1,13 @@
+pub mod KeptPlaces
+pub mod OkFacts
+pub mod OkMoves
+pub mod OkAnswers
+pub mod OkSettle
+pub mod OkHear
+pub mod OkReplies
+pub mod OkClient
+pub mod ServerMakes
+pub mod OkServer
+pub mod OkRuns
+pub mod Standings
+pub mod SomeSync
