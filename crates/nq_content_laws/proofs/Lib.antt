@@ -1,0 +1,4 @@
+pub mod WorldFacts
+pub mod RunContents
+pub mod Laws
+pub mod SomeContents

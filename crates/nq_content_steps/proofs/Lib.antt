@@ -1,0 +1,11 @@
+pub mod Histories
+pub mod Facts
+pub mod FileMoves
+pub mod ServerDoes
+pub mod ServerContents
+pub mod ServerTimes
+pub mod ServerDelays
+pub mod ClientLookups
+pub mod ClientParts
+pub mod ClientContents
+pub mod ClientHears
