@@ -1,0 +1,14 @@
+//! The packets of the leased file sharing protocol's world: all datagrams that were ever sent, by number.
+//!
+//! Each datagram has a sender and a receiver; the first one that was sent has number 0.
+#![tactic(auto)]
+
+mod memory;
+mod packets;
+
+pub use memory::NoMemory;
+pub use nq_base::Party;
+pub use packets::{Packet, Packets};
+
+#[cfg(test)]
+mod tests;
