@@ -1,10 +1,12 @@
 #!/usr/bin/env python3
-"""Times `nqnfs replay` on inputs that it makes, and prints events per second and peak memory.
+"""Times `nqnfs replay` on inputs that it makes, and prints events per second and peak memory; or times `nq_bench`, and
+prints datagrams and megabytes per second.
 
     bench/bench.py PROGRAM [--words WORD ...]
+    bench/bench.py PROGRAM --codecs
 
-PROGRAM is the built program (`rt run nqnfs` builds it, and says where). Each input is run three times; the fastest run
-counts. The words are `replay` where none are given.
+PROGRAM is the built program, `nqnfs` or, with --codecs, `nq_bench` (`rt run` in the crate's folder builds it, and says
+where). Each input is run three times; the fastest run counts. The words are `replay` where none are given.
 """
 import argparse
 import itertools
@@ -76,11 +78,47 @@ def run(program, words, path):
         return took, used.ru_maxrss / 1024, child.returncode, out.seek(0, os.SEEK_END)
 
 
+# What nq_bench does, how often, and the bytes of one datagram; a journal's bytes are what the program prints.
+DATAGRAMS = [
+    ("LOOKUP", "lookup", 3_000_000, 56),
+    ("reply to LOOKUP", "lookup-reply", 3_000_000, 40),
+    ("reply to READ", "read-reply", 1_000_000, 4144),
+]
+
+
+def often(program, words, times):
+    """Seconds of the fastest of three runs of nq_bench, and what it prints."""
+    fastest = None
+    for _ in range(3):
+        began = time.perf_counter()
+        done = subprocess.run([program, *words, str(times)], stdin=subprocess.DEVNULL, capture_output=True, check=True)
+        took = time.perf_counter() - began
+        fastest = took if fastest is None else min(took, fastest)
+    return fastest, int(done.stdout)
+
+
+def codecs(program):
+    """Prints how fast datagrams and journals are written and read. What a run does once is timed apart and taken off."""
+    print(f"{'datagram':18} {'way':8} {'each':>10} {'per second':>12} {'MB/s':>7}")
+    for name, what, times, size in DATAGRAMS:
+        for way in ("encode", "decode"):
+            took = often(program, [what, way], times)[0] - often(program, [what, way], 0)[0]
+            print(f"{name:18} {way:8} {took / times * 1e9:7.0f} ns {times / took:12,.0f} {times * size / took / 1e6:7,.0f}")
+    for way in ("print", "parse"):
+        took, size = often(program, ["journal", way], 5)
+        took -= often(program, ["journal", way], 0)[0]
+        print(f"{'journal, ' + format(size // 5, ','):18} {way:8} {took / 5 * 1e3:7.0f} ms {5 / took:12,.1f} {size / took / 1e6:7,.0f}")
+    return 0
+
+
 def main():
-    parser = argparse.ArgumentParser(description="Times nqnfs replay.")
+    parser = argparse.ArgumentParser(description="Times nqnfs replay, or nq_bench.")
     parser.add_argument("program")
     parser.add_argument("--words", nargs="*", default=["replay"])
+    parser.add_argument("--codecs", action="store_true")
     asked = parser.parse_args()
+    if asked.codecs:
+        return codecs(asked.program)
     inputs = [
         ("10,000 events", of_events(10_000)),
         ("100,000 events", of_events(100_000)),

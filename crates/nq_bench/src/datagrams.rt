@@ -1,0 +1,152 @@
+//! Datagrams of a LOOKUP, of its reply and of the reply to a READ, written and read.
+
+use nq_base::{Block, FileId, Host, Inc, Name, PushBase, Reply, Request, Rev, Who};
+use nq_rpc::{Bytes, CallMessage, Head, Message, Outcome, ReplyMessage, decode, encode};
+use nq_wire::{Procedure, decode_reply, decode_request, encode_reply, encode_request};
+use std::alloc::Global;
+
+const PROGRAM: u32 = 0x2000_4e51;
+
+fn lookup(alloc: Global, xid: u32) -> Option<Vec<u8>> {
+    let request = Request::Lookup {
+        who: Who {
+            host: Host(1),
+            inc: Inc(1),
+        },
+        name: Name::new(b"a")?,
+    };
+    let arguments = encode_request(alloc, &request).ok()?;
+    let call = CallMessage {
+        head: Head {
+            xid,
+            prog: PROGRAM,
+            vers: 1,
+            procedure: Procedure::Lookup.number(),
+        },
+        rpcvers: 2,
+        arguments: Bytes::new(arguments),
+    };
+    encode(alloc, &Message::Call(call)).ok()
+}
+
+fn reply(alloc: Global, xid: u32, reply: &Reply) -> Option<Vec<u8>> {
+    let results = encode_reply(alloc, reply).ok()?;
+    let reply = ReplyMessage {
+        xid,
+        outcome: Outcome::Success(Bytes::new(results)),
+    };
+    encode(alloc, &Message::Reply(reply)).ok()
+}
+
+fn lookup_reply() -> Reply {
+    Reply::Lookup {
+        inc: Inc(1),
+        file: FileId(1),
+        blocks: 64,
+    }
+}
+
+fn read_reply() -> Reply {
+    Reply::Read {
+        inc: Inc(1),
+        rev: Rev(7),
+        body: Block::fill(0x0102_0304),
+        grant: None,
+    }
+}
+
+/// A number that stands on the bytes.
+fn told(bytes: &[u8]) -> u64 {
+    let first = bytes.get(3).copied().unwrap_or(0);
+    let last = bytes.last().copied().unwrap_or(0);
+    u64::from(first) + u64::from(last)
+}
+
+fn xid_of(n: u64) -> u32 {
+    (n % 0x1_0000_0000) as u32
+}
+
+pub(crate) fn encode_lookups(alloc: Global, times: u64) -> Option<u64> {
+    let mut sum: u64 = 0;
+    for n in 0..times {
+        sum = sum.wrapping_add(told(&lookup(alloc, xid_of(n))?));
+    }
+    Some(sum)
+}
+
+pub(crate) fn encode_lookup_replies(alloc: Global, times: u64) -> Option<u64> {
+    encode_replies(alloc, times, &lookup_reply())
+}
+
+pub(crate) fn encode_read_replies(alloc: Global, times: u64) -> Option<u64> {
+    encode_replies(alloc, times, &read_reply())
+}
+
+fn encode_replies(alloc: Global, times: u64, said: &Reply) -> Option<u64> {
+    let mut sum: u64 = 0;
+    for n in 0..times {
+        sum = sum.wrapping_add(told(&reply(alloc, xid_of(n), said)?));
+    }
+    Some(sum)
+}
+
+/// A number that stands on what the datagram asks.
+fn request_in(alloc: Global, bytes: &[u8]) -> Option<u64> {
+    let Message::Call(call) = decode(alloc, bytes).ok()? else {
+        return None;
+    };
+    let xid = u64::from(call.head.xid);
+    match decode_request(alloc, call.head.procedure, call.arguments.as_bytes()) {
+        Ok(Request::Lookup { who, .. }) => Some(xid + u64::from(who.host.0)),
+        Ok(
+            Request::Write {
+                push: Some(PushBase { boot, .. }),
+                ..
+            },
+        ) => Some(xid + u64::from(boot)),
+        Ok(_) | Err(_) => None,
+    }
+}
+
+/// A number that stands on what the datagram answers.
+fn reply_in(alloc: Global, procedure: Procedure, bytes: &[u8]) -> Option<u64> {
+    let Message::Reply(reply) = decode(alloc, bytes).ok()? else {
+        return None;
+    };
+    let ReplyMessage { xid, outcome } = reply;
+    let Outcome::Success(results) = outcome else {
+        return None;
+    };
+    let xid = u64::from(xid);
+    match decode_reply(alloc, procedure.number(), results.as_bytes()).ok()? {
+        Reply::Lookup { blocks, .. } => Some(xid + u64::from(blocks)),
+        Reply::Read { body, .. } => Some(xid + u64::from(body.value())),
+        _ => None,
+    }
+}
+
+pub(crate) fn decode_lookups(alloc: Global, times: u64) -> Option<u64> {
+    let bytes = lookup(alloc, 1)?;
+    let mut sum: u64 = 0;
+    for _ in 0..times {
+        sum = sum.wrapping_add(request_in(alloc, &bytes)?);
+    }
+    Some(sum)
+}
+
+pub(crate) fn decode_lookup_replies(alloc: Global, times: u64) -> Option<u64> {
+    decode_replies(alloc, times, Procedure::Lookup, &lookup_reply())
+}
+
+pub(crate) fn decode_read_replies(alloc: Global, times: u64) -> Option<u64> {
+    decode_replies(alloc, times, Procedure::Read, &read_reply())
+}
+
+fn decode_replies(alloc: Global, times: u64, procedure: Procedure, said: &Reply) -> Option<u64> {
+    let bytes = reply(alloc, 1, said)?;
+    let mut sum: u64 = 0;
+    for _ in 0..times {
+        sum = sum.wrapping_add(reply_in(alloc, procedure, &bytes)?);
+    }
+    Some(sum)
+}

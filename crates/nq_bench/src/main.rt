@@ -1,0 +1,44 @@
+//! The program `nq_bench`: does one thing many times, to be timed from outside, and prints a number that stands on
+//! all that came out. Its words are what, which way and how often: `lookup`, `lookup-reply` or `read-reply` with
+//! `encode` or `decode`, or `journal` with `print` or `parse`.
+#![tactic(auto)]
+
+mod datagrams;
+mod journals;
+
+use std::alloc::Global;
+use std::env;
+use std::process::ExitCode;
+
+fn main(rt: HostRuntime) -> ExitCode {
+    let Some(sum) = asked(&rt) else {
+        return ExitCode::from(1);
+    };
+    match println!(rt; "{sum}") {
+        Ok(()) => ExitCode::from(0),
+        Err(_) => ExitCode::from(1),
+    }
+}
+
+/// What the words ask for; None where they ask for nothing that is here, or memory is wanting.
+fn asked(rt: &HostRuntime) -> Option<u64> {
+    let mut words = env::args(rt).ok()?.skip(1);
+    let what = words.next()?;
+    let way = words.next()?;
+    let times = words.next()?.as_str().parse::<u64>().ok()?;
+    done(rt.alloc(), what.as_str(), way.as_str(), times)
+}
+
+fn done(alloc: Global, what: &str, way: &str, times: u64) -> Option<u64> {
+    match (what, way) {
+        ("lookup", "encode") => datagrams::encode_lookups(alloc, times),
+        ("lookup", "decode") => datagrams::decode_lookups(alloc, times),
+        ("lookup-reply", "encode") => datagrams::encode_lookup_replies(alloc, times),
+        ("lookup-reply", "decode") => datagrams::decode_lookup_replies(alloc, times),
+        ("read-reply", "encode") => datagrams::encode_read_replies(alloc, times),
+        ("read-reply", "decode") => datagrams::decode_read_replies(alloc, times),
+        ("journal", "print") => journals::print_often(alloc, times),
+        ("journal", "parse") => journals::parse_often(alloc, times),
+        _ => None,
+    }
+}
