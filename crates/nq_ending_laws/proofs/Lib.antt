@@ -1,0 +1,2 @@
+pub mod EndingWorlds
+pub mod SomeEnding

@@ -1,0 +1,14 @@
+pub mod LogRuns
+pub mod LateEndings
+pub mod BoundRows
+pub mod Cuts
+pub mod Waiting
+pub mod Holdings
+pub mod HoldingWrites
+pub mod HoldingSteps
+pub mod HoldingReplies
+pub mod HoldingCalls
+pub mod BoundBefore
+pub mod LinesAfter
+pub mod ServerPlain
+pub mod UntimedSteps
