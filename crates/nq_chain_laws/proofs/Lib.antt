@@ -9,3 +9,4 @@ pub mod RepliesReceived
 pub mod ChainTicks
 pub mod ChainIdle
 pub mod ChainWorlds
+pub mod SomeChained

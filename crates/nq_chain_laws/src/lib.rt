@@ -4,4 +4,4 @@
 
 mod chains;
 
-pub use chains::chained_leases_know_the_file_in_every_run;
+pub use chains::{chained_leases_know_the_file_in_every_run, chains_are_met};
