@@ -1,0 +1,2 @@
+pub mod Undisturbed
+pub mod UndisturbedInRuns
