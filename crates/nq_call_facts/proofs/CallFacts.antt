@@ -14,11 +14,10 @@ use Rattle.nq_base.specs.declared.Who.{Who}
 use Rattle.nq_call_facts.proofs.Entries.{entry_who, entry_call, entry_number, IsOpenAsTold}
 use Rattle.nq_call_facts.proofs.Placed.{IsCachedBy, Placed, Spaced, call-told}
 use Rattle.nq_call_facts.proofs.Quiet.{IsNoCall, open-more, open-before, OpenFits, ReadFits}
-use Rattle.nq_client_steps.proofs.ClientFacts.{seq_of}
 use Rattle.nq_model.specs.Client.{UnderWay, for_call, Ticket}
 use Rattle.nq_model.specs.ClientStep.{told}
 use Rattle.nq_model.specs.Journal.{Each, Exists, Throughout, AtEachPlace, IsCall, IsAnswer, IsOpen, call_of, told_by, same_who}
-use Rattle.nq_model.specs.Message.{Message, call, asker}
+use Rattle.nq_model.specs.Message.{Message, call, asker, sequence_of}
 use Rattle.nq_model.specs.Ordered.{IsCallBelow, HasOpen, IsOpenCall, IsBusyNext, IsBeforeCall, IsNumbered, IsResizeBy}
 use Rattle.nq_run_steps.proofs.Packets.{In}
 use Rattle.nq_server_steps.proofs.Rows.{both-true, true-both, same-number, number-same}
@@ -44,7 +43,7 @@ pub record CallsAt (who : Who) (calls number : ℕ) (under : Option UnderWay) (j
 pub record IsDone (line : HostRow) (who : Who) (t : Ticket) : Type 0 where
   pub job : t.job ≡ for_call
   pub seq : ℕ
-  pub draws : seq_of t.request ≡ Some seq
+  pub draws : sequence_of t.request ≡ Some seq
   pub inc : line.inc ≡ who.inc
   pub decided : seq ≤ line.seq
   pub verdict : line.verdict ≡ Verdict.Done
@@ -70,10 +69,10 @@ through_number other = None
 -- the request under way; `Refused` are the numbers of requests of this incarnation that were refused
 pub record TicketFits (line : HostRow) (Refused : ℕ → Type 0) (who : Who) (number seq : ℕ) (journal : List Entry) (t : Ticket) : Type 0 where
   pub asks : asker t.request ≡ Some who
-  pub drawn : (n : ℕ) → seq_of t.request ≡ Some n → seq ≡ n + 1
+  pub drawn : (n : ℕ) → sequence_of t.request ≡ Some n → seq ≡ n + 1
   pub reads : ReadFits t.request journal
   pub numbered : (n : ℕ) → through_number t.request ≡ Some n → n < number
-  pub opens : (n : ℕ) → t.job ≡ for_call → seq_of t.request ≡ Some n → (line.inc ≡ who.inc → line.seq < n) → OpenFits t.request journal
+  pub opens : (n : ℕ) → t.job ≡ for_call → sequence_of t.request ≡ Some n → (line.inc ≡ who.inc → line.seq < n) → OpenFits t.request journal
   pub refused : Refused t.xid → IsDone line who t → ⊥
 
 pub record Requesting (line : HostRow) (Refused : ℕ → Type 0) (who : Who) (number seq : ℕ) (ticket : Option Ticket) (sends : List Message) (journal : List Entry) : Type 0 where

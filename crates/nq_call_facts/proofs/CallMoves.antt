@@ -12,12 +12,11 @@ use Rattle.nq_base.specs.declared.Who.{Who}
 use Rattle.nq_call_facts.proofs.Entries.{entry_who, entry_call, entry_number, IsOpenAsTold}
 use Rattle.nq_call_facts.proofs.CallFacts.{CallsAt, IsBounded, NoneDone, IsPut, Pending, through_number, TicketFits, Requesting, calls-raised, called-below, answered-below, resized-below, asks-told}
 use Rattle.nq_call_facts.proofs.Quiet.{IsNoChange, IsQuiet, told-more, before-more, OpenFits, open-fits-more, ReadFits, read-fits-more}
-use Rattle.nq_client_steps.proofs.ClientFacts.{seq_of}
 use Rattle.nq_client_steps.proofs.ClientMoves.{some-same, none-some}
 use Rattle.nq_model.specs.Client.{UnderWay, for_call, Ticket}
 use Rattle.nq_model.specs.ClientStep.{told}
 use Rattle.nq_model.specs.Journal.{Exists, Throughout, IsCall, IsAnswer, IsOpen}
-use Rattle.nq_model.specs.Message.{Message, call, asker}
+use Rattle.nq_model.specs.Message.{Message, call, asker, sequence_of}
 use Rattle.nq_model.specs.Ordered.{Writes, Resizes, IsBeforeCall, IsNumbered, IsResizeBy, IsWriteInOrder, IsResizeInOrder}
 use Rattle.nq_run_steps.proofs.Packets.{In, in-last}
 
@@ -277,7 +276,7 @@ module _ (line : HostRow) (Refused : ℕ → Type 0) (who : Who) where
       }
 
   -- a request is sent without a sequence
-  pub asks-sends : (number seq : ℕ) (ticket : Option Ticket) (sends : List Message) (journal : List Entry) (t : Ticket) → asker t.request ≡ Some who → seq_of t.request ≡ None → through_number t.request ≡ None → ReadFits t.request journal → Requesting line Refused who number seq ticket sends journal → Requesting line Refused who number seq (Some t) (sends ++ call t.xid t.request ∷ []) journal
+  pub asks-sends : (number seq : ℕ) (ticket : Option Ticket) (sends : List Message) (journal : List Entry) (t : Ticket) → asker t.request ≡ Some who → sequence_of t.request ≡ None → through_number t.request ≡ None → ReadFits t.request journal → Requesting line Refused who number seq ticket sends journal → Requesting line Refused who number seq (Some t) (sends ++ call t.xid t.request ∷ []) journal
   asks-sends number seq ticket sends journal t asks no_seq no_number reads h =
       let a = asks-adds number seq ticket sends t.xid t.request journal reads h in
       record {
@@ -288,7 +287,7 @@ module _ (line : HostRow) (Refused : ℕ → Type 0) (who : Who) where
       }
 
   -- a request is sent with the next sequence
-  pub asks-decides : (number more seq : ℕ) (ticket : Option Ticket) (sends : List Message) (journal : List Entry) (t : Ticket) → asker t.request ≡ Some who → seq_of t.request ≡ Some seq → number ≤ more → ((n : ℕ) → through_number t.request ≡ Some n → n < more) → ReadFits t.request journal → (t.job ≡ for_call → OpenFits t.request journal) → Requesting line Refused who number seq ticket sends journal → Requesting line Refused who more (seq + 1) (Some t) (sends ++ call t.xid t.request ∷ []) journal
+  pub asks-decides : (number more seq : ℕ) (ticket : Option Ticket) (sends : List Message) (journal : List Entry) (t : Ticket) → asker t.request ≡ Some who → sequence_of t.request ≡ Some seq → number ≤ more → ((n : ℕ) → through_number t.request ≡ Some n → n < more) → ReadFits t.request journal → (t.job ≡ for_call → OpenFits t.request journal) → Requesting line Refused who number seq ticket sends journal → Requesting line Refused who more (seq + 1) (Some t) (sends ++ call t.xid t.request ∷ []) journal
   asks-decides number more seq ticket sends journal t asks draws up numbered reads opens h =
       let a = asks-adds number seq ticket sends t.xid t.request journal reads h in
       record {

@@ -16,10 +16,11 @@ use Rattle.nq_call_facts.proofs.ClientMoves as move
 use Rattle.nq_call_facts.proofs.ClientMoves.{Fits, Doing, own-more}
 use Rattle.nq_client_cases.proofs.PartCases.{answers-call-cases, vacates-noticed-cases, reports-cases, if-broken-cases, takes-optional-cases, lease-done-cases, then-caches-cases, caches-write-cases, caches-push-cases, vacates-if-clean-cases}
 use Rattle.nq_client_cases.proofs.RepliedCases.{replied-cases}
-use Rattle.nq_client_steps.proofs.ClientFacts.{fits_job, seq_of}
+use Rattle.nq_client_steps.proofs.ClientFacts.{fits_job}
 use Rattle.nq_client_steps.proofs.ClientMoves.{some-same, none-some}
 use Rattle.nq_model.specs.Client.{Client, ClientStep, UnderWay, Job, attaching, for_call, renewing, pushing, Notice, Ticket, in_state, begun, notice_on, losses_of, other_losses, loss_list}
 use Rattle.nq_model.specs.Hear.{loses, vacates_lease, vacates_noticed, reports, without_lease, push_refused, breaks_chain, if_broken, holds, takes_grant, takes_optional, answers_call, caches_block, then_caches, read_done, lease_done, caches_write, write_done, purges, knows_revision, ends_push, caches_push, push_done, spends, replied, reply_counts}
+use Rattle.nq_model.specs.Message.{sequence_of}
 use Rattle.nq_model.specs.Settle.{answers, names_losses}
 
 module _ (line : HostRow) (Refused : ℕ → Type 0) (limit : ℕ) (mine : Who) (old : List Entry) where
@@ -138,11 +139,11 @@ module _ (line : HostRow) (Refused : ℕ → Type 0) (limit : ℕ) (mine : Who) 
     attaching = λ who inc job asks e. move.attached-keeps line Refused limit mine old ⊤ (spends (begun c)) (spent (other attaching job (λ d. absurd (cc)))).does;
     named = λ answer job n. (spent-answers ⊥ (spends (begun c)) answer None (λ k e. none-some k e) answering).does;
     reading = λ who q file block want inc rev body grant o e. (spent-read (spends (begun c)) file block body grant ticket.first number sent answering).does;
-    leasing = λ who file want inc grant o e. spent-lease (spends (begun c)) file grant ticket.first (spent (undrawn (ap seq_of o.asks)));
+    leasing = λ who file want inc grant o e. spent-lease (spends (begun c)) file grant ticket.first (spent (undrawn (ap sequence_of o.asks)));
     writing = λ who seq file block first last body inc rev o e. (spent-write (spends (begun c)) file block body rev answering).does;
     resizing = λ who seq q file blocks inc rev o e. (spent-answers ⊥ (knows_revision (spends (begun c)) file rev) (Answer.Ok Value.Nothing) None (λ k e. none-some k e) (spent-knows ⊥ (spends (begun c)) file rev answering)).does;
     removing = λ who seq q file inc o e. (spent-answers ⊥ (spends (begun c)) (Answer.Ok Value.Nothing) None (λ k e. none-some k e) answering).does;
-    renewing = λ who file want inc grant job asks e. (spent-optional ⊤ (spends (begun c)) file grant ticket.first (spent (undrawn (ap seq_of asks)))).does;
+    renewing = λ who file want inc grant job asks e. (spent-optional ⊤ (spends (begun c)) file grant ticket.first (spent (undrawn (ap sequence_of asks)))).does;
     pushed = λ who seq file block first last base body inc rev job asks e. (spent-push (spends (begun c)) file block body rev (spent (other pushing job (λ d. absurd (cc))))).does;
     putting_off = λ inc status jobs e off. move.pauses-keeps line Refused limit mine old ⊤ (spends (begun c)) (spent (declined (refused inc status e))).does;
     refusing = λ inc status job e of counted. (spent-answers ⊥ (spends (begun c)) _ None (λ k e. none-some k e) answering).does;
@@ -158,8 +159,8 @@ module _ (line : HostRow) (Refused : ℕ → Type 0) (limit : ℕ) (mine : Who) 
     other : (job : Job) → ticket.job ≡ job → (job ≡ for_call → ⊥) → NoneDone line c.who c.ticket
     other job of differs k same d = differs (sym of ∙ ap (λ z. z.job) (some-same ticket k (sym is ∙ same)) ∙ d.job)
 
-    undrawn : seq_of ticket.request ≡ None → NoneDone line c.who c.ticket
-    undrawn none k same d = none-some d.seq (sym none ∙ ap (λ z. seq_of z.request) (some-same ticket k (sym is ∙ same)) ∙ d.draws)
+    undrawn : sequence_of ticket.request ≡ None → NoneDone line c.who c.ticket
+    undrawn none k same d = none-some d.seq (sym none ∙ ap (λ z. sequence_of z.request) (some-same ticket k (sym is ∙ same)) ∙ d.draws)
 
     declined : Refused ticket.xid → NoneDone line c.who c.ticket
     declined off k same d = let one = some-same ticket k (sym is ∙ same) in (h.asks.ticketed k same).refused (subst Refused (ap (λ z. z.xid) one) off) d

@@ -19,12 +19,11 @@ use Rattle.nq_call_facts.proofs.CallMoves.{NotForCall, calls-answered, pending-m
 use Rattle.nq_call_facts.proofs.Entries.{entry_who, entry_call, entry_number}
 use Rattle.nq_call_facts.proofs.Placed.{append-one}
 use Rattle.nq_call_facts.proofs.Quiet.{IsQuiet, OpenFits, ReadFits}
-use Rattle.nq_client_steps.proofs.ClientFacts.{seq_of}
 use Rattle.nq_client_steps.proofs.ClientMoves.{some-same, none-some}
 use Rattle.nq_model.specs.Client.{ClientStep, UnderWay, Job, for_call, Ticket, in_state}
 use Rattle.nq_model.specs.ClientStep.{sends_again}
 use Rattle.nq_model.specs.Hear.{loss_entry, loses, all_dirty, vacates_lease, without_lease, holds, caches_block, purges, knows_revision, ends_push, with_through, marks_through, spends, attached, pauses, cancelled, cancels, notes_notice, wants_of}
-use Rattle.nq_model.specs.Message.{Message, asker}
+use Rattle.nq_model.specs.Message.{Message, asker, sequence_of}
 use Rattle.nq_model.specs.Ordered.{IsWriteInOrder}
 use Rattle.nq_model.specs.Send.{sends_request, after_seq, after_number, takes_push, gives_up}
 use Rattle.nq_model.specs.Settle.{said, answers, names_losses}
@@ -223,7 +222,7 @@ module _ (line : HostRow) (Refused : ℕ → Type 0) (limit : ℕ) (mine : Who) 
   }
 
   -- a request that wants a lease is none that is decided once
-  wants-undrawn : (file : ℕ) (r : Request) → wants_of file r ≡ true → seq_of r ≡ None
+  wants-undrawn : (file : ℕ) (r : Request) → wants_of file r ≡ true → sequence_of r ≡ None
   wants-undrawn file (Request.Read who q f block want) e = refl
   wants-undrawn file (Request.GetLease who f want) e = refl
   wants-undrawn file r e = absurd (cc)
@@ -240,7 +239,7 @@ module _ (line : HostRow) (Refused : ℕ → Type 0) (limit : ℕ) (mine : Who) 
             same = h.same;
             journal = h.journal;
             calls_fit = h.calls_fit;
-            pending = λ goes. pending-ticket line t.client.who t.client.call t.client.ticket None (t.entries ++ old) (λ idle u is d. let one : k ≡ u = some-same k u (sym e ∙ is) in none-some d.seq (sym (wants-undrawn file k.request wants) ∙ ap (λ z. seq_of z.request) one ∙ d.draws)) (h.pending tt);
+            pending = λ goes. pending-ticket line t.client.who t.client.call t.client.ticket None (t.entries ++ old) (λ idle u is d. let one : k ≡ u = some-same k u (sym e ∙ is) in none-some d.seq (sym (wants-undrawn file k.request wants) ∙ ap (λ z. sequence_of z.request) one ∙ d.draws)) (h.pending tt);
             asks = asks-none line Refused t.client.who t.client.number t.client.seq t.client.ticket t.sends (t.entries ++ old) h.asks;
             own = h.own;
           })
@@ -252,7 +251,7 @@ module _ (line : HostRow) (Refused : ℕ → Type 0) (limit : ℕ) (mine : Who) 
     same = h.same;
     journal = h.journal;
     calls_fit = h.calls_fit;
-    pending = λ goes. pending-ticket line t.client.who t.client.call t.client.ticket (Some (record k { last = t.client.now })) (t.entries ++ old) (λ idle u same d. let one : k ≡ u = some-same k u (sym is ∙ same) in idle (record k { last = t.client.now }) refl (record { job = ap (λ z. z.job) one ∙ d.job; seq = d.seq; draws = ap (λ z. seq_of z.request) one ∙ d.draws; inc = d.inc; decided = d.decided; verdict = d.verdict })) (h.pending tt);
+    pending = λ goes. pending-ticket line t.client.who t.client.call t.client.ticket (Some (record k { last = t.client.now })) (t.entries ++ old) (λ idle u same d. let one : k ≡ u = some-same k u (sym is ∙ same) in idle (record k { last = t.client.now }) refl (record { job = ap (λ z. z.job) one ∙ d.job; seq = d.seq; draws = ap (λ z. sequence_of z.request) one ∙ d.draws; inc = d.inc; decided = d.decided; verdict = d.verdict })) (h.pending tt);
     asks = asks-again line Refused t.client.who t.client.number t.client.seq t.client.ticket k t.client.now t.sends (t.entries ++ old) is h.asks;
     own = h.own;
   }
@@ -261,7 +260,7 @@ module _ (line : HostRow) (Refused : ℕ → Type 0) (limit : ℕ) (mine : Who) 
   none-before : (who : Who) (ticket after : Option Ticket) → ticket ≡ None → NoneDone line who after → NoneDone line who ticket
   none-before who ticket after none idle u is d = none-some u (sym none ∙ is)
 
-  pub asks-keeps : (t : ClientStep) (job : Job) (r : Request) → t.client.ticket ≡ None → asker r ≡ Some t.client.who → seq_of r ≡ None → through_number r ≡ None → ReadFits r (t.entries ++ old) → Doing line Refused limit mine old ⊤ t → Doing line Refused limit mine old ⊤ (sends_request t job r)
+  pub asks-keeps : (t : ClientStep) (job : Job) (r : Request) → t.client.ticket ≡ None → asker r ≡ Some t.client.who → sequence_of r ≡ None → through_number r ≡ None → ReadFits r (t.entries ++ old) → Doing line Refused limit mine old ⊤ t → Doing line Refused limit mine old ⊤ (sends_request t job r)
   unfolding sends_request
   asks-keeps t job r none asks no_seq no_number reads h =
       let k : Ticket = record { xid = t.client.xid; first = t.client.now; last = t.client.now; request = r; job = job } in
@@ -274,7 +273,7 @@ module _ (line : HostRow) (Refused : ℕ → Type 0) (limit : ℕ) (mine : Who) 
         own = h.own;
       }
 
-  pub decides-keeps : (t : ClientStep) (job : Job) (r : Request) → t.client.ticket ≡ None → asker r ≡ Some t.client.who → seq_of r ≡ Some t.client.seq → through_number r ≡ None → ReadFits r (t.entries ++ old) → (job ≡ for_call → OpenFits r (t.entries ++ old)) → Doing line Refused limit mine old ⊤ t → Doing line Refused limit mine old ⊤ (sends_request (after_seq t) job r)
+  pub decides-keeps : (t : ClientStep) (job : Job) (r : Request) → t.client.ticket ≡ None → asker r ≡ Some t.client.who → sequence_of r ≡ Some t.client.seq → through_number r ≡ None → ReadFits r (t.entries ++ old) → (job ≡ for_call → OpenFits r (t.entries ++ old)) → Doing line Refused limit mine old ⊤ t → Doing line Refused limit mine old ⊤ (sends_request (after_seq t) job r)
   unfolding sends_request after_seq
   decides-keeps t job r none asks draws no_number reads opens h =
       let k : Ticket = record { xid = t.client.xid; first = t.client.now; last = t.client.now; request = r; job = job } in

@@ -17,12 +17,12 @@ use Rattle.nq_call_steps.proofs.CallsFit.{entry_who}
 use Rattle.nq_call_facts.proofs.ClientEvents.{CallsOf}
 use Rattle.nq_call_facts.proofs.ClientMoves.{IsBelow, Doing}
 use Rattle.nq_call_facts.proofs.Quiet.{IsQuiet, foreign-quiet, OpenFits, open-fits-more, ReadFits, read-fits-later}
-use Rattle.nq_client_steps.proofs.ClientFacts.{seq_of, fits_job, push_in}
+use Rattle.nq_client_steps.proofs.ClientFacts.{fits_job, push_in}
 use Rattle.nq_client_steps.proofs.ClientMoves.{some-same}
 use Rattle.nq_model.specs.Client.{Client, ClientStep, Job, attaching, for_call, renewing, pushing, Ticket}
 use Rattle.nq_model.specs.Journal.{Each}
 use Rattle.nq_model.specs.Kept.{host_row}
-use Rattle.nq_model.specs.Message.{Message, Packet, call, reply, asker}
+use Rattle.nq_model.specs.Message.{Message, Packet, call, reply, asker, sequence_of}
 use Rattle.nq_model.specs.Server.{to_host}
 use Rattle.nq_model.specs.World.{World, from_host, after_client}
 use Rattle.nq_request_laws.proofs.OpenRequests.{IsOpenAt}
@@ -159,7 +159,7 @@ open-known w events held known g host c is x r o = case (either (host_row w.serv
     case (inl same) =
         let t = open-ticket w events held known host c is same x r o in
         let k = (g.clients host c is).asks.ticketed t.0 t.1 in
-        subst (λ z. OpenFits z w.journal) t.3 (open-for-any t.0 w.journal ((held.clients host c is).alone.asking.ticketed t.0 t.1).fits (λ job. k.opens o.seq job (ap seq_of t.3 ∙ o.draws) (λ inc. o.above)))
+        subst (λ z. OpenFits z w.journal) t.3 (open-for-any t.0 w.journal ((held.clients host c is).alone.asking.ticketed t.0 t.1).fits (λ job. k.opens o.seq job (ap sequence_of t.3 ∙ o.draws) (λ inc. o.above)))
 
 -- ---- a step of a client
 

@@ -6,16 +6,16 @@ use Rattle.nq_base.specs.declared.Request.{Request}
 use Rattle.nq_base.specs.declared.Verdict.{Verdict}
 use Rattle.nq_base.specs.declared.Who.{Who}
 use Rattle.nq_call_steps.proofs.ServerCalls.{IsWhy, undrawn, is_past, otherwise}
-use Rattle.nq_client_steps.proofs.ClientFacts.{seq_of}
 use Rattle.nq_client_steps.proofs.ClientMoves.{none-some}
 use Rattle.nq_model.specs.Decide.{verdict_reply}
 use Rattle.nq_model.specs.LeaseInterval.{requested_file}
+use Rattle.nq_model.specs.Message.{sequence_of}
 use Rattle.nq_model.specs.Server.{Server}
-use Rattle.nq_server_steps.proofs.ServerOutcomes.{sequence_of, only_asks, line_of, IsPlain, attached_again, not_yet, no_entry, entry, no_attributes, attributes, no_file, no_block, decided_again, is_old}
+use Rattle.nq_server_steps.proofs.ServerOutcomes.{only_asks, line_of, IsPlain, attached_again, not_yet, no_entry, entry, no_attributes, attributes, no_file, no_block, decided_again, is_old}
 
 -- ---- sequences and verdicts
 
-pub seq-same : (r : Request) → seq_of r ≡ sequence_of r
+pub seq-same : (r : Request) → sequence_of r ≡ sequence_of r
 seq-same (Request.Create who seq name blocks) = refl
 seq-same (Request.Write who seq file block first last push body) = refl
 seq-same (Request.Resize who seq q file blocks) = refl
@@ -29,14 +29,14 @@ seq-same (Request.GetLease who file want) = refl
 seq-same (Request.Vacated who file tag) = refl
 seq-same (Request.Evicted who file tag) = refl
 
-pub asks-no-seq : (r : Request) → only_asks r ≡ true → seq_of r ≡ None
+pub asks-no-seq : (r : Request) → only_asks r ≡ true → sequence_of r ≡ None
 asks-no-seq (Request.Lookup w name) e = refl
 asks-no-seq (Request.GetAttr w file) e = refl
 asks-no-seq (Request.Read w q file block want) e = refl
 asks-no-seq (Request.GetLease w file want) e = refl
 asks-no-seq r e = absurd (cc)
 
-pub reads-no-seq : (r : Request) (file : ℕ) → requested_file r ≡ Some file → seq_of r ≡ None
+pub reads-no-seq : (r : Request) (file : ℕ) → requested_file r ≡ Some file → sequence_of r ≡ None
 reads-no-seq (Request.Read w q f block want) file e = refl
 reads-no-seq (Request.GetLease w f want) file e = refl
 reads-no-seq r file e = none-some file e
@@ -69,11 +69,11 @@ pub plain-why : (s : Server) (who : Who) (r : Request) (a : Reply) (inc : ℕ) (
 plain-why s who r a inc status (IsPlain.unattached above other e) is = let k : Reply.Refused who.inc Refusal.NotAttached ≡ Reply.Refused inc status = sym e ∙ is in (cc, IsWhy.unattached above)
 plain-why s who r a inc status (attached_again asks same e) is = let k : Reply.Attach who.inc ≡ Reply.Refused inc status = sym e ∙ is in absurd (cc)
 plain-why s who r a inc status (not_yet same rec only e) is = let k : Reply.Refused who.inc Refusal.TryLater ≡ Reply.Refused inc status = sym e ∙ is in (cc, undrawn (asks-no-seq r only))
-plain-why s who r a inc status (no_entry name same p on none e) is = let k : Reply.Refused who.inc Refusal.NoEnt ≡ Reply.Refused inc status = sym e ∙ is in (cc, undrawn (ap seq_of on))
+plain-why s who r a inc status (no_entry name same p on none e) is = let k : Reply.Refused who.inc Refusal.NoEnt ≡ Reply.Refused inc status = sym e ∙ is in (cc, undrawn (ap sequence_of on))
 plain-why s who r a inc status (entry name f same p on some e) is = let k = sym e ∙ is in absurd (cc)
-plain-why s who r a inc status (no_attributes file same p on none e) is = let k : Reply.Refused who.inc Refusal.Stale ≡ Reply.Refused inc status = sym e ∙ is in (cc, undrawn (ap seq_of on))
+plain-why s who r a inc status (no_attributes file same p on none e) is = let k : Reply.Refused who.inc Refusal.Stale ≡ Reply.Refused inc status = sym e ∙ is in (cc, undrawn (ap sequence_of on))
 plain-why s who r a inc status (attributes file f same p on some e) is = let k = sym e ∙ is in absurd (cc)
 plain-why s who r a inc status (no_file file same p on none e) is = let k : Reply.Refused who.inc Refusal.Stale ≡ Reply.Refused inc status = sym e ∙ is in (cc, undrawn (reads-no-seq r file on))
-plain-why s who r a inc status (no_block q file block want f same p on some none e) is = let k : Reply.Refused who.inc Refusal.Inval ≡ Reply.Refused inc status = sym e ∙ is in (cc, undrawn (ap seq_of on))
+plain-why s who r a inc status (no_block q file block want f same p on some none e) is = let k : Reply.Refused who.inc Refusal.Inval ≡ Reply.Refused inc status = sym e ∙ is in (cc, undrawn (ap sequence_of on))
 plain-why s who r a inc status (decided_again seq same sq eq e) is = (verdict-inc who.inc (line_of s who).verdict (line_of s who).value r inc status (sym e ∙ is), otherwise (done-tells who.inc (line_of s who).value r (line_of s who).verdict inc status (sym e ∙ is)))
 plain-why s who r a inc status (is_old seq same sq below e) is = let k : Reply.Refused who.inc Refusal.Old ≡ Reply.Refused inc status = sym e ∙ is in (cc, is_past seq (seq-same r ∙ sq) below)

@@ -16,11 +16,11 @@ use Rattle.nq_call_steps.proofs.CallWorlds.{IsRefused, CallsKnown, all-below-mor
 use Rattle.nq_call_facts.proofs.ClientEvents.{CallsOf}
 use Rattle.nq_call_facts.proofs.ClientMoves.{IsBelow}
 use Rattle.nq_call_facts.proofs.Quiet.{IsNoCall, IsNoChange, IsQuiet, OpenFits, read-fits-later}
-use Rattle.nq_client_steps.proofs.ClientFacts.{seq_of, fits_job}
+use Rattle.nq_client_steps.proofs.ClientFacts.{fits_job}
 use Rattle.nq_client_steps.proofs.ClientMoves.{some-same, none-some}
 use Rattle.nq_model.specs.Client.{Client, Job, attaching, for_call, renewing, pushing, Ticket}
 use Rattle.nq_model.specs.Kept.{host_row}
-use Rattle.nq_model.specs.Message.{Packet, reply, asker}
+use Rattle.nq_model.specs.Message.{Packet, reply, asker, sequence_of}
 use Rattle.nq_model.specs.Server.{ServerStep, to_host}
 use Rattle.nq_model.specs.World.{World, after_server}
 use Rattle.nq_request_laws.proofs.OpenRequests.{IsOpenAt, OneOpenAt, Opens}
@@ -35,9 +35,9 @@ use Rattle.nq_run_steps.proofs.Worlds.{Holds}
 
 -- why a request is refused, by the line of its host after the step
 pub data IsWhy (line : HostRow) (r : Request) (who : Who) : Type 0 where
-  undrawn : seq_of r ≡ None → IsWhy line r who
+  undrawn : sequence_of r ≡ None → IsWhy line r who
   unattached : line.inc < who.inc → IsWhy line r who
-  is_past : (n : ℕ) → seq_of r ≡ Some n → n < line.seq → IsWhy line r who
+  is_past : (n : ℕ) → sequence_of r ≡ Some n → n < line.seq → IsWhy line r who
   otherwise : (line.verdict ≡ Verdict.Done → ⊥) → IsWhy line r who
 
 pub record Refuses (ps : List Packet) (line : HostRow) (host x inc : ℕ) : Type 0 where
@@ -52,16 +52,16 @@ abbrev pub AllRefuse : List Packet → (ℕ → HostRow) → List Packet → Typ
 AllRefuse ps line sends = (host x inc : ℕ) (status : Refusal) → In sends (to_host host (reply x (Reply.Refused inc status))) → Refuses ps (line host) host x inc
 
 -- such a refusal is of no request that was done
-refused-undone : (c : Client) (ps : List Packet) (line : HostRow) (number : ℕ) (journal : List Entry) (k : Ticket) → Mail c.who c.xid c.ticket ps → c.ticket ≡ Some k → ((n : ℕ) → seq_of k.request ≡ Some n → c.seq ≡ n + 1) → (line.inc ≡ c.who.inc → line.seq < c.seq) → Refuses ps line c.who.host k.xid c.who.inc → IsDone line c.who k → ⊥
+refused-undone : (c : Client) (ps : List Packet) (line : HostRow) (number : ℕ) (journal : List Entry) (k : Ticket) → Mail c.who c.xid c.ticket ps → c.ticket ≡ Some k → ((n : ℕ) → sequence_of k.request ≡ Some n → c.seq ≡ n + 1) → (line.inc ≡ c.who.inc → line.seq < c.seq) → Refuses ps line c.who.host k.xid c.who.inc → IsDone line c.who k → ⊥
 refused-undone c ps line number journal k m is drawn below f d = case f.why
   where
     one : k.request ≡ f.asks
     one = (m.asked k.xid f.asks f.who f.sent f.by).same (sym f.same) k is refl
 
     case : IsWhy line f.asks f.who → ⊥
-    case (undrawn none) = none-some d.seq (sym none ∙ ap seq_of (sym one) ∙ d.draws)
+    case (undrawn none) = none-some d.seq (sym none ∙ ap sequence_of (sym one) ∙ d.draws)
     case (unattached above) = let inc = d.inc in let same = f.same in omega arith
-    case (is_past n q old) = let e : n ≡ d.seq = some-same n d.seq (sym q ∙ ap seq_of (sym one) ∙ d.draws) in let a = drawn d.seq d.draws in let b = below d.inc in omega arith
+    case (is_past n q old) = let e : n ≡ d.seq = some-same n d.seq (sym q ∙ ap sequence_of (sym one) ∙ d.draws) in let a = drawn d.seq d.draws in let b = below d.inc in omega arith
     case (otherwise undone) = undone d.verdict
 
 -- ---- outcomes
@@ -110,7 +110,7 @@ pub record ServerDoes (w : World) (t : ServerStep) : Type 0 where
 -- ---- one client
 
 -- another line, and more refusals
-calls-of-line : (line after : HostRow) (Refused More : ℕ → Type 0) (c : Client) (journal : List Entry) → (NoneDone after c.who c.ticket → NoneDone line c.who c.ticket) → (after.inc ≡ c.who.inc → after.seq < c.seq) → ((k : Ticket) (n : ℕ) → c.ticket ≡ Some k → k.job ≡ for_call → seq_of k.request ≡ Some n → (after.inc ≡ c.who.inc → after.seq < n) → OpenFits k.request journal) → ((k : Ticket) → c.ticket ≡ Some k → More k.xid → IsDone after c.who k → ⊥) → CallsOf line Refused c journal → CallsOf after More c journal
+calls-of-line : (line after : HostRow) (Refused More : ℕ → Type 0) (c : Client) (journal : List Entry) → (NoneDone after c.who c.ticket → NoneDone line c.who c.ticket) → (after.inc ≡ c.who.inc → after.seq < c.seq) → ((k : Ticket) (n : ℕ) → c.ticket ≡ Some k → k.job ≡ for_call → sequence_of k.request ≡ Some n → (after.inc ≡ c.who.inc → after.seq < n) → OpenFits k.request journal) → ((k : Ticket) → c.ticket ≡ Some k → More k.xid → IsDone after c.who k → ⊥) → CallsOf line Refused c journal → CallsOf after More c journal
 calls-of-line line after Refused More c journal undone drawn opens refused h = record {
   calls_fit = h.calls_fit;
   pending = record {
@@ -213,10 +213,10 @@ module _ (w : World) (events : List Event) (t : ServerStep) (held : Holds w) (kn
       own kept =
           let h = g.clients host c is in
           let a = open-ticket w events held known host c is kept x r o in
-          let draws : seq_of a.0.request ≡ Some o.seq = ap seq_of a.3 ∙ o.draws in
+          let draws : sequence_of a.0.request ≡ Some o.seq = ap sequence_of a.3 ∙ o.draws in
           let top : c.seq ≡ o.seq + 1 = (h.asks.ticketed a.0 a.1).drawn o.seq draws in
           let below : after.inc ≡ c.who.inc → after.seq < c.seq = λ e. omega arith in
-          let number : (k : Ticket) (n : ℕ) → c.ticket ≡ Some k → seq_of k.request ≡ Some n → n ≡ o.seq = λ k n has q. some-same n o.seq (sym q ∙ ap (λ z. seq_of z.request) (some-same k a.0 (sym has ∙ a.1)) ∙ draws) in
+          let number : (k : Ticket) (n : ℕ) → c.ticket ≡ Some k → sequence_of k.request ≡ Some n → n ≡ o.seq = λ k n has q. some-same n o.seq (sym q ∙ ap (λ z. sequence_of z.request) (some-same k a.0 (sym has ∙ a.1)) ∙ draws) in
           record {
             calls_fit = calls-at-more c.who c.calls c.number c t.entries w.journal (λ e i. let m = made e i in (m.no_call c.who here, m.bounded)) h.calls_fit;
             pending = pending change a.0 a.1 a.3 draws kept;
@@ -235,10 +235,10 @@ module _ (w : World) (events : List Event) (t : ServerStep) (held : Holds w) (kn
             };
           }
         where
-          pending : ((after.verdict ≡ Verdict.Done) × IsChange r) ⊎ ((e : Entry) → In t.entries e → (v : Who) → v.host ≡ host → IsNoChange v e) → (k : Ticket) → c.ticket ≡ Some k → k.request ≡ r → seq_of k.request ≡ Some o.seq → line.inc ≡ c.who.inc → Pending after c.who c.call c.ticket (t.entries ++ w.journal)
+          pending : ((after.verdict ≡ Verdict.Done) × IsChange r) ⊎ ((e : Entry) → In t.entries e → (v : Who) → v.host ≡ host → IsNoChange v e) → (k : Ticket) → c.ticket ≡ Some k → k.request ≡ r → sequence_of k.request ≡ Some o.seq → line.inc ≡ c.who.inc → Pending after c.who c.call c.ticket (t.entries ++ w.journal)
           pending (inr none) k has one draws kept =
               let p = pending-later line c t.entries w.journal (λ e i. none e i c.who here) (g.clients host c is).pending in
-              let idle : NoneDone line c.who c.ticket = λ j there d. let e : d.seq ≡ o.seq = some-same d.seq o.seq (sym d.draws ∙ ap (λ z. seq_of z.request) (some-same j k (sym there ∙ has)) ∙ draws) in let decided = d.decided in let above = o.above in omega arith in
+              let idle : NoneDone line c.who c.ticket = λ j there d. let e : d.seq ≡ o.seq = some-same d.seq o.seq (sym d.draws ∙ ap (λ z. sequence_of z.request) (some-same j k (sym there ∙ has)) ∙ draws) in let decided = d.decided in let above = o.above in omega arith in
               record {
                 unwritten = λ u under plain after_idle. p.unwritten u under plain idle;
                 unresized = λ u under after_idle. p.unresized u under idle;
@@ -273,12 +273,12 @@ module _ (w : World) (events : List Event) (t : ServerStep) (held : Holds w) (kn
       let fresh = o.above in
       let old : IsOpenAt line w.packets host x r = record { who = p.who; seq = p.seq; asked = asked-before-server w.packets t.sends said host x r p.asked; by = p.by; kept = sym inc ∙ p.kept; draws = p.draws; above = omega arith } in
       let same = one x y r s old o in
-      let e : p.seq ≡ o.seq = some-same p.seq o.seq (sym p.draws ∙ ap seq_of same.1 ∙ o.draws) in
+      let e : p.seq ≡ o.seq = some-same p.seq o.seq (sym p.draws ∙ ap sequence_of same.1 ∙ o.draws) in
       absurd (omega arith)
   ended-after said one (line_begins later zero y who sent inc none) over x r p =
       let kept = p.kept in
       let attach : r ≡ Request.Attach p.who = lined.above x r p.who (subst (λ n. Asked w.packets n x r) (sym here) (asked-before-server w.packets t.sends said host x r p.asked)) p.by (omega arith) in
-      none-some p.seq (ap seq_of (sym attach) ∙ p.draws)
+      none-some p.seq (ap sequence_of (sym attach) ∙ p.draws)
 
 -- ---- the world
 

@@ -28,7 +28,7 @@ use Rattle.nq_model.specs.Client.{Client}
 use Rattle.nq_model.specs.Decide.{Decision, wrote, decides, creates, writes_through, stores, stores_recovering, resizes, removes, puts_off, verdict_reply, row_after, commits}
 use Rattle.nq_model.specs.Journal.{Exists, IsCall}
 use Rattle.nq_model.specs.Kept.{File, Kept, fresh_row, host_row, with_row, with_files, with_new_file}
-use Rattle.nq_model.specs.Message.{reply, asker, Datagram, request}
+use Rattle.nq_model.specs.Message.{reply, asker, Datagram, request, sequence_of}
 use Rattle.nq_model.specs.Ordered.{IsResizeInOrder}
 use Rattle.nq_model.specs.Profile.{most_hosts}
 use Rattle.nq_model.specs.Server.{Server, to_host, keeping, keeping_with, after_notices}
@@ -42,7 +42,7 @@ use Rattle.nq_run_steps.proofs.Worlds.{Holds}
 use Rattle.nq_server_steps.proofs.KeptChanges.{other-line, own-line}
 use Rattle.nq_server_steps.proofs.Rows.{same-number, number-same}
 use Rattle.nq_server_steps.proofs.ServerCases.{server-hears}
-use Rattle.nq_server_steps.proofs.ServerOutcomes.{sequence_of, IsFresh}
+use Rattle.nq_server_steps.proofs.ServerOutcomes.{IsFresh}
 
 -- the lines are those of the hosts
 same-hosts : (kept after : Kept) (host : ℕ) → after.hosts ≡ kept.hosts → host_row after host ≡ host_row kept host

@@ -15,14 +15,14 @@ use Rattle.nq_base.specs.declared.Who.{Who}
 use Rattle.nq_chain_laws.proofs.ServerChains.{Continues, RowFrom, row_fresh, row_on, RowOn, goes_on, vacated, superseded, loosened, removed, reopened, LineTo, line_stays, line_begins, line_decides, Claims, FileMove, file_stays, file_written, file_changed, file_gone, NewGrant, NewReply, ChainEffect}
 use Rattle.nq_chain_steps.proofs.ChainFacts.{line_for, done_at, rev_at, HeldChains, GoesOnAs, InOrder, GrantFits, GivenChains, IsFenced, gone, ahead, earlier, IsBoundOrFenced, bound, fenced, WriteChains, VerdictFits, LineChains, ChainFits}
 use Rattle.nq_chain_steps.specs.Chained.{OwnRow, IsChained, has_done, has_done_write, due, KnowsFile}
-use Rattle.nq_client_steps.proofs.ClientFacts.{Alone, seq_of, is_clean_in}
+use Rattle.nq_client_steps.proofs.ClientFacts.{Alone, is_clean_in}
 use Rattle.nq_client_steps.proofs.ClientMoves.{some-same, none-some}
 use Rattle.nq_model.specs.Client.{Client, Lease, Ticket, lease_on}
 use Rattle.nq_model.specs.Decide.{verdict_reply}
 use Rattle.nq_model.specs.Hear.{inc_of}
 use Rattle.nq_model.specs.Kept.{File, Kept, blocks_of, find_file, fresh_row, host_row}
 use Rattle.nq_model.specs.LeaseInterval.{is_at_least, requested_file}
-use Rattle.nq_model.specs.Message.{Packet, reply, asker}
+use Rattle.nq_model.specs.Message.{Packet, reply, asker, sequence_of}
 use Rattle.nq_model.specs.Server.{serving, Server, ServerStep, standing}
 use Rattle.nq_model.specs.Table.{Table, caches, is_writing, same_tag, tag_below, find_row, next_tag}
 use Rattle.nq_run_steps.proofs.ClientSteps.{KnowsOf}
@@ -108,7 +108,7 @@ module _ (ps : List Packet) (s : Server) (events : List Event) (t : ServerStep) 
   -- ---- lines
 
   -- a decided request of the running incarnation is the one under way
-  decided-own : (x n : ℕ) (r : Request) (w : Who) → Asked ps c.who.host x r → asker r ≡ Some w → w.inc ≡ line.inc → seq_of r ≡ Some n → line.seq < n → (u : Ticket) × (c.ticket ≡ Some u) × (u.xid ≡ x) × (u.request ≡ r)
+  decided-own : (x n : ℕ) (r : Request) (w : Who) → Asked ps c.who.host x r → asker r ≡ Some w → w.inc ≡ line.inc → sequence_of r ≡ Some n → line.seq < n → (u : Ticket) × (c.ticket ≡ Some u) × (u.xid ≡ x) × (u.request ≡ r)
   decided-own x n r w sent by inc sq later = step (b.knows.lined.settled b.kept x r w n sent by (inc ∙ b.kept) sq)
     where
       step : IsSettled c.ticket line.seq x n → (u : Ticket) × (c.ticket ≡ Some u) × (u.xid ≡ x) × (u.request ≡ r)
@@ -132,11 +132,11 @@ module _ (ps : List Packet) (s : Server) (events : List Event) (t : ServerStep) 
     drawn (line_begins x w sent here later inc zero) = absurd (not-begun x w sent later)
     drawn (line_decides x r w n v value sent by here inc sq later is fits) =
         let u = decided-own x n r w sent by inc sq later in
-        let last = h.line.last u.0 n u.1 (ap seq_of u.3 ∙ sq) in
+        let last = h.line.last u.0 n u.1 (ap sequence_of u.3 ∙ sq) in
         let one : line'.seq ≡ n = ap (λ l. l.seq) is in
         omega arith
 
-    decided : (u : Ticket) (n : ℕ) → c.ticket ≡ Some u → seq_of u.request ≡ Some n → line'.seq ≡ n → LineTo ps s t.server c.who.host → VerdictFits u.request line'.verdict line'.value
+    decided : (u : Ticket) (n : ℕ) → c.ticket ≡ Some u → sequence_of u.request ≡ Some n → line'.seq ≡ n → LineTo ps s t.server c.who.host → VerdictFits u.request line'.verdict line'.value
     decided u n e sq is (line_stays same) = subst (λ l. VerdictFits u.request l.verdict l.value) (sym same) (h.line.decided u n e sq b.kept (ap (λ l. l.seq) (sym same) ∙ is))
     decided u n e sq is (line_begins x w sent here later inc zero) = absurd (not-begun x w sent later)
     decided u n e sq is (line_decides x r w m v value sent by here inc q later to fits) =
@@ -145,19 +145,19 @@ module _ (ps : List Packet) (s : Server) (events : List Event) (t : ServerStep) 
         subst (λ l. VerdictFits u.request l.verdict l.value) (sym to) (subst (λ q. VerdictFits q v value) (sym same) fits)
 
     -- an old reply to the request under way came where it was decided
-    old : (x : ℕ) (a : Reply) (u : Ticket) (n : ℕ) → Told ps c.who.host (reply x a) → inc_of a ≡ c.who.inc → c.ticket ≡ Some u → u.xid ≡ x → seq_of u.request ≡ Some n → LineTo ps s t.server c.who.host → a ≡ verdict_reply c.who.inc line'.verdict line'.value u.request
+    old : (x : ℕ) (a : Reply) (u : Ticket) (n : ℕ) → Told ps c.who.host (reply x a) → inc_of a ≡ c.who.inc → c.ticket ≡ Some u → u.xid ≡ x → sequence_of u.request ≡ Some n → LineTo ps s t.server c.who.host → a ≡ verdict_reply c.who.inc line'.verdict line'.value u.request
     old x a u n told inc e number sq (line_stays same) = subst (λ l. a ≡ verdict_reply c.who.inc l.verdict l.value u.request) (sym same) (h.line.replied x a u n told inc e number sq)
     old x a u n told inc e number sq (line_begins y w sent here later i zero) = absurd (not-begun y w sent later)
     old x a u n told inc e number sq (line_decides y r w m v value sent by here i q later to fits) =
         let own = decided-own y m r w sent by i q later in
         let same : u.request ≡ r = ap (λ z. z.request) (some-same u own.0 (sym e ∙ own.1)) ∙ own.3 in
-        let one : n ≡ m = some-same n m (sym sq ∙ ap seq_of same ∙ q) in
+        let one : n ≡ m = some-same n m (sym sq ∙ ap sequence_of same ∙ q) in
         let before = (b.knows.lined.answered x a told inc u e number n sq).decided in
         absurd (omega arith)
 
-    replied : (x : ℕ) (a : Reply) (u : Ticket) (n : ℕ) → inc_of a ≡ c.who.inc → c.ticket ≡ Some u → u.xid ≡ x → seq_of u.request ≡ Some n → Told ps c.who.host (reply x a) ⊎ NewReply ps s t.server c.who.host x a → a ≡ verdict_reply c.who.inc line'.verdict line'.value u.request
+    replied : (x : ℕ) (a : Reply) (u : Ticket) (n : ℕ) → inc_of a ≡ c.who.inc → c.ticket ≡ Some u → u.xid ≡ x → sequence_of u.request ≡ Some n → Told ps c.who.host (reply x a) ⊎ NewReply ps s t.server c.who.host x a → a ≡ verdict_reply c.who.inc line'.verdict line'.value u.request
     replied x a u n inc e number sq (inl told) = old x a u n told inc e number sq f.line
-    replied x a u n inc e number sq (inr new) = step (new.verdict n (ap seq_of (sym same) ∙ sq))
+    replied x a u n inc e number sq (inr new) = step (new.verdict n (ap sequence_of (sym same) ∙ sq))
       where
         running : new.who.inc ≡ c.who.inc
         running = sym new.inc ∙ inc

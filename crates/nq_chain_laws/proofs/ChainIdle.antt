@@ -5,12 +5,12 @@ use Rattle.nq_base.specs.declared.Request.{Request}
 use Rattle.nq_base.specs.declared.Who.{Who}
 use Rattle.nq_chain_laws.proofs.ServerChains.{LineTo, line_stays, line_begins, line_decides}
 use Rattle.nq_chain_steps.proofs.ChainFacts.{line_for, ChainFits}
-use Rattle.nq_client_steps.proofs.ClientFacts.{Alone, seq_of, is_clean_in, fits_job}
+use Rattle.nq_client_steps.proofs.ClientFacts.{Alone, is_clean_in, fits_job}
 use Rattle.nq_client_steps.proofs.ClientMoves.{some-same, none-some}
 use Rattle.nq_model.specs.Client.{Client, attaching, Ticket, lease_on}
 use Rattle.nq_model.specs.ClientStep.{fresh_client, attached_client}
 use Rattle.nq_model.specs.LeaseInterval.{requested_file}
-use Rattle.nq_model.specs.Message.{Packet}
+use Rattle.nq_model.specs.Message.{Packet, sequence_of}
 use Rattle.nq_model.specs.Server.{Server}
 use Rattle.nq_run_steps.proofs.HostLine.{LineFits}
 
@@ -42,9 +42,9 @@ idle-fits s c ps idle above drawn = record {
   line = record {
     above = above;
     drawn = drawn;
-    last = λ t n e sq. let a = idle.asks t e in none-some n (ap seq_of (sym a.1) ∙ sq);
-    replied = λ x a t n told inc e number sq. let k = idle.asks t e in none-some n (ap seq_of (sym k.1) ∙ sq);
-    decided = λ t n e sq. let a = idle.asks t e in none-some n (ap seq_of (sym a.1) ∙ sq);
+    last = λ t n e sq. let a = idle.asks t e in none-some n (ap sequence_of (sym a.1) ∙ sq);
+    replied = λ x a t n told inc e number sq. let k = idle.asks t e in none-some n (ap sequence_of (sym k.1) ∙ sq);
+    decided = λ t n e sq. let a = idle.asks t e in none-some n (ap sequence_of (sym a.1) ∙ sq);
   };
 } where
   no-lease : (file : ℕ) → None ≡ lease_on file c.leases
@@ -95,7 +95,7 @@ waiting-after ps qs s t c a e lined h line = idle-fits t c qs (waiting-idle c a 
     drawn inc (line_decides x r w n v value sent by here i sq later is fits) =
         let running : w.inc ≡ c.who.inc = sym (ap (λ l. l.inc) is) ∙ inc in
         let attach : r ≡ Request.Attach w = lined.waiting e x r w sent by running in
-        none-some n (ap seq_of (sym attach) ∙ sq)
+        none-some n (ap sequence_of (sym attach) ∙ sq)
 
 -- a client that is attached from the start is idle
 pub start-idle : (who : Who) (term : ℕ) → IsIdle (attached_client who term 0)

@@ -16,13 +16,13 @@ use Rattle.nq_chain_steps.proofs.ChainLists.{fresh-undone}
 use Rattle.nq_chain_steps.specs.Chained.{OwnRow, is_done, has_done, has_done_write}
 use Rattle.nq_client_steps.proofs.ClientFacts.{changes_file}
 use Rattle.nq_client_steps.proofs.ClientMoves.{some-same, none-some}
-use Rattle.nq_lease_laws.proofs.ServerEffects.{same-seq, standing-serving}
+use Rattle.nq_lease_laws.proofs.ServerEffects.{standing-serving}
 use Rattle.nq_model.specs.Ask.{marked}
 use Rattle.nq_model.specs.Client.{Client, Ticket}
 use Rattle.nq_model.specs.Decide.{Decision, commits, row_after, decides, creates, writes_through, stores, wrote, stores_recovering, resizes, removes, puts_off}
 use Rattle.nq_model.specs.Kept.{File, Kept, find_file, replace_file, drop_file, new_file, written_file, resized_file, host_row, with_row, with_files, with_new_file}
 use Rattle.nq_model.specs.LeaseInterval.{requested_file}
-use Rattle.nq_model.specs.Message.{Packet, Datagram, request, asker}
+use Rattle.nq_model.specs.Message.{Packet, Datagram, request, asker, sequence_of}
 use Rattle.nq_model.specs.Server.{serving, Server, standing, quiet, drops, says, keeping, keeping_with, with_table, after_notices}
 use Rattle.nq_model.specs.ServerStep.{attaches, vacates, tells_later, serves, leases, receive}
 use Rattle.nq_model.specs.Table.{caches, is_writing, find_row, with_rows}
@@ -35,7 +35,7 @@ use Rattle.nq_server_steps.proofs.RowChanges.{no-clash}
 use Rattle.nq_server_steps.proofs.Rows.{same-number, number-same}
 use Rattle.nq_server_steps.proofs.ServerCases.{server-hears}
 use Rattle.nq_server_steps.proofs.ServerMoves.{first_line}
-use Rattle.nq_server_steps.proofs.ServerOutcomes.{sequence_of, line_of, clash_with, IsFrom, IsFresh, IsChanging, IsDeclined, bad_length, name_taken, no_room, not_kept, outside, no_row, not_under, not_over, not_while_recovering, bad_size, no_room_to_grow, ServerCases}
+use Rattle.nq_server_steps.proofs.ServerOutcomes.{line_of, clash_with, IsFrom, IsFresh, IsChanging, IsDeclined, bad_length, name_taken, no_room, not_kept, outside, no_row, not_under, not_over, not_while_recovering, bad_size, no_room_to_grow, ServerCases}
 
 -- what is declined is not done
 declined-undone : (s : Server) (w : Who) (r : Request) (v : Verdict) → IsDeclined s w r v → is_done v ≡ false
@@ -66,7 +66,7 @@ module _ (ps : List Packet) (s : Server) (sender next : ℕ) (d : Datagram) (eve
 
   -- a fresh request of the client's host is the one under way
   own-ticket : (x seq : ℕ) (r : Request) (w : Who) → d ≡ request x r → asker r ≡ Some w → sequence_of r ≡ Some seq → IsFresh s sender w seq → c.who.host ≡ w.host → (u : Ticket) × (c.ticket ≡ Some u) × (u.request ≡ r)
-  own-ticket x seq r w e by sq fresh here = step (b.knows.lined.settled b.kept x r w seq sent by inc (same-seq r ∙ sq))
+  own-ticket x seq r w e by sq fresh here = step (b.knows.lined.settled b.kept x r w seq sent by inc sq)
     where
       sent : Asked ps c.who.host x r
       sent = sent-own x r w e fresh.current.from.host here
@@ -79,7 +79,7 @@ module _ (ps : List Packet) (s : Server) (sender next : ℕ) (d : Datagram) (eve
       step (inr u) = (u.0, u.1, (b.mail.asked x r w sent by).same inc u.0 u.1 u.2)
 
   undone : (seq : ℕ) (r : Request) (w : Who) → sequence_of r ≡ Some seq → IsFresh s sender w seq → c.who.host ≡ w.host → (file : ℕ) → has_done (line_for s.kept c.who) c.who.inc file r ≡ false
-  undone seq r w sq fresh here file = fresh-undone (line_for s.kept c.who) c.who.inc file seq r (same-seq r ∙ sq) (λ e. above-own w seq fresh here)
+  undone seq r w sq fresh here file = fresh-undone (line_for s.kept c.who) c.who.inc file seq r sq (λ e. above-own w seq fresh here)
 
   -- the file stays where a decision does not change it
   stays : (kept : Kept) (t : Server) (x seq : ℕ) (r : Request) (w : Who) (k : Decision) → t.kept ≡ with_row kept w.host (row_after w seq k) → kept.hosts ≡ s.kept.hosts → d ≡ request x r → asker r ≡ Some w → sequence_of r ≡ Some seq → IsFresh s sender w seq → (file : ℕ) → find_file file t.kept.files ≡ find_file file s.kept.files → (c.who.host ≡ w.host → has_done (row_after w seq k) c.who.inc file r ≡ false) → FileMove s t c.who c.ticket file (Claimed file)

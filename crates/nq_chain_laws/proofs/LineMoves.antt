@@ -10,11 +10,10 @@ use Rattle.nq_base.specs.declared.Who.{Who}
 use Rattle.nq_chain_laws.proofs.ServerChains.{LineTo, line_stays, line_decides, NoneCaches, FileMove, file_stays, file_written, file_changed}
 use Rattle.nq_chain_steps.proofs.ChainFacts.{line_for, done_at, VerdictFits}
 use Rattle.nq_chain_steps.specs.Chained.{is_done, has_done, has_done_write}
-use Rattle.nq_client_steps.proofs.ClientFacts.{seq_of}
 use Rattle.nq_model.specs.Client.{Ticket}
 use Rattle.nq_model.specs.Decide.{Decision, row_after}
 use Rattle.nq_model.specs.Kept.{File, Kept, blocks_of, find_file, replace_file, written_file, fresh_row, host_row, with_row}
-use Rattle.nq_model.specs.Message.{Packet, asker}
+use Rattle.nq_model.specs.Message.{Packet, asker, sequence_of}
 use Rattle.nq_model.specs.Profile.{most_hosts}
 use Rattle.nq_model.specs.Server.{Server}
 use Rattle.nq_run_steps.proofs.Packets.{Asked}
@@ -29,7 +28,7 @@ pub line-same : (ps : List Packet) (s t : Server) (host : ℕ) → t.kept.hosts 
 line-same ps s t host same = line_stays (same-lines s.kept t.kept host same)
 
 -- a request is decided
-pub line-decided : (ps : List Packet) (s : Server) (kept : Kept) (t : Server) (host x seq : ℕ) (w : Who) (r : Request) (d : Decision) → t.kept ≡ with_row kept w.host (row_after w seq d) → kept.hosts ≡ s.kept.hosts → length s.kept.hosts ≡ most_hosts → w.host < most_hosts → (w.host ≡ host → Asked ps host x r) → asker r ≡ Some w → seq_of r ≡ Some seq → w.inc ≡ (host_row s.kept w.host).inc → (host_row s.kept w.host).seq < seq → VerdictFits r d.verdict d.value → LineTo ps s t host
+pub line-decided : (ps : List Packet) (s : Server) (kept : Kept) (t : Server) (host x seq : ℕ) (w : Who) (r : Request) (d : Decision) → t.kept ≡ with_row kept w.host (row_after w seq d) → kept.hosts ≡ s.kept.hosts → length s.kept.hosts ≡ most_hosts → w.host < most_hosts → (w.host ≡ host → Asked ps host x r) → asker r ≡ Some w → sequence_of r ≡ Some seq → w.inc ≡ (host_row s.kept w.host).inc → (host_row s.kept w.host).seq < seq → VerdictFits r d.verdict d.value → LineTo ps s t host
 line-decided ps s kept t host x seq w r d is same long few sent by sq inc above fits = step (host == w.host) refl
   where
     own : host_row (with_row kept w.host (row_after w seq d)) w.host ≡ row_after w seq d

@@ -13,12 +13,12 @@ use Rattle.nq_chain_laws.proofs.ServerChains.{RowOn, goes_on, vacated, supersede
 use Rattle.nq_chain_steps.proofs.ChainFacts.{line_for, done_at, rev_at, IsFenced, gone, ahead, earlier, IsBoundOrFenced, bound, fenced, IsPushed, ChainFits, StandsWriting, PushFits, PushesFit}
 use Rattle.nq_chain_steps.proofs.ChainLists.{fresh-undone}
 use Rattle.nq_chain_steps.specs.Chained.{due}
-use Rattle.nq_client_steps.proofs.ClientFacts.{seq_of, is_clean_in}
+use Rattle.nq_client_steps.proofs.ClientFacts.{is_clean_in}
 use Rattle.nq_client_steps.proofs.ClientMoves.{some-same, none-some}
 use Rattle.nq_client_steps.proofs.ClientWrites.{writes-under-way}
 use Rattle.nq_model.specs.Client.{Client, Ticket, is_push_of, push_passes}
 use Rattle.nq_model.specs.Kept.{File, find_file, host_row}
-use Rattle.nq_model.specs.Message.{Packet, asker}
+use Rattle.nq_model.specs.Message.{Packet, asker, sequence_of}
 use Rattle.nq_model.specs.Server.{Server, standing}
 use Rattle.nq_model.specs.Table.{is_writing, same_tag, tag_below, find_row, next_tag}
 use Rattle.nq_run_steps.proofs.ClientSteps.{KnowsOf}
@@ -79,7 +79,7 @@ pushes-running s events host c ps at kept boots knows mail h x w n file block fi
       unclean = writes-under-way file c.dirty c.push (subst (λ o. push_passes (is_push_of file) o ≡ true) (sym p.under_way) (number-same file file refl))
 
       undone : done_at s.kept c.who c.ticket file ≡ false
-      undone = ap (λ o. done_at s.kept c.who o file) asked ∙ fresh-undone (line_for s.kept c.who) c.who.inc file n u.request (ap seq_of is) (λ e. waits')
+      undone = ap (λ o. done_at s.kept c.who o file) asked ∙ fresh-undone (line_for s.kept c.who) c.who.inc file n u.request (ap sequence_of is) (λ e. waits')
 
       writing : is_writing p.lease.mode ≡ true
       writing = let l = h.writes.held file unclean in subst (λ z. is_writing z.mode ≡ true) (some-same l.0 p.lease (sym l.1 ∙ p.held)) l.2

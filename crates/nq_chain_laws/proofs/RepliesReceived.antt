@@ -12,16 +12,15 @@ use Rattle.nq_base.specs.declared.Want.{Want}
 use Rattle.nq_base.specs.declared.Who.{Who}
 use Rattle.nq_chain_laws.proofs.RowMoves.{at-least-more}
 use Rattle.nq_chain_laws.proofs.ServerChains.{NewGrant, NewReply}
-use Rattle.nq_client_steps.proofs.ClientFacts.{seq_of}
 use Rattle.nq_client_steps.proofs.ClientMoves.{some-same, none-some}
 use Rattle.nq_lease_laws.proofs.Covers.{granted-key}
-use Rattle.nq_lease_laws.proofs.ServerEffects.{same-seq, standing-serving, reads-no-seq}
+use Rattle.nq_lease_laws.proofs.ServerEffects.{standing-serving, reads-no-seq}
 use Rattle.nq_model.specs.Ask.{Question, marked, grant_of, sharing_row, caching_row, shared_again, renewed_row}
 use Rattle.nq_model.specs.Decide.{Decision, commits, row_after, decides, creates, writes_through, stores, wrote, stores_recovering, resizes, removes, puts_off, in_the_way, verdict_reply}
 use Rattle.nq_model.specs.Hear.{inc_of}
 use Rattle.nq_model.specs.Kept.{File, Kept, host_row, with_row, with_files, with_new_file}
 use Rattle.nq_model.specs.LeaseInterval.{is_at_least, grant_in, requested_file}
-use Rattle.nq_model.specs.Message.{Message, Packet, call, reply, Datagram, request, too_long, no_message, no_call, other_rpc, other_program, other_version, unknown_procedure, garbage_vacated, garbage, asker}
+use Rattle.nq_model.specs.Message.{Message, Packet, call, reply, Datagram, request, too_long, no_message, no_call, other_rpc, other_program, other_version, unknown_procedure, garbage_vacated, garbage, asker, sequence_of}
 use Rattle.nq_model.specs.Profile.{most_hosts, xid_end}
 use Rattle.nq_model.specs.Server.{serving, Server, ServerStep, standing, to_host, quiet, drops, says, notices, keeping, keeping_with, with_table, after_notices}
 use Rattle.nq_model.specs.ServerStep.{attaches, vacates, tells_later, serves, leases, to_read, access_of, receive}
@@ -33,7 +32,7 @@ use Rattle.nq_server_steps.proofs.AskCases.{own_in, IsGranted, shares_again, beg
 use Rattle.nq_server_steps.proofs.KeptChanges.{own-line}
 use Rattle.nq_server_steps.proofs.RowChanges.{find-put-same}
 use Rattle.nq_server_steps.proofs.ServerCases.{server-hears}
-use Rattle.nq_server_steps.proofs.ServerOutcomes.{error_for, sequence_of, only_asks, wanted_by, line_of, IsFrom, IsFresh, IsAsking, IsPlain, unattached, attached_again, not_yet, no_entry, entry, no_attributes, attributes, no_file, no_block, decided_again, is_old, ServerCases}
+use Rattle.nq_server_steps.proofs.ServerOutcomes.{error_for, only_asks, wanted_by, line_of, IsFrom, IsFresh, IsAsking, IsPlain, unattached, attached_again, not_yet, no_entry, entry, no_attributes, attributes, no_file, no_block, decided_again, is_old, ServerCases}
 
 -- ---- grants
 
@@ -133,7 +132,7 @@ module _ (ps : List Packet) (s : Server) (sender next : ℕ) (d : Datagram) (was
   sent-to x r w e from = subst (λ n. Asked ps n x r) (sym from) (was_sent x r e)
 
   -- a reply to a request without a sequence, with or without a grant
-  plain-new : (t : Server) (x : ℕ) (r : Request) (w : Who) (a : Reply) → d ≡ request x r → asker r ≡ Some w → w.host ≡ sender → inc_of a ≡ w.inc → seq_of r ≡ None → ((g : Grant) → grant_in a ≡ Some g → (file : ℕ) → requested_file r ≡ Some file → NewGrant s t w file g) → (host y : ℕ) (k : Reply) → Told (to_host w.host (reply x a) ∷ []) host (reply y k) → NewReply ps s t host y k
+  plain-new : (t : Server) (x : ℕ) (r : Request) (w : Who) (a : Reply) → d ≡ request x r → asker r ≡ Some w → w.host ≡ sender → inc_of a ≡ w.inc → sequence_of r ≡ None → ((g : Grant) → grant_in a ≡ Some g → (file : ℕ) → requested_file r ≡ Some file → NewGrant s t w file g) → (host y : ℕ) (k : Reply) → Told (to_host w.host (reply x a) ∷ []) host (reply y k) → NewReply ps s t host y k
   plain-new t x r w a e by from inc none grants = one t w.host (reply x a) (λ y k is.
       let m = reply-same x y a k is in
       subst (λ n. NewReply ps s t w.host n k) m.0 (subst (λ z. NewReply ps s t w.host x z) m.1 (record {
@@ -147,7 +146,7 @@ module _ (ps : List Packet) (s : Server) (sender next : ℕ) (d : Datagram) (was
         grants = grants;
       })))
 
-  asks-plain : (r : Request) → only_asks r ≡ true → seq_of r ≡ None
+  asks-plain : (r : Request) → only_asks r ≡ true → sequence_of r ≡ None
   asks-plain (Request.Lookup w name) e = refl
   asks-plain (Request.GetAttr w file) e = refl
   asks-plain (Request.Read w q file block want) e = refl
@@ -155,18 +154,18 @@ module _ (ps : List Packet) (s : Server) (sender next : ℕ) (d : Datagram) (was
   asks-plain r e = absurd (cc)
 
   -- what a plain reply is to a request with a sequence
-  plain-verdict : (w : Who) (r : Request) (a : Reply) → IsPlain s w r a → (n : ℕ) → seq_of r ≡ Some n → ((line_of s w).seq ≡ n × (a ≡ verdict_reply w.inc (line_of s w).verdict (line_of s w).value r)) ⊎ ((n < (line_of s w).seq) ⊎ ((line_of s w).inc < w.inc))
+  plain-verdict : (w : Who) (r : Request) (a : Reply) → IsPlain s w r a → (n : ℕ) → sequence_of r ≡ Some n → ((line_of s w).seq ≡ n × (a ≡ verdict_reply w.inc (line_of s w).verdict (line_of s w).value r)) ⊎ ((n < (line_of s w).seq) ⊎ ((line_of s w).inc < w.inc))
   plain-verdict w r a (unattached later other is) n sq = inr (inr later)
-  plain-verdict w r a (attached_again asks inc is) n sq = none-some n (ap seq_of (sym asks) ∙ sq)
+  plain-verdict w r a (attached_again asks inc is) n sq = none-some n (ap sequence_of (sym asks) ∙ sq)
   plain-verdict w r a (not_yet inc recovers only is) n sq = none-some n (sym (asks-plain r only) ∙ sq)
-  plain-verdict w r a (no_entry name inc p asks none is) n sq = none-some n (ap seq_of (sym asks) ∙ sq)
-  plain-verdict w r a (entry name f inc p asks found is) n sq = none-some n (ap seq_of (sym asks) ∙ sq)
-  plain-verdict w r a (no_attributes file inc p asks none is) n sq = none-some n (ap seq_of (sym asks) ∙ sq)
-  plain-verdict w r a (attributes file f inc p asks found is) n sq = none-some n (ap seq_of (sym asks) ∙ sq)
+  plain-verdict w r a (no_entry name inc p asks none is) n sq = none-some n (ap sequence_of (sym asks) ∙ sq)
+  plain-verdict w r a (entry name f inc p asks found is) n sq = none-some n (ap sequence_of (sym asks) ∙ sq)
+  plain-verdict w r a (no_attributes file inc p asks none is) n sq = none-some n (ap sequence_of (sym asks) ∙ sq)
+  plain-verdict w r a (attributes file f inc p asks found is) n sq = none-some n (ap sequence_of (sym asks) ∙ sq)
   plain-verdict w r a (no_file file inc p on none is) n sq = none-some n (sym (reads-no-seq r file on) ∙ sq)
-  plain-verdict w r a (no_block q file block want f inc p asks found none is) n sq = none-some n (ap seq_of (sym asks) ∙ sq)
-  plain-verdict w r a (decided_again seq inc drawn same is) n sq = inl (sym same ∙ some-same seq n (sym drawn ∙ sym (same-seq r) ∙ sq), is)
-  plain-verdict w r a (is_old seq inc drawn below is) n sq = let one : seq ≡ n = some-same seq n (sym drawn ∙ sym (same-seq r) ∙ sq) in inr (inl (omega arith))
+  plain-verdict w r a (no_block q file block want f inc p asks found none is) n sq = none-some n (ap sequence_of (sym asks) ∙ sq)
+  plain-verdict w r a (decided_again seq inc drawn same is) n sq = inl (sym same ∙ some-same seq n (sym drawn ∙ sq), is)
+  plain-verdict w r a (is_old seq inc drawn below is) n sq = let one : seq ≡ n = some-same seq n (sym drawn ∙ sq) in inr (inl (omega arith))
 
   plain-replies : (x : ℕ) (w : Who) (r : Request) (a : Reply) → d ≡ request x r → asker r ≡ Some w → IsFrom sender w → IsPlain s w r a → (host y : ℕ) (k : Reply) → Told (to_host w.host (reply x a) ∷ []) host (reply y k) → NewReply ps s s host y k
   plain-replies x w r a e by from plain = one s w.host (reply x a) (λ y k is.
@@ -193,7 +192,7 @@ module _ (ps : List Packet) (s : Server) (sender next : ℕ) (d : Datagram) (was
         by = by;
         same_host = refl;
         inc = verdict-inc w.inc k.verdict k.value r seq sq;
-        verdict = λ n q. inl (ap (λ l. l.seq) line ∙ some-same seq n (sym sq ∙ sym (same-seq r) ∙ q), ap (λ l. verdict_reply w.inc l.verdict l.value r) (sym line));
+        verdict = λ n q. inl (ap (λ l. l.seq) line ∙ some-same seq n (sym sq ∙ q), ap (λ l. verdict_reply w.inc l.verdict l.value r) (sym line));
         grants = λ g gives. none-some g (sym (verdict-grant w.inc k.verdict k.value r) ∙ gives);
       })))
     where

@@ -10,11 +10,10 @@ use Rattle.nq_chain_laws.proofs.RowMoves.{rows-same, rows-marked, rows-granted, 
 use Rattle.nq_chain_laws.proofs.ServerChains.{RowsMove, LineTo, line_stays, line_begins, FilesGrow, rev_stays, rev_rises, rev_gone}
 use Rattle.nq_chain_steps.proofs.ChainFacts.{VerdictFits}
 use Rattle.nq_client_steps.proofs.ClientMoves.{none-some}
-use Rattle.nq_lease_laws.proofs.ServerEffects.{same-seq}
 use Rattle.nq_model.specs.Ask.{marked}
 use Rattle.nq_model.specs.Decide.{Decision, commits, row_after, decides, creates, writes_through, stores, wrote, stores_recovering, resizes, removes, puts_off}
 use Rattle.nq_model.specs.Kept.{File, Kept, find_file, replace_file, drop_file, new_file, written_file, resized_file, host_row, with_row, with_files, with_new_file}
-use Rattle.nq_model.specs.Message.{Packet, Datagram, request, asker}
+use Rattle.nq_model.specs.Message.{Packet, Datagram, request, asker, sequence_of}
 use Rattle.nq_model.specs.Server.{serving, Server, quiet, drops, says, keeping, keeping_with, with_table, after_notices}
 use Rattle.nq_model.specs.ServerStep.{attaches, vacates, tells_later, serves, leases, to_read, access_of, receive}
 use Rattle.nq_model.specs.Table.{find_row, with_rows, after_draw}
@@ -26,7 +25,7 @@ use Rattle.nq_server_steps.proofs.RowChanges.{HasUniqueKeys}
 use Rattle.nq_server_steps.proofs.Rows.{found-row, same-number, number-same}
 use Rattle.nq_server_steps.proofs.ServerCases.{server-hears}
 use Rattle.nq_server_steps.proofs.ServerMoves.{first_line}
-use Rattle.nq_server_steps.proofs.ServerOutcomes.{sequence_of, base_in, wanted_by, line_of, IsFrom, IsFresh, IsDeclined, bad_length, name_taken, no_room, not_kept, outside, no_row, not_under, not_over, not_while_recovering, bad_size, no_room_to_grow, ServerCases}
+use Rattle.nq_server_steps.proofs.ServerOutcomes.{base_in, wanted_by, line_of, IsFrom, IsFresh, IsDeclined, bad_length, name_taken, no_room, not_kept, outside, no_row, not_under, not_over, not_while_recovering, bad_size, no_room_to_grow, ServerCases}
 use Rattle.nq_server_steps.proofs.TableFits.{TableFits}
 
 module _ (ps : List Packet) (s : Server) (sender next : ℕ) (d : Datagram) (host : ℕ) (was_sent : (x : ℕ) (r : Request) → d ≡ request x r → Asked ps sender x r) (stood : StandingFitsOf s) (lines : LinesFitOf s) where
@@ -118,7 +117,7 @@ module _ (ps : List Packet) (s : Server) (sender next : ℕ) (d : Datagram) (hos
   declined-fits w r v value (no_room_to_grow seq q file blocks f p is found to) = subst (λ z. VerdictFits r z value) (sym to) (subst (λ z. VerdictFits z Verdict.NoSpace value) (sym is) tt)
 
   decided-line : (kept : Kept) (t : Server) (x seq : ℕ) (w : Who) (r : Request) (k : Decision) → t.kept ≡ with_row kept w.host (row_after w seq k) → kept.hosts ≡ s.kept.hosts → d ≡ request x r → asker r ≡ Some w → sequence_of r ≡ Some seq → IsFresh s sender w seq → VerdictFits r k.verdict k.value → LineTo ps s t host
-  decided-line kept t x seq w r k is same e by sq fresh fits = line-decided ps s kept t host x seq w r k is same lines fresh.current.from.possible (sent-here x r w e fresh.current.from.host) by (same-seq r ∙ sq) fresh.current.inc fresh.above fits
+  decided-line kept t x seq w r k is same e by sq fresh fits = line-decided ps s kept t host x seq w r k is same lines fresh.current.from.possible (sent-here x r w e fresh.current.from.host) by sq fresh.current.inc fresh.above fits
 
   lines-cases : ServerCases s sender next d (λ t. LineTo ps s t.server host)
   unfolding quiet drops says attaches vacates tells_later serves leases commits decides creates writes_through stores wrote stores_recovering resizes removes puts_off keeping keeping_with with_table after_notices with_files with_new_file

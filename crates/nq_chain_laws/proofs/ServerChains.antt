@@ -10,13 +10,12 @@ use Rattle.nq_base.specs.declared.Verdict.{Verdict}
 use Rattle.nq_base.specs.declared.Who.{Who}
 use Rattle.nq_chain_steps.proofs.ChainFacts.{line_for, done_at, VerdictFits}
 use Rattle.nq_chain_steps.specs.Chained.{OwnRow}
-use Rattle.nq_client_steps.proofs.ClientFacts.{seq_of}
 use Rattle.nq_model.specs.Client.{Lease, Ticket, lease_on}
 use Rattle.nq_model.specs.Decide.{verdict_reply}
 use Rattle.nq_model.specs.Hear.{inc_of}
 use Rattle.nq_model.specs.Kept.{File, blocks_of, find_file, host_row}
 use Rattle.nq_model.specs.LeaseInterval.{is_at_least, grant_in, requested_file}
-use Rattle.nq_model.specs.Message.{Packet, reply, asker}
+use Rattle.nq_model.specs.Message.{Packet, reply, asker, sequence_of}
 use Rattle.nq_model.specs.Server.{serving, Server, ServerStep, standing}
 use Rattle.nq_model.specs.Table.{Table, caches, is_writing, same_tag, find_row, next_tag}
 use Rattle.nq_run_steps.proofs.CoverFacts.{IsTakeable}
@@ -55,7 +54,7 @@ pub record RowsMove (ps : List Packet) (s t : Server) (host : ℕ) : Type 0 wher
 pub data LineTo (ps : List Packet) (s t : Server) (host : ℕ) : Type 0 where
   line_stays : host_row t.kept host ≡ host_row s.kept host → LineTo ps s t host
   line_begins : (x : ℕ) (w : Who) → Asked ps host x (Request.Attach w) → w.host ≡ host → (host_row s.kept host).inc < w.inc → (host_row t.kept host).inc ≡ w.inc → (host_row t.kept host).seq ≡ 0 → LineTo ps s t host
-  line_decides : (x : ℕ) (r : Request) (w : Who) (n : ℕ) (v : Verdict) (value : ℕ) → Asked ps host x r → asker r ≡ Some w → w.host ≡ host → w.inc ≡ (host_row s.kept host).inc → seq_of r ≡ Some n → (host_row s.kept host).seq < n → host_row t.kept host ≡ record { inc = w.inc; seq = n; verdict = v; value = value } → VerdictFits r v value → LineTo ps s t host
+  line_decides : (x : ℕ) (r : Request) (w : Who) (n : ℕ) (v : Verdict) (value : ℕ) → Asked ps host x r → asker r ≡ Some w → w.host ≡ host → w.inc ≡ (host_row s.kept host).inc → sequence_of r ≡ Some n → (host_row s.kept host).seq < n → host_row t.kept host ≡ record { inc = w.inc; seq = n; verdict = v; value = value } → VerdictFits r v value → LineTo ps s t host
 
 -- ---- files
 
@@ -115,7 +114,7 @@ pub record NewReply (ps : List Packet) (s t : Server) (host x : ℕ) (a : Reply)
   pub by : asker asks ≡ Some who
   pub same_host : who.host ≡ host
   pub inc : inc_of a ≡ who.inc
-  pub verdict : (n : ℕ) → seq_of asks ≡ Some n → ((host_row t.kept host).seq ≡ n × (a ≡ verdict_reply who.inc (host_row t.kept host).verdict (host_row t.kept host).value asks)) ⊎ ((n < (host_row s.kept host).seq) ⊎ ((host_row s.kept host).inc < who.inc))
+  pub verdict : (n : ℕ) → sequence_of asks ≡ Some n → ((host_row t.kept host).seq ≡ n × (a ≡ verdict_reply who.inc (host_row t.kept host).verdict (host_row t.kept host).value asks)) ⊎ ((n < (host_row s.kept host).seq) ⊎ ((host_row s.kept host).inc < who.inc))
   pub grants : (g : Grant) → grant_in a ≡ Some g → (file : ℕ) → requested_file asks ≡ Some file → NewGrant s t who file g
 
 -- ---- all of it

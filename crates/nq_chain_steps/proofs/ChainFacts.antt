@@ -15,13 +15,13 @@ use Rattle.nq_base.specs.declared.Verdict.{Verdict}
 use Rattle.nq_base.specs.declared.Want.{Want}
 use Rattle.nq_base.specs.declared.Who.{Who}
 use Rattle.nq_chain_steps.specs.Chained.{OwnRow, IsChained, has_done_write, due, KnowsFile}
-use Rattle.nq_client_steps.proofs.ClientFacts.{seq_of, is_clean_in}
+use Rattle.nq_client_steps.proofs.ClientFacts.{is_clean_in}
 use Rattle.nq_model.specs.Client.{Client, for_call, Lease, Revision, Ticket, UnderWay, lease_on, revision_of, revision_or_zero}
 use Rattle.nq_model.specs.Decide.{verdict_reply}
 use Rattle.nq_model.specs.Hear.{inc_of}
 use Rattle.nq_model.specs.Kept.{File, Kept, find_file, host_row}
 use Rattle.nq_model.specs.LeaseInterval.{is_at_least}
-use Rattle.nq_model.specs.Message.{Packet, reply}
+use Rattle.nq_model.specs.Message.{Packet, reply, sequence_of}
 use Rattle.nq_model.specs.Server.{Server, standing}
 use Rattle.nq_model.specs.Table.{Table, caches, is_writing, tag_below}
 use Rattle.nq_run_steps.proofs.CoverFacts.{IsTakeable}
@@ -142,11 +142,11 @@ pub record LineChains (kept : Kept) (who : Who) (seq : ℕ) (ticket : Option Tic
   -- sequences are above 0; the kept one was drawn, and that of the request under way was drawn last
   pub above : 0 < seq
   pub drawn : (line_for kept who).inc ≡ who.inc → (line_for kept who).seq < seq
-  pub last : (t : Ticket) (n : ℕ) → ticket ≡ Some t → seq_of t.request ≡ Some n → n + 1 ≡ seq
+  pub last : (t : Ticket) (n : ℕ) → ticket ≡ Some t → sequence_of t.request ≡ Some n → n + 1 ≡ seq
   -- a reply to it is what the kept verdict and value give
-  pub replied : (x : ℕ) (a : Reply) (t : Ticket) (n : ℕ) → Told ps who.host (reply x a) → inc_of a ≡ who.inc → ticket ≡ Some t → t.xid ≡ x → seq_of t.request ≡ Some n → a ≡ verdict_reply who.inc (line_for kept who).verdict (line_for kept who).value t.request
+  pub replied : (x : ℕ) (a : Reply) (t : Ticket) (n : ℕ) → Told ps who.host (reply x a) → inc_of a ≡ who.inc → ticket ≡ Some t → t.xid ≡ x → sequence_of t.request ≡ Some n → a ≡ verdict_reply who.inc (line_for kept who).verdict (line_for kept who).value t.request
   -- where it was decided, the verdict is one that it can have
-  pub decided : (t : Ticket) (n : ℕ) → ticket ≡ Some t → seq_of t.request ≡ Some n → (line_for kept who).inc ≡ who.inc → (line_for kept who).seq ≡ n → VerdictFits t.request (line_for kept who).verdict (line_for kept who).value
+  pub decided : (t : Ticket) (n : ℕ) → ticket ≡ Some t → sequence_of t.request ≡ Some n → (line_for kept who).inc ≡ who.inc → (line_for kept who).seq ≡ n → VerdictFits t.request (line_for kept who).verdict (line_for kept who).value
 
 -- ---- all of a client
 

@@ -6,12 +6,13 @@ use Rattle.nq_base.specs.declared.Push.{Push}
 use Rattle.nq_base.specs.declared.Request.{Request}
 use Rattle.nq_chain_steps.proofs.ChainFacts.{rev_at}
 use Rattle.nq_chain_steps.specs.Chained.{is_done, has_done}
-use Rattle.nq_client_steps.proofs.ClientFacts.{seq_of, is_clean_in}
+use Rattle.nq_client_steps.proofs.ClientFacts.{is_clean_in}
 use Rattle.nq_client_steps.proofs.ClientLists.{other-number, number-other, marked-before, marked-tag, marked-mode, marked-expiry, lease-before-drop, other-lease-dropped, used-lease-found}
 use Rattle.nq_client_steps.proofs.ClientMoves.{some-same, none-some}
 use Rattle.nq_client_steps.proofs.ClientWrites.{has-writes, writes-in-list, writes-under-way}
 use Rattle.nq_model.specs.Client.{Lease, Revision, lease_on, drop_lease, used_lease, marked_used, is_push_of, is_push_at, first_dirty, push_passes, drop_dirty, other_dirty, revision_of, revision_or_zero, put_revision}
 use Rattle.nq_model.specs.Hear.{other_push}
+use Rattle.nq_model.specs.Message.{sequence_of}
 use Rattle.nq_model.specs.Settle.{overwritten_at, with_write}
 use Rattle.nq_server_steps.proofs.Rows.{find-filter, same-number, number-same, false-not}
 
@@ -218,13 +219,13 @@ all-four true true false d not_both = refl
 all-four true true true d not_both = absurd (not_both refl refl)
 
 -- a request of a sequence above the kept one was not done
-pub fresh-undone : (line : HostRow) (inc file n : ℕ) (r : Request) → seq_of r ≡ Some n → (line.inc ≡ inc → line.seq < n) → has_done line inc file r ≡ false
+pub fresh-undone : (line : HostRow) (inc file n : ℕ) (r : Request) → sequence_of r ≡ Some n → (line.inc ≡ inc → line.seq < n) → has_done line inc file r ≡ false
 fresh-undone line inc file n (Request.Write w seq f block first last push body) s later =
     all-four (f == file) (line.inc == inc) (line.seq == seq) (is_done line.verdict)
     (λ a b. let below = later (same-number line.inc inc a) in let same : line.seq ≡ seq = same-number line.seq seq b in let one : seq ≡ n = some-same seq n s in absurd (omega arith))
 fresh-undone line inc file n other s later = refl
 
 -- nor was one without a sequence
-pub plain-undone : (line : HostRow) (inc file : ℕ) (r : Request) → seq_of r ≡ None → has_done line inc file r ≡ false
+pub plain-undone : (line : HostRow) (inc file : ℕ) (r : Request) → sequence_of r ≡ None → has_done line inc file r ≡ false
 plain-undone line inc file (Request.Write w seq f block first last push body) s = none-some seq (sym s)
 plain-undone line inc file other s = refl

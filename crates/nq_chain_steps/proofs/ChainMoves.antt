@@ -11,7 +11,7 @@ use Rattle.nq_base.specs.declared.Who.{Who}
 use Rattle.nq_chain_steps.proofs.ChainFacts.{VerdictFits, line_for, done_at, rev_at, HeldChains, GrantFits, GivenChains, IsBoundOrFenced, IsPushed, file_written, WriteChains, LineChains}
 use Rattle.nq_chain_steps.proofs.ChainLists.{WasLease, was-used, was-dropped, StillLease, still-used, still-dropped}
 use Rattle.nq_chain_steps.specs.Chained.{IsChained, has_done, due, KnowsFile}
-use Rattle.nq_client_steps.proofs.ClientFacts.{seq_of, is_clean_in}
+use Rattle.nq_client_steps.proofs.ClientFacts.{is_clean_in}
 use Rattle.nq_client_steps.proofs.ClientMoves.{some-same, none-some}
 use Rattle.nq_client_steps.proofs.ClientWrites.{writes-under-way}
 use Rattle.nq_model.specs.Client.{Job, for_call, Lease, Revision, Ticket, UnderWay, lease_on, drop_lease, used_lease, is_push_of, push_passes, revision_of}
@@ -19,7 +19,7 @@ use Rattle.nq_model.specs.Decide.{verdict_reply}
 use Rattle.nq_model.specs.Hear.{wants_of, inc_of, cancelled}
 use Rattle.nq_model.specs.Kept.{Kept}
 use Rattle.nq_model.specs.LeaseInterval.{is_at_least, requested_file}
-use Rattle.nq_model.specs.Message.{Packet, reply}
+use Rattle.nq_model.specs.Message.{Packet, reply, sequence_of}
 use Rattle.nq_model.specs.Server.{Server, standing}
 use Rattle.nq_model.specs.Settle.{ticket_is_for_call}
 use Rattle.nq_model.specs.Table.{Table, caches, is_writing, tag_below}
@@ -230,13 +230,13 @@ module _ (s : Server) (ps : List Packet) where
     line = record {
       above = h.line.above;
       drawn = h.line.drawn;
-      last = λ w n e sq. h.line.last t n refl (ap seq_of (sym request ∙ ap (λ z. z.request) (some-same u w e)) ∙ sq);
+      last = λ w n e sq. h.line.last t n refl (ap sequence_of (sym request ∙ ap (λ z. z.request) (some-same u w e)) ∙ sq);
       replied = λ x a w n told inc e number sq.
           let same = sym request ∙ ap (λ z. z.request) (some-same u w e) in
-          h.line.replied x a t n told inc refl (sym xid ∙ ap (λ z. z.xid) (some-same u w e) ∙ number) (ap seq_of same ∙ sq) ∙ ap (λ r. verdict_reply v.who.inc (line_for s.kept v.who).verdict (line_for s.kept v.who).value r) same;
+          h.line.replied x a t n told inc refl (sym xid ∙ ap (λ z. z.xid) (some-same u w e) ∙ number) (ap sequence_of same ∙ sq) ∙ ap (λ r. verdict_reply v.who.inc (line_for s.kept v.who).verdict (line_for s.kept v.who).value r) same;
       decided = λ w n e sq kept is.
           let same = sym request ∙ ap (λ z. z.request) (some-same u w e) in
-          subst (λ r. VerdictFits r (line_for s.kept v.who).verdict (line_for s.kept v.who).value) same (h.line.decided t n refl (ap seq_of same ∙ sq) kept is);
+          subst (λ r. VerdictFits r (line_for s.kept v.who).verdict (line_for s.kept v.who).value) same (h.line.decided t n refl (ap sequence_of same ∙ sq) kept is);
     };
     live = h.live;
     fresh = h.fresh;
@@ -260,8 +260,8 @@ module _ (s : Server) (ps : List Packet) where
     pub free : v.ticket ≡ None
     pub no_fewer : v.seq ≤ seq
     pub undone : (file : ℕ) → has_done (line_for s.kept v.who) v.who.inc file request ≡ false
-    pub last : (n : ℕ) → seq_of request ≡ Some n → n + 1 ≡ seq
-    pub above : (n : ℕ) → seq_of request ≡ Some n → (line_for s.kept v.who).inc ≡ v.who.inc → (line_for s.kept v.who).seq < n
+    pub last : (n : ℕ) → sequence_of request ≡ Some n → n + 1 ≡ seq
+    pub above : (n : ℕ) → sequence_of request ≡ Some n → (line_for s.kept v.who).inc ≡ v.who.inc → (line_for s.kept v.who).seq < n
     pub unclean : (file : ℕ) → is_clean_in file dirty push ≡ false → is_clean_in file v.dirty v.push ≡ false
     pub pushed : (w : Who) (n file block first last : ℕ) (base : PushBase) (body : List ℕ) → request ≡ Request.Write w n file block first last (Some base) body → IsPushed v.leases v.revisions push file base (record { file = file; block = block; first = first; last = last; body = body })
     pub through : (w : Who) (n file block first last : ℕ) (body : List ℕ) → job ≡ for_call → request ≡ Request.Write w n file block first last None body → is_clean_in file dirty push ≡ true
@@ -288,9 +288,9 @@ module _ (s : Server) (ps : List Packet) where
     line = record {
       above = let some = h.line.above in let more = k.no_fewer in omega arith;
       drawn = λ kept. let below = h.line.drawn kept in let more = k.no_fewer in omega arith;
-      last = λ t n e sq. k.last n (ap (λ z. seq_of z.request) (some-same (new_ticket v job request) t e) ∙ sq);
+      last = λ t n e sq. k.last n (ap (λ z. sequence_of z.request) (some-same (new_ticket v job request) t e) ∙ sq);
       replied = λ x a t n told inc e number sq. absurd (unanswered t e x a told inc number);
-      decided = λ t n e sq kept is. let above = k.above n (ap (λ z. seq_of z.request) (some-same (new_ticket v job request) t e) ∙ sq) kept in absurd (omega arith);
+      decided = λ t n e sq kept is. let above = k.above n (ap (λ z. sequence_of z.request) (some-same (new_ticket v job request) t e) ∙ sq) kept in absurd (omega arith);
     };
     live = h.live;
     fresh = λ x a told inc. let below = h.fresh x a told inc in omega arith;

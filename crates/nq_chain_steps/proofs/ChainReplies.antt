@@ -20,14 +20,14 @@ use Rattle.nq_chain_steps.specs.Chained.{is_done, has_done, due}
 use Rattle.nq_client_cases.proofs.PartCases.{answers-call-cases, vacates-noticed-cases, reports-cases, if-broken-cases, takes-optional-cases, lease-done-cases, then-caches-cases, caches-write-cases, caches-push-cases, vacates-if-clean-cases}
 use Rattle.nq_client_cases.proofs.RepliedCases.{OfCall, IsNamed, looked_up, created, attributes, replied-cases}
 use Rattle.nq_client_cases.proofs.StepCases.{evicted-cases}
-use Rattle.nq_client_steps.proofs.ClientFacts.{Alone, seq_of, changes_file}
+use Rattle.nq_client_steps.proofs.ClientFacts.{Alone, changes_file}
 use Rattle.nq_client_steps.proofs.ClientLists.{number-other}
 use Rattle.nq_client_steps.proofs.ClientMoves.{some-same, none-some}
 use Rattle.nq_model.specs.Client.{Client, ClientStep, begun, Lease, Ticket, UnderWay, lease_on, drop_lease, notice_on, is_clean}
 use Rattle.nq_model.specs.Decide.{verdict_reply}
 use Rattle.nq_model.specs.Hear.{vacates_lease, vacates_noticed, loses, without_lease, push_refused, breaks, breaks_chain, holds, takes_grant, takes_optional, answers_call, caches_block, then_caches, read_done, with_through, marks_through, lease_done, purges, knows_revision, write_done, ends_push, caches_push, push_done, spends, attached, pauses, replied, reply_counts, cancels, notes_notice, evicted}
 use Rattle.nq_model.specs.LeaseInterval.{grant_in, requested_file}
-use Rattle.nq_model.specs.Message.{Packet}
+use Rattle.nq_model.specs.Message.{Packet, sequence_of}
 use Rattle.nq_model.specs.Server.{Server}
 use Rattle.nq_model.specs.Settle.{answers, names_losses, ticket_is_for_call}
 use Rattle.nq_model.specs.Table.{tag_below}
@@ -240,7 +240,7 @@ tells-done inc i rev value Verdict.Stale w n file block first last push body e =
 tells-done inc i rev value Verdict.TryLater w n file block first last push body e = absurd (cc)
 
 -- a refusal is that of another verdict
-refused-undone : (inc i value : ℕ) (status : Refusal) (v : Verdict) (r : Request) (n : ℕ) → seq_of r ≡ Some n → Reply.Refused i status ≡ verdict_reply inc v value r → is_done v ≡ false
+refused-undone : (inc i value : ℕ) (status : Refusal) (v : Verdict) (r : Request) (n : ℕ) → sequence_of r ≡ Some n → Reply.Refused i status ≡ verdict_reply inc v value r → is_done v ≡ false
 refused-undone inc i value status Verdict.Done (Request.Create w seq name blocks) n sq e = absurd (cc)
 refused-undone inc i value status Verdict.Done (Request.Write w seq file block first last push body) n sq e = absurd (cc)
 refused-undone inc i value status Verdict.Done (Request.Resize w seq q file blocks) n sq e = absurd (cc)
@@ -276,7 +276,7 @@ pub record Answered (s : Server) (ps : List Packet) (c : Client) (ticket : Ticke
   pub asked : c.ticket ≡ Some ticket
   pub alone : Alone c
   pub counts : reply_counts r ticket ≡ true
-  pub decided : (n : ℕ) → seq_of ticket.request ≡ Some n → ((line_for s.kept c.who).inc ≡ c.who.inc) × ((line_for s.kept c.who).seq ≡ n) × (r ≡ verdict_reply c.who.inc (line_for s.kept c.who).verdict (line_for s.kept c.who).value ticket.request)
+  pub decided : (n : ℕ) → sequence_of ticket.request ≡ Some n → ((line_for s.kept c.who).inc ≡ c.who.inc) × ((line_for s.kept c.who).seq ≡ n) × (r ≡ verdict_reply c.who.inc (line_for s.kept c.who).verdict (line_for s.kept c.who).value ticket.request)
   pub ready : (file : ℕ) (g : Grant) → requested_file ticket.request ≡ Some file → grant_in r ≡ Some g → Ready s (view_of (begun c)) file g ticket.first
 
 module _ (s : Server) (ps : List Packet) (c : Client) (number : ℕ) (ticket : Ticket) (r : Reply) (h : MidOf s ps (begun c)) (k : Answered s ps c ticket r) where
@@ -295,14 +295,14 @@ module _ (s : Server) (ps : List Packet) (c : Client) (number : ℕ) (ticket : T
   unfolding spends
   spent-free = refl
 
-  plain : (q : Request) → ticket.request ≡ q → seq_of q ≡ None → MidOf s ps (spends (begun c))
+  plain : (q : Request) → ticket.request ≡ q → sequence_of q ≡ None → MidOf s ps (spends (begun c))
   plain q is none = mid-unasked (undone-as q is (λ file. plain-undone line c.who.inc file q none))
 
   -- a refusal
   refused-plain : (inc : ℕ) (status : Refusal) → r ≡ Reply.Refused inc status → MidOf s ps (spends (begun c))
-  refused-plain inc status is = mid-unasked (undone-as ticket.request refl (λ file. step (seq_of ticket.request) refl file))
+  refused-plain inc status is = mid-unasked (undone-as ticket.request refl (λ file. step (sequence_of ticket.request) refl file))
     where
-      step : (o : Option ℕ) → seq_of ticket.request ≡ o → (file : ℕ) → has_done line c.who.inc file ticket.request ≡ false
+      step : (o : Option ℕ) → sequence_of ticket.request ≡ o → (file : ℕ) → has_done line c.who.inc file ticket.request ≡ false
       step None e file = plain-undone line c.who.inc file ticket.request e
       step (Some n) e file = let d = k.decided n e in undone-file line c.who.inc file ticket.request (refused-undone c.who.inc inc line.value status line.verdict ticket.request n e (sym is ∙ d.2))
 
@@ -323,7 +323,7 @@ module _ (s : Server) (ps : List Packet) (c : Client) (number : ℕ) (ticket : T
   }) h
     where
       d : ((line_for s.kept c.who).inc ≡ c.who.inc) × ((line_for s.kept c.who).seq ≡ seq) × (r ≡ verdict_reply c.who.inc (line_for s.kept c.who).verdict (line_for s.kept c.who).value ticket.request)
-      d = k.decided seq (ap seq_of of.asks)
+      d = k.decided seq (ap sequence_of of.asks)
 
       told : (is_done line.verdict ≡ true) × (rev ≡ line.value)
       told = tells-done c.who.inc inc rev line.value line.verdict w seq file block first last None body (sym is ∙ d.2 ∙ ap (verdict_reply c.who.inc line.verdict line.value) of.asks)
@@ -346,7 +346,7 @@ module _ (s : Server) (ps : List Packet) (c : Client) (number : ℕ) (ticket : T
   }) h
     where
       d : ((line_for s.kept c.who).inc ≡ c.who.inc) × ((line_for s.kept c.who).seq ≡ seq) × (r ≡ verdict_reply c.who.inc (line_for s.kept c.who).verdict (line_for s.kept c.who).value ticket.request)
-      d = k.decided seq (ap seq_of asks)
+      d = k.decided seq (ap sequence_of asks)
 
       told : (is_done line.verdict ≡ true) × (rev ≡ line.value)
       told = tells-done c.who.inc inc rev line.value line.verdict w seq file block first last (Some base) body (sym is ∙ d.2 ∙ ap (verdict_reply c.who.inc line.verdict line.value) asks)
@@ -355,7 +355,7 @@ module _ (s : Server) (ps : List Packet) (c : Client) (number : ℕ) (ticket : T
       done = ap (λ o. done_at s.kept c.who o file) k.asked ∙ ap (has_done line c.who.inc file) asks ∙ done-here line c.who.inc seq file block first last w (Some base) body d.0 d.1 told.0
 
       value : line.value ≡ base.base + 1
-      value = fits-done w seq file block first last base body line.verdict line.value told.0 (subst (λ q. VerdictFits q line.verdict line.value) asks (h.line.decided ticket seq k.asked (ap seq_of asks) d.0 d.1))
+      value = fits-done w seq file block first last base body line.verdict line.value told.0 (subst (λ q. VerdictFits q line.verdict line.value) asks (h.line.decided ticket seq k.asked (ap sequence_of asks) d.0 d.1))
 
       next : rev ≡ due (done_at s.kept c.who c.ticket file) (rev_at c.revisions file)
       next =

@@ -17,12 +17,12 @@ use Rattle.nq_chain_steps.proofs.ChainLists.{any-found, none-found, unclean-push
 use Rattle.nq_chain_steps.proofs.ChainMoves.{View, Mid, mid-uses, mid-drops, mid-calls, CanAsk, mid-sends}
 use Rattle.nq_client_cases.proofs.SendCases.{NothingToPush, IsFree, least-passes, send-cases, pushed}
 use Rattle.nq_client_cases.proofs.SettleCases.{IsSettling, IsWrite, CanWrite, Settled, settle-cases, settle-settles}
-use Rattle.nq_client_steps.proofs.ClientFacts.{DelayingOf, seq_of, push_in, is_clean_in}
+use Rattle.nq_client_steps.proofs.ClientFacts.{DelayingOf, push_in, is_clean_in}
 use Rattle.nq_client_steps.proofs.ClientMoves.{some-same, none-some}
 use Rattle.nq_client_steps.proofs.ClientWrites.{writes-in-list, no-push}
 use Rattle.nq_model.specs.Client.{Client, ClientStep, Job, for_call, renewing, pushing, Lease, Notice, Ticket, UnderWay, lease_on, notice_on, is_clean, is_push_of, first_dirty, drop_dirty, is_live}
 use Rattle.nq_model.specs.LeaseInterval.{requested_file}
-use Rattle.nq_model.specs.Message.{Packet}
+use Rattle.nq_model.specs.Message.{Packet, sequence_of}
 use Rattle.nq_model.specs.Profile.{renewal}
 use Rattle.nq_model.specs.Send.{boot_of, sends_request, after_seq, after_number, base_of, takes_push, noticed_file, ending_file, is_to_push, least, least_with, file_of_notice, file_of_lease, sends_write, gives_up, want_of, shares_live, send_next}
 use Rattle.nq_model.specs.Server.{Server}
@@ -223,7 +223,7 @@ shares-clean s ps t file h shares = step (is_clean t.client file) refl
 
 module _ (s : Server) (ps : List Packet) where
   -- a request without a sequence
-  mid-asks : (t : ClientStep) (job : Job) (request : Request) → t.client.ticket ≡ None → seq_of request ≡ None → ((w : Who) (file : ℕ) (want : Want) → job ≡ for_call → request ≡ Request.GetLease w file want → (u : UnderWay) × (t.client.call ≡ Some u) × (file_written u.call ≡ Some file) × (is_clean t.client file ≡ true)) → MidOf s ps t → MidOf s ps (sends_request t job request)
+  mid-asks : (t : ClientStep) (job : Job) (request : Request) → t.client.ticket ≡ None → sequence_of request ≡ None → ((w : Who) (file : ℕ) (want : Want) → job ≡ for_call → request ≡ Request.GetLease w file want → (u : UnderWay) × (t.client.call ≡ Some u) × (file_written u.call ≡ Some file) × (is_clean t.client file ≡ true)) → MidOf s ps t → MidOf s ps (sends_request t job request)
   unfolding sends_request
   mid-asks t job request free plain leased h = mid-sends s ps (view_of t) job request t.client.seq t.client.dirty t.client.push (record {
     free = free;
@@ -232,14 +232,14 @@ module _ (s : Server) (ps : List Packet) where
     last = λ n sq. none-some n (sym plain ∙ sq);
     above = λ n sq. none-some n (sym plain ∙ sq);
     unclean = λ file u. u;
-    pushed = λ w n file block first last base body is. none-some n (sym plain ∙ ap seq_of is);
-    through = λ w n file block first last body j is. none-some n (sym plain ∙ ap seq_of is);
+    pushed = λ w n file block first last base body is. none-some n (sym plain ∙ ap sequence_of is);
+    through = λ w n file block first last body j is. none-some n (sym plain ∙ ap sequence_of is);
     leased = leased;
     marked = h.writes.marked;
   }) h
 
   -- a request with a sequence that is no push
-  decides : (t : ClientStep) (request : Request) → seq_of request ≡ Some t.client.seq → base_in request ≡ None → t.client.ticket ≡ None → ((w : Who) (n file block first last : ℕ) (body : List ℕ) → request ≡ Request.Write w n file block first last None body → is_clean t.client file ≡ true) → MidOf s ps t → CanAsk s ps (view_of t) for_call request (t.client.seq + 1) t.client.dirty t.client.push
+  decides : (t : ClientStep) (request : Request) → sequence_of request ≡ Some t.client.seq → base_in request ≡ None → t.client.ticket ≡ None → ((w : Who) (n file block first last : ℕ) (body : List ℕ) → request ≡ Request.Write w n file block first last None body → is_clean t.client file ≡ true) → MidOf s ps t → CanAsk s ps (view_of t) for_call request (t.client.seq + 1) t.client.dirty t.client.push
   decides t request seq base free through h = record {
     free = free;
     no_fewer = omega arith;
@@ -249,11 +249,11 @@ module _ (s : Server) (ps : List Packet) where
     unclean = λ file u. u;
     pushed = λ w n file block first last b body is. none-some b (sym base ∙ ap base_in is);
     through = λ w n file block first last body j is. through w n file block first last body is;
-    leased = λ w file want j is. none-some t.client.seq (sym (ap seq_of is) ∙ seq);
+    leased = λ w file want j is. none-some t.client.seq (sym (ap sequence_of is) ∙ seq);
     marked = h.writes.marked;
   }
 
-  mid-decides : (t : ClientStep) (request : Request) → seq_of request ≡ Some t.client.seq → base_in request ≡ None → t.client.ticket ≡ None → ((w : Who) (n file block first last : ℕ) (body : List ℕ) → request ≡ Request.Write w n file block first last None body → is_clean t.client file ≡ true) → MidOf s ps t → MidOf s ps (sends_request (after_seq t) for_call request)
+  mid-decides : (t : ClientStep) (request : Request) → sequence_of request ≡ Some t.client.seq → base_in request ≡ None → t.client.ticket ≡ None → ((w : Who) (n file block first last : ℕ) (body : List ℕ) → request ≡ Request.Write w n file block first last None body → is_clean t.client file ≡ true) → MidOf s ps t → MidOf s ps (sends_request (after_seq t) for_call request)
   unfolding sends_request after_seq
   mid-decides t request seq base free through h = mid-sends s ps (view_of t) for_call request (t.client.seq + 1) t.client.dirty t.client.push (decides t request seq base free through h) h
 
@@ -270,7 +270,7 @@ module _ (s : Server) (ps : List Packet) where
   unfolding gives_up
   mid-gives-up t file clean h = mid-drops s ps (view_of t) file clean h
 
-  mid-changes : (t : ClientStep) (file : ℕ) (request : Request) → seq_of request ≡ Some t.client.seq → base_in request ≡ None → t.client.ticket ≡ None → is_clean t.client file ≡ true → ((w : Who) (n g block first last : ℕ) (body : List ℕ) → request ≡ Request.Write w n g block first last None body → ⊥) → MidOf s ps t → MidOf s ps (sends_request (after_seq (gives_up t file)) for_call request)
+  mid-changes : (t : ClientStep) (file : ℕ) (request : Request) → sequence_of request ≡ Some t.client.seq → base_in request ≡ None → t.client.ticket ≡ None → is_clean t.client file ≡ true → ((w : Who) (n g block first last : ℕ) (body : List ℕ) → request ≡ Request.Write w n g block first last None body → ⊥) → MidOf s ps t → MidOf s ps (sends_request (after_seq (gives_up t file)) for_call request)
   unfolding gives_up
   mid-changes t file request seq base free clean other h = mid-decides (gives_up t file) request seq base free (λ w n g block first last body is. absurd (other w n g block first last body is)) (mid-gives-up t file clean h)
 

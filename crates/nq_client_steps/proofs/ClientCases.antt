@@ -4,10 +4,10 @@ use Rattle.nq_base.specs.declared.Grant.{Grant}
 use Rattle.nq_base.specs.declared.Request.{Request}
 use Rattle.nq_base.specs.declared.Tag.{Tag}
 use Rattle.nq_base.specs.declared.Who.{Who}
-use Rattle.nq_client_steps.proofs.ClientFacts.{Alone, seq_of, changes_file, fits_job}
+use Rattle.nq_client_steps.proofs.ClientFacts.{Alone, changes_file, fits_job}
 use Rattle.nq_model.specs.Client.{ClientStep, Job, attaching, Lease, Notice, Ticket, drop_lease, put_lease, used_lease, notice_on, drop_notice, lease_on}
 use Rattle.nq_model.specs.Hear.{wants_of, cancelled, granted_lease, noticed_tag}
-use Rattle.nq_model.specs.Message.{Message, call, asker}
+use Rattle.nq_model.specs.Message.{Message, call, asker, sequence_of}
 
 -- what the server and the other hosts can see of a client in the middle of a step: incarnation, time, request, numbers,
 -- leases, notices, and what it has sent in this step
@@ -83,8 +83,8 @@ pub record Closed (Heard : ℕ → Tag → Type 0) (Given : ℕ → Grant → �
   pub uses : (k : Core) (file : ℕ) → P k → P (record k { leases = used_lease file k.leases })
   pub drops : (k : Core) (file : ℕ) → P k → P (record k { leases = drop_lease file k.leases })
   pub vacates : (k : Core) (file : ℕ) (tag : Tag) → CanVacate Heard Given k file tag → P k → P (after_vacated k file tag)
-  pub asks : (k : Core) (job : Job) (request : Request) → seq_of request ≡ None → CanSend k job request → P k → P (after_request k job request)
-  pub decides : (k : Core) (job : Job) (request : Request) → seq_of request ≡ Some k.seq → CanSend k job request → P k → P (after_decided k job request)
+  pub asks : (k : Core) (job : Job) (request : Request) → sequence_of request ≡ None → CanSend k job request → P k → P (after_request k job request)
+  pub decides : (k : Core) (job : Job) (request : Request) → sequence_of request ≡ Some k.seq → CanSend k job request → P k → P (after_decided k job request)
   pub again : (k : Core) (t : Ticket) → k.ticket ≡ Some t → P k → P (after_again k t)
   pub holds : (k : Core) (file : ℕ) (g : Grant) (sent : ℕ) → Given file g sent → k.ticket ≡ None → notice_on file k.notices ≡ None → P k → P (record k { leases = put_lease (granted_lease file g sent) k.leases })
   pub cancels : (k : Core) (file : ℕ) → P k → P (record k { ticket = cancelled file k.ticket })

@@ -7,15 +7,7 @@ use Rattle.nq_base.specs.declared.Request.TheVariants.{Attach, Lookup, Create, G
 use Rattle.nq_base.specs.declared.Who.{Who}
 use Rattle.nq_model.specs.Client.{Client, Job, attaching, for_call, renewing, pushing, Lease, Notice, Ticket, UnderWay, is_push_of, lease_on, notice_on, push_passes}
 use Rattle.nq_model.specs.Hear.{wants_of}
-use Rattle.nq_model.specs.Message.{asker}
-
--- the sequence of a request that is decided once
-abbrev pub seq_of : Request → Option ℕ
-seq_of (Create who seq name blocks) = Some seq
-seq_of (Write who seq file block first last push body) = Some seq
-seq_of (Resize who seq q file blocks) = Some seq
-seq_of (Remove who seq q file) = Some seq
-seq_of other = None
+use Rattle.nq_model.specs.Message.{asker, sequence_of}
 
 -- the file whose length or life a request changes
 abbrev pub changes_file : Request → Option ℕ
@@ -66,7 +58,7 @@ pub record IsTicket (who : Who) (now xid seq : ℕ) (t : Ticket) : Type 0 where
   pub past : t.last ≤ now
   pub asks : asker t.request ≡ Some who
   pub fits : fits_job t.job t.request ≡ true
-  pub drawn : (n : ℕ) → seq_of t.request ≡ Some n → n < seq
+  pub drawn : (n : ℕ) → sequence_of t.request ≡ Some n → n < seq
 
 -- a client that is not attached asks to be, and has nothing else
 pub record IsWaiting (call : Option UnderWay) (ticket : Option Ticket) (leases : List Lease) (notices : List Notice) : Type 0 where

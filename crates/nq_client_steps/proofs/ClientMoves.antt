@@ -2,11 +2,11 @@
 use Rattle.std.proofs.Common.{◌≡◌, ◌≢◌, ◌<◌, ◌≤◌, ◌⊎◌, ℕ, ◌+◌, Bool, true, false, List, [], ◌∷◌, Option, Some, None, is_some, if◌then◌else◌, option_map, refl, sym, subst, ap, ◌∙◌, arith, inl, inr}
 use Rattle.nq_base.specs.declared.Request.{Request}
 use Rattle.nq_base.specs.declared.Who.{Who}
-use Rattle.nq_client_steps.proofs.ClientFacts.{seq_of, changes_file, fits_job, IsTicket, IsLease, Asking}
+use Rattle.nq_client_steps.proofs.ClientFacts.{changes_file, fits_job, IsTicket, IsLease, Asking}
 use Rattle.nq_client_steps.proofs.ClientLists.{marked-before, marked-term, marked-expiry, lease-before-drop, lease-after-put, used-lease-found, notice-before-drop, notice-after-put}
 use Rattle.nq_model.specs.Client.{Job, attaching, for_call, Lease, Notice, Ticket, UnderWay, lease_on, drop_lease, put_lease, notice_on, drop_notice, marked_used, used_lease}
 use Rattle.nq_model.specs.Hear.{wants_of, cancelled}
-use Rattle.nq_model.specs.Message.{asker}
+use Rattle.nq_model.specs.Message.{asker, sequence_of}
 use Rattle.nq_model.specs.Settle.{ticket_is_for_call}
 
 pub some-same : {A : Type 0} (x y : A) → Some x ≡ Some y → x ≡ y
@@ -141,7 +141,7 @@ attaches h = record {
 pub record IsNext (who : Who) (call : Option UnderWay) (seq : ℕ) (leases : List Lease) (notices : List Notice) (job : Job) (request : Request) : Type 0 where
   pub asks : asker request ≡ Some who
   pub fits : fits_job job request ≡ true
-  pub drawn : (n : ℕ) → seq_of request ≡ Some n → n < seq
+  pub drawn : (n : ℕ) → sequence_of request ≡ Some n → n < seq
   pub no_attach : job ≡ attaching → ⊥
   pub called : job ≡ for_call → is_some call ≡ true
   pub unwanted : (file : ℕ) (n : Notice) → notice_on file notices ≡ Some n → wants_of file request ≡ false

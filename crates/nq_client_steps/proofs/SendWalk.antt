@@ -9,14 +9,14 @@ use Rattle.nq_base.specs.declared.Request.{Request}
 use Rattle.nq_base.specs.declared.Tag.{Tag}
 use Rattle.nq_base.specs.declared.Who.{Who}
 use Rattle.nq_client_steps.proofs.ClientCases.{Core, core_of, Closed, Both, CanSend}
-use Rattle.nq_client_steps.proofs.ClientFacts.{Asking, Delaying, AskingOf, DelayingOf, seq_of, changes_file, fits_job}
+use Rattle.nq_client_steps.proofs.ClientFacts.{Asking, Delaying, AskingOf, DelayingOf, changes_file, fits_job}
 use Rattle.nq_client_steps.proofs.ClientLists.{dropped-lease, number-other}
 use Rattle.nq_client_steps.proofs.ClientMoves.{some-same, none-some, attached-with-call, IsNext, draws, sends, drops}
 use Rattle.nq_client_steps.proofs.ClientWrites.{has-writes, pushes as pushes_write, asks as asks_delaying, no-push}
 use Rattle.nq_server_steps.proofs.Rows.{choice, both-true, not-true, number-same, same-number, find-passes}
 use Rattle.nq_model.specs.Client.{Client, ClientStep, Job, attaching, for_call, renewing, pushing, Lease, Notice, Ticket, UnderWay, lease_on, notice_on, is_clean, is_push_of, first_dirty, drop_dirty, drop_lease, push_passes}
 use Rattle.nq_model.specs.Hear.{wants_of}
-use Rattle.nq_model.specs.Message.{asker}
+use Rattle.nq_model.specs.Message.{asker, sequence_of}
 use Rattle.nq_model.specs.Send.{sends_request, after_seq, after_number, base_of, takes_push, pushes_these, pushes, least, least_with, file_of_notice, file_of_lease, is_to_renew, noticed_file, ending_file, read_want, want_of, sends_write, next_write, next_put, gives_up, next_change, asks, next_of_call, next_of_under_way, renews_lease, renews, renewed_file, is_asking, then_renews, then_calls, pushes_due, then_pushes, then_ending, send_next, shares_live}
 
 -- an option that is not there
@@ -107,7 +107,7 @@ pub record IsPlain (t : ClientStep) (job : Job) (request : Request) : Type 0 whe
   pub called : job ≡ for_call → is_some t.client.call ≡ true
   pub changes : changes_file request ≡ None
 
-pub plain-keeps : {Heard : ℕ → Tag → Type 0} {Given : ℕ → Grant → ℕ → Type 0} {P : Core → Type 0} → Closed Heard Given P → (t : ClientStep) (job : Job) (request : Request) → t.client.ticket ≡ None → ((file : ℕ) (n : Notice) → notice_on file t.client.notices ≡ Some n → wants_of file request ≡ false) → t.client.attached ≡ true → seq_of request ≡ None → IsPlain t job request → Both P t → Both P (sends_request t job request)
+pub plain-keeps : {Heard : ℕ → Tag → Type 0} {Given : ℕ → Grant → ℕ → Type 0} {P : Core → Type 0} → Closed Heard Given P → (t : ClientStep) (job : Job) (request : Request) → t.client.ticket ≡ None → ((file : ℕ) (n : Notice) → notice_on file t.client.notices ≡ Some n → wants_of file request ≡ false) → t.client.attached ≡ true → sequence_of request ≡ None → IsPlain t job request → Both P t → Both P (sends_request t job request)
 unfolding sends_request
 plain-keeps {P = P} closed t job request free unwanted attached no_seq plain b = record {
   alone = record {
@@ -132,7 +132,7 @@ plain-keeps {P = P} closed t job request free unwanted attached no_seq plain b =
 pub record IsDecided (t : ClientStep) (request : Request) : Type 0 where
   pub asks : asker request ≡ Some t.client.who
   pub fits : fits_job for_call request ≡ true
-  pub numbered : seq_of request ≡ Some t.client.seq
+  pub numbered : sequence_of request ≡ Some t.client.seq
   pub wants : (file : ℕ) → wants_of file request ≡ false
   pub changed : (file : ℕ) → changes_file request ≡ Some file → lease_on file t.client.leases ≡ None
 
@@ -193,7 +193,7 @@ gives-up-same t file = (refl, refl, refl, refl, refl, refl)
 pub record IsChange (t : ClientStep) (file : ℕ) (request : Request) : Type 0 where
   pub asks : asker request ≡ Some t.client.who
   pub fits : fits_job for_call request ≡ true
-  pub numbered : seq_of request ≡ Some t.client.seq
+  pub numbered : sequence_of request ≡ Some t.client.seq
   pub wants : (f : ℕ) → wants_of f request ≡ false
   pub changes : changes_file request ≡ Some file
 
@@ -230,7 +230,7 @@ next-put-keeps closed t true may_ask file block body free attached called b = pu
 next-put-keeps closed t false true file block body free attached called b = write-sent closed t file block body free attached called b
 next-put-keeps closed t false false file block body free attached called b = b
 
-asks-keeps : {Heard : ℕ → Tag → Type 0} {Given : ℕ → Grant → ℕ → Type 0} {P : Core → Type 0} → Closed Heard Given P → (t : ClientStep) (may_ask : Bool) (request : Request) → t.client.ticket ≡ None → NoNotice t → t.client.attached ≡ true → seq_of request ≡ None → IsPlain t for_call request → Both P t → Both P (asks t may_ask request)
+asks-keeps : {Heard : ℕ → Tag → Type 0} {Given : ℕ → Grant → ℕ → Type 0} {P : Core → Type 0} → Closed Heard Given P → (t : ClientStep) (may_ask : Bool) (request : Request) → t.client.ticket ≡ None → NoNotice t → t.client.attached ≡ true → sequence_of request ≡ None → IsPlain t for_call request → Both P t → Both P (asks t may_ask request)
 asks-keeps closed t true request free quiet attached no_seq plain b = plain-keeps closed t for_call request free (λ f n e. absurd (quiet free f n e)) attached no_seq plain b
 asks-keeps closed t false request free quiet attached no_seq plain b = b
 

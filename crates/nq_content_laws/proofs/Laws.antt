@@ -11,18 +11,16 @@ use Rattle.nq_content_steps.proofs.ClientLookups.{in-found}
 use Rattle.nq_content_steps.proofs.ClientParts.{IsOverKnown}
 use Rattle.nq_content_steps.proofs.Facts.{History, SetsBlock, Changed, GrantTells, Tells, LineTells}
 use Rattle.nq_content_laws.proofs.RunContents.{run-fits}
-use Rattle.nq_content_steps.proofs.ServerContents.{same-sequence}
 use Rattle.nq_content_laws.proofs.WorldFacts.{history_now, Fits}
 use Rattle.nq_content_steps.specs.Told.{GrantFits, SetsOne, TellsContents, HasChanged, IsDoneAs}
 use Rattle.nq_content_laws.specs.ContentsInRuns.{first_length, FilesAreTheirHistoryInEveryRun, CleanBlocksHaveTheirRevisionInEveryRun, DoneRequestsAreChangesInEveryRun, PushesCarryTheirLastWriteInEveryRun}
 use Rattle.nq_content_steps.specs.Contents.{delayed_value}
 use Rattle.nq_model.specs.Client.{Client, Ticket, is_push_at}
 use Rattle.nq_model.specs.Kept.{host_row}
-use Rattle.nq_model.specs.Message.{call, reply}
+use Rattle.nq_model.specs.Message.{call, reply, sequence_of}
 use Rattle.nq_model.specs.Server.{to_host}
 use Rattle.nq_model.specs.World.{World, from_host, run}
 use Rattle.nq_request_laws.proofs.WorldSequences.{Draws, run-draws}
-use Rattle.nq_request_laws.specs.OneRequests.{sequence_of}
 use Rattle.nq_run_steps.proofs.Packets.{Asked, Told, in-get}
 use Rattle.nq_run_steps.proofs.Worlds.{Holds, run-holds}
 use Rattle.nq_server_laws.proofs.LogRows.{one-who}
@@ -77,12 +75,12 @@ clean-in-every-run most head events bounds within =
 same-request : (first : ℕ → ℕ) (w : World) → Holds w → Draws w → Fits first w → (host : ℕ) (c : Client) (t : Ticket) → slice_get w.clients host ≡ Some c → c.ticket ≡ Some t → (line : HostRow) → line.inc ≡ c.who.inc → sequence_of t.request ≡ Some line.seq → line.verdict ≡ Verdict.Done → LineTells (history_now first w) w.packets host line → IsDoneAs first w.journal line.value t.request
 same-request first w held draws h host c t is has line inc sq done (inl none) =
     let own = (held.clients host c is).mail.own t has in
-    absurd ((h.fair c.who.host t.xid t.request own.sent).1 (same-sequence t.request ∙ sq ∙ ap Some none))
+    absurd ((h.fair c.who.host t.xid t.request own.sent).1 (sq ∙ ap Some none))
 same-request first w held draws h host c t is has line inc sq done (inr k) =
     let at = held.clients host c is in
     let own = at.mail.own t has in
     let one : k.who ≡ c.who = one-who k.who c.who (k.home ∙ sym at.here) (k.inc ∙ inc) in
-    let same : k.asks ≡ t.request = ((draws.clients host c is).once k.xid t.xid k.asks t.request c.who line.seq (subst (λ n. Asked w.packets n k.xid k.asks) (sym at.here) k.sent) own.sent (k.by ∙ ap Some one) own.asks k.sequence (same-sequence t.request ∙ sq)).1 in
+    let same : k.asks ≡ t.request = ((draws.clients host c is).once k.xid t.xid k.asks t.request c.who line.seq (subst (λ n. Asked w.packets n k.xid k.asks) (sym at.here) k.sent) own.sent (k.by ∙ ap Some one) own.asks k.sequence sq).1 in
     let d = k.done done in
     subst (IsDoneAs first w.journal line.value) same (record { change = d.change; content = has-changed (history_now first w) line.value k.asks d.changed })
 

@@ -9,7 +9,6 @@ use Rattle.nq_base.specs.declared.Event.{Event}
 use Rattle.nq_base.specs.declared.Party.{Party}
 use Rattle.nq_base.specs.declared.Request.{Request}
 use Rattle.nq_base.specs.declared.Who.{Who}
-use Rattle.nq_client_steps.proofs.ClientFacts.{seq_of}
 use Rattle.nq_client_steps.proofs.ClientMoves.{some-same, none-some}
 use Rattle.nq_content_steps.proofs.ClientContents.{call-mid, tick-mid}
 use Rattle.nq_content_steps.proofs.ClientHears.{hear-mid}
@@ -27,7 +26,7 @@ use Rattle.nq_model.specs.Client.{Client, ClientStep, attaching, Ticket, begun}
 use Rattle.nq_model.specs.ClientStep.{client_call, client_tick, restart, starts, fresh_client, attached_client, next_incarnation}
 use Rattle.nq_model.specs.Hear.{hear}
 use Rattle.nq_model.specs.Kept.{File, blocks_of, find_file, host_row, fresh_row, new_file}
-use Rattle.nq_model.specs.Message.{Message, Packet, Datagram, call, datagram_of, asker}
+use Rattle.nq_model.specs.Message.{Message, Packet, Datagram, call, datagram_of, asker, sequence_of}
 use Rattle.nq_model.specs.Profile.{most_hosts}
 use Rattle.nq_model.specs.ServerStep.{receive, tick, crash, boot}
 use Rattle.nq_model.specs.Skew.{IsWithinSkew}
@@ -137,7 +136,7 @@ module _ (first after : ℕ → ℕ) (w : World) (before : Holds w) (h : Fits fi
   mails : (other : ℕ) (c : Client) → slice_get w.clients other ≡ Some c → Mail c.who c.xid c.ticket w.packets
   mails other c is = (before.clients other c is).mail
 
-  one-host : (sender : ℕ) → Draws w → (o : Option Client) → slice_get w.clients sender ≡ o → (x y : ℕ) (r t : Request) (v : Who) (n : ℕ) → Asked w.packets sender x r → Asked w.packets sender y t → asker r ≡ Some v → asker t ≡ Some v → seq_of r ≡ Some n → seq_of t ≡ Some n → r ≡ t
+  one-host : (sender : ℕ) → Draws w → (o : Option Client) → slice_get w.clients sender ≡ o → (x y : ℕ) (r t : Request) (v : Who) (n : ℕ) → Asked w.packets sender x r → Asked w.packets sender y t → asker r ≡ Some v → asker t ≡ Some v → sequence_of r ≡ Some n → sequence_of t ≡ Some n → r ≡ t
   one-host sender draws None there x y r t v n a b by also sq same = absurd (draws.lone sender x r a there)
   one-host sender draws (Some c) there x y r t v n a b by also sq same =
       let here = (before.clients sender c there).here in

@@ -15,11 +15,10 @@ use Rattle.nq_lease_laws.specs.LeaseIntervalInRuns.{KeepsBounds}
 use Rattle.nq_model.specs.Client.{Client, Clean, Revision, Ticket, clean_at, dirty_at, revision_of, revision_or_zero}
 use Rattle.nq_model.specs.Hear.{inc_of}
 use Rattle.nq_model.specs.Kept.{File, blocks_of, find_file, host_row}
-use Rattle.nq_model.specs.Message.{call, reply}
+use Rattle.nq_model.specs.Message.{call, reply, sequence_of}
 use Rattle.nq_model.specs.Server.{to_host}
 use Rattle.nq_model.specs.Skew.{IsWithinSkew}
 use Rattle.nq_model.specs.World.{Head, World, from_host, start, run}
-use Rattle.nq_request_laws.specs.OneRequests.{sequence_of}
 
 -- ---- first lengths
 

@@ -8,7 +8,7 @@ use Rattle.nq_base.specs.declared.Push.{Push}
 use Rattle.nq_base.specs.declared.Reply.{Reply}
 use Rattle.nq_base.specs.declared.Request.{Request}
 use Rattle.nq_base.specs.declared.Who.{Who}
-use Rattle.nq_client_steps.proofs.ClientFacts.{seq_of, changes_file, push_in}
+use Rattle.nq_client_steps.proofs.ClientFacts.{changes_file, push_in}
 use Rattle.nq_client_steps.proofs.ClientMoves.{some-same, none-some}
 use Rattle.nq_content_steps.proofs.ClientLookups.{IsBlock, this-or-other, found-dropped, clean-dropped, in-written, IsWritten, was_there, is_new, written-elsewhere, revision-after, revision-put, other-revision-put}
 use Rattle.nq_content_steps.proofs.Facts.{History, Follows, follows, HadValue, value-follows, SetsBlock, Tells, tells-follows}
@@ -17,7 +17,7 @@ use Rattle.nq_content_steps.specs.Contents.{changes, changes_of, delayed_by, del
 use Rattle.nq_model.specs.Client.{Clean, ClientStep, Revision, Ticket, clean_at, drop_clean, dirty_at, put_revision, revision_of, revision_or_zero}
 use Rattle.nq_model.specs.Hear.{inc_of}
 use Rattle.nq_model.specs.Journal.{same_who}
-use Rattle.nq_model.specs.Message.{Message, Packet, call, reply}
+use Rattle.nq_model.specs.Message.{Message, Packet, call, reply, sequence_of}
 use Rattle.nq_model.specs.Settle.{with_write}
 use Rattle.nq_run_steps.proofs.Packets.{In, in-last, Told}
 use Rattle.nq_server_laws.proofs.LogRows.{one-who}
@@ -81,7 +81,7 @@ IsPushed journal other = Unit {0}
 
 -- and sequences begin with 1
 abbrev pub IsFair : List Entry → Request → Type 0
-IsFair journal r = IsPushed journal r × (seq_of r ≡ Some 0 → ⊥)
+IsFair journal r = IsPushed journal r × (sequence_of r ≡ Some 0 → ⊥)
 
 -- no write of an incarnation has a number from this one on
 abbrev pub NoneFrom : List Entry → Who → (number : ℕ) → Type 0

@@ -10,12 +10,11 @@ use Rattle.nq_base.specs.declared.Reply.{Reply}
 use Rattle.nq_base.specs.declared.Request.{Request}
 use Rattle.nq_base.specs.declared.Verdict.{Verdict}
 use Rattle.nq_base.specs.declared.Who.{Who}
-use Rattle.nq_client_steps.proofs.ClientFacts.{seq_of}
 use Rattle.nq_content_steps.proofs.Histories.{count-more, content-more, delayed-more, change-more}
 use Rattle.nq_content_steps.specs.Contents.{changes_of, delayed_value, content_at, change_at}
 use Rattle.nq_content_steps.specs.Told.{HasValue, HasLength, GrantIsOf, IsChangeBy}
 use Rattle.nq_model.specs.Kept.{File, find_file}
-use Rattle.nq_model.specs.Message.{Packet, asker}
+use Rattle.nq_model.specs.Message.{Packet, asker, sequence_of}
 use Rattle.nq_run_steps.proofs.Packets.{Asked}
 
 -- a journal, the first lengths of files, and the next id
@@ -151,7 +150,7 @@ pub record IsLast (h : History) (ps : List Packet) (host : ℕ) (line : HostRow)
   pub by : asker asks ≡ Some who
   pub home : who.host ≡ host
   pub inc : who.inc ≡ line.inc
-  pub sequence : seq_of asks ≡ Some line.seq
+  pub sequence : sequence_of asks ≡ Some line.seq
   pub done : line.verdict ≡ Verdict.Done → IsDone h line.value asks
 
 -- none was decided of the kept incarnation, or that one

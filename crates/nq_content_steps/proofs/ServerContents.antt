@@ -14,7 +14,6 @@ use Rattle.nq_base.specs.declared.Row.{Row}
 use Rattle.nq_base.specs.declared.Verdict.{Verdict}
 use Rattle.nq_base.specs.declared.Want.{Want}
 use Rattle.nq_base.specs.declared.Who.{Who}
-use Rattle.nq_client_steps.proofs.ClientFacts.{seq_of}
 use Rattle.nq_client_steps.proofs.ClientMoves.{some-same, none-some}
 use Rattle.nq_content_steps.proofs.Facts.{History, Follows, follows, tells-follows, HadLength, GrantTells, Tells, IsDone, LineTells, line-follows, IsFile, FilesFit, UnusedFit}
 use Rattle.nq_content_steps.proofs.FileMoves.{ChangesOnly, files-idle, unused-idle, files-changed, unused-changed, files-removed, files-made, written-values, resized-values}
@@ -26,7 +25,7 @@ use Rattle.nq_model.specs.Ask.{grant_of}
 use Rattle.nq_model.specs.Decide.{Decision, decides, creates, writes_through, stores, wrote, stores_recovering, resizes, removes, puts_off, verdict_reply, row_after, commits}
 use Rattle.nq_model.specs.Hear.{inc_of}
 use Rattle.nq_model.specs.Kept.{File, blocks_of, find_file, host_row, with_row, with_files, with_new_file, written_file, resized_file, new_file, replace_file}
-use Rattle.nq_model.specs.Message.{Message, call, reply, Packet, Datagram, Reason, request, too_long, no_message, no_call, other_rpc, other_program, other_version, unknown_procedure, garbage_vacated, garbage, asker}
+use Rattle.nq_model.specs.Message.{Message, call, reply, Packet, Datagram, Reason, request, too_long, no_message, no_call, other_rpc, other_program, other_version, unknown_procedure, garbage_vacated, garbage, asker, sequence_of}
 use Rattle.nq_model.specs.Profile.{xid_end}
 use Rattle.nq_model.specs.Server.{Server, ServerStep, to_host, says, quiet, drops, notices, keeping, keeping_with, with_table, after_notices}
 use Rattle.nq_model.specs.ServerStep.{attaches, vacates, tells_later, serves, leases, grants, to_read, receive}
@@ -37,15 +36,7 @@ use Rattle.nq_server_laws.proofs.LogRows.{one-who}
 use Rattle.nq_server_steps.proofs.KeptChanges.{find-new-added}
 use Rattle.nq_server_steps.proofs.Rows.{number-same}
 use Rattle.nq_server_steps.proofs.ServerCases.{server-hears}
-use Rattle.nq_server_steps.proofs.ServerOutcomes.{sequence_of, error_for, IsFrom, IsDeclined, bad_length, name_taken, no_room, not_kept, outside, no_row, not_under, not_over, not_while_recovering, bad_size, no_room_to_grow, IsPlain, unattached, attached_again, not_yet, no_entry, entry, no_attributes, attributes, no_file, no_block, decided_again, is_old}
-
--- a sequence by either name
-pub same-sequence : (r : Request) → seq_of r ≡ sequence_of r
-same-sequence (Request.Create who seq name blocks) = refl
-same-sequence (Request.Write who seq file block first last push body) = refl
-same-sequence (Request.Resize who seq q file blocks) = refl
-same-sequence (Request.Remove who seq q file) = refl
-same-sequence other = refl
+use Rattle.nq_server_steps.proofs.ServerOutcomes.{error_for, IsFrom, IsDeclined, bad_length, name_taken, no_room, not_kept, outside, no_row, not_under, not_over, not_while_recovering, bad_size, no_room_to_grow, IsPlain, unattached, attached_again, not_yet, no_entry, entry, no_attributes, attributes, no_file, no_block, decided_again, is_old}
 
 -- ---- what a message says
 
@@ -79,8 +70,8 @@ pub record Hearing (journal : List Entry) (first : ℕ → ℕ) (ps : List Packe
   pub lines : (host : ℕ) → LineTells (history_of journal first s) ps host (host_row s.kept host)
   pub sent : (xid : ℕ) (r : Request) → d ≡ request xid r → Asked ps sender xid r
   pub no_null : (xid : ℕ) → d ≡ request xid Request.Null → ⊥
-  pub once : (x y : ℕ) (r t : Request) (w : Who) (n : ℕ) → Asked ps sender x r → Asked ps sender y t → asker r ≡ Some w → asker t ≡ Some w → seq_of r ≡ Some n → seq_of t ≡ Some n → r ≡ t
-  pub positive : (x : ℕ) (r : Request) → Asked ps sender x r → seq_of r ≡ Some 0 → ⊥
+  pub once : (x y : ℕ) (r t : Request) (w : Who) (n : ℕ) → Asked ps sender x r → Asked ps sender y t → asker r ≡ Some w → asker t ≡ Some w → sequence_of r ≡ Some n → sequence_of t ≡ Some n → r ≡ t
+  pub positive : (x : ℕ) (r : Request) → Asked ps sender x r → sequence_of r ≡ Some 0 → ⊥
   pub pushed : (x : ℕ) (who : Who) (seq file block f l : ℕ) (base : PushBase) (body : List ℕ) → Asked ps sender x (Request.Write who seq file block f l (Some base) body) → delayed_value journal who file block l ≡ Some (value_of body)
 
 module _ (journal : List Entry) (first after : ℕ → ℕ) (ps : List Packet) (s : Server) (sender next : ℕ) (d : Datagram) (h : Hearing journal first ps s sender d) where
@@ -144,10 +135,10 @@ module _ (journal : List Entry) (first after : ℕ → ℕ) (ps : List Packet) (
 
   -- the reply that was given before
   again-tells : (who : Who) (r : Request) (xid seq : ℕ) → d ≡ request xid r → asker r ≡ Some who → who.host ≡ sender → who.inc ≡ (host_row s.kept who.host).inc → sequence_of r ≡ Some seq → seq ≡ (host_row s.kept who.host).seq → LineTells before ps who.host (host_row s.kept who.host) → Tells before r (verdict_reply who.inc (host_row s.kept who.host).verdict (host_row s.kept who.host).value r)
-  again-tells who r xid seq e by from inc sq same (inl none) = absurd (h.positive xid r (h.sent xid r e) (same-sequence r ∙ sq ∙ ap Some (same ∙ none)))
+  again-tells who r xid seq e by from inc sq same (inl none) = absurd (h.positive xid r (h.sent xid r e) (sq ∙ ap Some (same ∙ none)))
   again-tells who r xid seq e by from inc sq same (inr k) =
       let one : k.who ≡ who = one-who k.who who k.home (k.inc ∙ sym inc) in
-      let it : k.asks ≡ r = h.once k.xid xid k.asks r who (host_row s.kept who.host).seq (subst (λ n. Asked ps n k.xid k.asks) from k.sent) (h.sent xid r e) (k.by ∙ ap Some one) by k.sequence (same-sequence r ∙ sq ∙ ap Some same) in
+      let it : k.asks ≡ r = h.once k.xid xid k.asks r who (host_row s.kept who.host).seq (subst (λ n. Asked ps n k.xid k.asks) from k.sent) (h.sent xid r e) (k.by ∙ ap Some one) by k.sequence (sq ∙ ap Some same) in
       subst (λ z. Tells before z (verdict_reply who.inc (host_row s.kept who.host).verdict (host_row s.kept who.host).value z)) it
       (verdict-tells before who.inc (host_row s.kept who.host).verdict (host_row s.kept who.host).value k.asks k.done)
 
@@ -251,7 +242,7 @@ module _ (journal : List Entry) (first after : ℕ → ℕ) (ps : List Packet) (
               by = by;
               home = sym same;
               inc = refl;
-              sequence = same-sequence r ∙ sq;
+              sequence = sq;
               done = done is;
             }));
       }

@@ -12,7 +12,7 @@ use Rattle.nq_base.specs.declared.Reply.{Reply}
 use Rattle.nq_base.specs.declared.Request.{Request}
 use Rattle.nq_base.specs.declared.Verdict.{Verdict}
 use Rattle.nq_chain_steps.proofs.ChainFacts.{ChainFits}
-use Rattle.nq_client_steps.proofs.ClientFacts.{seq_of, push_in, fits_job}
+use Rattle.nq_client_steps.proofs.ClientFacts.{push_in, fits_job}
 use Rattle.nq_client_steps.proofs.ClientMoves.{none-some}
 use Rattle.nq_excuse_laws.proofs.FromChains.{takes-fit}
 use Rattle.nq_excuse_laws.proofs.RefusedPushes.{PushShape, push-shape}
@@ -24,7 +24,7 @@ use Rattle.nq_model.specs.Decide.{verdict_reply}
 use Rattle.nq_model.specs.Hear.{inc_of, granted_lease, puts_off}
 use Rattle.nq_model.specs.Kept.{host_row}
 use Rattle.nq_model.specs.LeaseInterval.{IsCovered, cover_end, grant_in, requested_file}
-use Rattle.nq_model.specs.Message.{Packet, reply}
+use Rattle.nq_model.specs.Message.{Packet, reply, sequence_of}
 use Rattle.nq_model.specs.Server.{Server}
 use Rattle.nq_model.specs.Table.{is_writing}
 use Rattle.nq_run_steps.proofs.ClientSteps.{KnowsOf}
@@ -78,11 +78,11 @@ module _ (s : Server) (events : List Event) (host : ℕ) (c : Client) (ps : List
         let f : Reply.Refused status-inc status ≡ Reply.Write inc value = e ∙ ap (λ d. verdict_reply inc d value ticket.request) done ∙ ap (verdict_reply inc Verdict.Done value) sh.is in
         absurd (cc)
 
-    module _ (h : (p : Push) → push_in ticket.request ≡ Some p → (n : ℕ) → seq_of ticket.request ≡ Some n → (host_row s.kept c.who.host).inc ≡ c.who.inc → (host_row s.kept c.who.host).seq ≡ n → ((host_row s.kept c.who.host).verdict ≡ Verdict.Done → ⊥) → IsHeldBound s c.who c.leases p.file → ⊥) where
+    module _ (h : (p : Push) → push_in ticket.request ≡ Some p → (n : ℕ) → sequence_of ticket.request ≡ Some n → (host_row s.kept c.who.host).inc ≡ c.who.inc → (host_row s.kept c.who.host).seq ≡ n → ((host_row s.kept c.who.host).verdict ≡ Verdict.Done → ⊥) → IsHeldBound s c.who c.leases p.file → ⊥) where
       unbound : (p : Push) (status-inc : ℕ) (status : Refusal) → push_in ticket.request ≡ Some p → r ≡ Reply.Refused status-inc status → puts_off status ≡ false → IsHeldBound s c.who c.leases p.file → ⊥
       unbound p status-inc status pushes is off =
           let sh = push-shape ticket.request p pushes in
-          let draws : seq_of ticket.request ≡ Some sh.seq = ap seq_of sh.is in
+          let draws : sequence_of ticket.request ≡ Some sh.seq = ap sequence_of sh.is in
           let mine : Told ps c.who.host (reply xid r) = subst (λ n. Told ps n (reply xid r)) (sym a.here) told in
           let lined = subst (λ n. KnowsOf (host_row s.kept n) s events c ps) (sym a.here) knows in
           let decided = lined.lined.answered xid r mine inc ticket asked (sym same) sh.seq draws in

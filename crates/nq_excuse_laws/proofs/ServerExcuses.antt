@@ -10,7 +10,7 @@ use Rattle.nq_base.specs.declared.Tag.{Tag}
 use Rattle.nq_base.specs.declared.Verdict.{Verdict}
 use Rattle.nq_base.specs.declared.Who.{Who}
 use Rattle.nq_chain_steps.proofs.ChainFacts.{ChainFits}
-use Rattle.nq_client_steps.proofs.ClientFacts.{seq_of, push_in, fits_job}
+use Rattle.nq_client_steps.proofs.ClientFacts.{push_in, fits_job}
 use Rattle.nq_client_steps.proofs.ClientMoves.{attached-with-ticket, some-same, none-some}
 use Rattle.nq_excuse_laws.proofs.BoundOrExcused.{ClientExcused, server-excused}
 use Rattle.nq_excuse_laws.proofs.FromChains.{stood-bound}
@@ -23,12 +23,11 @@ use Rattle.nq_excuse_steps.proofs.LinesAfter.{LineAfter, line_same, line_rises, 
 use Rattle.nq_excuse_steps.proofs.LogRuns.{Alone as ServerAlone, LogRuns, none-recovering}
 use Rattle.nq_excuse_steps.proofs.ServerPlain.{receive-plain, tick-plain, crash-plain}
 use Rattle.nq_excuse_steps.proofs.Waiting.{IsWaiting}
-use Rattle.nq_lease_laws.proofs.ServerEffects.{same-seq}
 use Rattle.nq_lease_laws.proofs.ServerLives.{HasServed}
 use Rattle.nq_model.specs.Client.{Client, attaching, Lease, Ticket, lease_on}
 use Rattle.nq_model.specs.Kept.{host_row}
 use Rattle.nq_model.specs.LeaseInterval.{HasFitting}
-use Rattle.nq_model.specs.Message.{Packet, Datagram, request, asker}
+use Rattle.nq_model.specs.Message.{Packet, Datagram, request, asker, sequence_of}
 use Rattle.nq_model.specs.Server.{Server, standing}
 use Rattle.nq_model.specs.ServerStep.{receive, tick, crash}
 use Rattle.nq_run_steps.proofs.ClientSteps.{KnowsOf}
@@ -99,8 +98,8 @@ module _ (s : Server) (events : List Event) (c : Client) (ps : List Packet) (jou
           inc : w.inc ≡ c.who.inc
           inc = dec.fresh.current.inc ∙ ap (λ m. (host_row s.kept m).inc) dec.at ∙ current
 
-          draws : seq_of r ≡ Some seq
-          draws = same-seq r ∙ dec.draws
+          draws : sequence_of r ≡ Some seq
+          draws = dec.draws
 
           above : (host_row s.kept c.who.host).seq < seq
           above = let before = dec.fresh.above in let same : (host_row s.kept w.host).seq ≡ (host_row s.kept c.who.host).seq = ap (λ m. (host_row s.kept m).seq) dec.at in omega arith
@@ -111,11 +110,11 @@ module _ (s : Server) (events : List Event) (c : Client) (ps : List Packet) (jou
               let one : v.0 ≡ u = some-same v.0 u (sym v.1 ∙ asks) in
               let is : u.request ≡ r = (a.mail.asked x r w sent dec.by).same inc u asks (ap (λ z. z.xid) (sym one) ∙ v.2) in
               let who_is : w ≡ c.who = some-same w c.who (sym dec.by ∙ ap asker (sym is) ∙ (a.alone.asking.ticketed u asks).asks) in
-              let same : sh.seq ≡ seq = some-same sh.seq seq (ap seq_of (sym sh.is) ∙ ap seq_of is ∙ draws) in
+              let same : sh.seq ≡ seq = some-same sh.seq seq (ap sequence_of (sym sh.is) ∙ ap sequence_of is ∙ draws) in
               let new = above in
               (is, who_is, omega arith)
 
-      by-line : (after : HostRow) → LineAfter s sender d c.who.host after → seq_of u.request ≡ Some n → after.inc ≡ c.who.inc → after.seq ≡ n → (after.verdict ≡ Verdict.Done → ⊥) → ⊥
+      by-line : (after : HostRow) → LineAfter s sender d c.who.host after → sequence_of u.request ≡ Some n → after.inc ≡ c.who.inc → after.seq ≡ n → (after.verdict ≡ Verdict.Done → ⊥) → ⊥
       by-line after (line_same same) seq inc decided not_done =
           h.refused u p n asks pushes seq (ap (λ l. l.inc) (sym same) ∙ inc) (ap (λ l. l.seq) (sym same) ∙ decided) (λ done. not_done (ap (λ l. l.verdict) same ∙ done)) b
       by-line after (line_rises later) seq inc decided not_done = let now = current in absurd (omega arith)

@@ -9,13 +9,13 @@ use Rattle.nq_base.specs.declared.Request.{Request}
 use Rattle.nq_base.specs.declared.Value.{Value}
 use Rattle.nq_client_cases.proofs.SendCases.{SendCases, pushed, send-cases}
 use Rattle.nq_client_cases.proofs.SettleCases.{SettleCases, settle-cases}
-use Rattle.nq_client_steps.proofs.ClientFacts.{seq_of}
 use Rattle.nq_client_steps.proofs.ClientMoves.{some-same, none-some}
 use Rattle.nq_excuse_steps.proofs.Holdings.{view_of, Holding, uses, drops, fewer, notes}
 use Rattle.nq_excuse_steps.proofs.HoldingWrites.{writes}
 use Rattle.nq_excuse_steps.proofs.Waiting.{IsWaiting, in-left-of, in-found, none-waiting}
 use Rattle.nq_model.specs.Client.{ClientStep, Job, for_call, Lease, UnderWay, is_push_at, is_push_of, drop_dirty, first_dirty, is_clean, lease_on, lets_write}
 use Rattle.nq_model.specs.Kept.{host_row}
+use Rattle.nq_model.specs.Message.{sequence_of}
 use Rattle.nq_model.specs.Send.{sends_request, after_seq, after_number, takes_push, sends_write, gives_up, read_want, want_of, send_next}
 use Rattle.nq_model.specs.Server.{Server}
 use Rattle.nq_run_steps.proofs.Packets.{In}
@@ -77,29 +77,29 @@ module _ (s : Server) (journal : List Entry) where
   abbrev Drawn : Server → ClientStep → ℕ → Type 0
   Drawn s t n = (host_row s.kept t.client.who.host).inc ≡ t.client.who.inc → (host_row s.kept t.client.who.host).seq < n
 
-  asked : (t : ClientStep) (job : Job) (request : Request) → seq_of request ≡ None → Between t → Between (sends_request t job request)
+  asked : (t : ClientStep) (job : Job) (request : Request) → sequence_of request ≡ None → Between t → Between (sends_request t job request)
   unfolding sends_request
   asked t job request none h =
       fewer s t.client.who t.client.now journal (view_of t) _ t.client.seq t.client.number t.client.dirty t.client.push (λ p waits. waits) (omega arith) (omega arith)
-      (λ u n is seq. none-some n (sym none ∙ ap (λ k. seq_of k.request) (some-same _ u is) ∙ seq)) h
+      (λ u n is seq. none-some n (sym none ∙ ap (λ k. sequence_of k.request) (some-same _ u is) ∙ seq)) h
 
-  decided : (t : ClientStep) (job : Job) (request : Request) → seq_of request ≡ Some t.client.seq → Between t → Between (sends_request (after_seq t) job request)
+  decided : (t : ClientStep) (job : Job) (request : Request) → sequence_of request ≡ Some t.client.seq → Between t → Between (sends_request (after_seq t) job request)
   unfolding sends_request after_seq
   decided t job request draws h =
       fewer s t.client.who t.client.now journal (view_of t) _ (t.client.seq + 1) t.client.number t.client.dirty t.client.push (λ p waits. waits) (omega arith) (omega arith)
-      (λ u n is seq. inl (λ inc. let below = h.drawn inc in let same : t.client.seq ≡ n = some-same t.client.seq n (sym draws ∙ ap (λ k. seq_of k.request) (some-same _ u is) ∙ seq) in omega arith)) h
+      (λ u n is seq. inl (λ inc. let below = h.drawn inc in let same : t.client.seq ≡ n = some-same t.client.seq n (sym draws ∙ ap (λ k. sequence_of k.request) (some-same _ u is) ∙ seq) in omega arith)) h
 
   through : (t : ClientStep) (file block : ℕ) (body : List ℕ) → Between t → Between (sends_write t file block body)
   unfolding sends_request after_number
   through t file block body h =
       fewer s t.client.who t.client.now journal (view_of t) _ (t.client.seq + 1) (t.client.number + 1) t.client.dirty t.client.push (λ p waits. waits) (omega arith) (omega arith)
-      (λ u n is seq. inl (λ inc. let below = h.drawn inc in let same : t.client.seq ≡ n = some-same t.client.seq n (ap (λ k. seq_of k.request) (some-same _ u is) ∙ seq) in omega arith)) h
+      (λ u n is seq. inl (λ inc. let below = h.drawn inc in let same : t.client.seq ≡ n = some-same t.client.seq n (ap (λ k. sequence_of k.request) (some-same _ u is) ∙ seq) in omega arith)) h
 
   pushes : (t : ClientStep) (file : ℕ) (p : Push) → first_dirty file t.client.dirty ≡ Some p → Between t → Between (pushed t p)
   unfolding sends_request after_seq takes_push
   pushes t file p found h =
       fewer s t.client.who t.client.now journal (view_of t) _ (t.client.seq + 1) t.client.number (drop_dirty p.file p.block t.client.dirty) (Some p) less (omega arith) (omega arith)
-      (λ u n is seq. inl (λ inc. let below = h.drawn inc in let same : t.client.seq ≡ n = some-same t.client.seq n (ap (λ k. seq_of k.request) (some-same _ u is) ∙ seq) in omega arith)) h
+      (λ u n is seq. inl (λ inc. let below = h.drawn inc in let same : t.client.seq ≡ n = some-same t.client.seq n (ap (λ k. sequence_of k.request) (some-same _ u is) ∙ seq) in omega arith)) h
     where
       less : (q : Push) → IsWaiting (drop_dirty p.file p.block t.client.dirty) (Some p) q → IsWaiting t.client.dirty t.client.push q
       less q (inl there) = inl (in-left-of (λ x. not (is_push_at p.file p.block x)) t.client.dirty q there).0

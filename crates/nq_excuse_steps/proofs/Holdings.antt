@@ -6,7 +6,7 @@ use Rattle.nq_base.specs.declared.Grant.{Grant}
 use Rattle.nq_base.specs.declared.Push.{Push}
 use Rattle.nq_base.specs.declared.Verdict.{Verdict}
 use Rattle.nq_base.specs.declared.Who.{Who}
-use Rattle.nq_client_steps.proofs.ClientFacts.{seq_of, push_in}
+use Rattle.nq_client_steps.proofs.ClientFacts.{push_in}
 use Rattle.nq_client_steps.proofs.ClientLists.{other-number, marked-before, marked-tag, marked-mode, marked-expiry, used-lease-found, lease-before-drop, other-lease-dropped, lease-after-put, put-lease-found, other-lease-put}
 use Rattle.nq_client_steps.proofs.ClientMoves.{none-some}
 use Rattle.nq_excuse_steps.proofs.BoundRows.{IsBound}
@@ -15,6 +15,7 @@ use Rattle.nq_excuse_steps.proofs.Cuts.{IsPlain, IsOf, plain-of, IsExcusedIn, ex
 use Rattle.nq_model.specs.Client.{ClientStep, Lease, Ticket, lease_on, drop_lease, put_lease, used_lease, marked_used, lets_write}
 use Rattle.nq_model.specs.Hear.{granted_lease}
 use Rattle.nq_model.specs.Kept.{host_row}
+use Rattle.nq_model.specs.Message.{sequence_of}
 use Rattle.nq_model.specs.Server.{Server}
 use Rattle.nq_model.specs.Table.{is_writing}
 use Rattle.nq_run_steps.proofs.Packets.{In}
@@ -61,7 +62,7 @@ RefusedUnbound s who ticket leases =
     (t : Ticket) (p : Push) (n : ℕ)
     → ticket ≡ Some t
     → push_in t.request ≡ Some p
-    → seq_of t.request ≡ Some n
+    → sequence_of t.request ≡ Some n
     → (host_row s.kept who.host).inc ≡ who.inc
     → (host_row s.kept who.host).seq ≡ n
     → ((host_row s.kept who.host).verdict ≡ Verdict.Done → ⊥)
@@ -205,7 +206,7 @@ module _ (s : Server) (who : Who) (now : ℕ) (journal : List Entry) where
   pub fewer : (v : View) (ticket : Option Ticket) (seq number : ℕ) (dirty : List Push) (push : Option Push)
       → ((p : Push) → IsWaiting dirty push p → IsWaiting v.dirty v.push p)
       → v.number ≤ number → v.seq ≤ seq
-      → ((t : Ticket) (n : ℕ) → ticket ≡ Some t → seq_of t.request ≡ Some n → ((host_row s.kept who.host).inc ≡ who.inc → (host_row s.kept who.host).seq < n) ⊎ ((u : Ticket) × (v.ticket ≡ Some u) × (u.request ≡ t.request)))
+      → ((t : Ticket) (n : ℕ) → ticket ≡ Some t → sequence_of t.request ≡ Some n → ((host_row s.kept who.host).inc ≡ who.inc → (host_row s.kept who.host).seq < n) ⊎ ((u : Ticket) × (v.ticket ≡ Some u) × (u.request ≡ t.request)))
       → Holding s who now journal v → Holding s who now journal (record v { ticket = ticket; seq = seq; number = number; dirty = dirty; push = push })
   fewer v ticket seq number dirty push less later drawn from h = record {
     live = h.live;
@@ -227,9 +228,9 @@ module _ (s : Server) (who : Who) (now : ℕ) (journal : List Entry) where
         step (inr own) = let below = own.1 in inr (own.0, omega arith)
     past-later other k = tt
 
-    case : (t : Ticket) (p : Push) (n : ℕ) → push_in t.request ≡ Some p → seq_of t.request ≡ Some n → (host_row s.kept who.host).inc ≡ who.inc → (host_row s.kept who.host).seq ≡ n → ((host_row s.kept who.host).verdict ≡ Verdict.Done → ⊥) → IsHeldBound s who v.leases p.file → ((host_row s.kept who.host).inc ≡ who.inc → (host_row s.kept who.host).seq < n) ⊎ ((u : Ticket) × (v.ticket ≡ Some u) × (u.request ≡ t.request)) → ⊥
+    case : (t : Ticket) (p : Push) (n : ℕ) → push_in t.request ≡ Some p → sequence_of t.request ≡ Some n → (host_row s.kept who.host).inc ≡ who.inc → (host_row s.kept who.host).seq ≡ n → ((host_row s.kept who.host).verdict ≡ Verdict.Done → ⊥) → IsHeldBound s who v.leases p.file → ((host_row s.kept who.host).inc ≡ who.inc → (host_row s.kept who.host).seq < n) ⊎ ((u : Ticket) × (v.ticket ≡ Some u) × (u.request ≡ t.request)) → ⊥
     case t p n pushes sequence inc same not_done held (inl fresh) = let below = fresh inc in absurd (omega arith)
-    case t p n pushes sequence inc same not_done held (inr u) = h.refused u.0 p n u.1 (ap push_in u.2 ∙ pushes) (ap seq_of u.2 ∙ sequence) inc same not_done held
+    case t p n pushes sequence inc same not_done held (inr u) = h.refused u.0 p n u.1 (ap push_in u.2 ∙ pushes) (ap sequence_of u.2 ∙ sequence) inc same not_done held
 
   -- a plain entry is made
   pub notes : (v : View) (e : Entry) → IsPlain e → is_timed e ≡ false → Holding s who now journal v → Holding s who now journal (record v { entries = e ∷ v.entries })

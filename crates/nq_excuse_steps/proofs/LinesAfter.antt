@@ -7,7 +7,7 @@ use Rattle.nq_base.specs.declared.Who.{Who}
 use Rattle.nq_client_steps.proofs.ClientLists.{other-number}
 use Rattle.nq_model.specs.Decide.{Decision, decides, creates, writes_through, stores, wrote, stores_recovering, resizes, removes, puts_off, commits, row_after}
 use Rattle.nq_model.specs.Kept.{Kept, host_row, with_row, with_files, with_new_file}
-use Rattle.nq_model.specs.Message.{Datagram, asker, request}
+use Rattle.nq_model.specs.Message.{Datagram, asker, request, sequence_of}
 use Rattle.nq_model.specs.Profile.{most_hosts}
 use Rattle.nq_model.specs.Server.{Server, ServerStep, quiet, drops, says, after_notices, keeping, keeping_with, with_table}
 use Rattle.nq_model.specs.ServerStep.{attaches, vacates, tells_later, serves, leases, receive}
@@ -15,7 +15,7 @@ use Rattle.nq_server_laws.proofs.ServerNumbers.{LinesFitOf}
 use Rattle.nq_server_steps.proofs.KeptChanges.{other-line, own-line}
 use Rattle.nq_server_steps.proofs.Rows.{same-number}
 use Rattle.nq_server_steps.proofs.ServerCases.{server-hears}
-use Rattle.nq_server_steps.proofs.ServerOutcomes.{ServerCases, IsFresh, IsFrom, IsDeclined, sequence_of, base_in, line_of}
+use Rattle.nq_server_steps.proofs.ServerOutcomes.{ServerCases, IsFresh, IsFrom, IsDeclined, base_in, line_of}
 
 -- a fresh request of the host was decided
 pub record IsDecided (s : Server) (sender : ℕ) (d : Datagram) (host : ℕ) (after : HostRow) (x seq : ℕ) (w : Who) (r : Request) : Type 0 where

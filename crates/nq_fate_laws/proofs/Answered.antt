@@ -9,7 +9,6 @@ use Rattle.nq_base.specs.declared.Request.{Request}
 use Rattle.nq_base.specs.declared.Tag.{Tag}
 use Rattle.nq_base.specs.declared.Who.{Who}
 use Rattle.nq_client_steps.proofs.ClientCases.{Core, core_of, Closed, Both}
-use Rattle.nq_client_steps.proofs.ClientFacts.{seq_of}
 use Rattle.nq_client_steps.proofs.ClientMoves.{some-same, none-some, keeps-or-cancels}
 use Rattle.nq_client_steps.proofs.ClientWalk.{Replying, reply-keeps, notice-keeps, call-keeps, tick-keeps}
 use Rattle.nq_fate_steps.proofs.ServerTells.{Tells, later, decided, Moves, same_lines, attaches_one, decides_one, Decides, Attaches, ServerTells}
@@ -18,7 +17,7 @@ use Rattle.nq_model.specs.ClientStep.{client_call, client_tick, at_time, restart
 use Rattle.nq_model.specs.Decide.{verdict_reply}
 use Rattle.nq_model.specs.Hear.{inc_of, is_reply_to, reply_counts, hear, hear_reply, hear_notice, hear_call, goes_on, replied, holds_later, evicted, cancels, cancelled}
 use Rattle.nq_model.specs.Kept.{host_row}
-use Rattle.nq_model.specs.Message.{Message, Packet, call, reply, error}
+use Rattle.nq_model.specs.Message.{Message, Packet, call, reply, error, sequence_of}
 use Rattle.nq_model.specs.Server.{Server, ServerStep, to_host}
 use Rattle.nq_model.specs.Table.{same_who}
 use Rattle.nq_model.specs.World.{from_host}
@@ -34,20 +33,20 @@ pub record Answered (line : HostRow) (who : Who) (seq : ℕ) (ticket : Option Ti
   -- some sequence was drawn, or the first one is next
   pub positive : 0 < seq
   -- the sequence of the request under way was drawn last
-  pub latest : (t : Ticket) (n : ℕ) → ticket ≡ Some t → seq_of t.request ≡ Some n → n + 1 ≡ seq
+  pub latest : (t : Ticket) (n : ℕ) → ticket ≡ Some t → sequence_of t.request ≡ Some n → n + 1 ≡ seq
   -- the kept sequence of the running incarnation was drawn
   pub kept : line.inc ≡ who.inc → line.seq < seq
   -- a reply to the request under way tells what is kept of it
-  pub replies : (x : ℕ) (a : Reply) → Told ps who.host (reply x a) → inc_of a ≡ who.inc → (t : Ticket) → ticket ≡ Some t → t.xid ≡ x → (n : ℕ) → seq_of t.request ≡ Some n → Tells line who n t.request a
+  pub replies : (x : ℕ) (a : Reply) → Told ps who.host (reply x a) → inc_of a ≡ who.inc → (t : Ticket) → ticket ≡ Some t → t.xid ≡ x → (n : ℕ) → sequence_of t.request ≡ Some n → Tells line who n t.request a
 
 -- ---- small changes of a client
 
 fewer-answered : {line : HostRow} {who : Who} {seq : ℕ} {ticket : Option Ticket} {ps : List Packet} (less : Option Ticket) → IsFewer less ticket → Answered line who seq ticket ps → Answered line who seq less ps
 fewer-answered {line = line} {who = who} less few h = record {
   positive = h.positive;
-  latest = λ t n e q. let f = few t e in h.latest f.0 n f.1 (ap seq_of f.3 ∙ q);
+  latest = λ t n e q. let f = few t e in h.latest f.0 n f.1 (ap sequence_of f.3 ∙ q);
   kept = h.kept;
-  replies = λ x a told i t e same n q. let f = few t e in subst (λ r. Tells line who n r a) f.3 (h.replies x a told i f.0 f.1 (f.2 ∙ same) n (ap seq_of f.3 ∙ q));
+  replies = λ x a told i t e same n q. let f = few t e in subst (λ r. Tells line who n r a) f.3 (h.replies x a told i f.0 f.1 (f.2 ∙ same) n (ap sequence_of f.3 ∙ q));
 }
 
 -- a message is sent
@@ -60,18 +59,18 @@ more-answered {who = who} {ps = ps} m h = record {
 }
 
 -- a request is sent with a number that no reply has
-asks-answered : {line : HostRow} {who : Who} {xid seq : ℕ} {ps : List Packet} (t : Ticket) → t.xid ≡ xid → seq_of t.request ≡ None → Mail who xid None ps → Answered line who seq None ps → Answered line who seq (Some t) ps
+asks-answered : {line : HostRow} {who : Who} {xid seq : ℕ} {ps : List Packet} (t : Ticket) → t.xid ≡ xid → sequence_of t.request ≡ None → Mail who xid None ps → Answered line who seq None ps → Answered line who seq (Some t) ps
 asks-answered t numbered no_seq m h = record {
   positive = h.positive;
-  latest = λ u n e q. none-some n (sym no_seq ∙ ap (λ z. seq_of z.request) (some-same t u e) ∙ q);
+  latest = λ u n e q. none-some n (sym no_seq ∙ ap (λ z. sequence_of z.request) (some-same t u e) ∙ q);
   kept = h.kept;
-  replies = λ x a told i u e same n q. none-some n (sym no_seq ∙ ap (λ z. seq_of z.request) (some-same t u e) ∙ q);
+  replies = λ x a told i u e same n q. none-some n (sym no_seq ∙ ap (λ z. sequence_of z.request) (some-same t u e) ∙ q);
 }
 
-decides-answered : {line : HostRow} {who : Who} {xid seq : ℕ} {ps : List Packet} (t : Ticket) → t.xid ≡ xid → seq_of t.request ≡ Some seq → Mail who xid None ps → Answered line who seq None ps → Answered line who (seq + 1) (Some t) ps
+decides-answered : {line : HostRow} {who : Who} {xid seq : ℕ} {ps : List Packet} (t : Ticket) → t.xid ≡ xid → sequence_of t.request ≡ Some seq → Mail who xid None ps → Answered line who seq None ps → Answered line who (seq + 1) (Some t) ps
 decides-answered {seq = seq} t numbered draws m h = record {
   positive = let p = h.positive in omega arith;
-  latest = λ u n e q. let same : seq ≡ n = some-same seq n (sym draws ∙ ap (λ z. seq_of z.request) (some-same t u e) ∙ q) in omega arith;
+  latest = λ u n e q. let same : seq ≡ n = some-same seq n (sym draws ∙ ap (λ z. sequence_of z.request) (some-same t u e) ∙ q) in omega arith;
   kept = λ e. let k = h.kept e in omega arith;
   replies = λ x a told i u e same n q. let fresh = (m.replied x a told i).number in let one : t ≡ u = some-same t u e in let number : t.xid ≡ x = ap (λ z. z.xid) one ∙ same in absurd (omega arith);
 }
@@ -146,9 +145,9 @@ pub restart-answers : (line : HostRow) (host : ℕ) (c : Client) (ps : List Pack
 unfolding starts fresh_client
 restart-answers line host c ps past = record {
   positive = omega arith;
-  latest = λ t n e q. let one = some-same _ t e in none-some n (ap (λ z. seq_of z.request) one ∙ q);
+  latest = λ t n e q. let one = some-same _ t e in none-some n (ap (λ z. sequence_of z.request) one ∙ q);
   kept = λ e. absurd (omega arith);
-  replies = λ x a told i t e same n q. let one = some-same _ t e in none-some n (ap (λ z. seq_of z.request) one ∙ q);
+  replies = λ x a told i t e same n q. let one = some-same _ t e in none-some n (ap (λ z. sequence_of z.request) one ∙ q);
 }
 
 abbrev AnsweredIf : HostRow → (host : ℕ) → List Packet → Option ClientStep → Type 0
@@ -292,11 +291,11 @@ server-answers s t who xid seq ticket ps d m q h = record {
   both-same : (v w : Who) → v.host ≡ w.host → v.inc ≡ w.inc → v ≡ w
   both-same v w a b = let make : ℕ → ℕ → Who = λ i j. record { host = i; inc = j } in ap (λ i. make i v.inc) a ∙ ap (λ j. make w.host j) b
 
-  replies : (x : ℕ) (a : Reply) → inc_of a ≡ who.inc → (u : Ticket) → ticket ≡ Some u → u.xid ≡ x → (n : ℕ) → seq_of u.request ≡ Some n → In ps (to_host who.host (reply x a)) ⊎ In t.sends (to_host who.host (reply x a)) → Tells after who n u.request a
+  replies : (x : ℕ) (a : Reply) → inc_of a ≡ who.inc → (u : Ticket) → ticket ≡ Some u → u.xid ≡ x → (n : ℕ) → sequence_of u.request ≡ Some n → In ps (to_host who.host (reply x a)) ⊎ In t.sends (to_host who.host (reply x a)) → Tells after who n u.request a
   replies x a i u e same n sq (inl old) = stays u.request a n (h.latest u n e sq) d.moves (h.replies x a old i u e same n sq)
   replies x a i u e same n sq (inr new) =
       let k = d.says who.host x a new in
       let inc : k.who.inc ≡ who.inc = sym k.inc ∙ i in
       let asks : u.request ≡ k.asks = (m.asked x k.asks k.who k.sent k.by).same inc u e same in
       let one : k.who ≡ who = both-same k.who who k.same_host inc in
-      subst (λ r. Tells after who n r a) (sym asks) (subst (λ w. Tells after w n k.asks a) one (k.tells n (ap seq_of (sym asks) ∙ sq)))
+      subst (λ r. Tells after who n r a) (sym asks) (subst (λ w. Tells after w n k.asks a) one (k.tells n (ap sequence_of (sym asks) ∙ sq)))

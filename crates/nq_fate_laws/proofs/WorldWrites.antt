@@ -11,7 +11,7 @@ use Rattle.nq_base.specs.declared.PushBase.{PushBase}
 use Rattle.nq_base.specs.declared.Reply.{Reply}
 use Rattle.nq_base.specs.declared.Request.{Request}
 use Rattle.nq_base.specs.declared.Who.{Who}
-use Rattle.nq_client_steps.proofs.ClientFacts.{seq_of, push_in}
+use Rattle.nq_client_steps.proofs.ClientFacts.{push_in}
 use Rattle.nq_client_steps.proofs.ClientMoves.{some-same, none-some, attached-with-ticket}
 use Rattle.nq_fate_laws.proofs.AnsweredWorlds.{AllAnswered, first-line, run-answered, server-step, received-tells, tick-tells, crash-tells}
 use Rattle.nq_fate_steps.proofs.ClientFates.{IsOwn, Mid}
@@ -27,7 +27,7 @@ use Rattle.nq_model.specs.Client.{Client, ClientStep, attaching, pushing, Ticket
 use Rattle.nq_model.specs.ClientStep.{client_call, client_tick, restart, starts, next_incarnation, attached_client, fresh_client}
 use Rattle.nq_model.specs.Hear.{hear, inc_of, reply_counts}
 use Rattle.nq_model.specs.Kept.{host_row}
-use Rattle.nq_model.specs.Message.{Message, Packet, call, reply}
+use Rattle.nq_model.specs.Message.{Message, Packet, call, reply, sequence_of}
 use Rattle.nq_model.specs.Server.{ServerStep}
 use Rattle.nq_model.specs.Skew.{IsWithinSkew}
 use Rattle.nq_model.specs.World.{Head, World, from_host, after_server, after_client, start, run}
@@ -203,7 +203,7 @@ journal-server head events t h moves = case moves
     fresh k sq f b first last base bd asks (Some c) is =
         let p : Push = record { file = f; block = b; first = first; last = last; body = bd } in
         let here : c.who.host ≡ k.w.host = ((run-holds head events).clients k.w.host c is).here in
-        let number : sq ≡ k.seq = some-same sq k.seq (ap seq_of (sym asks) ∙ k.draws) in
+        let number : sq ≡ k.seq = some-same sq k.seq (ap sequence_of (sym asks) ∙ k.draws) in
         let sent : IsOpenPush (host_row w.server.kept k.w.host) w.packets c.who.host k.w p = record {
           xid = k.x;
           seq = sq;

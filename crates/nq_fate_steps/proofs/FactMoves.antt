@@ -8,7 +8,7 @@ use Rattle.nq_base.specs.declared.Push.{Push}
 use Rattle.nq_base.specs.declared.PushBase.{PushBase}
 use Rattle.nq_base.specs.declared.Request.{Request}
 use Rattle.nq_base.specs.declared.Who.{Who}
-use Rattle.nq_client_steps.proofs.ClientFacts.{seq_of, push_in}
+use Rattle.nq_client_steps.proofs.ClientFacts.{push_in}
 use Rattle.nq_client_steps.proofs.ClientMoves.{some-same, none-some}
 use Rattle.nq_fate_steps.proofs.JournalMoves.{covers-before}
 use Rattle.nq_fate_steps.proofs.PushLists.{InWritten, is_other, is_longer, is_new, in-written, written-in, written-there, apart-written}
@@ -16,7 +16,7 @@ use Rattle.nq_fate_steps.proofs.ServerTells.{IsQuiet, AllQuiet}
 use Rattle.nq_fate_steps.proofs.WritesFit.{CoversNumber, IsApart, IsOfWrites, IsRising, JournalFits, IsBehind, IsDirty, PushStands, waits, stored, IsPushed, LiesWithin, in_list, under_way, ListFits, IsOpenPush, PushesFit, Facts}
 use Rattle.nq_model.specs.Client.{Ticket, pushing, dirty_at}
 use Rattle.nq_model.specs.Journal.{Covers}
-use Rattle.nq_model.specs.Message.{Packet, call}
+use Rattle.nq_model.specs.Message.{Packet, call, sequence_of}
 use Rattle.nq_model.specs.Settle.{with_write, overwritten}
 use Rattle.nq_model.specs.World.{from_host}
 use Rattle.nq_run_steps.proofs.Packets.{In, Asked}
@@ -205,7 +205,7 @@ module _ {line : HostRow} {who : Who} {number seq : ℕ} {ticket : Option Ticket
       let sq = seq-of-push k.request.request p k.pushes in
       (h.pushed p k.request sq.0 is k.asks sq.1).below
     where
-      seq-of-push : (r : Request) (p : Push) → push_in r ≡ Some p → (n : ℕ) × (seq_of r ≡ Some n)
+      seq-of-push : (r : Request) (p : Push) → push_in r ≡ Some p → (n : ℕ) × (sequence_of r ≡ Some n)
       seq-of-push (Request.Write w n f b x y (Some base) bd) p e = (n, refl)
       seq-of-push r p e = none-some p e
 
@@ -350,7 +350,7 @@ facts-ticket after same h = record {
       let k = h.under_way p is in
       let s = same p k.request is k.asks k.pushes in
       let one : s.0 ≡ u = some-same s.0 u (sym s.1 ∙ asks) in
-      h.pushed p k.request n is k.asks (ap seq_of (sym s.3) ∙ ap (λ z. seq_of z.request) one ∙ sq);
+      h.pushed p k.request n is k.asks (ap sequence_of (sym s.3) ∙ ap (λ z. sequence_of z.request) one ∙ sq);
   sent = h.sent;
   under_way = λ p is.
       let k = h.under_way p is in

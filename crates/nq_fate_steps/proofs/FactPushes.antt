@@ -10,7 +10,7 @@ use Rattle.nq_base.specs.declared.Push.{Push}
 use Rattle.nq_base.specs.declared.PushBase.{PushBase}
 use Rattle.nq_base.specs.declared.Request.{Request}
 use Rattle.nq_base.specs.declared.Who.{Who}
-use Rattle.nq_client_steps.proofs.ClientFacts.{seq_of, push_in}
+use Rattle.nq_client_steps.proofs.ClientFacts.{push_in}
 use Rattle.nq_client_steps.proofs.ClientMoves.{some-same, none-some}
 use Rattle.nq_fate_steps.proofs.FactMoves.{behind-more, journal-more}
 use Rattle.nq_fate_steps.proofs.JournalMoves.{store-covers}
@@ -18,7 +18,7 @@ use Rattle.nq_fate_steps.proofs.PushLists.{in-dropped, dropped-in, in-other, oth
 use Rattle.nq_fate_steps.proofs.WritesFit.{CoversNumber, IsClear, JournalFits, IsBehind, IsDirty, PushStands, waits, stored, IsPushed, LiesWithin, in_list, under_way, IsOpenPush, Facts}
 use Rattle.nq_model.specs.Client.{Ticket, pushing, is_push_of, is_push_at, drop_dirty, other_dirty}
 use Rattle.nq_model.specs.Hear.{other_push, loss_entry}
-use Rattle.nq_model.specs.Message.{Packet, call}
+use Rattle.nq_model.specs.Message.{Packet, call, sequence_of}
 use Rattle.nq_model.specs.World.{from_host}
 use Rattle.nq_run_steps.proofs.Packets.{In, Asked}
 use Rattle.nq_run_steps.proofs.TagFacts.{asked-before}
@@ -106,7 +106,7 @@ module _ {line : HostRow} {who : Who} {number seq : ℕ} {ticket : Option Ticket
     pushed = λ q u n is has sq.
         let one : p ≡ q = some-same p q is in
         let tick : t ≡ u = some-same t u has in
-        let last : seq ≡ n = some-same seq n (ap seq_of (sym asks) ∙ ap (λ z. seq_of z.request) tick ∙ sq) in
+        let last : seq ≡ n = some-same seq n (ap sequence_of (sym asks) ∙ ap (λ z. sequence_of z.request) tick ∙ sq) in
         subst (λ z. IsPushed line who number n j z) one (record {
           behind = mine.behind;
           below = mine.below;

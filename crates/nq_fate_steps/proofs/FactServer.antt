@@ -9,7 +9,7 @@ use Rattle.nq_base.specs.declared.PushBase.{PushBase}
 use Rattle.nq_base.specs.declared.Request.{Request}
 use Rattle.nq_base.specs.declared.Verdict.{Verdict}
 use Rattle.nq_base.specs.declared.Who.{Who}
-use Rattle.nq_client_steps.proofs.ClientFacts.{seq_of, push_in}
+use Rattle.nq_client_steps.proofs.ClientFacts.{push_in}
 use Rattle.nq_client_steps.proofs.ClientMoves.{some-same, none-some}
 use Rattle.nq_fate_steps.proofs.FactMoves.{IsOfOther, quiet-other, behind-more, facts-others, facts-packets}
 use Rattle.nq_fate_steps.proofs.JournalMoves.{covers-before}
@@ -18,7 +18,7 @@ use Rattle.nq_fate_steps.proofs.WritesFit.{CoversNumber, IsDirty, IsDecidedAs, P
 use Rattle.nq_model.specs.Client.{Ticket}
 use Rattle.nq_model.specs.Journal.{Covers}
 use Rattle.nq_model.specs.Kept.{host_row}
-use Rattle.nq_model.specs.Message.{Packet, asker}
+use Rattle.nq_model.specs.Message.{Packet, asker, sequence_of}
 use Rattle.nq_model.specs.Server.{Server, ServerStep}
 use Rattle.nq_request_laws.proofs.OpenRequests.{IsOpenAt, OneOpenAt}
 use Rattle.nq_run_steps.proofs.HostLine.{IsSettled}
@@ -88,7 +88,7 @@ pub record Before (line after : HostRow) (who : Who) (xid number seq : ℕ) (tic
   pub facts : Facts line who number seq ticket dirty push ps j
   pub mail : Mail who xid ticket ps
   pub above : (x : ℕ) (r : Request) (w : Who) → Asked ps who.host x r → asker r ≡ Some w → line.inc < w.inc → r ≡ Request.Attach w
-  pub settled : line.inc ≡ who.inc → (x : ℕ) (r : Request) (w : Who) (n : ℕ) → Asked ps who.host x r → asker r ≡ Some w → w.inc ≡ who.inc → seq_of r ≡ Some n → IsSettled ticket line.seq x n
+  pub settled : line.inc ≡ who.inc → (x : ℕ) (r : Request) (w : Who) (n : ℕ) → Asked ps who.host x r → asker r ≡ Some w → w.inc ≡ who.inc → sequence_of r ≡ Some n → IsSettled ticket line.seq x n
   pub pushing : (p : Push) → push ≡ Some p → line.inc ≡ who.inc
   pub one : OneOpenAt line ps who.host
   pub drawn : after.inc ≡ who.inc → after.seq < seq
@@ -189,7 +189,7 @@ module _ (s : Server) (t : ServerStep) (who : Who) (xid number seq : ℕ) (ticke
         let mine : IsOpenAt line ps who.host k.x k.r = record { who = k.w; seq = k.seq; asked = asked-here; by = k.by; kept = was-inc; draws = k.draws; above = was-below } in
         let other : IsOpenAt line ps who.host o.xid r = record { who = w; seq = o.seq; asked = old o.xid r o.asked; by = refl; kept = omega arith; draws = refl; above = omega arith } in
         let one = (b.one k.x o.xid k.r r mine other).1 in
-        let number : k.seq ≡ o.seq = some-same k.seq o.seq (sym k.draws ∙ ap seq_of one) in
+        let number : k.seq ≡ o.seq = some-same k.seq o.seq (sym k.draws ∙ ap sequence_of one) in
         omega arith
 
     -- a push under way is what is decided
@@ -210,7 +210,7 @@ module _ (s : Server) (t : ServerStep) (who : Who) (xid number seq : ℕ) (ticke
             let asks : u.0.request ≡ k.r = (b.mail.asked k.x k.r k.w asked-here k.by).same mine u.0 u.1 u.2 in
             ap push_in (sym asks ∙ ap (λ z. z.request) (sym one)) ∙ h.pushes
 
-    seq-is : (p : Push) (u : Ticket) (n : ℕ) → push ≡ Some p → ticket ≡ Some u → seq_of u.request ≡ Some n → n ≡ k.seq
+    seq-is : (p : Push) (u : Ticket) (n : ℕ) → push ≡ Some p → ticket ≡ Some u → sequence_of u.request ≡ Some n → n ≡ k.seq
     seq-is p u n is has sq = case (b.settled (b.pushing p is) k.x k.r k.w k.seq asked-here k.by mine k.draws)
       where
         mine : k.w.inc ≡ who.inc
@@ -221,7 +221,7 @@ module _ (s : Server) (t : ServerStep) (who : Who) (xid number seq : ℕ) (ticke
         case (inr v) =
             let one : v.0 ≡ u = some-same v.0 u (sym v.1 ∙ has) in
             let asks : v.0.request ≡ k.r = (b.mail.asked k.x k.r k.w asked-here k.by).same mine v.0 v.1 v.2 in
-            some-same n k.seq (sym sq ∙ ap (λ z. seq_of z.request) (sym one) ∙ ap seq_of asks ∙ k.draws)
+            some-same n k.seq (sym sq ∙ ap (λ z. sequence_of z.request) (sym one) ∙ ap sequence_of asks ∙ k.draws)
 
     -- no later incarnation
     record PastFits (journal : List Entry) : Type 0 where
@@ -232,7 +232,7 @@ module _ (s : Server) (t : ServerStep) (who : Who) (xid number seq : ℕ) (ticke
     inc-past = (b.mail.asked k.x k.r k.w asked-here k.by).inc
 
     -- the facts after it, but for the push under way
-    decides : (e : List Entry) → PastFits (e ++ j) → ListFits who number dirty push (e ++ j) → ((p : Push) (u : Ticket) (n : ℕ) → push ≡ Some p → ticket ≡ Some u → seq_of u.request ≡ Some n → IsPushed line who number n j p → IsPushed after who number n (e ++ j) p) → Result e
+    decides : (e : List Entry) → PastFits (e ++ j) → ListFits who number dirty push (e ++ j) → ((p : Push) (u : Ticket) (n : ℕ) → push ≡ Some p → ticket ≡ Some u → sequence_of u.request ≡ Some n → IsPushed line who number n j p → IsPushed after who number n (e ++ j) p) → Result e
     decides e past list pushed = record {
       list = list;
       pushed = λ p u n is has sq. pushed p u n is has sq (b.facts.pushed p u n is has sq);
@@ -321,7 +321,7 @@ module _ (s : Server) (t : ServerStep) (who : Who) (xid number seq : ℕ) (ticke
         adds : Adds who number dirty push (S k.w f bl first last now)
         adds = record { writes = λ g c n v th e. absurd (cc); covers = covers; tops = tops }
 
-        pushed : (p : Push) (u : Ticket) (n : ℕ) → push ≡ Some p → ticket ≡ Some u → seq_of u.request ≡ Some n → IsPushed line who number n j p → IsPushed after who number n (S k.w f bl first last now ∷ j) p
+        pushed : (p : Push) (u : Ticket) (n : ℕ) → push ≡ Some p → ticket ≡ Some u → sequence_of u.request ≡ Some n → IsPushed line who number n j p → IsPushed after who number n (S k.w f bl first last now ∷ j) p
         pushed p u n is has sn d =
             let it = is-it p is in
             let one : record { file = f; block = bl; first = first; last = last; body = bd } ≡ p = some-same _ p (ap push_in (sym asks) ∙ it.1) in

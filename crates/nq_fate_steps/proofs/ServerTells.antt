@@ -14,13 +14,13 @@ use Rattle.nq_base.specs.declared.Row.{Row}
 use Rattle.nq_base.specs.declared.Tag.{Tag}
 use Rattle.nq_base.specs.declared.Verdict.{Verdict}
 use Rattle.nq_base.specs.declared.Who.{Who}
-use Rattle.nq_client_steps.proofs.ClientFacts.{seq_of, push_in}
+use Rattle.nq_client_steps.proofs.ClientFacts.{push_in}
 use Rattle.nq_client_steps.proofs.ClientMoves.{some-same, none-some}
-use Rattle.nq_lease_laws.proofs.ServerEffects.{same-seq, reads-no-seq}
+use Rattle.nq_lease_laws.proofs.ServerEffects.{reads-no-seq}
 use Rattle.nq_model.specs.Decide.{Decision, decides, creates, writes_through, stores, wrote, stores_recovering, resizes, removes, puts_off as puts_off_change, verdict_reply, commits, row_after}
 use Rattle.nq_model.specs.Hear.{inc_of, puts_off}
 use Rattle.nq_model.specs.Kept.{File, Kept, fresh_row, host_row, with_row, with_files, with_new_file}
-use Rattle.nq_model.specs.Message.{Message, Packet, call, reply, asker, Reason, Datagram, request, too_long, no_message, no_call, other_rpc, other_program, other_version, unknown_procedure, garbage_vacated, garbage}
+use Rattle.nq_model.specs.Message.{Message, Packet, call, reply, asker, Reason, Datagram, request, too_long, no_message, no_call, other_rpc, other_program, other_version, unknown_procedure, garbage_vacated, garbage, sequence_of}
 use Rattle.nq_model.specs.Profile.{xid_end, most_hosts}
 use Rattle.nq_model.specs.Server.{Server, ServerStep, to_host, quiet, drops, says, notices, after_notices, keeping, keeping_with, with_table}
 use Rattle.nq_model.specs.ServerStep.{attaches, vacates, tells_later, serves, leases, grants, receive}
@@ -30,7 +30,7 @@ use Rattle.nq_run_steps.proofs.ServerSays.{verdict-inc, plain-inc}
 use Rattle.nq_server_laws.proofs.ServerNumbers.{LinesFitOf}
 use Rattle.nq_server_steps.proofs.KeptChanges.{other-line, own-line}
 use Rattle.nq_server_steps.proofs.ServerCases.{server-hears}
-use Rattle.nq_server_steps.proofs.ServerOutcomes.{sequence_of, error_for, only_asks, base_in, line_of, IsFrom, IsFresh, IsPlain, unattached, attached_again, not_yet, no_entry, entry, no_attributes, attributes, no_file, no_block, decided_again, is_old, IsDeclined, bad_length, name_taken, no_room, not_kept, outside, no_row, not_under, not_over, not_while_recovering, bad_size, no_room_to_grow}
+use Rattle.nq_server_steps.proofs.ServerOutcomes.{error_for, only_asks, base_in, line_of, IsFrom, IsFresh, IsPlain, unattached, attached_again, not_yet, no_entry, entry, no_attributes, attributes, no_file, no_block, decided_again, is_old, IsDeclined, bad_length, name_taken, no_room, not_kept, outside, no_row, not_under, not_over, not_while_recovering, bad_size, no_room_to_grow}
 
 -- ---- entries
 
@@ -70,7 +70,7 @@ pub record SaysOf (ps : List Packet) (after : Kept) (host x : ℕ) (a : Reply) :
   pub by : asker asks ≡ Some who
   pub same_host : who.host ≡ host
   pub inc : inc_of a ≡ who.inc
-  pub tells : (n : ℕ) → seq_of asks ≡ Some n → Tells (host_row after host) who n asks a
+  pub tells : (n : ℕ) → sequence_of asks ≡ Some n → Tells (host_row after host) who n asks a
 
 abbrev pub AllSay : List Packet → ServerStep → Type 0
 AllSay ps t = (host x : ℕ) (a : Reply) → In t.sends (to_host host (reply x a)) → SaysOf ps t.server.kept host x a
@@ -89,7 +89,7 @@ pub record Decides (ps : List Packet) (s : Server) (t : ServerStep) : Type 0 whe
   pub r : Request
   pub asked : Asked ps w.host x r
   pub by : asker r ≡ Some w
-  pub draws : seq_of r ≡ Some seq
+  pub draws : sequence_of r ≡ Some seq
   pub inc : (host_row s.kept w.host).inc ≡ w.inc
   pub above : (host_row s.kept w.host).seq < seq
   pub inc_after : (host_row t.server.kept w.host).inc ≡ w.inc
@@ -118,24 +118,24 @@ pub record ServerTells (ps : List Packet) (s : Server) (t : ServerStep) : Type 0
 
 -- ---- plain replies
 
-asks-no-seq : (r : Request) → only_asks r ≡ true → seq_of r ≡ None
+asks-no-seq : (r : Request) → only_asks r ≡ true → sequence_of r ≡ None
 asks-no-seq (Request.Lookup w name) e = refl
 asks-no-seq (Request.GetAttr w file) e = refl
 asks-no-seq (Request.Read w q file block want) e = refl
 asks-no-seq (Request.GetLease w file want) e = refl
 asks-no-seq r e = absurd (cc)
 
-plain-tells : (s : Server) (w : Who) (r : Request) (a : Reply) → IsPlain s w r a → (n : ℕ) → seq_of r ≡ Some n → Tells (line_of s w) w n r a
+plain-tells : (s : Server) (w : Who) (r : Request) (a : Reply) → IsPlain s w r a → (n : ℕ) → sequence_of r ≡ Some n → Tells (line_of s w) w n r a
 plain-tells s w r a (unattached above other e) n q = later Refusal.NotAttached e refl
-plain-tells s w r a (attached_again asks same e) n q = none-some n (ap seq_of (sym asks) ∙ q)
+plain-tells s w r a (attached_again asks same e) n q = none-some n (ap sequence_of (sym asks) ∙ q)
 plain-tells s w r a (not_yet same rec only e) n q = none-some n (sym (asks-no-seq r only) ∙ q)
-plain-tells s w r a (no_entry name same p on none e) n q = none-some n (ap seq_of (sym on) ∙ q)
-plain-tells s w r a (entry name f same p on some e) n q = none-some n (ap seq_of (sym on) ∙ q)
-plain-tells s w r a (no_attributes file same p on none e) n q = none-some n (ap seq_of (sym on) ∙ q)
-plain-tells s w r a (attributes file f same p on some e) n q = none-some n (ap seq_of (sym on) ∙ q)
+plain-tells s w r a (no_entry name same p on none e) n q = none-some n (ap sequence_of (sym on) ∙ q)
+plain-tells s w r a (entry name f same p on some e) n q = none-some n (ap sequence_of (sym on) ∙ q)
+plain-tells s w r a (no_attributes file same p on none e) n q = none-some n (ap sequence_of (sym on) ∙ q)
+plain-tells s w r a (attributes file f same p on some e) n q = none-some n (ap sequence_of (sym on) ∙ q)
 plain-tells s w r a (no_file file same p on none e) n q = none-some n (sym (reads-no-seq r file on) ∙ q)
-plain-tells s w r a (no_block q' file block want f same p on some none e) n q = none-some n (ap seq_of (sym on) ∙ q)
-plain-tells s w r a (decided_again seq same sq eq e) n q = let one : seq ≡ n = some-same seq n (sym sq ∙ sym (same-seq r) ∙ q) in decided (sym same) (sym eq ∙ one) e
+plain-tells s w r a (no_block q' file block want f same p on some none e) n q = none-some n (ap sequence_of (sym on) ∙ q)
+plain-tells s w r a (decided_again seq same sq eq e) n q = let one : seq ≡ n = some-same seq n (sym sq ∙ q) in decided (sym same) (sym eq ∙ one) e
 plain-tells s w r a (is_old seq same sq below e) n q = later Refusal.Old e refl
 
 same-lines : (kept after : Kept) (host : ℕ) → after.hosts ≡ kept.hosts → host_row after host ≡ host_row kept host
@@ -181,7 +181,7 @@ module _ (ps : List Packet) (s : Server) (sender next : ℕ) (d : Datagram) (was
   asked-here xid w r e from = subst (λ n. Asked ps n xid r) (sym from) (was_sent xid r e)
 
   -- a reply to this datagram
-  answered : (kept : Kept) (xid : ℕ) (w : Who) (r : Request) (a : Reply) → d ≡ request xid r → asker r ≡ Some w → w.host ≡ sender → inc_of a ≡ w.inc → ((n : ℕ) → seq_of r ≡ Some n → Tells (host_row kept w.host) w n r a) → SaysOf ps kept w.host xid a
+  answered : (kept : Kept) (xid : ℕ) (w : Who) (r : Request) (a : Reply) → d ≡ request xid r → asker r ≡ Some w → w.host ≡ sender → inc_of a ≡ w.inc → ((n : ℕ) → sequence_of r ≡ Some n → Tells (host_row kept w.host) w n r a) → SaysOf ps kept w.host xid a
   answered kept xid w r a e by from inc tells = record { asks = r; who = w; sent = asked-here xid w r e from; by = by; same_host = refl; inc = inc; tells = tells }
 
   stays : ServerTells ps s (quiet s)
@@ -196,7 +196,7 @@ module _ (ps : List Packet) (s : Server) (sender next : ℕ) (d : Datagram) (was
   unfolding says
   erring m e = record { moves = same_lines none-quiet (λ host. refl); says = λ host x a i. absurd (error-none sender d m e host x a i) }
 
-  replying : (xid : ℕ) (w : Who) (r : Request) (a : Reply) → d ≡ request xid r → asker r ≡ Some w → w.host ≡ sender → inc_of a ≡ w.inc → ((n : ℕ) → seq_of r ≡ Some n → Tells (host_row s.kept w.host) w n r a) → ServerTells ps s (says s w.host (reply xid a))
+  replying : (xid : ℕ) (w : Who) (r : Request) (a : Reply) → d ≡ request xid r → asker r ≡ Some w → w.host ≡ sender → inc_of a ≡ w.inc → ((n : ℕ) → sequence_of r ≡ Some n → Tells (host_row s.kept w.host) w n r a) → ServerTells ps s (says s w.host (reply xid a))
   unfolding says
   replying xid w r a e by from inc tells = record { moves = same_lines none-quiet (λ host. refl); says = one-says ps s.kept w.host xid a (answered s.kept xid w r a e by from inc tells) }
 
@@ -235,14 +235,14 @@ module _ (ps : List Packet) (s : Server) (sender next : ℕ) (d : Datagram) (was
   granted-quiet w file None = none-quiet
   granted-quiet w file (Some g) = one-quiet _ tt
 
-  reading : (xid : ℕ) (w : Who) (q block : ℕ) (f : File) (body : List ℕ) (table : Table) (grant : Option Grant) (r : Request) → d ≡ request xid r → asker r ≡ Some w → w.host ≡ sender → seq_of r ≡ None → ServerTells ps s (serves s w xid next q f block body table grant)
+  reading : (xid : ℕ) (w : Who) (q block : ℕ) (f : File) (body : List ℕ) (table : Table) (grant : Option Grant) (r : Request) → d ≡ request xid r → asker r ≡ Some w → w.host ≡ sender → sequence_of r ≡ None → ServerTells ps s (serves s w xid next q f block body table grant)
   unfolding serves with_table
   reading xid w q block f body table grant r e by from no_seq = record {
     moves = same_lines (more-quiet _ (grants s w f.id grant) tt (granted-quiet w f.id grant)) (λ host. refl);
     says = one-says ps s.kept w.host xid (Reply.Read w.inc f.rev body grant) (answered s.kept xid w r (Reply.Read w.inc f.rev body grant) e by from refl (λ n q. none-some n (sym no_seq ∙ q)));
   }
 
-  leasing : (xid : ℕ) (w : Who) (file : ℕ) (table : Table) (grant : Option Grant) (r : Request) → d ≡ request xid r → asker r ≡ Some w → w.host ≡ sender → seq_of r ≡ None → ServerTells ps s (leases s w xid file table grant)
+  leasing : (xid : ℕ) (w : Who) (file : ℕ) (table : Table) (grant : Option Grant) (r : Request) → d ≡ request xid r → asker r ≡ Some w → w.host ≡ sender → sequence_of r ≡ None → ServerTells ps s (leases s w xid file table grant)
   unfolding leases with_table
   leasing xid w file table grant r e by from no_seq = record {
     moves = same_lines (granted-quiet w file grant) (λ host. refl);
@@ -261,7 +261,7 @@ module _ (ps : List Packet) (s : Server) (sender next : ℕ) (d : Datagram) (was
       r = r;
       asked = asked-here xid w r e fresh.current.from.host;
       by = by;
-      draws = same-seq r ∙ sq;
+      draws = sq;
       inc = sym fresh.current.inc;
       above = fresh.above;
       inc_after = ap (λ l. l.inc) own;
@@ -277,8 +277,8 @@ module _ (ps : List Packet) (s : Server) (sender next : ℕ) (d : Datagram) (was
     own : host_row after w.host ≡ row_after w seq k
     own = own-line k.server.kept w.host (row_after w seq k) (let few = fresh.current.from.possible in let all : length k.server.kept.hosts ≡ most_hosts = ap length same ∙ lines in omega arith)
 
-    tells : (n : ℕ) → seq_of r ≡ Some n → Tells (host_row after w.host) w n r (verdict_reply w.inc k.verdict k.value r)
-    tells n q = subst (λ l. Tells l w n r (verdict_reply w.inc k.verdict k.value r)) (sym own) (decided refl (some-same seq n (sym sq ∙ sym (same-seq r) ∙ q)) refl)
+    tells : (n : ℕ) → sequence_of r ≡ Some n → Tells (host_row after w.host) w n r (verdict_reply w.inc k.verdict k.value r)
+    tells n q = subst (λ l. Tells l w n r (verdict_reply w.inc k.verdict k.value r)) (sym own) (decided refl (some-same seq n (sym sq ∙ q)) refl)
 
     case : (host x : ℕ) (a : Reply) → In k.sends (to_host host (reply x a)) ⊎ In (to_host w.host (reply xid (verdict_reply w.inc k.verdict k.value r)) ∷ []) (to_host host (reply x a)) → SaysOf ps after host x a
     case host x a (inl bad) = absurd (silent host x a bad)

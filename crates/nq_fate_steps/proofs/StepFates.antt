@@ -15,7 +15,7 @@ use Rattle.nq_base.specs.declared.Verdict.{Verdict}
 use Rattle.nq_base.specs.declared.Who.{Who}
 use Rattle.nq_client_cases.proofs.RepliedCases.{replied-cases}
 use Rattle.nq_client_cases.proofs.StepCases.{call-cases, unless-cached-cases, tick-cases, evicted-cases, heard-cases}
-use Rattle.nq_client_steps.proofs.ClientFacts.{seq_of, push_in, fits_job}
+use Rattle.nq_client_steps.proofs.ClientFacts.{push_in, fits_job}
 use Rattle.nq_client_steps.proofs.ClientMoves.{some-same, none-some}
 use Rattle.nq_fate_steps.proofs.ClientFates.{Mid, mid-quiet, mid-names, mid-settles, mid-next, last-facts}
 use Rattle.nq_fate_steps.proofs.FactMoves.{facts-packets, facts-ticket, no-push}
@@ -28,7 +28,7 @@ use Rattle.nq_model.specs.Client.{Client, ClientStep, Job, attaching, for_call, 
 use Rattle.nq_model.specs.ClientStep.{begins_call, is_called, says_busy, client_call, at_time, sends_again, client_tick}
 use Rattle.nq_model.specs.Decide.{verdict_reply}
 use Rattle.nq_model.specs.Hear.{wants_of, cancelled, cancels, evicted, goes_on, loses, knows_revision, ends_push, answer_of, spends, puts_off, replied, reply_counts, hear, inc_of}
-use Rattle.nq_model.specs.Message.{Message, Packet, call, reply}
+use Rattle.nq_model.specs.Message.{Message, Packet, call, reply, sequence_of}
 use Rattle.nq_model.specs.Settle.{settle}
 use Rattle.nq_model.specs.World.{from_host}
 use Rattle.nq_request_laws.proofs.Sequences.{Seqs}
@@ -56,8 +56,8 @@ pub record Replies (line : HostRow) (ps : List Packet) (c : Client) (ticket : Ti
   pub has : c.ticket ≡ Some ticket
   pub fits : fits_job ticket.job ticket.request ≡ true
   pub counts : reply_counts r ticket ≡ true
-  pub tells : (n : ℕ) → seq_of ticket.request ≡ Some n → Tells line c.who n ticket.request r
-  pub latest : (n : ℕ) → seq_of ticket.request ≡ Some n → n + 1 ≡ c.seq
+  pub tells : (n : ℕ) → sequence_of ticket.request ≡ Some n → Tells line c.who n ticket.request r
+  pub latest : (n : ℕ) → sequence_of ticket.request ≡ Some n → n + 1 ≡ c.seq
   pub seqs : Seqs c.who c.seq ps
   pub opens : (w : Who) (q : Push) → IsOpenPush line ps c.who.host w q → w ≡ c.who → push_in ticket.request ≡ Some q
 
@@ -139,8 +139,8 @@ module _ {line : HostRow} {ps : List Packet} {j : List Entry} where
     no-push-of job is other = no-push (λ t has push. other (sym is ∙ ap (λ z. z.job) (some-same ticket t (sym k.has ∙ has)) ∙ push)) m.facts
 
     module _ (w : Who) (seq file block first last : ℕ) (base : PushBase) (body : List ℕ) (asks : ticket.request ≡ Request.Write w seq file block first last (Some base) body) where
-      numbered : seq_of ticket.request ≡ Some seq
-      numbered = ap seq_of asks
+      numbered : sequence_of ticket.request ≡ Some seq
+      numbered = ap sequence_of asks
 
       push-is : (p : Push) → c.push ≡ Some p → p.file ≡ file
       push-is p is =

@@ -9,10 +9,10 @@ use Rattle.nq_base.specs.declared.PushBase.{PushBase}
 use Rattle.nq_base.specs.declared.Request.{Request}
 use Rattle.nq_base.specs.declared.Verdict.{Verdict}
 use Rattle.nq_base.specs.declared.Who.{Who}
-use Rattle.nq_client_steps.proofs.ClientFacts.{seq_of, IsPush}
+use Rattle.nq_client_steps.proofs.ClientFacts.{IsPush}
 use Rattle.nq_model.specs.Client.{Client, Ticket}
 use Rattle.nq_model.specs.Journal.{Exists, Covers, Throughout}
-use Rattle.nq_model.specs.Message.{Packet}
+use Rattle.nq_model.specs.Message.{Packet, sequence_of}
 use Rattle.nq_run_steps.proofs.Packets.{In, Asked}
 
 -- ---- the journal
@@ -138,7 +138,7 @@ pub record PushesFit (line : HostRow) (who : Who) (number : ℕ) (dirty : List P
 -- the delayed writes of a client, of which the kept line of its host, the packets and the journal are these
 pub record Facts (line : HostRow) (who : Who) (number seq : ℕ) (ticket : Option Ticket) (dirty : List Push) (push : Option Push) (packets : List Packet) (journal : List Entry) : Type 0 where
   pub list : ListFits who number dirty push journal
-  pub pushed : (p : Push) (t : Ticket) (n : ℕ) → push ≡ Some p → ticket ≡ Some t → seq_of t.request ≡ Some n → IsPushed line who number n journal p
+  pub pushed : (p : Push) (t : Ticket) (n : ℕ) → push ≡ Some p → ticket ≡ Some t → sequence_of t.request ≡ Some n → IsPushed line who number n journal p
   pub sent : PushesFit line who number dirty packets journal
   -- the push under way is the request under way
   pub under_way : (p : Push) → push ≡ Some p → IsPush ticket p

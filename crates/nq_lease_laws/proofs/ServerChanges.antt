@@ -22,10 +22,10 @@ use Rattle.nq_server_steps.proofs.KeptChanges.{own-line}
 use Rattle.nq_run_steps.proofs.Packets.{In, Asked}
 use Rattle.nq_server_steps.proofs.RowChanges.{no-clash, find-other-dropped, find-other-host-dropped, find-other-file-dropped}
 use Rattle.nq_server_steps.proofs.Rows.{both-true, same-number, number-same, found-row}
-use Rattle.nq_lease_laws.proofs.ServerEffects.{same-seq, verdict-no-attach, line-after, drawn-more, claimed-kept, one-new, both-new, rows-new, reply-new, goes-effect, all-go-on, way-rows}
+use Rattle.nq_lease_laws.proofs.ServerEffects.{verdict-no-attach, line-after, drawn-more, claimed-kept, one-new, both-new, rows-new, reply-new, goes-effect, all-go-on, way-rows}
 use Rattle.nq_run_steps.proofs.ServerKnows.{IsNew, LineMoves, line_stays, line_decides, line_attaches, IsClaimed, Effect}
 use Rattle.nq_server_steps.proofs.ServerMoves.{first_line}
-use Rattle.nq_server_steps.proofs.ServerOutcomes.{sequence_of, line_of, IsFrom, IsCurrent, IsFresh, IsChanging, CanStore, clash_with}
+use Rattle.nq_server_steps.proofs.ServerOutcomes.{line_of, IsFrom, IsCurrent, IsFresh, IsChanging, CanStore, clash_with}
 use Rattle.nq_run_steps.proofs.ServerSays.{verdict-inc, verdict-grant}
 use Rattle.nq_run_steps.proofs.TagFacts.{IsDrawn}
 use Rattle.nq_model.specs.Ask.{marked}
@@ -33,7 +33,7 @@ use Rattle.nq_model.specs.Client.{Lease, Notice, Ticket}
 use Rattle.nq_model.specs.Decide.{Decision, decides, creates, writes_through, stores, wrote, stores_recovering, resizes, removes, puts_off, in_the_way, verdict_reply, commits, row_after}
 use Rattle.nq_model.specs.Kept.{File, Kept, fresh_row, host_row, with_row, with_files, with_new_file}
 use Rattle.nq_model.specs.LeaseInterval.{is_at_least, HasFitting, IsCovered, requested_file}
-use Rattle.nq_model.specs.Message.{Packet, reply, asker, Datagram, request}
+use Rattle.nq_model.specs.Message.{Packet, reply, asker, Datagram, request, sequence_of}
 use Rattle.nq_model.specs.Profile.{write_slack, most_hosts}
 use Rattle.nq_model.specs.Server.{Phase, serving, recovering, Server, ServerStep, standing_in, to_host, quiet, after_notices, keeping, keeping_with, with_table}
 use Rattle.nq_model.specs.ServerStep.{attaches, vacates, vacated_rows}
@@ -87,7 +87,7 @@ module _ (ps : List Packet) (s : Server) (most sender next : ℕ) (d : Datagram)
       reply-new ps s most sender next d events who now xid attached ticket leased noticed c
       t x w r (verdict_reply w.inc k.verdict k.value r) e by fresh.current.from.host (verdict-inc w.inc k.verdict k.value r seq sq) (verdict-grant w.inc k.verdict k.value r)
       (λ i bad. absurd (verdict-no-attach w.inc k.verdict k.value r i bad))
-      (λ n q. let one : seq ≡ n = some-same seq n (sym sq ∙ sym (same-seq r) ∙ q) in let at : (host_row t.kept w.host).seq ≡ seq = ap (λ l. l.seq) line in inl (ap (λ l. l.inc) line, omega arith))
+      (λ n q. let one : seq ≡ n = some-same seq n (sym sq ∙ q) in let at : (host_row t.kept w.host).seq ≡ seq = ap (λ l. l.seq) line in inl (ap (λ l. l.inc) line, omega arith))
 
   commit-said : (w : Who) (seq x : ℕ) (r : Request) (k : Decision) → d ≡ request x r → asker r ≡ Some w → sequence_of r ≡ Some seq → IsFresh s sender w seq → k.server.kept.hosts ≡ s.kept.hosts → ((q : Packet) → In k.sends q → IsNew ps s (commits w seq x r k).server q) → (q : Packet) → In (commits w seq x r k).sends q → IsNew ps s (commits w seq x r k).server q
   unfolding commits
@@ -199,7 +199,7 @@ module _ (ps : List Packet) (s : Server) (most sender next : ℕ) (d : Datagram)
       let kept : (host_row s.kept who.host).inc ≡ who.inc = kept-inc file tag claim in
       let inc : w.inc ≡ who.inc = fresh.current.inc ∙ ap (λ n. (host_row s.kept n).inc) (sym own) ∙ kept in
       let sent : Asked ps who.host x r = subst (λ n. Asked ps n x r) (sym (own ∙ fresh.current.from.host)) (c.was_sent x r e) in
-      settled inc sent (c.knows.lined.settled kept x r w seq sent by inc (same-seq r ∙ sq))
+      settled inc sent (c.knows.lined.settled kept x r w seq sent by inc sq)
     where
       settled : w.inc ≡ who.inc → Asked ps who.host x r → IsSettled ticket (host_row s.kept who.host).seq x seq → ⊥
       settled inc sent (inl below) = let above = fresh.above in let same : (host_row s.kept who.host).seq ≡ (host_row s.kept w.host).seq = ap (λ n. (host_row s.kept n).seq) own in absurd (omega arith)

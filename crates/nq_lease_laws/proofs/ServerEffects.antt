@@ -14,7 +14,6 @@ use Rattle.nq_base.specs.declared.Verdict.{Verdict}
 use Rattle.nq_base.specs.declared.Want.{Want}
 use Rattle.nq_base.specs.declared.Who.{Who}
 use Rattle.nq_server_steps.proofs.AskCases.{with_marked, with_waiter, IsGranted, shares_again, begins_sharing, begins_caching, renews_row}
-use Rattle.nq_client_steps.proofs.ClientFacts.{seq_of}
 use Rattle.nq_client_steps.proofs.ClientMoves.{some-same, none-some}
 use Rattle.nq_lease_laws.proofs.Covers.{GoesOnAt, same-goes-on, covered-goes-on, marked-goes-on, granted-goes-on, granted-key, AreOfBoot}
 use Rattle.nq_lease_laws.proofs.Hearing.{Hearing}
@@ -24,7 +23,7 @@ use Rattle.nq_server_steps.proofs.RowChanges.{HasUniqueKeys, of-key, own-key, fi
 use Rattle.nq_server_steps.proofs.Rows.{same-number, number-same, found-row}
 use Rattle.nq_server_laws.proofs.ServerFacts.{IncsFit, AreCurrent}
 use Rattle.nq_run_steps.proofs.ServerKnows.{IsFreshGrant, IsNew, new_reply, new_error, new_notice, LineMoves, line_stays, IsClaimed, Effect}
-use Rattle.nq_server_steps.proofs.ServerOutcomes.{sequence_of, error_for, only_asks, line_of, IsFrom, IsPlain, unattached, attached_again, not_yet, no_entry, entry, no_attributes, attributes, no_file, no_block, decided_again, is_old, IsAsking}
+use Rattle.nq_server_steps.proofs.ServerOutcomes.{error_for, only_asks, line_of, IsFrom, IsPlain, unattached, attached_again, not_yet, no_entry, entry, no_attributes, attributes, no_file, no_block, decided_again, is_old, IsAsking}
 use Rattle.nq_run_steps.proofs.ServerSays.{plain-inc, plain-grant}
 use Rattle.nq_server_laws.proofs.ServerTables.{StandingFits}
 use Rattle.nq_server_steps.proofs.TableFits.{TableFits}
@@ -35,19 +34,11 @@ use Rattle.nq_model.specs.Decide.{in_the_way, verdict_reply}
 use Rattle.nq_model.specs.Hear.{inc_of}
 use Rattle.nq_model.specs.Kept.{File, Kept, with_row, host_row}
 use Rattle.nq_model.specs.LeaseInterval.{grant_in, requested_file}
-use Rattle.nq_model.specs.Message.{Message, Packet, reply, RpcError, asker, Reason, Datagram, request, too_long, no_message, no_call, other_rpc, other_program, other_version, unknown_procedure, garbage_vacated, garbage}
+use Rattle.nq_model.specs.Message.{Message, Packet, reply, RpcError, asker, Reason, Datagram, request, too_long, no_message, no_call, other_rpc, other_program, other_version, unknown_procedure, garbage_vacated, garbage, sequence_of}
 use Rattle.nq_model.specs.Profile.{skew, shortest_term, granted_term, xid_end}
 use Rattle.nq_model.specs.Server.{serving, Server, ServerStep, standing, to_host, quiet, drops, says, replies, notices, after_notices, with_table}
 use Rattle.nq_model.specs.ServerStep.{tells_later, serves, leases, to_read, is_attach}
 use Rattle.nq_model.specs.Table.{Table, caches, tag_below, is_row_of, find_row, put_row, with_rows, after_draw, next_tag}
-
--- the sequence of a request is its sequence
-pub same-seq : (r : Request) → seq_of r ≡ sequence_of r
-same-seq (Request.Create w seq name blocks) = refl
-same-seq (Request.Write w seq file block first last push body) = refl
-same-seq (Request.Resize w seq q file blocks) = refl
-same-seq (Request.Remove w seq q file) = refl
-same-seq r = refl
 
 -- rows of a filtered table are found under their keys
 pub unique-in : (rows : List Row) (r : Row) → HasUniqueKeys rows → In rows r → find_row r.file r.who.host rows ≡ Some r
@@ -99,14 +90,14 @@ verdict-no-attach inc Verdict.Stale value r i e = cc
 verdict-no-attach inc Verdict.TryLater value r i e = cc
 
 -- a request that only asks has no sequence
-asks-no-seq : (r : Request) → only_asks r ≡ true → seq_of r ≡ None
+asks-no-seq : (r : Request) → only_asks r ≡ true → sequence_of r ≡ None
 asks-no-seq (Request.Lookup w name) e = refl
 asks-no-seq (Request.GetAttr w file) e = refl
 asks-no-seq (Request.Read w q file block want) e = refl
 asks-no-seq (Request.GetLease w file want) e = refl
 asks-no-seq r e = absurd (cc)
 
-pub reads-no-seq : (r : Request) (file : ℕ) → requested_file r ≡ Some file → seq_of r ≡ None
+pub reads-no-seq : (r : Request) (file : ℕ) → requested_file r ≡ Some file → sequence_of r ≡ None
 reads-no-seq (Request.Read w q f block want) file e = refl
 reads-no-seq (Request.GetLease w f want) file e = refl
 reads-no-seq r file e = none-some file e
@@ -126,18 +117,18 @@ plain-attach s w r a (decided_again seq same sq eq e) i is = absurd (verdict-no-
 plain-attach s w r a (is_old seq same sq below e) i is = absurd (cc)
 
 -- a plain reply to a request that is decided once tells that it was, or the asker is not attached
-plain-decided : (s : Server) (w : Who) (r : Request) (a : Reply) → IsPlain s w r a → (n : ℕ) → seq_of r ≡ Some n → (((line_of s w).inc ≡ w.inc) × (n ≤ (line_of s w).seq)) ⊎ (((line_of s w).inc < w.inc) × (is_attach r ≡ false))
+plain-decided : (s : Server) (w : Who) (r : Request) (a : Reply) → IsPlain s w r a → (n : ℕ) → sequence_of r ≡ Some n → (((line_of s w).inc ≡ w.inc) × (n ≤ (line_of s w).seq)) ⊎ (((line_of s w).inc < w.inc) × (is_attach r ≡ false))
 plain-decided s w r a (unattached above other e) n q = inr (above, other)
-plain-decided s w r a (attached_again asks same e) n q = none-some n (ap seq_of (sym asks) ∙ q)
+plain-decided s w r a (attached_again asks same e) n q = none-some n (ap sequence_of (sym asks) ∙ q)
 plain-decided s w r a (not_yet same rec only e) n q = none-some n (sym (asks-no-seq r only) ∙ q)
-plain-decided s w r a (no_entry name same p on none e) n q = none-some n (ap seq_of (sym on) ∙ q)
-plain-decided s w r a (entry name f same p on some e) n q = none-some n (ap seq_of (sym on) ∙ q)
-plain-decided s w r a (no_attributes file same p on none e) n q = none-some n (ap seq_of (sym on) ∙ q)
-plain-decided s w r a (attributes file f same p on some e) n q = none-some n (ap seq_of (sym on) ∙ q)
+plain-decided s w r a (no_entry name same p on none e) n q = none-some n (ap sequence_of (sym on) ∙ q)
+plain-decided s w r a (entry name f same p on some e) n q = none-some n (ap sequence_of (sym on) ∙ q)
+plain-decided s w r a (no_attributes file same p on none e) n q = none-some n (ap sequence_of (sym on) ∙ q)
+plain-decided s w r a (attributes file f same p on some e) n q = none-some n (ap sequence_of (sym on) ∙ q)
 plain-decided s w r a (no_file file same p on none e) n q = none-some n (sym (reads-no-seq r file on) ∙ q)
-plain-decided s w r a (no_block q' file block want f same p on some none e) n q = none-some n (ap seq_of (sym on) ∙ q)
-plain-decided s w r a (decided_again seq same sq eq e) n q = let one : seq ≡ n = some-same seq n (sym sq ∙ sym (same-seq r) ∙ q) in inl (sym same, omega arith)
-plain-decided s w r a (is_old seq same sq below e) n q = let one : seq ≡ n = some-same seq n (sym sq ∙ sym (same-seq r) ∙ q) in inl (sym same, omega arith)
+plain-decided s w r a (no_block q' file block want f same p on some none e) n q = none-some n (ap sequence_of (sym on) ∙ q)
+plain-decided s w r a (decided_again seq same sq eq e) n q = let one : seq ≡ n = some-same seq n (sym sq ∙ q) in inl (sym same, omega arith)
+plain-decided s w r a (is_old seq same sq below e) n q = let one : seq ≡ n = some-same seq n (sym sq ∙ q) in inl (sym same, omega arith)
 
 -- the term of a grant is no longer than the longest
 term-short : (longest wish : ℕ) → shortest_term ≤ longest → granted_term longest wish ≤ longest
@@ -210,7 +201,7 @@ module _ (ps : List Packet) (s : Server) (most sender next : ℕ) (d : Datagram)
       (λ r k. row-drawn p t q same more r (unique-in s.table.rows r (own-fits p).unique (there r k)))
 
   -- a reply without a grant, to a request of this datagram
-  pub reply-new : (t : Server) (x : ℕ) (w : Who) (r : Request) (a : Reply) → d ≡ request x r → asker r ≡ Some w → w.host ≡ sender → inc_of a ≡ w.inc → grant_in a ≡ None → ((i : ℕ) → a ≡ Reply.Attach i → (host_row t.kept w.host).inc ≡ i) → ((n : ℕ) → seq_of r ≡ Some n → (((host_row t.kept w.host).inc ≡ w.inc) × (n ≤ (host_row t.kept w.host).seq)) ⊎ (((host_row s.kept w.host).inc < w.inc) × (is_attach r ≡ false))) → IsNew ps s t (to_host w.host (reply x a))
+  pub reply-new : (t : Server) (x : ℕ) (w : Who) (r : Request) (a : Reply) → d ≡ request x r → asker r ≡ Some w → w.host ≡ sender → inc_of a ≡ w.inc → grant_in a ≡ None → ((i : ℕ) → a ≡ Reply.Attach i → (host_row t.kept w.host).inc ≡ i) → ((n : ℕ) → sequence_of r ≡ Some n → (((host_row t.kept w.host).inc ≡ w.inc) × (n ≤ (host_row t.kept w.host).seq)) ⊎ (((host_row s.kept w.host).inc < w.inc) × (is_attach r ≡ false))) → IsNew ps s t (to_host w.host (reply x a))
   reply-new t x w r a e by from inc none att dec = new_reply w.host x a refl (record {
     asks = r;
     who = w;
@@ -270,7 +261,7 @@ module _ (ps : List Packet) (s : Server) (most sender next : ℕ) (d : Datagram)
 
   -- ---- an asker is put off
 
-  pub later-effect : (x : ℕ) (w : Who) (r : Request) (table : Table) (rows : List Row) → d ≡ request x r → asker r ≡ Some w → w.host ≡ sender → seq_of r ≡ None → s.phase ≡ serving → table.boot ≡ s.table.boot → s.table.drawn ≤ table.drawn → ((file : ℕ) → GoesOnAt file who.host s.table.rows table.rows) → ((k : Row) → In rows k → In s.table.rows k) → Effect ps s (tells_later s w x table rows) who ticket leased
+  pub later-effect : (x : ℕ) (w : Who) (r : Request) (table : Table) (rows : List Row) → d ≡ request x r → asker r ≡ Some w → w.host ≡ sender → sequence_of r ≡ None → s.phase ≡ serving → table.boot ≡ s.table.boot → s.table.drawn ≤ table.drawn → ((file : ℕ) → GoesOnAt file who.host s.table.rows table.rows) → ((k : Row) → In rows k → In s.table.rows k) → Effect ps s (tells_later s w x table rows) who ticket leased
   unfolding tells_later after_notices
   later-effect x w r table rows e by from no_seq p same more goes there =
       goes-effect (tells_later s w x table rows) p p same more refl refl (line_stays refl) goes

@@ -21,6 +21,14 @@ pub data Message : Type 0 where
   reply : (xid : ℕ) → Reply → Message
   error : (xid : ℕ) → RpcError → Message
 
+-- the sequence of a request that is decided once
+abbrev pub sequence_of : Request → Option ℕ
+sequence_of (Create who seq name blocks) = Some seq
+sequence_of (Write who seq file block first last push body) = Some seq
+sequence_of (Resize who seq q file blocks) = Some seq
+sequence_of (Remove who seq q file) = Some seq
+sequence_of other = None
+
 -- a message under way
 pub record Packet : Type 0 where
   pub sender : Party

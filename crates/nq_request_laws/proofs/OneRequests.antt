@@ -5,7 +5,6 @@ use Rattle.nq_base.specs.declared.Event.{Event}
 use Rattle.nq_base.specs.declared.Reply.{Reply}
 use Rattle.nq_base.specs.declared.Request.{Request}
 use Rattle.nq_base.specs.declared.Who.{Who}
-use Rattle.nq_client_steps.proofs.ClientFacts.{seq_of}
 use Rattle.nq_client_steps.proofs.ClientMoves.{none-some}
 use Rattle.nq_run_steps.proofs.HostLine.{IsSettled}
 use Rattle.nq_run_steps.proofs.KnownWorlds.{Known}
@@ -15,19 +14,12 @@ use Rattle.nq_run_steps.proofs.Packets.{Asked, in-get}
 use Rattle.nq_request_laws.proofs.SentTimes.{sent-in-order}
 use Rattle.nq_request_laws.proofs.WorldSequences.{Draws, run-draws}
 use Rattle.nq_run_steps.proofs.Worlds.{Holds, run-holds}
-use Rattle.nq_request_laws.specs.OneRequests.{sequence_of, Asks, AsksOnce, OneRequestPerSequence, IsUnderWay, IsOpen, OpensOne, OneOpenInEveryRun, IsAnswer, WasSentBefore, RepliesComeAfter}
+use Rattle.nq_request_laws.specs.OneRequests.{Asks, AsksOnce, OneRequestPerSequence, IsUnderWay, IsOpen, OpensOne, OneOpenInEveryRun, IsAnswer, WasSentBefore, RepliesComeAfter}
 use Rattle.nq_model.specs.Client.{Client, Ticket}
 use Rattle.nq_model.specs.Hear.{inc_of}
 use Rattle.nq_model.specs.Kept.{host_row}
-use Rattle.nq_model.specs.Message.{call}
+use Rattle.nq_model.specs.Message.{call, sequence_of}
 use Rattle.nq_model.specs.World.{Head, World, from_host, run}
-
-same-sequence : (r : Request) → seq_of r ≡ sequence_of r
-same-sequence (Request.Create who seq name blocks) = refl
-same-sequence (Request.Write who seq file block first last push body) = refl
-same-sequence (Request.Resize who seq q file blocks) = refl
-same-sequence (Request.Remove who seq q file) = refl
-same-sequence other = refl
 
 asked-of : (w : World) (place host xid : ℕ) (r : Request) (who : Who) (n : ℕ) → Asks w.packets place host xid r who n → Asked w.packets host xid r
 asked-of w place host xid r who n a = in-get w.packets place (from_host host (call xid r)) a.sent
@@ -48,7 +40,7 @@ asks-here w held place host xid r who n c is a = subst (λ h. Asked w.packets h 
 of-one-host : (w : World) → Holds w → Draws w → (i j host x y : ℕ) (r s : Request) (who : Who) (n : ℕ) (o : Option Client) → slice_get w.clients host ≡ o → Asks w.packets i host x r who n → Asks w.packets j host y s who n → (x ≡ y) × (r ≡ s)
 of-one-host w held d i j host x y r s who n None is a b = absurd (d.lone host x r (asked-of w i host x r who n a) is)
 of-one-host w held d i j host x y r s who n (Some c) is a b =
-    (d.clients host c is).once x y r s who n (asks-here w held i host x r who n c is a) (asks-here w held j host y s who n c is b) a.by b.by (same-sequence r ∙ a.sequence) (same-sequence s ∙ b.sequence)
+    (d.clients host c is).once x y r s who n (asks-here w held i host x r who n c is a) (asks-here w held j host y s who n c is b) a.by b.by a.sequence b.sequence
 
 asks-once : (w : World) → Holds w → Draws w → AsksOnce w
 asks-once w held d i j host other x y r s who n a b =
@@ -63,7 +55,7 @@ one-in-every-run head events = asks-once (run head events) (run-holds head event
 -- ---- one open sequence
 
 under-way : (w : World) (events : List Event) → Holds w → Known w events → (host place xid : ℕ) (c : Client) (r : Request) (n : ℕ) → slice_get w.clients host ≡ Some c → IsOpen w host place xid r c.who n → IsUnderWay c xid r
-under-way w events held known host place xid c r n is o = case ((known.clients host c is).lined.settled o.kept xid r c.who n asked o.asks.by refl (same-sequence r ∙ o.asks.sequence))
+under-way w events held known host place xid c r n is o = case ((known.clients host c is).lined.settled o.kept xid r c.who n asked o.asks.by refl o.asks.sequence)
   where
     asked : Asked w.packets c.who.host xid r
     asked = asks-here w held place host xid r c.who n c is o.asks
@@ -79,7 +71,7 @@ open-at w host place xid r who n o = record {
   asked = asked-of w place host xid r who n o.asks;
   by = o.asks.by;
   kept = o.kept;
-  draws = same-sequence r ∙ o.asks.sequence;
+  draws = o.asks.sequence;
   above = o.above;
 }
 

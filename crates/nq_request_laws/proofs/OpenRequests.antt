@@ -7,7 +7,6 @@ use Rattle.nq_base.specs.declared.Party.{Party}
 use Rattle.nq_base.specs.declared.Request.{Request}
 use Rattle.nq_base.specs.declared.Row.{Row}
 use Rattle.nq_base.specs.declared.Who.{Who}
-use Rattle.nq_client_steps.proofs.ClientFacts.{seq_of}
 use Rattle.nq_client_steps.proofs.ClientMoves.{some-same, none-some}
 use Rattle.nq_run_steps.proofs.ClientRestarts.{asked-old}
 use Rattle.nq_run_steps.proofs.Clocks.{within-before}
@@ -30,7 +29,7 @@ use Rattle.nq_model.specs.Client.{Client, ClientStep, Ticket}
 use Rattle.nq_model.specs.ClientStep.{client_call, client_tick, restart}
 use Rattle.nq_model.specs.Hear.{hear}
 use Rattle.nq_model.specs.Kept.{Kept, find_file, host_row}
-use Rattle.nq_model.specs.Message.{Message, Packet, asker, datagram_of}
+use Rattle.nq_model.specs.Message.{Message, Packet, asker, datagram_of, sequence_of}
 use Rattle.nq_model.specs.Server.{Server, ServerStep, quiet, with_table, keeping_with}
 use Rattle.nq_model.specs.ServerStep.{receive, tick, crash, boot, booted, opens, ends_writing, at_time}
 use Rattle.nq_model.specs.Skew.{IsWithinSkew}
@@ -46,7 +45,7 @@ pub record IsOpenAt (line : HostRow) (ps : List Packet) (host x : ℕ) (r : Requ
   pub asked : Asked ps host x r
   pub by : asker r ≡ Some who
   pub kept : line.inc ≡ who.inc
-  pub draws : seq_of r ≡ Some seq
+  pub draws : sequence_of r ≡ Some seq
   pub above : line.seq < seq
 
 abbrev pub OneOpenAt : HostRow → List Packet → (host : ℕ) → Type 0
@@ -140,7 +139,7 @@ server-opens w events t said moves held known h = record { one = λ host c is. o
       let asked : Asked w.packets c.who.host x r = subst (λ n. Asked w.packets n x r) (sym (held.clients host c is).here) (asked-before-server w.packets t.sends said host x r o.asked) in
       let kept = o.kept in
       let attaches : r ≡ Request.Attach o.who = (known.clients host c is).lined.above x r o.who asked o.by (omega arith) in
-      none-some o.seq (ap seq_of (sym attaches) ∙ o.draws)
+      none-some o.seq (ap sequence_of (sym attaches) ∙ o.draws)
 
 received-moves : (hosts most : ℕ) (w : World) (events : List Event) (p : Packet) → In w.packets p → p.to ≡ Party.Server → Holds w → Runs hosts most w events → (host : ℕ) (c : Client) → slice_get w.clients host ≡ Some c → LineMoves w.packets host (host_row w.server.kept host) (host_row (receive w.server (sending_host p.sender) (length w.packets) (datagram_of p.message)).server.kept host)
 received-moves hosts most w events p i to held h host c is =

@@ -7,7 +7,6 @@ use Rattle.nq_base.specs.declared.Request.{Request}
 use Rattle.nq_base.specs.declared.Tag.{Tag}
 use Rattle.nq_base.specs.declared.Who.{Who}
 use Rattle.nq_client_steps.proofs.ClientCases.{Core, core_of, Closed, Both}
-use Rattle.nq_client_steps.proofs.ClientFacts.{seq_of}
 use Rattle.nq_client_steps.proofs.ClientMoves.{some-same, none-some}
 use Rattle.nq_client_steps.proofs.ClientWalk.{Replying, reply-keeps, notice-keeps, call-keeps, tick-keeps}
 use Rattle.nq_run_steps.proofs.Mail.{packets_with, packets-last, spent-mail}
@@ -19,7 +18,7 @@ use Rattle.nq_run_steps.proofs.Worlds.{Going, going-closed, IsAt, begun-going, t
 use Rattle.nq_model.specs.Client.{Client, ClientStep, begun, Ticket, lease_on}
 use Rattle.nq_model.specs.ClientStep.{client_call, client_tick, at_time, restart, starts, fresh_client, next_incarnation}
 use Rattle.nq_model.specs.Hear.{inc_of, is_reply_to, reply_counts, hear, hear_reply, hear_notice, hear_call, goes_on, replied, holds_later, evicted, cancels}
-use Rattle.nq_model.specs.Message.{Message, Packet, call, reply, error, asker}
+use Rattle.nq_model.specs.Message.{Message, Packet, call, reply, error, asker, sequence_of}
 use Rattle.nq_model.specs.Table.{same_who}
 use Rattle.nq_model.specs.World.{from_host}
 
@@ -27,23 +26,23 @@ use Rattle.nq_model.specs.World.{from_host}
 
 -- each incarnation of the host has one request at most of a sequence, and those of the running one were drawn
 pub record Seqs (who : Who) (seq : ℕ) (ps : List Packet) : Type 0 where
-  pub once : (x y : ℕ) (r s : Request) (w : Who) (n : ℕ) → Asked ps who.host x r → Asked ps who.host y s → asker r ≡ Some w → asker s ≡ Some w → seq_of r ≡ Some n → seq_of s ≡ Some n → (x ≡ y) × (r ≡ s)
-  pub drawn : (x : ℕ) (r : Request) (w : Who) (n : ℕ) → Asked ps who.host x r → asker r ≡ Some w → w.inc ≡ who.inc → seq_of r ≡ Some n → n < seq
+  pub once : (x y : ℕ) (r s : Request) (w : Who) (n : ℕ) → Asked ps who.host x r → Asked ps who.host y s → asker r ≡ Some w → asker s ≡ Some w → sequence_of r ≡ Some n → sequence_of s ≡ Some n → (x ≡ y) × (r ≡ s)
+  pub drawn : (x : ℕ) (r : Request) (w : Who) (n : ℕ) → Asked ps who.host x r → asker r ≡ Some w → w.inc ≡ who.inc → sequence_of r ≡ Some n → n < seq
 
 -- packets that bring no request with a sequence
-pub seqs-more : {who : Who} {seq : ℕ} {ps qs : List Packet} → ((x : ℕ) (r : Request) (n : ℕ) → seq_of r ≡ Some n → Asked qs who.host x r → Asked ps who.host x r) → Seqs who seq ps → Seqs who seq qs
+pub seqs-more : {who : Who} {seq : ℕ} {ps qs : List Packet} → ((x : ℕ) (r : Request) (n : ℕ) → sequence_of r ≡ Some n → Asked qs who.host x r → Asked ps who.host x r) → Seqs who seq ps → Seqs who seq qs
 seqs-more old h = record {
   once = λ x y r s w n a b by also sq same. h.once x y r s w n (old x r n sq a) (old y s n same b) by also sq same;
   drawn = λ x r w n a by inc sq. h.drawn x r w n (old x r n sq a) by inc sq;
 }
 
 -- a request without a sequence is sent
-seqs-adds : {who : Who} {seq : ℕ} {ps : List Packet} (xid : ℕ) (request : Request) → seq_of request ≡ None → Seqs who seq ps → Seqs who seq (ps ++ from_host who.host (call xid request) ∷ [])
+seqs-adds : {who : Who} {seq : ℕ} {ps : List Packet} (xid : ℕ) (request : Request) → sequence_of request ≡ None → Seqs who seq ps → Seqs who seq (ps ++ from_host who.host (call xid request) ∷ [])
 seqs-adds {who = who} {ps = ps} xid request no_seq h = seqs-more (λ x r n sq a. old x r n sq (asked-before ps who.host xid x request r a)) h
   where
-    old : (x : ℕ) (r : Request) (n : ℕ) → seq_of r ≡ Some n → Asked ps who.host x r ⊎ ((xid ≡ x) × (request ≡ r)) → Asked ps who.host x r
+    old : (x : ℕ) (r : Request) (n : ℕ) → sequence_of r ≡ Some n → Asked ps who.host x r ⊎ ((xid ≡ x) × (request ≡ r)) → Asked ps who.host x r
     old x r n sq (inl there) = there
-    old x r n sq (inr new) = none-some n (sym no_seq ∙ ap seq_of new.1 ∙ sq)
+    old x r n sq (inr new) = none-some n (sym no_seq ∙ ap sequence_of new.1 ∙ sq)
 
 -- a packet is sent again
 seqs-again : {who : Who} {seq : ℕ} {ps : List Packet} (p : Packet) → In ps p → Seqs who seq ps → Seqs who seq (ps ++ p ∷ [])
@@ -54,28 +53,28 @@ seqs-again {who = who} {ps = ps} p there h = seqs-more (λ x r n sq a. old (from
     old q (inr e) = subst (λ z. In ps z) e there
 
 -- a request with the next sequence is sent
-seqs-decides : {who : Who} {seq : ℕ} {ps : List Packet} (xid : ℕ) (request : Request) → asker request ≡ Some who → seq_of request ≡ Some seq → Seqs who seq ps → Seqs who (seq + 1) (ps ++ from_host who.host (call xid request) ∷ [])
+seqs-decides : {who : Who} {seq : ℕ} {ps : List Packet} (xid : ℕ) (request : Request) → asker request ≡ Some who → sequence_of request ≡ Some seq → Seqs who seq ps → Seqs who (seq + 1) (ps ++ from_host who.host (call xid request) ∷ [])
 seqs-decides {who = who} {seq = seq} {ps = ps} xid request asks draws h = record {
   once = λ x y r s w n a b by also sq same. once x y r s w n by also sq same (asked-before ps who.host xid x request r a) (asked-before ps who.host xid y request s b);
   drawn = λ x r w n a by inc sq. drawn x r w n by inc sq (asked-before ps who.host xid x request r a);
 } where
   -- one that is new has a sequence that none before has
-  fresh : (x : ℕ) (r s : Request) (w : Who) (n : ℕ) → Asked ps who.host x r → asker r ≡ Some w → asker s ≡ Some w → seq_of r ≡ Some n → seq_of s ≡ Some n → request ≡ s → ⊥
+  fresh : (x : ℕ) (r s : Request) (w : Who) (n : ℕ) → Asked ps who.host x r → asker r ≡ Some w → asker s ≡ Some w → sequence_of r ≡ Some n → sequence_of s ≡ Some n → request ≡ s → ⊥
   fresh x r s w n a by also sq same new =
       let one : who ≡ w = some-same who w (sym asks ∙ ap asker new ∙ also) in
-      let number : seq ≡ n = some-same seq n (sym draws ∙ ap seq_of new ∙ same) in
+      let number : seq ≡ n = some-same seq n (sym draws ∙ ap sequence_of new ∙ same) in
       let below = h.drawn x r w n a by (ap (λ z. z.inc) (sym one)) sq in
       omega arith
 
-  once : (x y : ℕ) (r s : Request) (w : Who) (n : ℕ) → asker r ≡ Some w → asker s ≡ Some w → seq_of r ≡ Some n → seq_of s ≡ Some n → Asked ps who.host x r ⊎ ((xid ≡ x) × (request ≡ r)) → Asked ps who.host y s ⊎ ((xid ≡ y) × (request ≡ s)) → (x ≡ y) × (r ≡ s)
+  once : (x y : ℕ) (r s : Request) (w : Who) (n : ℕ) → asker r ≡ Some w → asker s ≡ Some w → sequence_of r ≡ Some n → sequence_of s ≡ Some n → Asked ps who.host x r ⊎ ((xid ≡ x) × (request ≡ r)) → Asked ps who.host y s ⊎ ((xid ≡ y) × (request ≡ s)) → (x ≡ y) × (r ≡ s)
   once x y r s w n by also sq same (inl a) (inl b) = h.once x y r s w n a b by also sq same
   once x y r s w n by also sq same (inl a) (inr new) = absurd (fresh x r s w n a by also sq same new.1)
   once x y r s w n by also sq same (inr new) (inl b) = absurd (fresh y s r w n b also by same sq new.1)
   once x y r s w n by also sq same (inr new) (inr more) = (sym new.0 ∙ more.0, sym new.1 ∙ more.1)
 
-  drawn : (x : ℕ) (r : Request) (w : Who) (n : ℕ) → asker r ≡ Some w → w.inc ≡ who.inc → seq_of r ≡ Some n → Asked ps who.host x r ⊎ ((xid ≡ x) × (request ≡ r)) → n < seq + 1
+  drawn : (x : ℕ) (r : Request) (w : Who) (n : ℕ) → asker r ≡ Some w → w.inc ≡ who.inc → sequence_of r ≡ Some n → Asked ps who.host x r ⊎ ((xid ≡ x) × (request ≡ r)) → n < seq + 1
   drawn x r w n by inc sq (inl a) = let below = h.drawn x r w n a by inc sq in omega arith
-  drawn x r w n by inc sq (inr new) = let number : seq ≡ n = some-same seq n (sym draws ∙ ap seq_of new.1 ∙ sq) in omega arith
+  drawn x r w n by inc sq (inr new) = let number : seq ≡ n = some-same seq n (sym draws ∙ ap sequence_of new.1 ∙ sq) in omega arith
 
 -- ---- what an incarnation sends
 

@@ -9,18 +9,10 @@ use Rattle.nq_lease_laws.specs.LeaseIntervalInRuns.{KeepsBounds}
 use Rattle.nq_model.specs.Client.{Client, Ticket}
 use Rattle.nq_model.specs.Hear.{inc_of}
 use Rattle.nq_model.specs.Kept.{host_row}
-use Rattle.nq_model.specs.Message.{Packet, call, reply, asker}
+use Rattle.nq_model.specs.Message.{Packet, call, reply, asker, sequence_of}
 use Rattle.nq_model.specs.Server.{to_host}
 use Rattle.nq_model.specs.Skew.{IsWithinSkew}
 use Rattle.nq_model.specs.World.{Head, World, from_host, run}
-
--- the sequence of a request that is decided once
-abbrev pub sequence_of : Request → Option ℕ
-sequence_of (Create who seq name blocks) = Some seq
-sequence_of (Write who seq file block first last push body) = Some seq
-sequence_of (Resize who seq q file blocks) = Some seq
-sequence_of (Remove who seq q file) = Some seq
-sequence_of other = None
 
 -- the packet at this place is a host's request of this number, and an incarnation asks in it with this sequence
 pub record Asks (packets : List Packet) (place host xid : ℕ) (r : Request) (who : Who) (seq : ℕ) : Type 0 where

@@ -8,7 +8,7 @@ use Rattle.nq_base.specs.declared.Request.{Request}
 use Rattle.nq_base.specs.declared.Tag.{Tag}
 use Rattle.nq_base.specs.declared.Who.{Who}
 use Rattle.nq_client_steps.proofs.ClientCases.{Core, Closed, CanSend, CanVacate}
-use Rattle.nq_client_steps.proofs.ClientFacts.{seq_of, fits_job}
+use Rattle.nq_client_steps.proofs.ClientFacts.{fits_job}
 use Rattle.nq_client_steps.proofs.ClientMoves.{some-same, none-some, keeps-or-cancels}
 use Rattle.nq_run_steps.proofs.CoverFacts.{IsCoveredWhile, IsShort, IsTakeable, CoverFits, cover-leases, cover-used, cover-dropped, cover-ticket, cover-holds}
 use Rattle.nq_run_steps.proofs.HostLine.{LineFits, IsSettled, line-sends, line-adds, line-again, line-ticket, not-false}
@@ -19,7 +19,7 @@ use Rattle.nq_run_steps.proofs.Worlds.{Going, going-closed}
 use Rattle.nq_model.specs.Client.{Lease, Notice, Ticket, Job, drop_lease, put_lease, used_lease, notice_on, drop_notice}
 use Rattle.nq_model.specs.Hear.{wants_of, inc_of, cancelled, granted_lease, noticed_tag}
 use Rattle.nq_model.specs.LeaseInterval.{requested_file}
-use Rattle.nq_model.specs.Message.{Packet, call, reply, asker}
+use Rattle.nq_model.specs.Message.{Packet, call, reply, asker, sequence_of}
 use Rattle.nq_model.specs.Server.{Server, standing}
 use Rattle.nq_model.specs.Table.{caches, tag_below}
 use Rattle.nq_model.specs.World.{from_host}
@@ -103,7 +103,7 @@ knows-again {line = line} {who = who} {now = now} {ps = ps} t sent h = record {
   few : (u : Ticket) → Some again ≡ Some u → (v : Ticket) × (Some t ≡ Some v) × (v.xid ≡ u.xid) × (v.request ≡ u.request)
   few u e = let one : again ≡ u = some-same again u e in (t, refl, ap (λ z. z.xid) one, ap (λ z. z.request) one)
 
-  keeps : (x n : ℕ) → line.inc ≡ who.inc → IsSettled (Some t) line.seq x n → (r : Request) (w : Who) → Asked (ps ++ from_host who.host (call t.xid t.request) ∷ []) who.host x r → asker r ≡ Some w → w.inc ≡ who.inc → seq_of r ≡ Some n → IsSettled (Some again) line.seq x n
+  keeps : (x n : ℕ) → line.inc ≡ who.inc → IsSettled (Some t) line.seq x n → (r : Request) (w : Who) → Asked (ps ++ from_host who.host (call t.xid t.request) ∷ []) who.host x r → asker r ≡ Some w → w.inc ≡ who.inc → sequence_of r ≡ Some n → IsSettled (Some again) line.seq x n
   keeps x n kept (inl below) r w a by inc seq = inl below
   keeps x n kept (inr u) r w a by inc seq = inr (again, refl, ap (λ z. z.xid) (some-same t u.0 u.1) ∙ u.2)
 
@@ -113,7 +113,7 @@ knows-again {line = line} {who = who} {now = now} {ps = ps} t sent h = record {
       (t, record { x = k.x; a = k.a; told = told-before ps who.host who.host (call t.xid t.request) (reply k.x k.a) k.told; inc = k.inc; asked = refl; number = ap (λ z. z.xid) one ∙ k.number; on_file = ap (λ z. requested_file z.request) one ∙ k.on_file; gives = k.gives }, ap (λ z. z.first) one)
 
 -- a request that wants a lease on a file is cancelled
-seq-wants-none : (f : ℕ) (r : Request) (n : ℕ) → seq_of r ≡ Some n → wants_of f r ≡ false
+seq-wants-none : (f : ℕ) (r : Request) (n : ℕ) → sequence_of r ≡ Some n → wants_of f r ≡ false
 seq-wants-none f (Request.Create w seq name blocks) n e = refl
 seq-wants-none f (Request.Write w seq file block first last push body) n e = refl
 seq-wants-none f (Request.Resize w seq q file blocks) n e = refl
@@ -134,11 +134,11 @@ knows-cancels {line = line} {who = who} {ticket = ticket} {ps = ps} f m h = reco
   stays : (u : Ticket) → ticket ≡ Some u → wants_of f u.request ≡ false → cancelled f ticket ≡ Some u
   stays u e spared = rw (e, spared) refl
 
-  keeps : (x n : ℕ) → line.inc ≡ who.inc → IsSettled ticket line.seq x n → (r : Request) (w : Who) → Asked ps who.host x r → asker r ≡ Some w → w.inc ≡ who.inc → seq_of r ≡ Some n → IsSettled (cancelled f ticket) line.seq x n
+  keeps : (x n : ℕ) → line.inc ≡ who.inc → IsSettled ticket line.seq x n → (r : Request) (w : Who) → Asked ps who.host x r → asker r ≡ Some w → w.inc ≡ who.inc → sequence_of r ≡ Some n → IsSettled (cancelled f ticket) line.seq x n
   keeps x n kept (inl below) r w a by inc seq = inl below
   keeps x n kept (inr u) r w a by inc seq =
       let same : u.0.request ≡ r = (m.asked x r w a by).same inc u.0 u.1 u.2 in
-      inr (u.0, stays u.0 u.1 (seq-wants-none f u.0.request n (ap seq_of same ∙ seq)), u.2)
+      inr (u.0, stays u.0 u.1 (seq-wants-none f u.0.request n (ap sequence_of same ∙ seq)), u.2)
 
 -- a notice waits
 pub knows-notes : {Heard : ℕ → Tag → Type 0} {Given : ℕ → Grant → ℕ → Type 0} {line : HostRow} {s : Server} {events : List Event} {who : Who} {now : ℕ} {attached : Bool} {ticket : Option Ticket} {leases : List Lease} {notices : List Notice} {ps : List Packet} (f : ℕ) (v : Tag) → Heard f v → Knows Heard Given line s events who now attached ticket leases notices ps → Knows Heard Given line s events who now attached ticket leases (record { file = f; tag = noticed_tag v (notice_on f notices) } ∷ drop_notice f notices) ps
@@ -177,8 +177,8 @@ pub record Knowing (Heard : ℕ → Tag → Type 0) (Given : ℕ → Grant → �
   pub going : Going who ps k
   pub knows : Knows Heard Given line s events k.who k.now k.attached k.ticket k.leases k.notices (packets_with ps k.who.host k.sends)
 
-not-vacated : (r : Request) (n : ℕ) → seq_of r ≡ Some n → (w : Who) (file : ℕ) (tag : Tag) → r ≡ Request.Vacated w file tag → ⊥
-not-vacated r n e w file tag same = none-some n (ap seq_of (sym same) ∙ e)
+not-vacated : (r : Request) (n : ℕ) → sequence_of r ≡ Some n → (w : Who) (file : ℕ) (tag : Tag) → r ≡ Request.Vacated w file tag → ⊥
+not-vacated r n e w file tag same = none-some n (ap sequence_of (sym same) ∙ e)
 
 module _ (Heard : ℕ → Tag → Type 0) (Given : ℕ → Grant → ℕ → Type 0) (line : HostRow) (s : Server) (events : List Event) (who : Who) (ps : List Packet) where
   Mid : Core → Type 0

@@ -9,7 +9,7 @@ use Rattle.nq_base.specs.declared.Request.{Request}
 use Rattle.nq_base.specs.declared.Tag.{Tag}
 use Rattle.nq_base.specs.declared.Who.{Who}
 use Rattle.nq_client_steps.proofs.ClientCases.{core_of, Both}
-use Rattle.nq_client_steps.proofs.ClientFacts.{Alone, IsLease, seq_of, fits_job}
+use Rattle.nq_client_steps.proofs.ClientFacts.{Alone, IsLease, fits_job}
 use Rattle.nq_run_steps.proofs.ClientKnows.{IsPending, Knows, Knowing, knowing-closed}
 use Rattle.nq_client_steps.proofs.ClientMoves.{some-same, none-some}
 use Rattle.nq_client_steps.proofs.ClientWalk.{Replying, reply-keeps, notice-keeps, call-keeps, tick-keeps}
@@ -26,7 +26,7 @@ use Rattle.nq_model.specs.Client.{Client, ClientStep, begun, attaching, Lease, N
 use Rattle.nq_model.specs.ClientStep.{client_call, client_tick, at_time}
 use Rattle.nq_model.specs.Hear.{inc_of, is_of_procedure, refusal_counts, is_reply_to, reply_counts, hear, hear_reply, hear_notice, hear_call, goes_on, replied, holds_later, evicted, cancels}
 use Rattle.nq_model.specs.LeaseInterval.{IsCovered}
-use Rattle.nq_model.specs.Message.{Message, Packet, call, reply, error, asker}
+use Rattle.nq_model.specs.Message.{Message, Packet, call, reply, error, asker, sequence_of}
 use Rattle.nq_model.specs.Server.{Server, standing}
 use Rattle.nq_model.specs.Skew.{ticks_of}
 use Rattle.nq_model.specs.Table.{same_who}
@@ -133,13 +133,13 @@ knows-spent {line = line} {who = who} {ticket = ticket} {ps = ps} t a is told in
   heard = h.heard;
   pending = h.pending;
 } where
-  keeps : (x n : ℕ) → line.inc ≡ who.inc → IsSettled ticket line.seq x n → (r : Request) (w : Who) → Asked ps who.host x r → asker r ≡ Some w → w.inc ≡ who.inc → seq_of r ≡ Some n → IsSettled None line.seq x n
+  keeps : (x n : ℕ) → line.inc ≡ who.inc → IsSettled ticket line.seq x n → (r : Request) (w : Who) → Asked ps who.host x r → asker r ≡ Some w → w.inc ≡ who.inc → sequence_of r ≡ Some n → IsSettled None line.seq x n
   keeps x n kept (inl below) r w sent by i seq = inl below
   keeps x n kept (inr u) r w sent by i seq =
       let one : u.0 ≡ t = some-same u.0 t (sym u.1 ∙ is) in
       let number : t.xid ≡ x = ap (λ z. z.xid) (sym one) ∙ u.2 in
       let same : t.request ≡ r = (m.asked x r w sent by).same i t is number in
-      inl (h.lined.answered t.xid a told inc t is refl n (ap seq_of same ∙ seq)).decided
+      inl (h.lined.answered t.xid a told inc t is refl n (ap sequence_of same ∙ seq)).decided
 
 -- the client is attached by the reply to its first request
 knows-attached : {Heard : ℕ → Tag → Type 0} {Given : ℕ → Grant → ℕ → Type 0} {line : HostRow} {s : Server} {events : List Event} {who : Who} {now : ℕ} {attached : Bool} {ticket : Option Ticket} {leases : List Lease} {notices : List Notice} {ps : List Packet} (x : ℕ) → attached ≡ false → Told ps who.host (reply x (Reply.Attach who.inc)) → Knows Heard Given line s events who now attached ticket leases notices ps → Knows Heard Given line s events who now true None leases notices ps
@@ -153,7 +153,7 @@ knows-attached {line = line} {who = who} {ps = ps} x waits told h = record {
     unnoticed = λ e. absurd (cc);
     evicted_past = h.lined.evicted_past;
     unheard = λ e. absurd (cc);
-    settled = λ kept y r w n sent by inc seq. none-some n (ap seq_of (sym (h.lined.waiting waits y r w sent by inc)) ∙ seq);
+    settled = λ kept y r w n sent by inc seq. none-some n (ap sequence_of (sym (h.lined.waiting waits y r w sent by inc)) ∙ seq);
     answered = λ y b got inc u e. none-some u e;
   };
   tagged = tags-ticket None (λ u e y b got i n. none-fewer u e) h.tagged;

@@ -6,13 +6,12 @@ use Rattle.nq_base.specs.declared.Request.{Request}
 use Rattle.nq_base.specs.declared.Tag.{Tag}
 use Rattle.nq_base.specs.declared.Who.{Who}
 use Rattle.nq_client_steps.proofs.ClientCases.{Core}
-use Rattle.nq_client_steps.proofs.ClientFacts.{seq_of}
 use Rattle.nq_client_steps.proofs.ClientMoves.{some-same, none-some}
 use Rattle.nq_run_steps.proofs.Mail.{packets_with}
 use Rattle.nq_run_steps.proofs.Packets.{In, in-last, Asked, Told, message-same, not-both, call-same, Mail}
 use Rattle.nq_model.specs.Client.{Ticket, Notice}
 use Rattle.nq_model.specs.Hear.{inc_of}
-use Rattle.nq_model.specs.Message.{Packet, call, reply, asker}
+use Rattle.nq_model.specs.Message.{Packet, call, reply, asker, sequence_of}
 use Rattle.nq_model.specs.Server.{to_host}
 use Rattle.nq_model.specs.World.{from_host}
 
@@ -40,9 +39,9 @@ pub record LineFits (who : Who) (attached : Bool) (ticket : Option Ticket) (noti
   pub evicted_past : (x : ℕ) (w : Who) (file : ℕ) (tag : Tag) → Told ps who.host (call x (Request.Evicted w file tag)) → w.inc ≤ who.inc
   pub unheard : attached ≡ false → (x : ℕ) (w : Who) (file : ℕ) (tag : Tag) → Told ps who.host (call x (Request.Evicted w file tag)) → w.inc ≡ who.inc → ⊥
   -- each request of the running incarnation was decided, or is under way
-  pub settled : line.inc ≡ who.inc → (x : ℕ) (r : Request) (w : Who) (n : ℕ) → Asked ps who.host x r → asker r ≡ Some w → w.inc ≡ who.inc → seq_of r ≡ Some n → IsSettled ticket line.seq x n
+  pub settled : line.inc ≡ who.inc → (x : ℕ) (r : Request) (w : Who) (n : ℕ) → Asked ps who.host x r → asker r ≡ Some w → w.inc ≡ who.inc → sequence_of r ≡ Some n → IsSettled ticket line.seq x n
   -- a reply to the one under way comes once it was decided
-  pub answered : (x : ℕ) (a : Reply) → Told ps who.host (reply x a) → inc_of a ≡ who.inc → (t : Ticket) → ticket ≡ Some t → t.xid ≡ x → (n : ℕ) → seq_of t.request ≡ Some n → IsDecidedBy who line n
+  pub answered : (x : ℕ) (a : Reply) → Told ps who.host (reply x a) → inc_of a ≡ who.inc → (t : Ticket) → ticket ≡ Some t → t.xid ≡ x → (n : ℕ) → sequence_of t.request ≡ Some n → IsDecidedBy who line n
 
 -- in the middle of a client's step; `Heard` notices come only to attached clients
 abbrev pub LineIn : HostRow → List Packet → Core → Type 0
@@ -88,7 +87,7 @@ line-sends {who = who} {attached = attached} {notices = notices} {line = line} {
       let kept = h.current is_attached in
       absurd (omega arith)
 
-  settled : line.inc ≡ who.inc → (x : ℕ) (r : Request) (w : Who) (n : ℕ) → asker r ≡ Some w → w.inc ≡ who.inc → seq_of r ≡ Some n → In ps (from_host who.host (call x r)) ⊎ (mine ≡ from_host who.host (call x r)) → IsSettled (Some t) line.seq x n
+  settled : line.inc ≡ who.inc → (x : ℕ) (r : Request) (w : Who) (n : ℕ) → asker r ≡ Some w → w.inc ≡ who.inc → sequence_of r ≡ Some n → In ps (from_host who.host (call x r)) ⊎ (mine ≡ from_host who.host (call x r)) → IsSettled (Some t) line.seq x n
   settled kept x r w n by inc seq (inl there) = case (h.settled kept x r w n there by inc seq)
     where
       case : IsSettled None line.seq x n → IsSettled (Some t) line.seq x n
@@ -99,7 +98,7 @@ line-sends {who = who} {attached = attached} {notices = notices} {line = line} {
       inr (t, refl, numbered ∙ c.0)
 
 -- a message is sent that is no request to be decided, by an attached client
-pub line-adds : {who : Who} {attached : Bool} {ticket : Option Ticket} {notices : List Notice} {line : HostRow} {ps : List Packet} (xid : ℕ) (request : Request) → attached ≡ true → asker request ≡ Some who → seq_of request ≡ None → LineFits who attached ticket notices line ps → LineFits who attached ticket notices line (ps ++ from_host who.host (call xid request) ∷ [])
+pub line-adds : {who : Who} {attached : Bool} {ticket : Option Ticket} {notices : List Notice} {line : HostRow} {ps : List Packet} (xid : ℕ) (request : Request) → attached ≡ true → asker request ≡ Some who → sequence_of request ≡ None → LineFits who attached ticket notices line ps → LineFits who attached ticket notices line (ps ++ from_host who.host (call xid request) ∷ [])
 line-adds {who = who} {attached = attached} {ticket = ticket} {notices = notices} {line = line} {ps = ps} xid request is_attached asks no_seq h = record {
   past = h.past;
   current = h.current;
@@ -135,11 +134,11 @@ line-adds {who = who} {attached = attached} {ticket = ticket} {notices = notices
       let kept = h.current is_attached in
       absurd (omega arith)
 
-  settled : line.inc ≡ who.inc → (x : ℕ) (r : Request) (w : Who) (n : ℕ) → asker r ≡ Some w → w.inc ≡ who.inc → seq_of r ≡ Some n → In ps (from_host who.host (call x r)) ⊎ (mine ≡ from_host who.host (call x r)) → IsSettled ticket line.seq x n
+  settled : line.inc ≡ who.inc → (x : ℕ) (r : Request) (w : Who) (n : ℕ) → asker r ≡ Some w → w.inc ≡ who.inc → sequence_of r ≡ Some n → In ps (from_host who.host (call x r)) ⊎ (mine ≡ from_host who.host (call x r)) → IsSettled ticket line.seq x n
   settled kept x r w n by inc seq (inl there) = h.settled kept x r w n there by inc seq
   settled kept x r w n by inc seq (inr new) =
       let c = call-same xid x request r (message-same who.host who.host (call xid request) (call x r) new).1 in
-      none-some n (sym no_seq ∙ ap seq_of c.1 ∙ seq)
+      none-some n (sym no_seq ∙ ap sequence_of c.1 ∙ seq)
 
 -- a packet that was sent is sent again
 pub line-again : {who : Who} {attached : Bool} {ticket : Option Ticket} {notices : List Notice} {line : HostRow} {ps : List Packet} (p : Packet) → In ps p → LineFits who attached ticket notices line ps → LineFits who attached ticket notices line (ps ++ p ∷ [])
@@ -160,7 +159,7 @@ line-again {who = who} {ps = ps} p there h = record {
   old q (inr e) = subst (λ z. In ps z) e there
 
 -- the request under way is another of the same number and content, or none where none is to be decided
-pub line-ticket : {who : Who} {attached : Bool} {ticket : Option Ticket} {notices : List Notice} {line : HostRow} {ps : List Packet} (less : Option Ticket) → ((t : Ticket) → less ≡ Some t → (u : Ticket) × (ticket ≡ Some u) × (u.xid ≡ t.xid) × (u.request ≡ t.request)) → ((x n : ℕ) → line.inc ≡ who.inc → IsSettled ticket line.seq x n → (r : Request) (w : Who) → Asked ps who.host x r → asker r ≡ Some w → w.inc ≡ who.inc → seq_of r ≡ Some n → IsSettled less line.seq x n) → LineFits who attached ticket notices line ps → LineFits who attached less notices line ps
+pub line-ticket : {who : Who} {attached : Bool} {ticket : Option Ticket} {notices : List Notice} {line : HostRow} {ps : List Packet} (less : Option Ticket) → ((t : Ticket) → less ≡ Some t → (u : Ticket) × (ticket ≡ Some u) × (u.xid ≡ t.xid) × (u.request ≡ t.request)) → ((x n : ℕ) → line.inc ≡ who.inc → IsSettled ticket line.seq x n → (r : Request) (w : Who) → Asked ps who.host x r → asker r ≡ Some w → w.inc ≡ who.inc → sequence_of r ≡ Some n → IsSettled less line.seq x n) → LineFits who attached ticket notices line ps → LineFits who attached less notices line ps
 line-ticket less few keeps h = record {
   past = h.past;
   current = h.current;
@@ -171,5 +170,5 @@ line-ticket less few keeps h = record {
   evicted_past = h.evicted_past;
   unheard = h.unheard;
   settled = λ kept x r w n sent by inc seq. keeps x n kept (h.settled kept x r w n sent by inc seq) r w sent by inc seq;
-  answered = λ x a sent inc t e same n seq. let f = few t e in h.answered x a sent inc f.0 f.1 (f.2 ∙ same) n (ap seq_of f.3 ∙ seq);
+  answered = λ x a sent inc t e same n seq. let f = few t e in h.answered x a sent inc f.0 f.1 (f.2 ∙ same) n (ap sequence_of f.3 ∙ seq);
 }

@@ -10,7 +10,7 @@ use Rattle.nq_base.specs.declared.Request.{Request}
 use Rattle.nq_base.specs.declared.Row.{Row}
 use Rattle.nq_base.specs.declared.Tag.{Tag}
 use Rattle.nq_base.specs.declared.Who.{Who}
-use Rattle.nq_client_steps.proofs.ClientFacts.{seq_of, IsLease}
+use Rattle.nq_client_steps.proofs.ClientFacts.{IsLease}
 use Rattle.nq_run_steps.proofs.ClientKnows.{Knows}
 use Rattle.nq_client_steps.proofs.ClientMoves.{none-some}
 use Rattle.nq_run_steps.proofs.Clocks.{same-cover, moment-past}
@@ -22,7 +22,7 @@ use Rattle.nq_model.specs.Client.{Lease, Notice, Ticket, lease_on}
 use Rattle.nq_model.specs.Hear.{inc_of}
 use Rattle.nq_model.specs.Kept.{host_row}
 use Rattle.nq_model.specs.LeaseInterval.{is_at_least, IsCovered, cover_end, grant_in, requested_file}
-use Rattle.nq_model.specs.Message.{Packet, call, reply, error, RpcError, asker}
+use Rattle.nq_model.specs.Message.{Packet, call, reply, error, RpcError, asker, sequence_of}
 use Rattle.nq_model.specs.Profile.{skew}
 use Rattle.nq_model.specs.Server.{serving, Server, ServerStep, standing, to_host}
 use Rattle.nq_model.specs.ServerStep.{is_attach}
@@ -62,7 +62,7 @@ pub record IsNewReply (ps : List Packet) (s t : Server) (host x : ℕ) (a : Repl
   pub same_host : who.host ≡ host
   pub inc : inc_of a ≡ who.inc
   pub attached : (i : ℕ) → a ≡ Reply.Attach i → (host_row t.kept host).inc ≡ i
-  pub decided : (n : ℕ) → seq_of asks ≡ Some n → ((host_row t.kept host).inc ≡ who.inc × (n ≤ (host_row t.kept host).seq)) ⊎ (((host_row s.kept host).inc < who.inc) × (is_attach asks ≡ false))
+  pub decided : (n : ℕ) → sequence_of asks ≡ Some n → ((host_row t.kept host).inc ≡ who.inc × (n ≤ (host_row t.kept host).seq)) ⊎ (((host_row s.kept host).inc < who.inc) × (is_attach asks ≡ false))
   pub fresh : (g : Grant) → grant_in a ≡ Some g → (file : ℕ) → requested_file asks ≡ Some file → IsFreshGrant s t who file g
   pub files : (g : Grant) → grant_in a ≡ Some g → (file : ℕ) × (requested_file asks ≡ Some file)
 
@@ -206,10 +206,10 @@ module _ (ps : List Packet) (s : Server) (events : List Event) (e : Event) (t : 
       case (line_attaches later x w sent inc) = let k = (m.asked x (Request.Attach w) w sent refl).inc in absurd (omega arith)
 
   -- a request of an incarnation above the kept one is ATTACH
-  no-seq-above : (x : ℕ) (r : Request) (w : Who) (n : ℕ) → Asked ps who.host x r → asker r ≡ Some w → (host_row s.kept who.host).inc < w.inc → seq_of r ≡ Some n → ⊥
-  no-seq-above x r w n sent by later seq = none-some n (ap seq_of (sym (h.lined.above x r w sent by later)) ∙ seq)
+  no-seq-above : (x : ℕ) (r : Request) (w : Who) (n : ℕ) → Asked ps who.host x r → asker r ≡ Some w → (host_row s.kept who.host).inc < w.inc → sequence_of r ≡ Some n → ⊥
+  no-seq-above x r w n sent by later seq = none-some n (ap sequence_of (sym (h.lined.above x r w sent by later)) ∙ seq)
 
-  settled : (host_row t.server.kept who.host).inc ≡ who.inc → (x : ℕ) (r : Request) (w : Who) (n : ℕ) → Asked ps who.host x r → asker r ≡ Some w → w.inc ≡ who.inc → seq_of r ≡ Some n → IsSettled ticket (host_row t.server.kept who.host).seq x n
+  settled : (host_row t.server.kept who.host).inc ≡ who.inc → (x : ℕ) (r : Request) (w : Who) (n : ℕ) → Asked ps who.host x r → asker r ≡ Some w → w.inc ≡ who.inc → sequence_of r ≡ Some n → IsSettled ticket (host_row t.server.kept who.host).seq x n
   settled kept x r w n sent by inc seq = case f.line
     where
       more : (host_row s.kept who.host).inc ≡ who.inc → (host_row s.kept who.host).seq ≤ (host_row t.server.kept who.host).seq → IsSettled ticket (host_row s.kept who.host).seq x n → IsSettled ticket (host_row t.server.kept who.host).seq x n
@@ -221,14 +221,14 @@ module _ (ps : List Packet) (s : Server) (events : List Event) (e : Event) (t : 
       case (line_decides same up) = let k : (host_row s.kept who.host).inc ≡ who.inc = sym same ∙ kept in more k up (h.lined.settled k x r w n sent by inc seq)
       case (line_attaches later y v asked same) = absurd (no-seq-above x r w n sent by (omega arith) seq)
 
-  answered-old : (x : ℕ) (a : Reply) → Told ps who.host (reply x a) → inc_of a ≡ who.inc → (u : Ticket) → ticket ≡ Some u → u.xid ≡ x → (n : ℕ) → seq_of u.request ≡ Some n → IsDecidedBy who (host_row t.server.kept who.host) n
+  answered-old : (x : ℕ) (a : Reply) → Told ps who.host (reply x a) → inc_of a ≡ who.inc → (u : Ticket) → ticket ≡ Some u → u.xid ≡ x → (n : ℕ) → sequence_of u.request ≡ Some n → IsDecidedBy who (host_row t.server.kept who.host) n
   answered-old x a told inc u is number n seq =
       let d = h.lined.answered x a told inc u is number n seq in
       let k = stayed d.inc in
       record { inc = k.inc; decided = let below = d.decided in let up = k.seq in omega arith }
 
-  answered-new : (x : ℕ) (a : Reply) → IsNewReply ps s t.server who.host x a → inc_of a ≡ who.inc → (u : Ticket) → ticket ≡ Some u → u.xid ≡ x → (n : ℕ) → seq_of u.request ≡ Some n → IsDecidedBy who (host_row t.server.kept who.host) n
-  answered-new x a k inc u is number n seq = case (k.decided n (ap seq_of (sym same) ∙ seq))
+  answered-new : (x : ℕ) (a : Reply) → IsNewReply ps s t.server who.host x a → inc_of a ≡ who.inc → (u : Ticket) → ticket ≡ Some u → u.xid ≡ x → (n : ℕ) → sequence_of u.request ≡ Some n → IsDecidedBy who (host_row t.server.kept who.host) n
+  answered-new x a k inc u is number n seq = case (k.decided n (ap sequence_of (sym same) ∙ seq))
     where
       running : k.who.inc ≡ who.inc
       running = sym k.inc ∙ inc
@@ -238,7 +238,7 @@ module _ (ps : List Packet) (s : Server) (events : List Event) (e : Event) (t : 
 
       case : (((host_row t.server.kept who.host).inc ≡ k.who.inc) × (n ≤ (host_row t.server.kept who.host).seq)) ⊎ (((host_row s.kept who.host).inc < k.who.inc) × (is_attach k.asks ≡ false)) → IsDecidedBy who (host_row t.server.kept who.host) n
       case (inl d) = record { inc = d.0 ∙ running; decided = d.1 }
-      case (inr d) = absurd (no-seq-above x k.asks k.who n k.sent k.by d.0 (ap seq_of (sym same) ∙ seq))
+      case (inr d) = absurd (no-seq-above x k.asks k.who n k.sent k.by d.0 (ap sequence_of (sym same) ∙ seq))
 
   lined-after : LineFits who attached ticket notices (host_row t.server.kept who.host) (ps ++ t.sends)
   lined-after = record {
@@ -265,7 +265,7 @@ module _ (ps : List Packet) (s : Server) (events : List Event) (e : Event) (t : 
     unheard e x w file tag inc (inl old) = h.lined.unheard e x w file tag old inc
     unheard e x w file tag inc (inr new) = unrowed e file new.row new.stands (ap (λ z. z.inc) new.is_who ∙ inc)
 
-    answered : (x : ℕ) (a : Reply) → inc_of a ≡ who.inc → (u : Ticket) → ticket ≡ Some u → u.xid ≡ x → (n : ℕ) → seq_of u.request ≡ Some n → Told ps who.host (reply x a) ⊎ IsNewReply ps s t.server who.host x a → IsDecidedBy who (host_row t.server.kept who.host) n
+    answered : (x : ℕ) (a : Reply) → inc_of a ≡ who.inc → (u : Ticket) → ticket ≡ Some u → u.xid ≡ x → (n : ℕ) → sequence_of u.request ≡ Some n → Told ps who.host (reply x a) ⊎ IsNewReply ps s t.server who.host x a → IsDecidedBy who (host_row t.server.kept who.host) n
     answered x a inc u is number n seq (inl old) = answered-old x a old inc u is number n seq
     answered x a inc u is number n seq (inr new) = answered-new x a new inc u is number n seq
 

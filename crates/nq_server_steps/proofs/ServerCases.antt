@@ -14,7 +14,7 @@ use Rattle.nq_base.specs.declared.Who.{Who}
 use Rattle.nq_model.specs.Ask.{Question, free, put_off_by_own, granted, no_lease, ask}
 use Rattle.nq_model.specs.Decide.{Decision, to_change, unless_asked, unless_conflict, decide_create, lets_push, decide_push, decide_write_in, decide_write, decide_push_recovering, decide_write_recovering, decide_resize, decide_remove, decide_in, decide, decided_once, decides, creates, writes_through, stores, stores_recovering, resizes, removes, in_the_way, verdict_reply, commits}
 use Rattle.nq_model.specs.Kept.{File, blocks_of, blocks_in_all, find_file, find_name}
-use Rattle.nq_model.specs.Message.{Message, call, reply, error, datagram_of, Datagram, too_long, no_message, no_call, other_rpc, other_program, other_version, unknown_procedure, garbage_vacated, garbage, request, was_too_long, was_no_message, was_no_call, wrong_host, old_incarnation, no_reply_owed, asker}
+use Rattle.nq_model.specs.Message.{Message, call, reply, error, datagram_of, Datagram, too_long, no_message, no_call, other_rpc, other_program, other_version, unknown_procedure, garbage_vacated, garbage, request, was_too_long, was_no_message, was_no_call, wrong_host, old_incarnation, no_reply_owed, asker, sequence_of}
 use Rattle.nq_model.specs.Profile.{most_hosts, most_files, most_blocks, most_blocks_of_file, most_ids}
 use Rattle.nq_model.specs.Server.{Phase, serving, recovering, Server, ServerStep, quiet, drops, replies}
 use Rattle.nq_model.specs.ServerStep.{attaches, attach, look_up, get_attr, read, read_block, read_of, get_lease, lease_of, tells_later, serves, to_read, access_of, is_attach, look, perform, not_attached, admit, answer_request, receive, at_time, opens, is_due, end_reading, end_writing, tick_in, tick}
@@ -22,7 +22,7 @@ use Rattle.nq_model.specs.Table.{Table, find_row}
 use Rattle.nq_server_steps.proofs.AskCases.{with_waiter, IsGranted, asks}
 use Rattle.nq_server_steps.proofs.Rows.{choice, both-true, same-number, find-passes}
 use Rattle.nq_server_steps.proofs.Tests.{is-below, is-not-below, is-at-most, is-not-at-most, is-above, is-same, either-false, none-there}
-use Rattle.nq_server_steps.proofs.ServerOutcomes.{sequence_of, file_changed_by, base_in, only_asks, line_of, IsFrom, IsCurrent, IsFresh, unattached, attached_again, not_yet, no_entry, entry, no_attributes, attributes, no_file, no_block, decided_again, is_old, IsAsking, IsChanging, clash_with, CanResize, CanStore, bad_length, name_taken, no_room, not_kept, outside, no_row, not_under, not_over, not_while_recovering, bad_size, no_room_to_grow, ServerCases, TickCases}
+use Rattle.nq_server_steps.proofs.ServerOutcomes.{file_changed_by, base_in, only_asks, line_of, IsFrom, IsCurrent, IsFresh, unattached, attached_again, not_yet, no_entry, entry, no_attributes, attributes, no_file, no_block, decided_again, is_old, IsAsking, IsChanging, clash_with, CanResize, CanStore, bad_length, name_taken, no_room, not_kept, outside, no_row, not_under, not_over, not_while_recovering, bad_size, no_room_to_grow, ServerCases, TickCases}
 
 fits : (n most : ℕ) → (n == 0 || nat_lt most n) ≡ false → (0 < n) × (n ≤ most)
 fits n most h = (grind (arith, nat_tests), grind (arith, nat_tests))

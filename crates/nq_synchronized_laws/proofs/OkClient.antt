@@ -11,14 +11,14 @@ use Rattle.nq_base.specs.declared.Said.{Said}
 use Rattle.nq_base.specs.declared.Who.{Who}
 use Rattle.nq_call_steps.proofs.CallsFit.{entry_who, entry_call}
 use Rattle.nq_client_cases.proofs.StepCases.{call-cases, unless-cached-cases, tick-cases, heard-cases}
-use Rattle.nq_client_steps.proofs.ClientFacts.{seq_of, Alone}
+use Rattle.nq_client_steps.proofs.ClientFacts.{Alone}
 use Rattle.nq_client_steps.proofs.ClientMoves.{some-same, none-some}
 use Rattle.nq_fate_steps.proofs.ServerTells.{Tells}
 use Rattle.nq_model.specs.Client.{Client, ClientStep, for_call, Ticket, UnderWay, begun, losses_of}
 use Rattle.nq_model.specs.ClientStep.{told, begins_call, is_called, sends_unless_cached, says_busy, losses_for, changed_file, client_call, at_time, sends_again, client_tick, fresh_client, starts, next_incarnation, restart}
 use Rattle.nq_model.specs.Hear.{inc_of, replied, cancels, evicted, hear}
 use Rattle.nq_model.specs.Journal.{Exists, Throughout, IsAnswer, IsOpen, call_of, told_by, same_who}
-use Rattle.nq_model.specs.Message.{Message, reply}
+use Rattle.nq_model.specs.Message.{Message, reply, sequence_of}
 use Rattle.nq_model.specs.Send.{send_next}
 use Rattle.nq_model.specs.Settle.{settle}
 use Rattle.nq_report_laws.specs.LossesInRuns.{cleans}
@@ -189,7 +189,7 @@ module _ (line : HostRow) (c : Client) (journal : List Entry) (h : Ready line c 
       is_open = h.keeps.is_open;
       told = h.keeps.told;
       put = h.keeps.put;
-      made = λ t u n e job called draws done. subst (λ r. Made c.who u.q r journal) (ap (λ z. z.request) (some-same _ t e)) (h.keeps.made ticket u n is (ap (λ z. z.job) (some-same _ t e) ∙ job) called (ap (λ z. seq_of z.request) (some-same _ t e) ∙ draws) done);
+      made = λ t u n e job called draws done. subst (λ r. Made c.who u.q r journal) (ap (λ z. z.request) (some-same _ t e)) (h.keeps.made ticket u n is (ap (λ z. z.job) (some-same _ t e) ∙ job) called (ap (λ z. sequence_of z.request) (some-same _ t e) ∙ draws) done);
       numbers = h.keeps.numbers;
     };
     kept = h.kept;
@@ -205,7 +205,7 @@ module _ (line : HostRow) (c : Client) (journal : List Entry) (h : Ready line c 
 
   -- ---- a datagram
 
-  pub hear-end : (k : ℕ) (m : Message) (t : ClientStep) → ((xid : ℕ) (r : Reply) (ticket : Ticket) (n : ℕ) → m ≡ reply xid r → c.ticket ≡ Some ticket → xid ≡ ticket.xid → inc_of r ≡ c.who.inc → seq_of ticket.request ≡ Some n → Tells line c.who n ticket.request r) → hear c k m ≡ Some t → After journal (book_of t) → End line journal (book_of t)
+  pub hear-end : (k : ℕ) (m : Message) (t : ClientStep) → ((xid : ℕ) (r : Reply) (ticket : Ticket) (n : ℕ) → m ≡ reply xid r → c.ticket ≡ Some ticket → xid ≡ ticket.xid → inc_of r ≡ c.who.inc → sequence_of ticket.request ≡ Some n → Tells line c.who n ticket.request r) → hear c k m ≡ Some t → After journal (book_of t) → End line journal (book_of t)
   hear-end k m t tells hears = heard-cases c k m t (λ s. After journal (book_of s) → End line journal (book_of s)) hears (record {
     answered = λ xid r ticket is has same inc counts a. mid-goes (replied (begun c) k ticket r) (mid-replied line journal c k ticket r has (begins line c journal h) (λ n draws. tells xid r ticket n is has same inc draws) (h.alone.asking.ticketed ticket has).fits counts) false a;
     noticed = λ xid file tag is early a. mid-goes (evicted (cancels (begun c) file) file tag) (mid-evicted (begun c) file tag (begins line c journal h)) false a;

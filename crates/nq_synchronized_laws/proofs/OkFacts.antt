@@ -12,11 +12,12 @@ use Rattle.nq_base.specs.declared.Verdict.{Verdict}
 use Rattle.nq_base.specs.declared.Who.{Who}
 use Rattle.nq_call_steps.proofs.CallsFit.{entry_who}
 use Rattle.nq_client_cases.proofs.SettleCases.{IsRead}
-use Rattle.nq_client_steps.proofs.ClientFacts.{seq_of, is_clean_in}
+use Rattle.nq_client_steps.proofs.ClientFacts.{is_clean_in}
 use Rattle.nq_client_steps.proofs.ClientMoves.{none-some}
 use Rattle.nq_model.specs.Client.{Client, ClientStep, for_call, Ticket, UnderWay, losses_of}
 use Rattle.nq_model.specs.ClientStep.{told}
 use Rattle.nq_model.specs.Journal.{Exists, Throughout, Somewhere, IsOpen, call_of, IsWriteBy, IsThrough}
+use Rattle.nq_model.specs.Message.{sequence_of}
 use Rattle.nq_model.specs.Reported.{Names}
 use Rattle.nq_model.specs.Settle.{ticket_is_for_call, is_for_call}
 use Rattle.nq_model.specs.Synchronized.{IsSettledResize}
@@ -99,7 +100,7 @@ pub record KeepsOk (Spared : UnderWay → Type 0) (line : HostRow) (who : Who) (
   -- the delayed write of a put stands, and is not lost
   pub put : (u : UnderWay) (file block : ℕ) (body : List ℕ) → call ≡ Some u → Spared u → u.call ≡ Call.WriteSync file block body → u.written ≡ true → PutWaits who u.q file block journal
   -- a call's request that was done has made what it asks
-  pub made : (t : Ticket) (u : UnderWay) (n : ℕ) → ticket ≡ Some t → t.job ≡ for_call → call ≡ Some u → seq_of t.request ≡ Some n → IsDone line who n → Made who u.q t.request journal
+  pub made : (t : Ticket) (u : UnderWay) (n : ℕ) → ticket ≡ Some t → t.job ≡ for_call → call ≡ Some u → sequence_of t.request ≡ Some n → IsDone line who n → Made who u.q t.request journal
   pub numbers : Numbered who number dirty push journal
 
 -- all calls

@@ -19,7 +19,7 @@ use Rattle.nq_client_cases.proofs.PartCases.{answers-call-cases, vacates-noticed
 use Rattle.nq_client_cases.proofs.RepliedCases.{OfCall, IsNamed, looked_up, created, attributes, replied-cases}
 use Rattle.nq_client_cases.proofs.SettleCases.{IsRead}
 use Rattle.nq_client_cases.proofs.StepCases.{evicted-cases}
-use Rattle.nq_client_steps.proofs.ClientFacts.{seq_of, fits_job}
+use Rattle.nq_client_steps.proofs.ClientFacts.{fits_job}
 use Rattle.nq_client_steps.proofs.ClientMoves.{some-same, none-some, keeps-or-cancels}
 use Rattle.nq_fate_steps.proofs.ServerTells.{Tells, later, decided}
 use Rattle.nq_model.specs.Client.{Client, ClientStep, for_call, Ticket, UnderWay, Notice, begun, notice_on}
@@ -27,6 +27,7 @@ use Rattle.nq_model.specs.ClientStep.{told}
 use Rattle.nq_model.specs.Decide.{verdict_reply}
 use Rattle.nq_model.specs.Hear.{vacates_lease, vacates_noticed, loses, reports, without_lease, push_refused, breaks_chain, if_broken, holds, takes_grant, takes_optional, answers_call, caches_block, purges, knows_revision, then_caches, read_done, marks_through, lease_done, caches_write, write_done, ends_push, caches_push, push_done, answer_of, spends, attached, pauses, replied, reply_counts, cancels, notes_notice, evicted}
 use Rattle.nq_model.specs.Journal.{Somewhere}
+use Rattle.nq_model.specs.Message.{sequence_of}
 use Rattle.nq_model.specs.Settle.{said, answers, names_losses}
 use Rattle.nq_model.specs.Synchronized.{IsPutKept, IsSettledResize}
 use Rattle.nq_synchronized_laws.proofs.KeptPlaces.{KeptHere, OkAt, somewhere-more, resize-later}
@@ -146,7 +147,7 @@ refused-here who q Refusal.Old before = tt
 
 -- ---- the outcomes
 
-module _ (line : HostRow) (journal : List Entry) (c : Client) (number : ℕ) (ticket : Ticket) (r : Reply) (is : c.ticket ≡ Some ticket) (m : Mid All line journal (book_of (begun c))) (tells : (n : ℕ) → seq_of ticket.request ≡ Some n → Tells line c.who n ticket.request r) where
+module _ (line : HostRow) (journal : List Entry) (c : Client) (number : ℕ) (ticket : Ticket) (r : Reply) (is : c.ticket ≡ Some ticket) (m : Mid All line journal (book_of (begun c))) (tells : (n : ℕ) → sequence_of ticket.request ≡ Some n → Tells line c.who n ticket.request r) where
   t : ClientStep
   t = spends (begun c)
 
@@ -204,8 +205,8 @@ module _ (line : HostRow) (journal : List Entry) (c : Client) (number : ℕ) (ti
       lease-done-cases (spends (begun c)) file grant ticket.first (λ z. Mid All line journal (book_of z)) (λ e. taken.mid) (λ e. spent-marks true _ taken)
 
   -- a request with a sequence was done
-  was-done : (u : UnderWay) (request : Request) (n : ℕ) → OfCall ticket request → seq_of request ≡ Some n → is_refused r ≡ false → c.call ≡ Some u → Made c.who u.q request journal
-  was-done u request n of draws done e = subst (λ z. Made c.who u.q z journal) of.asks (m.keeps.made ticket u n is of.job e (ap seq_of of.asks ∙ draws) (told-done line c.who n ticket.request r done (tells n (ap seq_of of.asks ∙ draws))))
+  was-done : (u : UnderWay) (request : Request) (n : ℕ) → OfCall ticket request → sequence_of request ≡ Some n → is_refused r ≡ false → c.call ≡ Some u → Made c.who u.q request journal
+  was-done u request n of draws done e = subst (λ z. Made c.who u.q z journal) of.asks (m.keeps.made ticket u n is of.job e (ap sequence_of of.asks ∙ draws) (told-done line c.who n ticket.request r done (tells n (ap sequence_of of.asks ∙ draws))))
 
   -- a write that went through
   through-here : (u : UnderWay) (file block : ℕ) (body : List ℕ) → c.call ≡ Some u → (u.call ≡ Call.Write file block body) ⊎ (u.call ≡ Call.WriteSync file block body) → Somewhere (IsThroughWrite c.who u.q) journal → OkAt (A c.who u.q Said.Ok) journal c.who u.q

@@ -6,11 +6,11 @@ use Rattle.nq_base.specs.declared.HostRow.{HostRow}
 use Rattle.nq_base.specs.declared.Loss.{Loss}
 use Rattle.nq_base.specs.declared.Request.{Request}
 use Rattle.nq_base.specs.declared.Who.{Who}
-use Rattle.nq_client_steps.proofs.ClientFacts.{seq_of, Alone, is_clean_in}
+use Rattle.nq_client_steps.proofs.ClientFacts.{Alone, is_clean_in}
 use Rattle.nq_client_steps.proofs.ClientMoves.{some-same}
 use Rattle.nq_model.specs.Client.{Client, for_call, attaching, Ticket, UnderWay}
 use Rattle.nq_model.specs.Journal.{Exists, Throughout, Somewhere}
-use Rattle.nq_model.specs.Message.{Packet}
+use Rattle.nq_model.specs.Message.{Packet, sequence_of}
 use Rattle.nq_model.specs.Reported.{Names}
 use Rattle.nq_model.specs.Synchronized.{IsSettledResize}
 use Rattle.nq_report_laws.specs.LossesInRuns.{IsLossOf, IsOneOf, cleans}
@@ -115,7 +115,7 @@ module _ (c : Client) (ps : List Packet) (old new : HostRow) (journal : List Ent
       case false e = let w = alone.asking.waiting e in let one : w.request ≡ t = some-same w.request t (sym w.asks ∙ is) in let j : t.job ≡ attaching = subst (λ z. z.job ≡ attaching) one w.job in absurd (cc)
 
   -- the request under way was decided
-  own-decided : (t : Ticket) (u : UnderWay) (n : ℕ) (es : List Entry) → IsDecided ps old new c.who.host es → c.ticket ≡ Some t → t.job ≡ for_call → c.call ≡ Some u → seq_of t.request ≡ Some n → IsDone new c.who n → Made c.who u.q t.request (es ++ journal)
+  own-decided : (t : Ticket) (u : UnderWay) (n : ℕ) (es : List Entry) → IsDecided ps old new c.who.host es → c.ticket ≡ Some t → t.job ≡ for_call → c.call ≡ Some u → sequence_of t.request ≡ Some n → IsDone new c.who n → Made c.who u.q t.request (es ++ journal)
   own-decided t u n es k is job called draws done = from (lined.settled (k.inc ∙ inc) k.xid k.asks k.who k.seq k.sent k.by inc k.draws)
     where
       inc : k.who.inc ≡ c.who.inc
@@ -147,7 +147,7 @@ module _ (c : Client) (ps : List Packet) (old new : HostRow) (journal : List Ent
     k : KeepsOf old c (es ++ journal)
     k = all-mild c es journal (λ e i. mild e i c.who) h
 
-    made : (t : Ticket) (u : UnderWay) (n : ℕ) → c.ticket ≡ Some t → t.job ≡ for_call → c.call ≡ Some u → seq_of t.request ≡ Some n → IsDone new c.who n → LineMoves ps old new c.who.host es → Made c.who u.q t.request (es ++ journal)
+    made : (t : Ticket) (u : UnderWay) (n : ℕ) → c.ticket ≡ Some t → t.job ≡ for_call → c.call ≡ Some u → sequence_of t.request ≡ Some n → IsDone new c.who n → LineMoves ps old new c.who.host es → Made c.who u.q t.request (es ++ journal)
     made t u n is job called draws done (stays same) = k.made t u n is job called draws (subst (λ l. IsDone l c.who n) same done)
     made t u n is job called draws done (attached a) = absurd (none-attached t a is job done.inc)
     made t u n is job called draws done (decided d) = own-decided t u n es d is job called draws done

@@ -15,10 +15,10 @@ use Rattle.nq_base.specs.declared.Who.{Who}
 use Rattle.nq_call_steps.proofs.CallsFit.{entry_who}
 use Rattle.nq_client_cases.proofs.SendCases.{pushed, send-cases}
 use Rattle.nq_client_cases.proofs.SettleCases.{IsSettling, IsRead, IsSync, of_sync, of_put, settle-cases}
-use Rattle.nq_client_steps.proofs.ClientFacts.{seq_of}
 use Rattle.nq_client_steps.proofs.ClientMoves.{some-same, none-some}
 use Rattle.nq_model.specs.Client.{ClientStep, Job, for_call, renewing, Ticket, UnderWay, first_dirty, drop_dirty, is_clean, is_push_of}
 use Rattle.nq_model.specs.Journal.{Throughout}
+use Rattle.nq_model.specs.Message.{sequence_of}
 use Rattle.nq_model.specs.Send.{sends_request, after_seq, after_number, takes_push, sends_write, gives_up, send_next}
 use Rattle.nq_model.specs.Settle.{said, answers, names_losses, reads_cached, after_read, delays, after_write, marks_written, settle, ticket_is_for_call}
 use Rattle.nq_report_laws.specs.LossesInRuns.{cleans}
@@ -200,13 +200,13 @@ pub mid-end : {line : HostRow} {journal : List Entry} (b : Book) → Mid All lin
 mid-end b m = record { keeps = m.keeps; kept = m.kept; own = m.own }
 
 -- a request of the call was sent, that was not decided yet
-sent-keeps : {line : HostRow} {who : Who} {number more : ℕ} {call : Option UnderWay} {old : Option Ticket} {losses : List Loss} {dirty : List Push} {push : Option Push} {journal : List Entry} (ticket : Ticket) (u : UnderWay) → call ≡ Some u → IsFor u dirty push ticket.request → ((n : ℕ) → seq_of ticket.request ≡ Some n → IsDone line who n → ⊥) → Numbered who more dirty push journal → KeepsOk All line who number call old losses dirty push journal → KeepsOk All line who more call (Some ticket) losses dirty push journal
+sent-keeps : {line : HostRow} {who : Who} {number more : ℕ} {call : Option UnderWay} {old : Option Ticket} {losses : List Loss} {dirty : List Push} {push : Option Push} {journal : List Entry} (ticket : Ticket) (u : UnderWay) → call ≡ Some u → IsFor u dirty push ticket.request → ((n : ℕ) → sequence_of ticket.request ≡ Some n → IsDone line who n → ⊥) → Numbered who more dirty push journal → KeepsOk All line who number call old losses dirty push journal → KeepsOk All line who more call (Some ticket) losses dirty push journal
 sent-keeps {dirty = dirty} {push = push} ticket u is for_it undone numbers h = record {
   fits = λ k v e job c. subst (λ z. IsFor v dirty push z.request) (some-same ticket k e) (subst (λ z. IsFor z dirty push ticket.request) (some-same u v (sym is ∙ c)) for_it);
   is_open = h.is_open;
   told = h.told;
   put = h.put;
-  made = λ k v n e job c draws done. absurd (undone n (ap (λ z. seq_of z.request) (some-same ticket k e) ∙ draws) done);
+  made = λ k v n e job c draws done. absurd (undone n (ap (λ z. sequence_of z.request) (some-same ticket k e) ∙ draws) done);
   numbers = numbers;
 }
 
@@ -227,11 +227,11 @@ module _ {line : HostRow} {journal : List Entry} (t : ClientStep) (m : Mid All l
   ticket_for job request = record { xid = t.client.xid; first = t.client.now; last = t.client.now; request = request; job = job }
 
   -- for the call, without a sequence
-  asks : (u : UnderWay) (request : Request) → t.client.call ≡ Some u → IsFor u t.client.dirty t.client.push request → seq_of request ≡ None → End line journal (book_of (sends_request t for_call request))
+  asks : (u : UnderWay) (request : Request) → t.client.call ≡ Some u → IsFor u t.client.dirty t.client.push request → sequence_of request ≡ None → End line journal (book_of (sends_request t for_call request))
   unfolding sends_request
   asks u request is for_it none = record { keeps = sent-keeps _ u is for_it (λ n e d. none-some n (sym none ∙ e)) m.keeps.numbers m.keeps; kept = m.kept; own = m.own }
 
-  undone : (request : Request) → seq_of request ≡ Some t.client.seq → (n : ℕ) → seq_of request ≡ Some n → IsDone line t.client.who n → ⊥
+  undone : (request : Request) → sequence_of request ≡ Some t.client.seq → (n : ℕ) → sequence_of request ≡ Some n → IsDone line t.client.who n → ⊥
   undone request draws n e d =
       let same : t.client.seq ≡ n = some-same t.client.seq n (sym draws ∙ e) in
       let below : line.seq < t.client.seq = m.above d.inc in
@@ -239,7 +239,7 @@ module _ {line : HostRow} {journal : List Entry} (t : ClientStep) (m : Mid All l
       absurd (omega arith)
 
   -- with one
-  decides : (u : UnderWay) (request : Request) → t.client.call ≡ Some u → IsFor u t.client.dirty t.client.push request → seq_of request ≡ Some t.client.seq → End line journal (book_of (sends_request (after_seq t) for_call request))
+  decides : (u : UnderWay) (request : Request) → t.client.call ≡ Some u → IsFor u t.client.dirty t.client.push request → sequence_of request ≡ Some t.client.seq → End line journal (book_of (sends_request (after_seq t) for_call request))
   unfolding sends_request after_seq
   decides u request is for_it draws = record { keeps = sent-keeps _ u is for_it (undone request draws) m.keeps.numbers m.keeps; kept = m.kept; own = m.own }
 
@@ -247,7 +247,7 @@ module _ {line : HostRow} {journal : List Entry} (t : ClientStep) (m : Mid All l
   unfolding sends_request after_number
   writes u file block body is for_it = record { keeps = sent-keeps _ u is for_it (undone (Request.Write t.client.who t.client.seq file block t.client.number t.client.number None body) refl) (numbered-raised m.keeps.numbers) m.keeps; kept = m.kept; own = m.own }
 
-  changes : (u : UnderWay) (file : ℕ) (request : Request) → t.client.call ≡ Some u → IsFor u t.client.dirty t.client.push request → seq_of request ≡ Some t.client.seq → End line journal (book_of (sends_request (after_seq (gives_up t file)) for_call request))
+  changes : (u : UnderWay) (file : ℕ) (request : Request) → t.client.call ≡ Some u → IsFor u t.client.dirty t.client.push request → sequence_of request ≡ Some t.client.seq → End line journal (book_of (sends_request (after_seq (gives_up t file)) for_call request))
   unfolding sends_request after_seq gives_up
   changes u file request is for_it draws = record { keeps = sent-keeps _ u is for_it (undone request draws) m.keeps.numbers m.keeps; kept = m.kept; own = m.own }
 

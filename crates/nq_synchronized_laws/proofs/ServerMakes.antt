@@ -12,11 +12,9 @@ use Rattle.nq_base.specs.declared.Row.{Row}
 use Rattle.nq_base.specs.declared.Tag.{Tag}
 use Rattle.nq_base.specs.declared.Verdict.{Verdict}
 use Rattle.nq_base.specs.declared.Who.{Who}
-use Rattle.nq_client_steps.proofs.ClientFacts.{seq_of}
-use Rattle.nq_lease_laws.proofs.ServerEffects.{same-seq}
 use Rattle.nq_model.specs.Decide.{Decision, decides, creates, writes_through, stores, wrote, stores_recovering, resizes, removes, puts_off, commits, row_after}
 use Rattle.nq_model.specs.Kept.{File, Kept, find_file, fresh_row, host_row, with_row, with_files, with_new_file}
-use Rattle.nq_model.specs.Message.{Message, Packet, asker, Datagram, Reason, request}
+use Rattle.nq_model.specs.Message.{Message, Packet, asker, Datagram, Reason, request, sequence_of}
 use Rattle.nq_model.specs.Profile.{most_hosts}
 use Rattle.nq_model.specs.Server.{Server, ServerStep, quiet, drops, says, after_notices, keeping, keeping_with, with_table}
 use Rattle.nq_model.specs.ServerStep.{attaches, vacates, tells_later, serves, leases, grants, receive, tick, crash, boot, booted, opens, ends_writing, at_time}
@@ -27,7 +25,7 @@ use Rattle.nq_server_laws.proofs.ServerNumbers.{LinesFitOf}
 use Rattle.nq_server_steps.proofs.KeptChanges.{other-line, own-line}
 use Rattle.nq_server_steps.proofs.Rows.{same-number, number-same}
 use Rattle.nq_server_steps.proofs.ServerCases.{server-hears, server-ticks}
-use Rattle.nq_server_steps.proofs.ServerOutcomes.{sequence_of, line_of, IsFrom, IsFresh, IsDeclined, bad_length, name_taken, no_room, not_kept, outside, no_row, not_under, not_over, not_while_recovering, bad_size, no_room_to_grow}
+use Rattle.nq_server_steps.proofs.ServerOutcomes.{line_of, IsFrom, IsFresh, IsDeclined, bad_length, name_taken, no_room, not_kept, outside, no_row, not_under, not_over, not_while_recovering, bad_size, no_room_to_grow}
 use Rattle.nq_synchronized_laws.proofs.OkMoves.{IsMild}
 
 -- no entry is an answer, a loss or a delayed write
@@ -67,7 +65,7 @@ pub record IsDecided (ps : List Packet) (old new : HostRow) (host : ℕ) (entrie
   pub here : who.host ≡ host
   pub sent : Asked ps host xid asks
   pub by : asker asks ≡ Some who
-  pub draws : seq_of asks ≡ Some seq
+  pub draws : sequence_of asks ≡ Some seq
   pub inc : old.inc ≡ who.inc
   pub above : old.seq < seq
   pub after : new.inc ≡ who.inc
@@ -146,7 +144,7 @@ module _ (ps : List Packet) (s : Server) (sender next : ℕ) (d : Datagram) (was
         here = refl;
         sent = subst (λ n. Asked ps n xid r) (sym fresh.current.from.host) (was_sent xid r e);
         by = by;
-        draws = same-seq r ∙ sq;
+        draws = sq;
         inc = sym fresh.current.inc;
         above = fresh.above;
         after = ap (λ l. l.inc) own;

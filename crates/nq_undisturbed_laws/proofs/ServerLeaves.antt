@@ -13,7 +13,7 @@ use Rattle.nq_client_steps.proofs.ClientMoves.{none-some, some-same}
 use Rattle.nq_model.specs.Ask.{conflicts, mode_conflicts}
 use Rattle.nq_model.specs.Decide.{Decision, decides, creates, writes_through, stores, stores_recovering, resizes, removes, puts_off, commits}
 use Rattle.nq_model.specs.Kept.{File, find_file, host_row}
-use Rattle.nq_model.specs.Message.{Datagram, request, asker}
+use Rattle.nq_model.specs.Message.{Datagram, request, asker, sequence_of}
 use Rattle.nq_model.specs.Server.{serving, Server, ServerStep, standing, standing_in, quiet, drops, says, keeping_with}
 use Rattle.nq_model.specs.ServerStep.{attaches, vacates, tells_later, serves, leases, access_of, grants, receive, tick, at_time, opens, ends_writing, end_reading, is_over, is_due, crash}
 use Rattle.nq_model.specs.Table.{Table, is_writing, caches, find_row, drop_row, with_rows}
@@ -22,7 +22,7 @@ use Rattle.nq_server_laws.proofs.ServerTables.{StandingFits, StandingFitsOf}
 use Rattle.nq_server_steps.proofs.RowChanges.{found-kept, found-any, find-row-dropped, no-clash, unique-filtered, HasUniqueKeys}
 use Rattle.nq_server_steps.proofs.Rows.{both-true, same-number, number-same, find-passes, found-row}
 use Rattle.nq_server_steps.proofs.ServerCases.{server-hears, server-ticks}
-use Rattle.nq_server_steps.proofs.ServerOutcomes.{IsFresh, IsCurrent, IsAsking, IsChanging, clash_with, sequence_of, file_changed_by, base_in}
+use Rattle.nq_server_steps.proofs.ServerOutcomes.{IsFresh, IsCurrent, IsAsking, IsChanging, clash_with, file_changed_by, base_in}
 use Rattle.nq_server_steps.proofs.TableFits.{TableFits}
 use Rattle.nq_undisturbed_laws.proofs.Journals.{AllEntries}
 use Rattle.nq_undisturbed_laws.specs.Undisturbed.{LeavesAlone}

@@ -13,14 +13,14 @@ use Rattle.nq_base.specs.declared.Tag.{Tag}
 use Rattle.nq_base.specs.declared.Who.{Who}
 use Rattle.nq_chain_steps.proofs.ChainFacts.{ChainFits, PushesFit, StandsWriting, InOrder, GrantFits, IsFenced, gone, ahead, earlier, IsBoundOrFenced, bound, fenced, done_at, rev_at}
 use Rattle.nq_chain_steps.specs.Chained.{IsChained, KnowsFile, has_done, has_done_write, due}
-use Rattle.nq_client_steps.proofs.ClientFacts.{is_clean_in, seq_of, push_in}
+use Rattle.nq_client_steps.proofs.ClientFacts.{is_clean_in, push_in}
 use Rattle.nq_client_steps.proofs.ClientMoves.{none-some, some-same}
 use Rattle.nq_fate_steps.proofs.WritesFit.{WritesFit, CoversNumber, IsClear, IsDirty, IsRising, LiesWithin, in_list, under_way, PushStands, waits, stored}
 use Rattle.nq_model.specs.Client.{Client, ClientStep, Lease, Ticket, lease_on}
 use Rattle.nq_model.specs.Journal.{Covers, Throughout}
 use Rattle.nq_model.specs.Kept.{host_row}
 use Rattle.nq_model.specs.LeaseInterval.{requested_file}
-use Rattle.nq_model.specs.Message.{Packet}
+use Rattle.nq_model.specs.Message.{Packet, sequence_of}
 use Rattle.nq_model.specs.Server.{Phase, serving, recovering, Server, standing, standing_in}
 use Rattle.nq_model.specs.Table.{is_writing, caches, tag_below}
 use Rattle.nq_run_steps.proofs.CoverFacts.{IsTakeable}
@@ -134,7 +134,7 @@ covers-before (e ∷ es) journal who file block n (inl c) = inl c
 covers-before (e ∷ es) journal who file block n (inr c) = inr (covers-before es journal who file block n c)
 
 -- a request that pushes has a sequence
-pub push-sequence : (r : Request) (q : Push) → push_in r ≡ Some q → (n : ℕ) × (seq_of r ≡ Some n)
+pub push-sequence : (r : Request) (q : Push) → push_in r ≡ Some q → (n : ℕ) × (sequence_of r ≡ Some n)
 push-sequence (Request.Write w seq file block first last (Some base) body) q e = (seq, refl)
 push-sequence r q e = none-some q e
 
@@ -171,7 +171,7 @@ was-entry line c ps journal f p value there free = case (f.list.unsaved p.file p
         let k = f.under_way q e in
         by k.request (push-sequence k.request.request q k.pushes) k.asks
       where
-        by : (t : Ticket) → (n : ℕ) × (seq_of t.request ≡ Some n) → c.ticket ≡ Some t → IsClear journal c.who q.file q.block q.first q.last
+        by : (t : Ticket) → (n : ℕ) × (sequence_of t.request ≡ Some n) → c.ticket ≡ Some t → IsClear journal c.who q.file q.block q.first q.last
         by t n asks = stands (f.pushed q t n.0 e asks n.1).stands
           where
             stands : PushStands line c.who n.0 journal q → IsClear journal c.who q.file q.block q.first q.last

@@ -17,18 +17,18 @@ use Rattle.nq_fate_steps.proofs.ServerTells.{ServerTells, Moves, same_lines, att
 use Rattle.nq_fate_steps.proofs.WritesFit.{IsClear}
 use Rattle.nq_model.specs.Client.{Client, Job, Lease, Ticket, lease_on}
 use Rattle.nq_model.specs.Kept.{host_row}
-use Rattle.nq_model.specs.Message.{call, asker}
+use Rattle.nq_model.specs.Message.{call, asker, sequence_of}
 use Rattle.nq_model.specs.Server.{ServerStep, standing}
 use Rattle.nq_model.specs.Table.{is_writing}
 use Rattle.nq_model.specs.World.{World, after_server, from_host}
 use Rattle.nq_request_laws.proofs.WorldSequences.{asked-before-server}
-use Rattle.nq_request_laws.specs.OneRequests.{IsOpen, IsUnderWay, sequence_of as seq_asked}
+use Rattle.nq_request_laws.specs.OneRequests.{IsOpen, IsUnderWay}
 use Rattle.nq_run_cases.proofs.RunCases.{OfClients}
 use Rattle.nq_run_steps.proofs.Packets.{Asked}
 use Rattle.nq_run_steps.proofs.ServerSays.{AllSaid}
 use Rattle.nq_run_steps.proofs.TagFacts.{IsDrawn}
 use Rattle.nq_server_steps.proofs.Rows.{same-number, number-same}
-use Rattle.nq_server_steps.proofs.ServerOutcomes.{file_changed_by, base_in, sequence_of}
+use Rattle.nq_server_steps.proofs.ServerOutcomes.{file_changed_by, base_in}
 use Rattle.nq_undisturbed_laws.proofs.Holders.{KnownOf, chained-writes}
 use Rattle.nq_undisturbed_laws.proofs.Journals.{AllEntries, undisturbed-more}
 use Rattle.nq_undisturbed_laws.proofs.Marks.{clear-less}
@@ -61,13 +61,6 @@ pub record Served (hosts most : ℕ) (w : World) (e : Event) (events : List Even
   pub stood : (who : Who) (file : ℕ) (tag : Tag) → IsDrawn (standing w.server).boot (standing w.server).drawn tag → StandsWriting who file tag (standing t.server).rows → Stood who file tag (standing w.server).rows
   pub alone : (who : Who) (file : ℕ) → HasWriting (standing w.server) who file → HasWriting (standing t.server) who file → ChangesNothing w who file → AllEntries (LeavesAlone who file) t.entries
 
-same-sequence : (r : Request) → seq_asked r ≡ sequence_of r
-same-sequence (Request.Write who seq file block first last push body) = refl
-same-sequence (Request.Create who seq name blocks) = refl
-same-sequence (Request.Resize who seq q file blocks) = refl
-same-sequence (Request.Remove who seq q file) = refl
-same-sequence r = refl
-
 -- a WRITE that goes through is the call's
 for-call : (job : Job) (r : Request) (v : Who) (m file block first last : ℕ) (body : List ℕ) → r ≡ Request.Write v m file block first last None body → fits_job job r ≡ true → job ≡ Job.for_call
 for-call Job.for_call r v m file block first last body e fits = refl
@@ -89,7 +82,7 @@ module _ (hosts most : ℕ) (w : World) (e : Event) (events : List Event) (t : S
       let place = in-place w.packets (from_host host (call x r)) (subst (λ h. Asked w.packets h x r) at asked) in (
         place.0,
         record {
-          asks = record { sent = place.1; by = by; sequence = same-sequence r ∙ sq };
+          asks = record { sent = place.1; by = by; sequence = sq };
           kept = subst (λ h. (host_row w.server.kept h).inc ≡ who.inc) at (sym inc);
           above = subst (λ h. (host_row w.server.kept h).seq < n) at above;
         },
