@@ -2,10 +2,13 @@ mod Endings
 mod Events
 mod Plays
 mod WordLists
+pub mod Arrived
 pub mod Callings
+pub mod Doubling
 pub mod Filled
 pub mod Numbering
 pub mod Requests
 pub mod Soundness
+pub mod Spelt
 pub mod Starting
 pub mod Stepping

@@ -1,4 +1,6 @@
 pub mod Packet
+pub mod Datagrams
+pub mod Arrivals
 pub mod Serving
 pub mod Calling
 pub mod Running

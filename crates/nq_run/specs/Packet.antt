@@ -90,7 +90,8 @@ abbrev pub sent_of : Option Packet → List Packet
 sent_of None = []
 sent_of (Some packet) = packet ∷ []
 
--- packets, and the number of further ones for which room is reserved
+-- packets, and how many further datagrams and bytes fit before memory is wanted
 pub record PacketList : Type 0 where
   pub items : List Packet
   pub spare : ℕ
+  pub spare_bytes : ℕ

@@ -100,7 +100,7 @@ impl Client {
             call: *call,
             refused: false,
         });
-        let request = call.request(q, self.writes);
+        let request = call.request(u64::from(q), u64::from(self.writes));
         Ok(Called {
             told,
             busy: None,

@@ -4,15 +4,19 @@
 mod clients;
 mod ending;
 mod files;
+mod filling;
 mod messages;
 mod packets;
 mod playing;
 mod printing;
+mod reading;
 mod replay;
+mod rooms;
 mod servers;
 mod steps;
 mod words;
 mod worlds;
+mod writing;
 
 pub use nq_base::NoMemory;
 pub use replay::run;

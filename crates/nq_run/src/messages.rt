@@ -81,7 +81,7 @@ impl BlockCall {
     }
 
     /// The request of the call, which is call `q` of its client. A write takes this sequence and number.
-    pub(crate) fn request(&self, q: u32, number: u32) -> Request
+    pub(crate) fn request(&self, q: u64, number: u64) -> Request
         ensures { result ≡ asked_of q number self.now }
     {
         match self {
@@ -105,13 +105,13 @@ impl BlockCall {
 pub(crate) enum Request {
     /// READ for the call of this number, without a lease.
     Read {
-        call: u32,
+        call: u64,
         file: FileId,
         block: BlockNo,
     },
     /// WRITE that goes through, with this sequence and this number.
     Write {
-        number: u32,
+        number: u64,
         file: FileId,
         block: BlockNo,
         value: u32,
@@ -197,7 +197,7 @@ pub(crate) enum Packet {
     Read {
         host: Host,
         xid: u32,
-        call: u32,
+        call: u64,
         file: FileId,
         block: BlockNo,
     },
@@ -205,7 +205,7 @@ pub(crate) enum Packet {
     Write {
         host: Host,
         xid: u32,
-        number: u32,
+        number: u64,
         file: FileId,
         block: BlockNo,
         value: u32,

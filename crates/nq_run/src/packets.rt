@@ -1,25 +1,35 @@
-//! All packets of a run, in the order in which they were sent.
+//! All packets of a run, in the order in which they were sent. They are kept as datagrams.
 
-ghost use Rattle.std.specs.Prelude.{◌≡◌, ◌≤◌, [], ◌∷◌, ◌++◌, length, slice_get, OnOk};
+ghost use Rattle.std.specs.Prelude.{◌≡◌, ◌≤◌, ◌<◌, [], ◌∷◌, ◌++◌, All, length, map, slice_get, Some, IfOk, OnOk};
+ghost use Rattle.nq_run.specs.Datagrams.{datagram_of, longest, Fits, IsRoom};
+ghost use Rattle.nq_run.specs.Packet.{packet_of};
 
 use crate::messages::Packet;
+use crate::reading::packet_in;
+use crate::rooms::{LONGEST, Room};
 use nq_base::NoMemory;
+use nq_rpc::encode_into;
 use std::alloc::Global;
 use std::marker::Model;
 
-/// The packets, the first one first. Clauses see them and `spare`, the number of packets for which room is reserved.
+/// The packets, the first one first. Clauses see them, and how many further datagrams and bytes there is room for.
 #[derive(Drop)]
 pub(crate) struct Packets {
-    packets: Vec<Packet>,
+    alloc: Global,
+    datagrams: nq_net::Packets,
 }
 
 impl Model for Packets {
-    ghost use Rattle.std.specs.Prelude.{◌-◌, vec_len, vec_capacity};
+    ghost use Rattle.std.specs.Prelude.{map};
+    ghost use Rattle.std.specs.List.{All};
+    ghost use Rattle.nq_run.specs.Arrivals.{packet_in, IsSpelled};
     ghost use Rattle.nq_run.specs.Packet.{PacketList};
 
     ghost Value = { PacketList };
 
-    ghost view = { λ p. record { items = p.packets.items; spare = vec_capacity p.packets - vec_len p.packets } };
+    ghost view = { λ p. record { items = map packet_in p.datagrams.datagrams; spare = p.datagrams.spare; spare_bytes = p.datagrams.spare_bytes } };
+
+    ghost invariant = { λ p. All IsSpelled p.datagrams.datagrams };
 }
 
 impl Packets {
@@ -28,40 +38,68 @@ impl Packets {
         ensures { result.items ≡ [] }
     {
         Packets {
-            packets: Vec::new(alloc),
+            alloc,
+            datagrams: nq_net::Packets::new(alloc).unwrap(),
         }
     }
 
-    /// Makes room for one more.
-    pub(crate) fn reserve(&mut self) -> Result<(), NoMemory>
+    /// Makes room for one more, and room in which it is written.
+    pub(crate) fn reserve(&mut self) -> Result<Room, NoMemory>
+        ensures written { IfOk result IsRoom }
         ensures room { OnOk result (1 ≤ self.new.spare) }
+        ensures room_bytes { OnOk result (longest ≤ self.new.spare_bytes) }
         ensures items { self.new.items ≡ self.old.items }
     {
-        match self.packets.try_reserve(1) {
-            Ok(()) => Ok(()),
+        let room = Room::new(self.alloc)?;
+        match self.datagrams.reserve(1, LONGEST) {
+            Ok(()) => Ok(room),
             Err(_) => Err(NoMemory::Memory),
         }
     }
 
     /// Adds one at the end, where room is reserved.
-    pub(crate) fn push(&mut self, packet: Packet)
-        requires { 1 ≤ self.old.spare }
-        ensures { self.new.items ≡ self.old.items ++ packet ∷ [] }
+    pub(crate) fn push(&mut self, packet: &Packet, room: Room)
+        requires written { IsRoom room }
+        requires room { 1 ≤ self.old.spare }
+        requires room_bytes { longest ≤ self.old.spare_bytes }
+        ensures { self.new.items ≡ self.old.items ++ packet.now ∷ [] }
     {
-        self.packets.push(packet).unwrap();
+        let Room { body, message } = room;
+        let mut out = message;
+        encode_into(&packet.message(body), &mut out).unwrap();
+        let bytes = out.into_bytes();
+        self.datagrams
+            .push(packet.sender(), packet.to(), &bytes)
+            .unwrap();
     }
 
     /// How many there are.
-    pub(crate) fn len(&self) -> usize
+    pub(crate) fn len(&self) -> u64
         ensures { result ≡ length self.now.items }
     {
-        self.packets.len()
+        self.datagrams.len()
     }
 
-    /// The one of a number, counted from 0; None where it was not sent.
-    pub(crate) fn get(&self, number: u64) -> Option<Packet>
-        ensures { result ≡ slice_get self.now.items number }
+    /// The one of a number, counted from 0.
+    ///
+    /// # Errors
+    ///
+    /// Only want of memory.
+    pub(crate) fn read(&self, number: u64) -> Result<Packet, NoMemory>
+        requires { number < length self.now.items }
+        ensures { IfOk result (λ packet. slice_get self.now.items number ≡ Some packet) }
     {
-        self.packets.get(number as usize).copied()
+        match self.datagrams.get(number) {
+            Some(datagram) => packet_in(self.alloc, datagram.sender, datagram.to, datagram.bytes),
+            None => unreachable!(),
+        }
+    }
+
+    /// The datagrams: each is the one spelling of the packet in its place, whose numbers are within their fields.
+    pub(crate) fn datagrams(&self) -> &nq_net::Packets
+        ensures spelled { result.now.datagrams ≡ map datagram_of (map packet_of self.now.items) }
+        ensures fit { All Fits (map packet_of self.now.items) }
+    {
+        &self.datagrams
     }
 }

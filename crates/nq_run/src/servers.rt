@@ -92,7 +92,7 @@ impl Server {
         }
     }
 
-    fn read(&self, host: Host, call: u32, file: FileId, block: BlockNo, next: u64) -> Served
+    fn read(&self, host: Host, call: u64, file: FileId, block: BlockNo, next: u64) -> Served
         requires attached { IsAttached self.now.kept.hosts host }
         requires there { has_block (lengths self.now.kept.files) file block ≡ true }
         ensures { Serves self.now self.now host next (Request.Read call file block) result }
@@ -104,7 +104,7 @@ impl Server {
             reply: Reply::Read { rev, value },
             entry: Some(Entry::R {
                 who: first_of(host),
-                q: u64::from(call),
+                q: call,
                 file,
                 block,
                 value,
@@ -116,7 +116,7 @@ impl Server {
     fn write(
         &mut self,
         host: Host,
-        number: u32,
+        number: u64,
         file: FileId,
         block: BlockNo,
         value: u32,
@@ -126,7 +126,7 @@ impl Server {
         ensures ok { IfOk result (λ served. (next : ℕ) → Serves self.old self.new host next (Request.Write number file block value) served) }
         ensures err { OnErr result (self.new ≡ self.old) }
     {
-        let seq = Seq(u64::from(number));
+        let seq = Seq(number);
         let row = self.rows[host.0 as usize];
         if seq == row.seq {
             return Ok(Served {
@@ -151,7 +151,7 @@ impl Server {
                 who: first_of(host),
                 file,
                 block,
-                number: Number(u64::from(number)),
+                number: Number(number),
                 value,
                 through: true,
             }),

@@ -1,6 +1,8 @@
 use super::*;
+use crate::playing::{Outcome, play_text};
+use nq_base::{Block, Host, Party};
 use nq_io::{MemSink, MemSource, StdSource};
-use std::alloc::Global;
+use std::alloc::{AllocError, Global};
 use std::io;
 use std::io::{ErrorKind, Read};
 use std::test::Fail;
@@ -238,6 +240,79 @@ fn short_reads_do_not_end_the_input(rt: HostRuntime) -> Result<(), Fail> {
         assert_eq!(rt; status, want);
         let journal = if want == 0 { PUT_AND_FETCH.1 } else { "" };
         assert_eq!(rt; sink.bytes(), journal.as_bytes());
+    }
+    Ok(())
+}
+
+// Words, and then the body of a block that is filled with a number, and further words.
+fn datagram(
+    alloc: Global,
+    front: &[u32],
+    body: Option<u32>,
+    back: &[u32],
+) -> Result<Vec<u8>, AllocError> {
+    let mut bytes = Vec::new(alloc);
+    for word in front {
+        bytes.extend_from_slice(&word.to_be_bytes())?;
+    }
+    if let Some(value) = body {
+        bytes.extend_from_slice(Block::fill(value).as_bytes())?;
+    }
+    for word in back {
+        bytes.extend_from_slice(&word.to_be_bytes())?;
+    }
+    Ok(bytes)
+}
+
+#[test]
+fn packets_are_datagrams(rt: HostRuntime) -> Result<(), Fail> {
+    let alloc = rt.alloc();
+    let program = 0x2000_4e51;
+    let first = Party::Client(Host(0));
+    let second = Party::Client(Host(1));
+    let sent = [
+        // WRITE by host 0: sequence 1 and write 1, which goes through.
+        datagram(
+            alloc,
+            &[
+                1, 0, 2, program, 1, 6, 0, 0, 0, 0, 0, 1, 0, 1, 1, 0, 0, 1, 0, 1, 0, 4096,
+            ],
+            Some(7),
+            &[],
+        )?,
+        // Its reply: status OK, and revision 1.
+        datagram(alloc, &[1, 1, 0, 0, 0, 0, 1, 0, 0, 1], None, &[])?,
+        // READ by host 1, for its call 1, without a lease.
+        datagram(
+            alloc,
+            &[1, 0, 2, program, 1, 5, 0, 0, 0, 0, 1, 1, 0, 1, 1, 0, 0],
+            None,
+            &[],
+        )?,
+        // Its reply: revision 1 and the body, without a lease.
+        datagram(alloc, &[1, 1, 0, 0, 0, 0, 1, 0, 0, 1, 4096], Some(7), &[0])?,
+    ];
+    let ends = [
+        (first, Party::Server),
+        (Party::Server, first),
+        (second, Party::Server),
+        (Party::Server, second),
+    ];
+    match play_text(alloc, PUT_AND_FETCH.0.as_bytes()) {
+        Outcome::Ran(world) => {
+            let packets = world.packets();
+            assert_eq!(rt; packets.len(), 4);
+            for (number, bytes) in sent.iter().enumerate() {
+                match packets.get(number as u64) {
+                    Some(packet) => {
+                        assert!(rt; ends.get(number) == Some(&(packet.sender, packet.to)));
+                        assert_eq!(rt; packet.bytes, bytes.as_slice());
+                    }
+                    None => assert!(rt; false),
+                }
+            }
+        }
+        Outcome::Faulty(_) | Outcome::Memory => assert!(rt; false),
     }
     Ok(())
 }

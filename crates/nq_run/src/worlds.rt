@@ -1,16 +1,18 @@
 //! The run of a schedule in which blocks are put and fetched: one server, its clients, all packets ever sent, and the
 //! journal.
 
-ghost use Rattle.std.specs.Prelude.{◌≡◌, ◌≢◌, ◌≤◌, ◌<◌, ◌↔◌, ℕ, ◌+◌, ◌++◌, true, false, length, reverse, slice_get, Some, All, IfOk, IfErr, OnOk, OnErr};
+ghost use Rattle.std.specs.Prelude.{◌≡◌, ◌≢◌, ◌≤◌, ◌<◌, ◌↔◌, ℕ, ◌+◌, ◌++◌, true, false, length, map, reverse, slice_get, Some, All, IfOk, IfErr, OnOk, OnErr};
 ghost use Rattle.nq_base.specs.declared.Event.{Event};
 ghost use Rattle.nq_journal.specs.Text.{Has};
 ghost use Rattle.nq_model.specs.World.{start, step};
+ghost use Rattle.nq_run.specs.Datagrams.{datagram_of, longest, Fits, IsRoom};
 ghost use Rattle.nq_run.specs.Packet.{call_of, file_of, block_of, sent_of, asked_by, answered_to};
 ghost use Rattle.nq_run.specs.Serving.{lengths, has_block, has_asked, entries_of};
 
 use crate::clients::{Client, first_clients};
 use crate::messages::{BlockCall, Called, Packet, Reply, Request, Served};
 use crate::packets::Packets;
+use crate::rooms::Room;
 use crate::servers::Server;
 use nq_base::{Entry, FileList, Host};
 use nq_journal::Journal;
@@ -96,6 +98,14 @@ impl World {
         &self.journal
     }
 
+    /// The packets that were sent, in their order: each is the one spelling of the protocol's message in its place.
+    pub(crate) fn packets(&self) -> &nq_net::Packets
+        ensures spelled { result.now.datagrams ≡ map datagram_of self.now.packets }
+        ensures fit { All Fits self.now.packets }
+    {
+        self.packets.datagrams()
+    }
+
     /// A user at a host calls.
     ///
     /// # Errors
@@ -116,11 +126,11 @@ impl World {
         if self.journal.reserve(2).is_err() {
             return Err(StepFault::Memory);
         }
-        self.packets.reserve()?;
+        let room = self.packets.reserve()?;
         let Called { told, busy, sent } = self.clients[host.0 as usize].call(call)?;
         note(&mut self.journal, Some(told));
         note(&mut self.journal, busy);
-        send(&mut self.packets, sent);
+        send(&mut self.packets, sent, room);
         Ok(())
     }
 
@@ -137,10 +147,10 @@ impl World {
         ensures lengths { lengths self.new.server.kept.files ≡ lengths self.old.server.kept.files }
         ensures hosts { length self.new.clients ≡ length self.old.clients }
     {
-        let Some(packet) = self.packets.get(number) else {
+        if number >= self.packets.len() {
             return Err(StepFault::NoPacket);
-        };
-        match packet {
+        }
+        match self.packets.read(number)? {
             Packet::Read {
                 host,
                 xid,
@@ -194,11 +204,11 @@ impl World {
         if self.journal.reserve(1).is_err() {
             return Err(StepFault::Memory);
         }
-        self.packets.reserve()?;
-        let next = self.packets.len() as u64;
+        let room = self.packets.reserve()?;
+        let next = self.packets.len();
         let Served { reply, entry } = self.server.receive(host, asked, next)?;
         note(&mut self.journal, entry);
-        self.packets.push(reply.packet(host, xid));
+        self.packets.push(&reply.packet(host, xid), room);
         Ok(())
     }
 
@@ -232,11 +242,13 @@ fn note(journal: &mut Journal, entry: Option<Entry>)
 }
 
 /// Adds a packet, if there is one, to packets that have room for it.
-fn send(packets: &mut Packets, packet: Option<Packet>)
-    requires { 1 ≤ packets.old.spare }
+fn send(packets: &mut Packets, packet: Option<Packet>, room: Room)
+    requires written { IsRoom room }
+    requires room { 1 ≤ packets.old.spare }
+    requires room_bytes { longest ≤ packets.old.spare_bytes }
     ensures { packets.new.items ≡ packets.old.items ++ sent_of packet }
 {
     if let Some(packet) = packet {
-        packets.push(packet);
+        packets.push(&packet, room);
     }
 }

@@ -11,5 +11,5 @@ returns-then-is_some-clause-ok c =
 pub returns-clause-ok : goal.returns-clause-ok
 returns-clause-ok c =
     let q = c.in-Some.ensures.1 in
-    rw (← c.self.view_is, c.packet.ensures, c.request-request.ensures, c.told.ensures, c.first_of.ensures, c.from.ensures, q, c.writes.ensures.count)
+    rw (← c.self.view_is, c.packet.ensures, c.request-request.ensures, c.from-2.ensures, c.from-3.ensures, c.told.ensures, c.first_of.ensures, c.from.ensures, q, c.writes.ensures.count)
     (call-sent _ _ _ _ _ _ _ _ (sym c.if-is_some.ensures))

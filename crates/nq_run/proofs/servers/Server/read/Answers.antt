@@ -14,4 +14,4 @@ returns c =
     let place = MatchOption-at_some _ _ _ c.unwrap.ensures c.place_of.ensures in
     let there = rw (← c.self.view_is) at c.requires.there in
     let attached = rw (← c.self.view_is) at c.requires.attached in
-    rw (← c.self.view_is, c.first_of.ensures, c.from.ensures) (read-served _ _ _ _ _ _ _ _ _ _ c.self.invariant attached (ReadsBlock-here _ _ _ _ _ _ _ place there c.index-kept.ensures c.value-value.ensures c.rev-rev.ensures))
+    rw (← c.self.view_is, c.first_of.ensures) (read-served _ _ _ _ _ _ _ _ _ _ c.self.invariant attached (ReadsBlock-here _ _ _ _ _ _ _ place there c.index-kept.ensures c.value-value.ensures c.rev-rev.ensures))

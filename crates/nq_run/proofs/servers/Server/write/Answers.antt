@@ -1,4 +1,4 @@
-use Rattle.std.proofs.Common.{◌≡◌, ◌<◌, ◌≤◌, sym, ◌∙◌, arith}
+use Rattle.std.proofs.Common.{◌≡◌, ◌<◌, ◌≤◌, sym, arith}
 use Rattle.std.proofs.lemmas.Bool.{eqb-true, eqb-false}
 use Rattle.std.proofs.lemmas.Bool.Decides.{nat_tests}
 use Rattle.std.proofs.lemmas.Option.{MatchOption-at_some, slice_get_within}
@@ -11,7 +11,7 @@ returns-then-eq-clause-ok c =
     let attached = rw (← c.self.view_is) at c.requires.attached in
     let here = rw c.host.view_is at c.index.ensures in
     let same = eqb-true _ _ (sym c.if-eq.ensures) in
-    rw (← c.self.view_is) (again-served _ _ _ _ _ _ _ _ _ attached here (sym c.from.ensures ∙ same))
+    rw (← c.self.view_is) (again-served _ _ _ _ _ _ _ _ _ attached here same)
 
 pub returns-then-lt-clause-ok : goal.returns-then-lt-clause-ok
 returns-then-lt-clause-ok c =
@@ -56,6 +56,6 @@ returns-clause-ok c =
     let there = rw (← c.self.view_is) at c.requires.there in
     let ok = c.in_ok-rev.ensures.ok in
     let late : c.index.result.now.seq ≤ c.args.number = grind (arith, nat_tests) in
-    let other = λ (same : c.args.number ≡ c.index.result.now.seq). eqb-false _ _ (sym c.if-eq.ensures) (c.from.ensures ∙ same) in
-    rw (← c.self.view_is, c.first_of.ensures, c.decided.ensures, c.host.view_is, c.from.ensures, c.from-2.ensures)
+    let other = λ (same : c.args.number ≡ c.index.result.now.seq). eqb-false _ _ (sym c.if-eq.ensures) same in
+    rw (← c.self.view_is, c.first_of.ensures, c.decided.ensures, c.host.view_is)
     (new-served _ _ _ _ _ _ _ _ _ _ _ c.self.invariant attached here other late (WritesBlock-here _ _ _ _ _ _ _ _ place there c.index_mut.ensures.value ok.1 ok.0))
