@@ -1,2 +1,3 @@
 pub mod CachedChanges
 pub mod CachedInRuns
+pub mod LawsAreMet

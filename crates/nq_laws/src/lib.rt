@@ -3,10 +3,12 @@
 #![tactic(auto)]
 
 mod cached;
+mod met;
 
 pub use cached::{
     cached_at_once_in_every_run, cached_at_once_is_met, cached_reads_change_nothing_else,
 };
+pub use met::laws_are_met;
 pub use nq_call_laws::{calls_are_met, ordered_in_every_run, reads_are_of_their_call_in_every_run};
 pub use nq_chain_laws::{chained_leases_know_the_file_in_every_run, chains_are_met};
 pub use nq_content_laws::{
