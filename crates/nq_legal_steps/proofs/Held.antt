@@ -1,16 +1,16 @@
 -- The value that the server holds of a block, by a journal, and what one more entry does to it.
-use Rattle.std.proofs.Common.{◌≡◌, ◌≢◌, ◌<◌, ◌≤◌, ◌⊎◌, ℕ, ◌+◌, ◌==◌, Bool, true, false, ◌&&◌, nat_le, List, [], ◌∷◌, ◌++◌, if◌then◌else◌, refl, sym, subst, ap, ◌∙◌, arith, inl, inr}
+use Rattle.std.proofs.Common.{◌≡◌, ◌<◌, ◌≤◌, ◌⊎◌, ℕ, ◌==◌, Bool, true, false, ◌&&◌, nat_le, List, [], ◌∷◌, if◌then◌else◌, refl, sym, subst, ap, ◌∙◌, arith, inl, inr}
 use Rattle.std.proofs.lemmas.Bool.Decides.{nat_tests}
 use Rattle.nq_base.specs.declared.Entry.{Entry}
-use Rattle.nq_base.specs.declared.Entry.TheVariants.{C, W, R, S, L, G, F, O, B, X, Z, A}
+use Rattle.nq_base.specs.declared.Entry.TheVariants.{W, S, Z}
 use Rattle.nq_base.specs.declared.Who.{Who}
 use Rattle.nq_fate_steps.proofs.WritesFit.{IsRising}
-use Rattle.nq_legal_steps.proofs.Places.{last-same, cut-in}
-use Rattle.nq_legal_steps.proofs.Stores.{StoresNumber, StoreFits, Rests, StoresNone, stores-none, stored-value}
+use Rattle.nq_legal_steps.proofs.Places.{last-same}
+use Rattle.nq_legal_steps.proofs.Stores.{StoreFits, Rests, stored-value}
 use Rattle.nq_model.proofs.JournalTests.{tells_write_on, tells_through, tells_stored, tells_last_value}
 use Rattle.nq_model.proofs.Telling.{tells_and, tells_or, tells_same}
-use Rattle.nq_model.specs.Journal.{Throughout, Stores, IsStored, IsWriteOn, IsThrough, cuts, since_cut, value_written, IsLastValue}
-use Rattle.nq_model.specs.Synchronized.{is_held, held_value}
+use Rattle.nq_model.specs.Journal.{Throughout, Stores, IsStored, IsWriteOn, IsThrough, cuts, since_cut, IsLastValue}
+use Rattle.nq_model.specs.Synchronized.{held_value}
 use Rattle.nq_model.specs.Tests.{Tells}
 use Rattle.nq_run_steps.proofs.Packets.{In}
 use Rattle.nq_undisturbed_laws.specs.Undisturbed.{IsDelayedWrite, LeavesAlone, IsUndisturbed}

@@ -1,6 +1,6 @@
 -- What the changes of a file made of each block is what the server holds of it.
-use Rattle.std.proofs.Common.{◌≡◌, ◌≢◌, ◌<◌, ◌≤◌, ◌⊎◌, ℕ, zero, suc, ◌+◌, ◌==◌, Bool, true, false, ◌&&◌, nat_le, List, [], ◌∷◌, ◌++◌, Option, Some, None, take, replicate, length, if◌then◌else◌, refl, sym, subst, ap, ◌∙◌, arith, inl, inr}
-use Rattle.std.specs.Prelude.{slice_get, slice_set, unwrap_or}
+use Rattle.std.proofs.Common.{◌≡◌, ◌≢◌, ◌<◌, ◌≤◌, ◌⊎◌, ℕ, zero, suc, ◌==◌, Bool, true, false, ◌&&◌, List, [], ◌∷◌, ◌++◌, Some, None, take, replicate, length, if◌then◌else◌, refl, sym, subst, ap, ◌∙◌, arith, inl, inr}
+use Rattle.std.specs.Prelude.{slice_get, slice_set}
 use Rattle.std.specs.Option.{option_or}
 use Rattle.std.proofs.lemmas.Bool.{cases_eq}
 use Rattle.std.proofs.lemmas.Bool.Decides.{nat_tests}
@@ -11,18 +11,17 @@ use Rattle.nq_base.specs.declared.Entry.TheVariants.{C, W, R, S, L, G, F, O, B, 
 use Rattle.nq_base.specs.declared.Who.{Who}
 use Rattle.nq_client_steps.proofs.ClientMoves.{some-same, none-some}
 use Rattle.nq_content_steps.proofs.Histories.{count-changed, count-unchanged, content-stays, content-changed}
-use Rattle.nq_content_steps.specs.Contents.{changes, changes_of, delayed_by, delayed_value, after_change, with_length, content_at}
+use Rattle.nq_content_steps.specs.Contents.{changes, changes_of, delayed_value, after_change, with_length, content_at}
 use Rattle.nq_fate_steps.proofs.WritesFit.{IsRising}
-use Rattle.nq_legal_steps.proofs.Held.{HasHeld, IsHeld, Skips, held-skip, held-cut, held-through, held-store, delayed-unheld}
-use Rattle.nq_legal_steps.proofs.Stores.{StoreFits, Rests}
+use Rattle.nq_legal_steps.proofs.Held.{HasHeld, Skips, held-skip, held-cut, delayed-unheld}
+use Rattle.nq_legal_steps.proofs.Stores.{Rests}
 use Rattle.nq_model.proofs.JournalTests.{tells_who}
 use Rattle.nq_model.proofs.Telling.{tells_4, tells_same}
 use Rattle.nq_model.specs.Tests.{Tells}
 use Rattle.nq_model.specs.Journal.{Throughout, same_who, cuts, IsWriteOn, Stores}
-use Rattle.nq_model.specs.Synchronized.{last_length}
 use Rattle.nq_run_steps.proofs.Packets.{In}
 use Rattle.nq_run_steps.proofs.Worlds.{get-set-same, get-set-other}
-use Rattle.nq_server_steps.proofs.Rows.{same-number, number-same}
+use Rattle.nq_server_steps.proofs.Rows.{number-same}
 
 -- ---- entries that change no file, or another
 

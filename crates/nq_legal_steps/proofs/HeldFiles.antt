@@ -1,20 +1,19 @@
 -- In a journal whose stores rest on what they must, the content of each file is what the server holds.
-use Rattle.std.proofs.Common.{◌≡◌, ◌≢◌, ◌<◌, ◌≤◌, ◌⊎◌, ℕ, zero, suc, ◌+◌, ◌==◌, Bool, true, false, List, [], ◌∷◌, Option, Some, None, replicate, length, if◌then◌else◌, refl, sym, subst, ap, ◌∙◌, arith, inl, inr}
+use Rattle.std.proofs.Common.{◌≡◌, ◌≢◌, ◌<◌, ℕ, zero, suc, Bool, true, false, List, [], ◌∷◌, Some, replicate, length, refl, sym, subst, ap, ◌∙◌}
 use Rattle.std.specs.Prelude.{slice_get, slice_set, unwrap_or}
-use Rattle.std.proofs.lemmas.Bool.Decides.{nat_tests}
 use Rattle.std.proofs.lemmas.List.{length-set}
 use Rattle.nq_base.specs.declared.Entry.{Entry}
-use Rattle.nq_base.specs.declared.Entry.TheVariants.{C, W, R, S, L, G, F, O, B, X, Z, A}
+use Rattle.nq_base.specs.declared.Entry.TheVariants.{W, S, F, Z}
 use Rattle.nq_base.specs.declared.Who.{Who}
 use Rattle.nq_client_steps.proofs.ClientMoves.{some-same, none-some}
-use Rattle.nq_content_steps.specs.Contents.{changes, changes_of, delayed_value, after_change, content_at}
+use Rattle.nq_content_steps.specs.Contents.{changes, delayed_value, after_change}
 use Rattle.nq_fate_steps.proofs.WritesFit.{IsRising}
-use Rattle.nq_legal_steps.proofs.Held.{HasHeld, IsHeld, Skips, held-through, held-store}
+use Rattle.nq_legal_steps.proofs.Held.{held-through, held-store}
 use Rattle.nq_legal_steps.proofs.HeldContents.{HeldBlocks, IsInside, content, content-same, content-next, unchanged-skips, delayed-is, skip-all, set-block, lengthened, cut-blocks}
 use Rattle.nq_legal_steps.proofs.Stores.{StoreFits, Rests}
 use Rattle.nq_model.specs.Journal.{Throughout, IsWriteOn, Stores}
 use Rattle.nq_model.specs.Synchronized.{last_length}
-use Rattle.nq_server_steps.proofs.Rows.{same-number, number-same}
+use Rattle.nq_server_steps.proofs.Rows.{same-number}
 
 -- what a journal rests on
 pub record RestsOn (first : ℕ → ℕ) (journal : List Entry) : Type 0 where

@@ -1,15 +1,14 @@
 -- What a client's step answers with a value, and which READ it sends: the parts of a step.
-use Rattle.std.proofs.Common.{◌≡◌, ◌<◌, ◌≤◌, ◌⊎◌, ℕ, ◌+◌, Bool, true, false, ◌==◌, ◌&&◌, List, [], ◌∷◌, ◌++◌, Option, Some, None, map, reverse, is_some, if◌then◌else◌, refl, sym, subst, ap, ◌∙◌, inl, inr}
+use Rattle.std.proofs.Common.{◌≡◌, ◌⊎◌, ℕ, Bool, true, false, List, [], ◌∷◌, Option, Some, None, map, reverse, refl, sym, subst, ap, ◌∙◌, inl, inr}
 use Rattle.std.proofs.lemmas.Grind.{reverse_onto}
 use Rattle.nq_base.specs.declared.Answer.{Answer}
 use Rattle.nq_base.specs.declared.Call.{Call}
 use Rattle.nq_base.specs.declared.Entry.{Entry}
-use Rattle.nq_base.specs.declared.Entry.TheVariants.{C, A, W, R, S, L, G, F, O, B, X, Z}
+use Rattle.nq_base.specs.declared.Entry.TheVariants.{A, R}
 use Rattle.nq_base.specs.declared.Grant.{Grant}
 use Rattle.nq_base.specs.declared.Push.{Push}
 use Rattle.nq_base.specs.declared.Refusal.{Refusal}
 use Rattle.nq_base.specs.declared.Request.{Request}
-use Rattle.nq_base.specs.declared.Said.{Said}
 use Rattle.nq_base.specs.declared.Said.TheVariants.{OkValue, OkBy}
 use Rattle.nq_base.specs.declared.Tag.{Tag}
 use Rattle.nq_base.specs.declared.Value.{Value}
@@ -17,8 +16,8 @@ use Rattle.nq_base.specs.declared.Who.{Who}
 use Rattle.nq_client_cases.proofs.PartCases.{answers-call-cases, vacates-noticed-cases, reports-cases, if-broken-cases, takes-optional-cases, lease-done-cases, then-caches-cases, caches-write-cases, caches-push-cases, vacates-if-clean-cases}
 use Rattle.nq_client_cases.proofs.SettleCases.{IsRead}
 use Rattle.nq_client_steps.proofs.ClientMoves.{none-some, some-same}
-use Rattle.nq_model.specs.Client.{Client, ClientStep, Job, for_call, Lease, Ticket, UnderWay, begun, notice_on}
-use Rattle.nq_model.specs.Hear.{vacates_lease, spends, attached, pauses, marks_through, loses, all_dirty, loss_entry, reports, without_lease, push_refused, breaks_chain, if_broken, holds, takes_grant, takes_optional, answers_call, answer_of, caches_block, purges, knows_revision, then_caches, read_done, lease_done, caches_write, write_done, ends_push, caches_push, vacates_noticed, vacates_if_clean, push_done, with_through}
+use Rattle.nq_model.specs.Client.{Client, ClientStep, for_call, Ticket, UnderWay, begun, notice_on}
+use Rattle.nq_model.specs.Hear.{vacates_lease, spends, attached, pauses, marks_through, loses, all_dirty, loss_entry, reports, without_lease, push_refused, breaks_chain, if_broken, holds, takes_grant, takes_optional, answers_call, answer_of, caches_block, purges, knows_revision, then_caches, read_done, lease_done, write_done, ends_push, caches_push, vacates_noticed, push_done, with_through}
 use Rattle.nq_model.specs.Message.{Message, call}
 use Rattle.nq_model.specs.Settle.{answers, names_losses, said}
 use Rattle.nq_run_steps.proofs.Packets.{In, in-append, in-last, call-same}

@@ -1,10 +1,10 @@
 -- What a client's step answers with a value, and which READ it sends.
-use Rattle.std.proofs.Common.{◌≡◌, ◌<◌, ◌≤◌, ◌⊎◌, ℕ, ◌+◌, Bool, true, false, ◌==◌, ◌&&◌, List, [], ◌∷◌, ◌++◌, Option, Some, None, is_some, if◌then◌else◌, refl, sym, subst, ap, ◌∙◌, inl, inr}
+use Rattle.std.proofs.Common.{◌≡◌, ◌⊎◌, ℕ, ◌+◌, Bool, true, false, List, [], ◌∷◌, Option, Some, None, if◌then◌else◌, refl, sym, subst, ap, ◌∙◌, inl, inr}
 use Rattle.nq_base.specs.Block.{value_of}
 use Rattle.nq_base.specs.declared.Answer.{Answer}
 use Rattle.nq_base.specs.declared.Call.{Call}
 use Rattle.nq_base.specs.declared.Entry.{Entry}
-use Rattle.nq_base.specs.declared.Entry.TheVariants.{C, A, W, R, S, L, G, F, O, B, X, Z}
+use Rattle.nq_base.specs.declared.Entry.TheVariants.{C, A, W, R}
 use Rattle.nq_base.specs.declared.Grant.{Grant}
 use Rattle.nq_base.specs.declared.Reply.{Reply}
 use Rattle.nq_base.specs.declared.Request.{Request}
@@ -14,20 +14,20 @@ use Rattle.nq_base.specs.declared.Tag.{Tag}
 use Rattle.nq_base.specs.declared.Value.{Value}
 use Rattle.nq_base.specs.declared.Want.{Want}
 use Rattle.nq_base.specs.declared.Who.{Who}
-use Rattle.nq_client_cases.proofs.RepliedCases.{replied-cases, RepliedCases, OfCall, IsNamed, looked_up, created, attributes}
-use Rattle.nq_client_cases.proofs.SendCases.{send-cases, SendCases, IsFree, NothingToPush, pushed}
-use Rattle.nq_client_cases.proofs.SettleCases.{settle-cases, SettleCases, IsSettling, IsRead, Settled, CanRead, ReadWaits, no_lease, no_block, settle-settles}
-use Rattle.nq_client_cases.proofs.StepCases.{call-cases, CallCases, unless-cached-cases, tick-cases, TickCases, evicted-cases, EvictedCases, heard-cases, HeardCases}
+use Rattle.nq_client_cases.proofs.RepliedCases.{replied-cases, OfCall, IsNamed, looked_up, created, attributes}
+use Rattle.nq_client_cases.proofs.SendCases.{send-cases, IsFree}
+use Rattle.nq_client_cases.proofs.SettleCases.{settle-cases, IsSettling, IsRead, Settled, ReadWaits, no_lease, no_block, settle-settles}
+use Rattle.nq_client_cases.proofs.StepCases.{call-cases, unless-cached-cases, tick-cases, evicted-cases, heard-cases}
 use Rattle.nq_client_steps.proofs.ClientFacts.{Alone, fits_job}
 use Rattle.nq_client_steps.proofs.ClientMoves.{none-some, some-same}
-use Rattle.nq_legal_steps.proofs.ReadParts.{IsDull, is_read, ReadsNothing, MadeFor, TicketOfCall, IsLike, Made, MadeOf, made-refused, made-optional, made-call, made-refusing, made-knows, made-pauses, made-attached, made-spends, made-read, made-leased, made-written, made-pushed}
-use Rattle.nq_model.specs.Client.{Client, ClientStep, Job, for_call, attaching, renewing, pushing, Lease, Ticket, UnderWay, begun, lease_on, lets_read, first_dirty}
-use Rattle.nq_model.specs.ClientStep.{begins_call, is_called, sends_unless_cached, says_busy, client_call, client_tick, at_time, sends_again, restart, starts, fresh_client, told}
-use Rattle.nq_model.specs.Hear.{vacates_lease, notes_notice, evicted, cancels, cancelled, wants_of, spends, replied, reply_counts, inc_of, goes_on, hear}
+use Rattle.nq_legal_steps.proofs.ReadParts.{IsDull, is_read, ReadsNothing, MadeFor, TicketOfCall, IsLike, MadeOf, made-refused, made-optional, made-call, made-refusing, made-knows, made-pauses, made-attached, made-spends, made-read, made-leased, made-written, made-pushed}
+use Rattle.nq_model.specs.Client.{Client, ClientStep, Job, for_call, renewing, pushing, Lease, Ticket, UnderWay, begun, lease_on, lets_read, first_dirty}
+use Rattle.nq_model.specs.ClientStep.{begins_call, is_called, says_busy, client_call, client_tick, at_time, sends_again, told}
+use Rattle.nq_model.specs.Hear.{vacates_lease, notes_notice, evicted, cancels, cancelled, wants_of, replied, reply_counts, inc_of, hear}
 use Rattle.nq_model.specs.Message.{Message, call, reply}
-use Rattle.nq_model.specs.Send.{ending_file, sends_request, after_seq, after_number, takes_push, sends_write, gives_up, send_next}
+use Rattle.nq_model.specs.Send.{ending_file, sends_request, after_seq, after_number, takes_push, gives_up, send_next}
 use Rattle.nq_model.specs.Settle.{answers, names_losses, reads_cached, after_read, after_write, delays, marks_written, settle, said, cached_body, ticket_is_for_call}
-use Rattle.nq_run_steps.proofs.Packets.{In, in-append, in-last, call-same}
+use Rattle.nq_run_steps.proofs.Packets.{In, in-last, call-same}
 
 -- the entry is a cached read, or the answer to one of these
 abbrev pub IsCachedIn : List Entry → Entry → Type 0

@@ -1,14 +1,14 @@
 -- Which value stands for a read of a client: what the server holds where none of the client's own writes on the block waits,
 -- else the last of those.
-use Rattle.std.proofs.Common.{◌≡◌, ◌<◌, ◌≤◌, ◌⊎◌, ℕ, true, false, List, [], ◌∷◌, ◌++◌, refl, sym, subst, ap, ◌∙◌, arith, inl, inr}
+use Rattle.std.proofs.Common.{◌≡◌, ◌<◌, ◌≤◌, ◌⊎◌, ℕ, true, false, List, [], ◌∷◌, refl, sym, subst, ap, ◌∙◌, inl, inr}
 use Rattle.nq_base.specs.declared.Entry.{Entry}
 use Rattle.nq_base.specs.declared.Entry.TheVariants.{W, S, L}
 use Rattle.nq_base.specs.declared.Who.{Who}
 use Rattle.nq_fate_steps.proofs.WritesFit.{CoversNumber, IsRising}
 use Rattle.nq_legal_steps.proofs.Held.{HasHeld, IsHeld, last-of-undisturbed}
 use Rattle.nq_legal_steps.proofs.Places.{last-same, cut-in}
-use Rattle.nq_legal_steps.proofs.Stores.{StoresNumber, stored-value, lost-covered}
-use Rattle.nq_model.specs.Journal.{Exists, Throughout, Covers, Stores, Loses, IsStored, IsLost, IsWriteOn, since_cut}
+use Rattle.nq_legal_steps.proofs.Stores.{StoresNumber, stored-value}
+use Rattle.nq_model.specs.Journal.{Throughout, Covers, Stores, Loses, IsStored, IsLost, since_cut}
 use Rattle.nq_model.specs.Stands.{Stands, IsStandingValue}
 use Rattle.nq_run_steps.proofs.Packets.{In}
 use Rattle.nq_undisturbed_laws.specs.Undisturbed.{IsUndisturbed}

@@ -1,11 +1,11 @@
 -- What a store rests on, so that the reads before it stay legal.
-use Rattle.std.proofs.Common.{◌≡◌, ◌<◌, ◌≤◌, ◌⊎◌, ℕ, true, false, List, [], ◌∷◌, ◌++◌, Option, refl, sym, subst, ap, ◌∙◌, arith, inl, inr}
+use Rattle.std.proofs.Common.{◌≡◌, ◌<◌, ◌≤◌, ◌⊎◌, ℕ, false, List, [], ◌∷◌, ◌++◌, Option, refl, sym, subst, ap, ◌∙◌, arith, inl, inr}
 use Rattle.nq_base.specs.declared.Entry.{Entry}
 use Rattle.nq_base.specs.declared.Entry.TheVariants.{C, W, R, S, L, G, F, O, B, X, Z, A}
 use Rattle.nq_base.specs.declared.Who.{Who}
 use Rattle.nq_fate_steps.proofs.WritesFit.{CoversNumber, IsClear, IsRising}
 use Rattle.nq_legal_steps.proofs.Places.{IsPlaced, before-in, before-exists, last-same, cut-in}
-use Rattle.nq_model.specs.Journal.{Exists, Throughout, Covers, Stores, Loses, IsStored, IsLost, IsWriteOn, since_cut}
+use Rattle.nq_model.specs.Journal.{Throughout, Covers, Stores, Loses, IsStored, IsLost, IsWriteOn, since_cut}
 use Rattle.nq_model.specs.Stands.{Stands, IsStandingValue}
 use Rattle.nq_run_steps.proofs.Packets.{In}
 use Rattle.nq_undisturbed_laws.specs.Undisturbed.{LeavesAlone, IsUndisturbed}
