@@ -1,3 +1,4 @@
 pub mod CachedChanges
 pub mod CachedInRuns
 pub mod LawsAreMet
+pub mod Headline

@@ -4,6 +4,7 @@
 
 mod cached;
 mod met;
+mod promises;
 
 pub use cached::{
     cached_at_once_in_every_run, cached_at_once_is_met, cached_reads_change_nothing_else,
@@ -41,3 +42,4 @@ pub use nq_tag_laws::{
 pub use nq_undisturbed_laws::{
     delayed_writes_are_undisturbed_in_every_run, unsaved_files_are_bound_or_fenced_in_every_run,
 };
+pub use promises::headline;

@@ -1,0 +1,44 @@
+use Rattle.nq_call_laws.proofs.OrderedCalls.{of-their-call-in-every-run, ordered-in-every-run}
+use Rattle.nq_chain_laws.proofs.ChainWorlds.{chain-fits}
+use Rattle.nq_excuse_laws.proofs.ExcusesInRuns.{losses-excused}
+use Rattle.nq_fate_laws.proofs.FateLaws.{accounted, waiting}
+use Rattle.nq_held_laws.proofs.HeldLaws.{held-in-every-run}
+use Rattle.nq_laws.proofs.CachedReads.{cached-in-every-run}
+use Rattle.nq_laws.proofs.HeadlineParts.{at-every-moment}
+use Rattle.nq_laws.proofs.promises.headline.Goals as goal
+use Rattle.nq_legal_laws.proofs.LegalLaws.{legal-in-every-run}
+use Rattle.nq_report_laws.proofs.ReportedRuns.{reported-in-every-run}
+use Rattle.nq_synchronized_laws.proofs.Standings.{synchronized-in-every-run}
+
+pub returns-clause-ordered : goal.returns-clause-ordered
+returns-clause-ordered c = ordered-in-every-run
+
+pub returns-clause-of_their_call : goal.returns-clause-of_their_call
+returns-clause-of_their_call c = of-their-call-in-every-run
+
+pub returns-clause-legal : goal.returns-clause-legal
+returns-clause-legal c = legal-in-every-run
+
+pub returns-clause-accounted : goal.returns-clause-accounted
+returns-clause-accounted c = accounted
+
+pub returns-clause-waiting : goal.returns-clause-waiting
+returns-clause-waiting c = waiting
+
+pub returns-clause-excused : goal.returns-clause-excused
+returns-clause-excused c = losses-excused chain-fits
+
+pub returns-clause-reported : goal.returns-clause-reported
+returns-clause-reported c = reported-in-every-run
+
+pub returns-clause-synchronized : goal.returns-clause-synchronized
+returns-clause-synchronized c = synchronized-in-every-run
+
+pub returns-clause-kept : goal.returns-clause-kept
+returns-clause-kept c = held-in-every-run
+
+pub returns-clause-cached : goal.returns-clause-cached
+returns-clause-cached c = cached-in-every-run
+
+pub returns-clause-always : goal.returns-clause-always
+returns-clause-always c = at-every-moment
