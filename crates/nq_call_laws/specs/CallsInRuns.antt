@@ -26,11 +26,12 @@ ReadsAreOfTheirCallInEveryRun =
     → IsWithinSkew head.hosts most events
     → AreOfTheirCall (run head events).journal
 
--- whether an entry is a write that was delayed, or one that went through
+-- whether an entry is a write that was delayed
 abbrev pub is_delayed : Entry → Bool
 is_delayed (W who file block number value false) = true
 is_delayed other = false
 
+-- whether an entry is a write that went through
 abbrev pub went_through : Entry → Bool
 went_through (W who file block number value true) = true
 went_through other = false
@@ -40,11 +41,12 @@ abbrev pub is_resize : Entry → Bool
 is_resize (Z who q file from to) = true
 is_resize other = false
 
--- whether an entry is a cached read, or a served one that is counted
+-- whether an entry is a cached read
 abbrev pub is_cached : Entry → Bool
 is_cached (R who q file block value None) = true
 is_cached other = false
 
+-- whether an entry is a served read that is counted in the whole journal
 abbrev pub is_counted_served : (whole : List Entry) → Entry → Bool
 is_counted_served whole (R who q file block value (Some packet)) = is_counted whole (R who q file block value (Some packet))
 is_counted_served whole other = false

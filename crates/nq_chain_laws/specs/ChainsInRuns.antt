@@ -39,6 +39,7 @@ TakeableKnow w =
     → IsChained (standing w.server) c.who file g.tag row
     → KnowsFile w.server.kept (host_row w.server.kept host) row.mode g.mode file g.rev g.blocks false
 
+-- both, of a world
 pub record ChainsKnow (w : World) : Type 0 where
   pub held : HeldKnow w
   pub takeable : TakeableKnow w

@@ -44,11 +44,12 @@ EndingsComeLate =
     → IsWithinSkew head.hosts most events
     → Throughout IsLate (run head events).journal
 
--- whether an entry is the end of a writing lease in silence, or of a recovery
+-- whether an entry is the end of a writing lease in silence
 abbrev pub is_silent_end : Entry → Bool
 is_silent_end (F who file until heard now) = true
 is_silent_end other = false
 
+-- whether an entry is the end of a recovery
 abbrev pub is_opening : Entry → Bool
 is_opening (O boot until heard now) = true
 is_opening other = false
