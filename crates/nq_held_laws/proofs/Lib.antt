@@ -6,3 +6,4 @@ pub mod EarlierServer
 pub mod RestingRuns
 pub mod HeldRuns
 pub mod HeldLaws
+pub mod SomeHeld

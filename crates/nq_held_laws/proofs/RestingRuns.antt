@@ -31,7 +31,7 @@ use Rattle.nq_model.specs.Decide.{decides, creates, writes_through, stores, stor
 use Rattle.nq_model.specs.Journal.{Throughout}
 use Rattle.nq_model.specs.Kept.{File, blocks_of, find_file, host_row, with_files, with_new_file, with_row}
 use Rattle.nq_model.specs.Message.{Datagram, call, datagram_of, asker}
-use Rattle.nq_model.specs.Server.{Server, ServerStep, quiet, drops, says, keeping, keeping_with, with_table, after_notices}
+use Rattle.nq_model.specs.Server.{Server, ServerStep, quiet, drops, says, keeping, keeping_with, with_table, after_notices, to_host}
 use Rattle.nq_model.specs.ServerStep.{attaches, vacates, tells_later, serves, leases, receive, tick, at_time, opens, ends_writing, fence, crash, boot, booted}
 use Rattle.nq_model.specs.Skew.{IsWithinSkew}
 use Rattle.nq_model.specs.World.{Head, World, from_host, after_server, after_client, sending_host, start, run}
@@ -150,7 +150,7 @@ module _ (w : World) (held : Holds w) (host : ℕ) (c : Client) (t : ClientStep)
   acts-goes (heard k p sent to hears) =
       let i = in-get w.packets k p sent in
       let a = held.clients host c there in
-      own-goes c t (hear-own c w.packets k p.message t a.alone a.mail (subst (λ n. In w.packets (Rattle.nq_model.specs.Server.to_host n p.message)) (sym a.here) (to-told w.packets p host (held.sent p i) to i)) hears)
+      own-goes c t (hear-own c w.packets k p.message t a.alone a.mail (subst (λ n. In w.packets (to_host n p.message)) (sym a.here) (to-told w.packets p host (held.sent p i) to i)) hears)
 
 client-rests : (first after : ℕ → ℕ) (w : World) (held : Holds w) (host : ℕ) (c : Client) (t : ClientStep) → ((id : ℕ) → id < w.server.kept.next → after id ≡ first id) → slice_get w.clients host ≡ Some c → ClientActs w host c t → WritesFit (host_row w.server.kept host) c w.packets w.journal → WritesFit (host_row w.server.kept host) t.client (w.packets ++ map (from_host host) t.sends) (t.entries ++ w.journal) → t.client.who.host ≡ host → JournalFits (t.entries ++ w.journal) → Resting first w → Resting after (after_client w host t)
 unfolding after_client

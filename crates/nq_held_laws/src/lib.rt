@@ -4,4 +4,4 @@
 
 mod held;
 
-pub use held::kept_blocks_are_held_in_every_run;
+pub use held::{held_are_met, kept_blocks_are_held_in_every_run};

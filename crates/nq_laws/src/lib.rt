@@ -25,9 +25,9 @@ pub use nq_excuse_laws::{
 pub use nq_fate_laws::{
     each_fate_is_met, waiting_writes_are_unsaved_in_every_run, writes_are_accounted_in_every_run,
 };
-pub use nq_held_laws::kept_blocks_are_held_in_every_run;
+pub use nq_held_laws::{held_are_met, kept_blocks_are_held_in_every_run};
 pub use nq_lease_laws::{lease_interval_in_every_run, lease_interval_is_met};
-pub use nq_legal_laws::reads_are_legal_in_every_run;
+pub use nq_legal_laws::{reads_are_legal_in_every_run, reads_are_met};
 pub use nq_report_laws::{
     losses_are_kept_until_named, losses_are_met, losses_are_reported_in_every_run,
 };

@@ -34,7 +34,7 @@ use Rattle.nq_held_laws.proofs.HeldRuns.{held-blocks}
 use Rattle.nq_held_laws.proofs.RestingRuns.{run-rests}
 use Rattle.nq_legal_steps.proofs.Held.{HasHeld}
 use Rattle.nq_legal_steps.proofs.ReaderValues.{NoneWaits, held-stands, unsaved-stands, covered-either}
-use Rattle.nq_legal_steps.proofs.Stores.{StoresNumber, lost-covered}
+use Rattle.nq_legal_steps.proofs.Stores.{lost-covered, stored-value}
 use Rattle.nq_model.specs.Client.{Client, Clean, Job, for_call, Lease, Ticket, lease_on, revision_of, revision_or_zero, is_push_at, dirty_at, clean_at, lets_read}
 use Rattle.nq_model.specs.Journal.{IsStored, IsLost}
 use Rattle.nq_model.specs.Kept.{host_row}
@@ -50,6 +50,7 @@ use Rattle.nq_run_steps.proofs.Packets.{In}
 use Rattle.nq_server_steps.proofs.Rows.{both-true, same-number, number-same, find-passes}
 use Rattle.nq_undisturbed_laws.proofs.Holders.{KnownOf}
 use Rattle.nq_undisturbed_laws.proofs.UndisturbedRuns.{run-still}
+use Rattle.nq_undisturbed_laws.specs.Undisturbed.{IsUndisturbed}
 
 -- ---- the row of a lease that runs
 
@@ -237,7 +238,7 @@ module _ (most : ℕ) (head : Head) (known : (events : List Event) → KeepsBoun
 
   -- ---- unsaved writes
 
-  undisturbed : (p : Push) → In c.dirty p ⊎ (c.push ≡ Some p) → p.file ≡ file → IsClear journal c.who p.file p.block p.first p.last → Rattle.nq_undisturbed_laws.specs.Undisturbed.IsUndisturbed c.who p.file p.block p.first journal
+  undisturbed : (p : Push) → In c.dirty p ⊎ (c.push ≡ Some p) → p.file ≡ file → IsClear journal c.who p.file p.block p.first p.last → IsUndisturbed c.who p.file p.block p.first journal
   undisturbed p entry of clear =
       ((run-still most head known events b within).fits host c is).unsaved p entry clear lease chain.0 (ap (λ n. lease_on n c.leases) of ∙ held) (subst (λ n. IsChained (standing w.server) c.who n lease.tag chain.0) (sym of) chain.1)
 
@@ -269,7 +270,7 @@ module _ (most : ℕ) (head : Head) (known : (events : List Event) → KeepsBoun
           either : IsStored journal (W c.who p.file p.block n u false) ⊎ IsLost journal (W c.who p.file p.block n u false) → IsLost journal (W c.who p.file p.block n u false)
           either (inr lost) = lost
           either (inl st) =
-              let past = earlier.under_way p e clear n (Rattle.nq_legal_steps.proofs.Stores.stored-value journal c.who p.file p.block n u 0 st) in
+              let past = earlier.under_way p e clear n (stored-value journal c.who p.file p.block n u 0 st) in
               let ordered = (push-behind (host_row w.server.kept c.who.host) c w.packets journal facts p e).ordered in
               absurd (omega arith)
       later n u above (inr (in_list q j f g low high)) = absurd (find-none (is_push_at file block) c.dirty q none j (at-push file block q (f ∙ of) (g ∙ at)))

@@ -7,3 +7,4 @@ pub mod ReadServer
 pub mod ReadRuns
 pub mod LegalRuns
 pub mod LegalLaws
+pub mod SomeReads

@@ -31,7 +31,7 @@ use Rattle.nq_model.specs.Server.{to_host}
 use Rattle.nq_model.specs.Settle.{cached_body}
 use Rattle.nq_model.specs.Stands.{IsStandingValue}
 use Rattle.nq_model.specs.World.{World, from_host}
-use Rattle.nq_run_steps.proofs.Packets.{In, in-append, in-left, Asked, Mail, message-same}
+use Rattle.nq_run_steps.proofs.Packets.{In, in-append, in-left, Asked, message-same, in-right}
 use Rattle.nq_run_steps.proofs.Worlds.{IsAt, Holds}
 use Rattle.nq_undisturbed_laws.proofs.Accesses.{Accesses, neither, read, wrote, IsHeld, IsCalm}
 
@@ -205,7 +205,7 @@ module _ (w : World) (host : ℕ) (c : Client) (t : ClientStep) (k : ℕ) (m : M
       let asked : Asked w.packets c.who.host sv.ticket.xid (Request.Read s.by s.q s.file s.block s.want) = subst (λ z. Asked w.packets z sv.ticket.xid (Request.Read s.by s.q s.file s.block s.want)) (sym a.here) s.asked in
       let one : sv.ticket.request ≡ Request.Read s.by s.q s.file s.block s.want = (a.mail.asked sv.ticket.xid (Request.Read s.by s.q s.file s.block s.want) s.by asked refl).same inc sv.ticket sv.has refl in
       let number : s.q ≡ q = asked-same s.by sv.by s.q q s.file sv.file s.block sv.block s.want sv.want (sym one ∙ sv.asks) in
-      counted_read (in-exists (IsCountedWith Now who q v) Now (R s.by s.q s.file s.block (value_of sv.body) (Some k)) (Rattle.nq_run_steps.proofs.Packets.in-right t.entries w.journal _ s.there)
+      counted_read (in-exists (IsCountedWith Now who q v) Now (R s.by s.q s.file s.block (value_of sv.body) (Some k)) (in-right t.entries w.journal _ s.there)
       (sym sv.value ∙ gives, ((mine, number), in-exists (IsAnswerBy s.by s.q k) Now (A who q (OkBy u n)) (in-left t.entries w.journal _ i) (sym mine, sym number, sv.packet_is))))
 
   answered-backed : (who : Who) (q v : ℕ) (said : Said) → In t.entries (A who q said) → GivesValue v said → IsBacked Now who q v

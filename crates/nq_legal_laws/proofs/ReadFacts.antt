@@ -23,7 +23,7 @@ use Rattle.nq_legal_steps.proofs.ReadParts.{TicketOfCall}
 use Rattle.nq_model.proofs.JournalTests.{tells_who}
 use Rattle.nq_model.proofs.Telling.{tells_and, tells_same}
 use Rattle.nq_model.specs.Client.{Client, UnderWay}
-use Rattle.nq_model.specs.Journal.{Exists, Throughout, IsCall, IsAnswer, IsOpen, IsAnswerBy, IsCounted, IsWriteOn, IsLost, IsThrough, cuts, since_cut, IsLastValue, call_of, told_by, same_who}
+use Rattle.nq_model.specs.Journal.{Exists, Throughout, IsCall, IsAnswerBy, IsCounted, IsWriteOn, IsLost, cuts, since_cut, IsLastValue, call_of, told_by, same_who, Loses}
 use Rattle.nq_model.specs.Legal.{IsReading, GivesValue, IsAnswerWith, IsCountedWith}
 use Rattle.nq_model.specs.Message.{Message, Packet, reply}
 use Rattle.nq_model.specs.OfTheirCall.{Reads}
@@ -202,7 +202,7 @@ still-unwritten : (e : Entry) (file block : ℕ) → IsStill e → IsWriteOn fil
 still-unwritten (W who f b n v through) file block h on = h
 still-unwritten other file block h on = on
 
-still-unlost : (e w : Entry) → IsStill e → Rattle.nq_model.specs.Journal.Loses e w → ⊥
+still-unlost : (e w : Entry) → IsStill e → Loses e w → ⊥
 still-unlost (L who f b first last) w h c = h
 still-unlost other w h c = c
 

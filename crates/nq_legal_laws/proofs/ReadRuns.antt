@@ -17,7 +17,7 @@ use Rattle.nq_call_steps.proofs.RunCalls.{calls-known}
 use Rattle.nq_client_cases.proofs.SendCases.{least-passes}
 use Rattle.nq_client_steps.proofs.ClientFacts.{push_in}
 use Rattle.nq_client_steps.proofs.ClientMoves.{none-some, some-same}
-use Rattle.nq_content_steps.proofs.ServerDelays.{receive-never, tick-never, crash-never}
+use Rattle.nq_content_steps.proofs.ServerDelays.{Never, receive-never, tick-never, crash-never}
 use Rattle.nq_fate_steps.proofs.WritesFit.{in_list, under_way, IsRising}
 use Rattle.nq_lease_laws.specs.LeaseIntervalInRuns.{KeepsBounds}
 use Rattle.nq_legal_laws.proofs.CachedReads.{cached-stands, none-waits, NoneEncloses, find-none, at-push}
@@ -27,14 +27,14 @@ use Rattle.nq_legal_laws.proofs.ReadClient.{Adds, reads-after}
 use Rattle.nq_legal_laws.proofs.ReadFacts.{ReadsOf, ReadsFit, told-packet}
 use Rattle.nq_legal_laws.proofs.ReadServer.{reads-after-server}
 use Rattle.nq_held_laws.proofs.RestingRuns.{rests-on}
-use Rattle.nq_legal_laws.proofs.ServerReads.{receive-reads, tick-reads, crash-reads}
+use Rattle.nq_legal_laws.proofs.ServerReads.{ServesRead, receive-reads, tick-reads, crash-reads}
 use Rattle.nq_held_laws.proofs.Steps.{ClientActs, called, ticked, restarted, heard, ServerActs, received, ticks, crashes, Changes, nothing, by_client, by_server, run-goes}
 use Rattle.nq_legal_steps.proofs.ReaderValues.{NoneWaits}
-use Rattle.nq_legal_steps.proofs.ReadParts.{IsDull, TicketOfCall}
+use Rattle.nq_legal_steps.proofs.ReadParts.{IsDull, MadeFor}
 use Rattle.nq_legal_steps.proofs.ReadSteps.{Done, NewRead, ValuedBy, NoneValued, IsCachedIn, call-done, tick-done, hear-done}
 use Rattle.nq_legal_steps.proofs.Stores.{Rests}
-use Rattle.nq_model.specs.Client.{Client, ClientStep, Lease, Ticket, UnderWay, lease_on, lets_read, first_dirty, dirty_at, clean_at, is_push_of, is_push_at, push_passes, is_clean}
-use Rattle.nq_model.specs.ClientStep.{client_call, client_tick, restart, starts, fresh_client, attached_client}
+use Rattle.nq_model.specs.Client.{Client, ClientStep, Lease, Ticket, UnderWay, lease_on, lets_read, first_dirty, dirty_at, clean_at, is_push_of, is_push_at, push_passes, is_clean, Job}
+use Rattle.nq_model.specs.ClientStep.{restart, starts, fresh_client, attached_client, next_incarnation}
 use Rattle.nq_model.specs.Journal.{Throughout}
 use Rattle.nq_model.specs.Kept.{host_row}
 use Rattle.nq_model.specs.Message.{Message, call, reply, datagram_of}
@@ -48,6 +48,7 @@ use Rattle.nq_model.specs.Stands.{IsStandingValue}
 use Rattle.nq_model.specs.World.{Head, World, after_server, after_client, sending_host, start, run}
 use Rattle.nq_run_cases.proofs.RunCases.{During}
 use Rattle.nq_run_steps.proofs.Packets.{In, in-get}
+use Rattle.nq_run_steps.proofs.ServerSays.{AllSaid}
 use Rattle.nq_run_steps.proofs.Worlds.{IsAt, to-server, received-said, tick-said, crash-said, first-client}
 use Rattle.nq_undisturbed_laws.proofs.Accesses.{Accesses, IsHeld, call-accesses, tick-accesses, hear-accesses}
 use Rattle.nq_undisturbed_laws.proofs.Holders.{KnownOf, writing-caches}
@@ -82,10 +83,10 @@ restart-adds w host c = record {
   answers = λ who q v said i. absurd (none-answer who q said i);
 } where
   next : Who
-  next = Rattle.nq_model.specs.ClientStep.next_incarnation c.who
+  next = next_incarnation c.who
 
-  attaching : (t : Ticket) → record { xid = 1; first = c.now; last = c.now; request = Request.Attach next; job = Rattle.nq_model.specs.Client.attaching } ≡ t → t.job ≡ Rattle.nq_model.specs.Client.for_call → (u : UnderWay) × (None ≡ Some u) × Rattle.nq_legal_steps.proofs.ReadParts.MadeFor t.request u
-  attaching t one job = let other : Rattle.nq_model.specs.Client.attaching ≡ Rattle.nq_model.specs.Client.for_call = ap (λ z. z.job) one ∙ job in absurd (cc)
+  attaching : (t : Ticket) → record { xid = 1; first = c.now; last = c.now; request = Request.Attach next; job = Job.attaching } ≡ t → t.job ≡ Job.for_call → (u : UnderWay) × (None ≡ Some u) × MadeFor t.request u
+  attaching t one job = let other : Job.attaching ≡ Job.for_call = ap (λ z. z.job) one ∙ job in absurd (cc)
 
   none-read : (who : Who) (q file block v : ℕ) (by : Option ℕ) → (B next ≡ R who q file block v by) ⊎ ⊥ → ⊥
   none-read who q file block v by (inl e) = cc
@@ -129,6 +130,9 @@ has-dirty c file block p i f g none = case (dirty_at file block c.dirty) refl no
 
 to-push-unclean : (c : Client) (l : Lease) → is_to_push c l ≡ true → is_clean c l.file ≡ false
 to-push-unclean c l is = not-true _ (both-true _ _ (both-true _ _ is).0).1
+
+none-to-push : (c : Client) (file : ℕ) (l : Lease) → l.file ≡ file → is_to_push c l ≡ true → c.push ≡ None → first_dirty file c.dirty ≡ None → ⊥
+none-to-push c file l of due unpushed none = any-first file c.dirty (any-dirty c file unpushed (subst (λ n. is_clean c n ≡ false) of (to-push-unclean c l due))) none
 
 lease-in : (file : ℕ) (ls : List Lease) (l : Lease) → lease_on file ls ≡ Some l → In ls l
 lease-in file [] l e = none-some l e
@@ -182,9 +186,7 @@ module _ (most : ℕ) (head : Head) (known : (events : List Event) → KeepsBoun
           let to_push : is_to_push t.client l ≡ true = rw (writes, unclean, due) refl in
           let some = least-exists (is_to_push t.client) t.client.leases l (lease-in file t.client.leases l held) to_push in
           let m = least-passes (is_to_push t.client) t.client.leases some.0 some.1 in
-          let dirty : is_clean t.client m.0.file ≡ false = to-push-unclean t.client m.0 m.2 in
-          let any : list_any (is_push_of m.0.file) t.client.dirty ≡ true = any-dirty t.client m.0.file (unpushed t.client.push refl) dirty in
-          any-first some.0 t.client.dirty (subst (λ n. list_any (is_push_of n) t.client.dirty ≡ true) m.1 any) (new.nothing some.0 some.1)
+          none-to-push t.client some.0 m.0 m.1 m.2 (unpushed t.client.push refl) (new.nothing some.0 some.1)
 
       dirty-free : (p : Push) → In t.client.dirty p → p.file ≡ file → p.block ≡ block → ⊥
       dirty-free p i f g = case (nat_lt t.client.now l.0.expiry) refl
@@ -286,7 +288,7 @@ module _ (most : ℕ) (head : Head) (known : (events : List Event) → KeepsBoun
         k : KnownOf head.hosts most v events
         k = known events during.bounds during.within
 
-        go-on : Rattle.nq_run_steps.proofs.ServerSays.AllSaid v.packets t.sends → Rattle.nq_content_steps.proofs.ServerDelays.Never t.entries → Rattle.nq_legal_laws.proofs.ServerReads.ServesRead v.packets v.server (length v.packets) t → ReadsFit (after_server v t)
+        go-on : AllSaid v.packets t.sends → Never t.entries → ServesRead v.packets v.server (length v.packets) t → ReadsFit (after_server v t)
         go-on said never reads = reads-after-server v t said never
             (s-now (Throughout IsRising) (rises (e ∷ events) during.bounds_after during.within_after))
             (s-now (Throughout Rests) ((rests-on most head known (e ∷ events) during.bounds_after during.within_after).stores))
@@ -296,11 +298,11 @@ module _ (most : ℕ) (head : Head) (known : (events : List Event) → KeepsBoun
         go : ServerActs v t → ReadsFit (after_server v t)
         go (received n p sent to eq) =
             let i = in-get v.packets n p sent in
-            go-on (subst (λ z. Rattle.nq_run_steps.proofs.ServerSays.AllSaid v.packets z.sends) (sym eq) (received-said v p i to k.holds))
-            (subst (λ z. Rattle.nq_content_steps.proofs.ServerDelays.Never z.entries) (sym eq) (receive-never v.server (sending_host p.sender) (length v.packets) (datagram_of p.message)))
-            (subst (Rattle.nq_legal_laws.proofs.ServerReads.ServesRead v.packets v.server (length v.packets)) (sym eq) (receive-reads v.packets v.server (sending_host p.sender) (length v.packets) (datagram_of p.message) (λ xid r d. (to-server v.packets p (k.holds.sent p i) to i xid r d).0)))
-        go (ticks eq) = go-on (subst (λ z. Rattle.nq_run_steps.proofs.ServerSays.AllSaid v.packets z.sends) (sym eq) (tick-said v.packets v.server (v.server.now + 1))) (subst (λ z. Rattle.nq_content_steps.proofs.ServerDelays.Never z.entries) (sym eq) (tick-never v.server (v.server.now + 1))) (subst (Rattle.nq_legal_laws.proofs.ServerReads.ServesRead v.packets v.server (length v.packets)) (sym eq) (tick-reads v.packets v.server (length v.packets) (v.server.now + 1)))
-        go (crashes longest eq) = go-on (subst (λ z. Rattle.nq_run_steps.proofs.ServerSays.AllSaid v.packets z.sends) (sym eq) (crash-said v.packets v.server longest)) (subst (λ z. Rattle.nq_content_steps.proofs.ServerDelays.Never z.entries) (sym eq) (crash-never v.server longest)) (subst (Rattle.nq_legal_laws.proofs.ServerReads.ServesRead v.packets v.server (length v.packets)) (sym eq) (crash-reads v.packets v.server (length v.packets) longest))
+            go-on (subst (λ z. AllSaid v.packets z.sends) (sym eq) (received-said v p i to k.holds))
+            (subst (λ z. Never z.entries) (sym eq) (receive-never v.server (sending_host p.sender) (length v.packets) (datagram_of p.message)))
+            (subst (ServesRead v.packets v.server (length v.packets)) (sym eq) (receive-reads v.packets v.server (sending_host p.sender) (length v.packets) (datagram_of p.message) (λ xid r d. (to-server v.packets p (k.holds.sent p i) to i xid r d).0)))
+        go (ticks eq) = go-on (subst (λ z. AllSaid v.packets z.sends) (sym eq) (tick-said v.packets v.server (v.server.now + 1))) (subst (λ z. Never z.entries) (sym eq) (tick-never v.server (v.server.now + 1))) (subst (ServesRead v.packets v.server (length v.packets)) (sym eq) (tick-reads v.packets v.server (length v.packets) (v.server.now + 1)))
+        go (crashes longest eq) = go-on (subst (λ z. AllSaid v.packets z.sends) (sym eq) (crash-said v.packets v.server longest)) (subst (λ z. Never z.entries) (sym eq) (crash-never v.server longest)) (subst (ServesRead v.packets v.server (length v.packets)) (sym eq) (crash-reads v.packets v.server (length v.packets) longest))
 
   -- ---- every run
 

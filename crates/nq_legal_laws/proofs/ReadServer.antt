@@ -22,7 +22,7 @@ use Rattle.nq_legal_laws.proofs.ServerReads.{IsUnread, TellsNone, ServesRead, re
 use Rattle.nq_legal_steps.proofs.Held.{HasHeld}
 use Rattle.nq_legal_steps.proofs.Places.{IsPlaced}
 use Rattle.nq_legal_steps.proofs.ReaderValues.{NoneWaits, held-stands}
-use Rattle.nq_legal_steps.proofs.Stores.{Rests, standing-other, standing-more}
+use Rattle.nq_legal_steps.proofs.Stores.{Rests, standing-other, standing-more, StoresNone}
 use Rattle.nq_model.proofs.JournalTests.{tells_who}
 use Rattle.nq_model.proofs.Telling.{tells_4, tells_same}
 use Rattle.nq_model.specs.Client.{Client, UnderWay}
@@ -153,7 +153,7 @@ StandsFor whole before other = Unit {0}
 read-who : (w v : Who) (p q f file b block u x : ℕ) (o s : Option ℕ) → R w p f b u o ≡ R v q file block x s → (w ≡ v) × (p ≡ q)
 read-who w v p q f file b block u x o s e = (cc, cc)
 
-granted-stands : (s : Server) (by : Who) (file_of : ℕ) (g : Option Grant) (first : Entry) (j : List Entry) (reader : Who) (file block v : ℕ) → Rattle.nq_legal_steps.proofs.Stores.StoresNone first → IsStandingValue j j reader file block v → IsStandingValue (first ∷ grants s by file_of g ++ j) (grants s by file_of g ++ j) reader file block v
+granted-stands : (s : Server) (by : Who) (file_of : ℕ) (g : Option Grant) (first : Entry) (j : List Entry) (reader : Who) (file block v : ℕ) → StoresNone first → IsStandingValue j j reader file block v → IsStandingValue (first ∷ grants s by file_of g ++ j) (grants s by file_of g ++ j) reader file block v
 granted-stands s by file_of None first j reader file block v none h = standing-other first j j reader file block v none h
 granted-stands s by file_of (Some g) first j reader file block v none h =
     standing-other first (G by file_of g.mode g.tag g.term s.now ∷ j) (G by file_of g.mode g.tag g.term s.now ∷ j) reader file block v none

@@ -4,4 +4,4 @@
 
 mod legal;
 
-pub use legal::reads_are_legal_in_every_run;
+pub use legal::{reads_are_legal_in_every_run, reads_are_met};

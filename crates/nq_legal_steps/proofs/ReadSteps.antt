@@ -26,7 +26,7 @@ use Rattle.nq_model.specs.ClientStep.{begins_call, is_called, says_busy, client_
 use Rattle.nq_model.specs.Hear.{vacates_lease, notes_notice, evicted, cancels, cancelled, wants_of, replied, reply_counts, inc_of, hear}
 use Rattle.nq_model.specs.Message.{Message, call, reply}
 use Rattle.nq_model.specs.Send.{ending_file, sends_request, after_seq, after_number, takes_push, gives_up, send_next}
-use Rattle.nq_model.specs.Settle.{answers, names_losses, reads_cached, after_read, after_write, delays, marks_written, settle, said, cached_body, ticket_is_for_call}
+use Rattle.nq_model.specs.Settle.{answers, names_losses, reads_cached, after_read, after_write, delays, marks_written, settle, said, cached_body, ticket_is_for_call, is_for_call}
 use Rattle.nq_run_steps.proofs.Packets.{In, in-last, call-same}
 
 -- the entry is a cached read, or the answer to one of these
@@ -106,8 +106,8 @@ told-cached {Valued = Valued} {who = who} {entries = entries} q file block v ask
 no-call-ticket : (ticket : Option Ticket) (under : Option UnderWay) → ticket_is_for_call ticket ≡ false → TicketOfCall ticket under
 no-call-ticket ticket under other t is job = bad t.job job (sym (ap ticket_is_for_call is) ∙ other)
   where
-    bad : (j : Job) → j ≡ for_call → Rattle.nq_model.specs.Settle.is_for_call j ≡ false → (u : UnderWay) × (under ≡ Some u) × MadeFor t.request u
-    bad j same e = let yes : Rattle.nq_model.specs.Settle.is_for_call j ≡ true = ap Rattle.nq_model.specs.Settle.is_for_call same in absurd (cc)
+    bad : (j : Job) → j ≡ for_call → is_for_call j ≡ false → (u : UnderWay) × (under ≡ Some u) × MadeFor t.request u
+    bad j same e = let yes : is_for_call j ≡ true = ap is_for_call same in absurd (cc)
 
 module _ (c : Client) (Valued : Entry → Type 0) where
   abbrev T : ClientStep → Type 0
