@@ -20,6 +20,7 @@ use Rattle.nq_model.specs.Journal.{Each, Exists, Throughout, AtEachPlace, IsCall
 use Rattle.nq_model.specs.Message.{Message, call, asker, sequence_of}
 use Rattle.nq_model.specs.Ordered.{IsCallBelow, HasOpen, IsOpenCall, IsBusyNext, IsBeforeCall, IsNumbered, IsResizeBy}
 use Rattle.nq_run_steps.proofs.Packets.{In}
+use Rattle.nq_server_steps.proofs.Incarnations.{who-same}
 use Rattle.nq_server_steps.proofs.Rows.{both-true, true-both, same-number, number-same}
 
 -- ---- the records
@@ -191,12 +192,6 @@ pub rises : (who : Who) (calls number : ℕ) (under : Option UnderWay) (journal 
 rises who calls number under journal h = rises-from who calls journal h.numbers
 
 -- ---- what a call asks
-
-who-of : (h i k j : ℕ) → h ≡ k → i ≡ j → Path Who (record { host = h; inc = i }) (record { host = k; inc = j })
-who-of h i k j e f = cc
-
-who-same : (a b : Who) → same_who a b ≡ true → a ≡ b
-who-same a b h = let e = both-true _ _ h in who-of a.host a.inc b.host b.inc (same-number _ _ e.0) (same-number _ _ e.1)
 
 told-first : (who : Who) (q : ℕ) (told : Told) → told_by (C who q told) who q ≡ Some told
 told-first who q told = rw (true-both _ _ (true-both _ _ (number-same who.host who.host refl) (number-same who.inc who.inc refl)) (number-same q q refl)) refl

@@ -1,17 +1,16 @@
 -- Why the server refuses a request.
-use Rattle.std.proofs.Common.{◌≡◌, ℕ, true, Some, None, refl, sym, ap, ◌∙◌}
+use Rattle.std.proofs.Common.{◌≡◌, ℕ, refl, sym, ap, ◌∙◌}
 use Rattle.nq_base.specs.declared.Refusal.{Refusal}
 use Rattle.nq_base.specs.declared.Reply.{Reply}
 use Rattle.nq_base.specs.declared.Request.{Request}
 use Rattle.nq_base.specs.declared.Verdict.{Verdict}
 use Rattle.nq_base.specs.declared.Who.{Who}
 use Rattle.nq_call_steps.proofs.ServerCalls.{IsWhy, undrawn, is_past, otherwise}
-use Rattle.nq_client_steps.proofs.ClientMoves.{none-some}
+use Rattle.nq_lease_laws.proofs.ServerEffects.{asks-no-seq, reads-no-seq}
 use Rattle.nq_model.specs.Decide.{verdict_reply}
-use Rattle.nq_model.specs.LeaseInterval.{requested_file}
 use Rattle.nq_model.specs.Message.{sequence_of}
 use Rattle.nq_model.specs.Server.{Server}
-use Rattle.nq_server_steps.proofs.ServerOutcomes.{only_asks, line_of, IsPlain, attached_again, not_yet, no_entry, entry, no_attributes, attributes, no_file, no_block, decided_again, is_old}
+use Rattle.nq_server_steps.proofs.ServerOutcomes.{line_of, IsPlain, attached_again, not_yet, no_entry, entry, no_attributes, attributes, no_file, no_block, decided_again, is_old}
 
 -- ---- sequences and verdicts
 
@@ -28,18 +27,6 @@ seq-same (Request.Read who q file block want) = refl
 seq-same (Request.GetLease who file want) = refl
 seq-same (Request.Vacated who file tag) = refl
 seq-same (Request.Evicted who file tag) = refl
-
-pub asks-no-seq : (r : Request) → only_asks r ≡ true → sequence_of r ≡ None
-asks-no-seq (Request.Lookup w name) e = refl
-asks-no-seq (Request.GetAttr w file) e = refl
-asks-no-seq (Request.Read w q file block want) e = refl
-asks-no-seq (Request.GetLease w file want) e = refl
-asks-no-seq r e = absurd (cc)
-
-pub reads-no-seq : (r : Request) (file : ℕ) → requested_file r ≡ Some file → sequence_of r ≡ None
-reads-no-seq (Request.Read w q f block want) file e = refl
-reads-no-seq (Request.GetLease w f want) file e = refl
-reads-no-seq r file e = none-some file e
 
 -- a request that was done is not refused
 pub done-tells : (inc value : ℕ) (r : Request) (v : Verdict) (i : ℕ) (status : Refusal) → verdict_reply inc v value r ≡ Reply.Refused i status → v ≡ Verdict.Done → ⊥

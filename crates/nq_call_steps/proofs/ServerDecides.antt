@@ -1,6 +1,6 @@
 -- Decisions of the server do to the calls what is said of them, and so does each datagram.
 use Rattle.std.proofs.Common.{◌≡◌, ◌≢◌, ◌<◌, ◌≤◌, ◌⊎◌, ℕ, Bool, true, false, ◌==◌, List, [], ◌∷◌, ◌++◌, Some, None, length, refl, sym, subst, ap, ◌∙◌, arith, inl, inr}
-use Rattle.std.specs.Prelude.{slice_get, unwrap_or}
+use Rattle.std.specs.Prelude.{slice_get}
 use Rattle.nq_base.specs.Block.{value_of}
 use Rattle.nq_base.specs.declared.Entry.{Entry}
 use Rattle.nq_base.specs.declared.Entry.TheVariants.{W, S, Z}
@@ -19,7 +19,7 @@ use Rattle.nq_call_facts.proofs.ClientMoves.{IsBelow}
 use Rattle.nq_call_facts.proofs.Quiet.{IsNoCall, IsNoChange, foreign-quiet, OpenFits}
 use Rattle.nq_call_steps.proofs.Refusals.{seq-same, done-tells, verdict-inc, plain-why}
 use Rattle.nq_call_steps.proofs.ServerHears as hears
-use Rattle.nq_call_steps.proofs.ServerHears.{reads-called, served-now, silent-quiet, refuse-none, refuse-both, refuse-notices, refuse-reply, refuse-error, error-no-reply}
+use Rattle.nq_call_steps.proofs.ServerHears.{refuse-none, refuse-both, refuse-notices, refuse-reply, refuse-error, error-no-reply}
 use Rattle.nq_call_steps.proofs.ServerAnswers as answers
 use Rattle.nq_call_steps.proofs.ServerAnswers.{asked-by, asker-bounded}
 use Rattle.nq_call_steps.proofs.ServerCalls.{otherwise, AllRefuse, IsChange, Outcome, line_same, line_decided, ServerDoes}
@@ -27,7 +27,7 @@ use Rattle.nq_client_steps.proofs.ClientMoves.{some-same, none-some}
 use Rattle.nq_model.specs.Client.{Client}
 use Rattle.nq_model.specs.Decide.{Decision, wrote, decides, creates, writes_through, stores, stores_recovering, resizes, removes, puts_off, verdict_reply, row_after, commits}
 use Rattle.nq_model.specs.Journal.{Exists, IsCall}
-use Rattle.nq_model.specs.Kept.{File, Kept, fresh_row, host_row, with_row, with_files, with_new_file}
+use Rattle.nq_model.specs.Kept.{File, host_row, with_row, with_files, with_new_file}
 use Rattle.nq_model.specs.Message.{reply, asker, Datagram, request, sequence_of}
 use Rattle.nq_model.specs.Ordered.{IsResizeInOrder}
 use Rattle.nq_model.specs.Profile.{most_hosts}
@@ -39,14 +39,10 @@ use Rattle.nq_request_laws.proofs.OpenRequests.{IsOpenAt}
 use Rattle.nq_run_steps.proofs.KnownWorlds.{Known}
 use Rattle.nq_run_steps.proofs.Packets.{In, Asked}
 use Rattle.nq_run_steps.proofs.Worlds.{Holds}
-use Rattle.nq_server_steps.proofs.KeptChanges.{other-line, own-line}
+use Rattle.nq_server_steps.proofs.KeptChanges.{other-line, own-line, same-lines}
 use Rattle.nq_server_steps.proofs.Rows.{same-number, number-same}
 use Rattle.nq_server_steps.proofs.ServerCases.{server-hears}
 use Rattle.nq_server_steps.proofs.ServerOutcomes.{IsFresh}
-
--- the lines are those of the hosts
-same-hosts : (kept after : Kept) (host : ℕ) → after.hosts ≡ kept.hosts → host_row after host ≡ host_row kept host
-same-hosts kept after host e = ap (λ hs. unwrap_or (slice_get hs host) fresh_row) e
 
 module _ (w : World) (events : List Event) (held : Holds w) (known : Known w events) (g : CallsKnown w) (sender : ℕ) (d : Datagram) (was_sent : (xid : ℕ) (r : Request) → d ≡ request xid r → Asked w.packets sender xid r) (lines : length w.server.kept.hosts ≡ most_hosts) where
   abbrev s : Server
@@ -113,7 +109,7 @@ module _ (w : World) (events : List Event) (held : Holds w) (known : Known w eve
         subst (λ n. Outcome w (commits who seq xid r k) n c) (sym same) (at-own c (subst (λ n. slice_get w.clients n ≡ Some c) same is))
     outcome host c is false f =
         let apart : host ≢ who.host = λ same. let yes : (host == who.host) ≡ true = number-same host who.host same in absurd (cc) in
-        line_same (other-line k.server.kept who.host host (row_after who seq k) apart ∙ same-hosts s.kept k.server.kept host m.hosts)
+        line_same (other-line k.server.kept who.host host (row_after who seq k) apart ∙ same-lines s.kept k.server.kept host m.hosts)
         (λ x i. record {
           quiet = λ v here. foreign-quiet v x (λ u of same. apart (sym here ∙ ap (λ z. z.host) (sym same ∙ sym (some-same who u (sym (m.own x i) ∙ of)))));
           bounded = (foreign c.who c.calls c.number x (λ u of same. apart (sym ((held.clients host c is).here) ∙ sym same ∙ ap (λ z. z.host) (sym (some-same who u (sym (m.own x i) ∙ of)))))).1;

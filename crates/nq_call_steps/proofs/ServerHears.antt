@@ -18,9 +18,9 @@ use Rattle.nq_call_steps.proofs.CallWorlds.{CallsKnown}
 use Rattle.nq_call_facts.proofs.ClientMoves.{IsBelow}
 use Rattle.nq_call_facts.proofs.Placed.{IsServedIn, IsServedInOrder}
 use Rattle.nq_call_facts.proofs.Quiet.{IsQuiet}
-use Rattle.nq_call_steps.proofs.Refusals.{reads-no-seq}
 use Rattle.nq_call_steps.proofs.ServerCalls.{IsWhy, undrawn, Refuses, AllRefuse, line_same, ServerDoes}
 use Rattle.nq_client_steps.proofs.ClientMoves.{some-same, none-some}
+use Rattle.nq_lease_laws.proofs.ServerEffects.{reads-no-seq}
 use Rattle.nq_model.specs.Journal.{Each, Exists, IsCall, IsAnswerBy, call_of, told_by, same_who}
 use Rattle.nq_model.specs.Kept.{host_row}
 use Rattle.nq_model.specs.LeaseInterval.{requested_file}
@@ -34,13 +34,11 @@ use Rattle.nq_model.specs.World.{World}
 use Rattle.nq_run_steps.proofs.KnownWorlds.{Known}
 use Rattle.nq_run_steps.proofs.Packets.{In, in-append, Asked, told-same, reply-same}
 use Rattle.nq_run_steps.proofs.Worlds.{Holds}
+use Rattle.nq_server_steps.proofs.Incarnations.{who-of}
 use Rattle.nq_server_steps.proofs.Rows.{both-true, same-number}
 use Rattle.nq_server_steps.proofs.ServerOutcomes.{error_for}
 
 -- ---- reads of the journal
-
-one-who : (h i k j : ℕ) → h ≡ k → i ≡ j → Path Who (record { host = h; inc = i }) (record { host = k; inc = j })
-one-who h i k j e f = cc
 
 -- where a call asks something its C stands
 called-of : (journal : List Entry) (who : Who) (q : ℕ) (told : Telling) → call_of journal who q ≡ Some told → Exists (IsCall who q) journal
@@ -48,7 +46,7 @@ called-of [] who q told e = none-some told e
 called-of (x ∷ journal) who q told e = case (called-of journal who q) (call_of journal who q) refl e
   where
     same : (by : Who) → same_who by who ≡ true → by ≡ who
-    same by h = let a = both-true _ _ h in one-who by.host by.inc who.host who.inc (same-number _ _ a.0) (same-number _ _ a.1)
+    same by h = let a = both-true _ _ h in who-of by.host by.inc who.host who.inc (same-number _ _ a.0) (same-number _ _ a.1)
 
     now : (y : Entry) → told_by y who q ≡ Some told → IsCall who q y
     now (C by n t) f = by-test (same_who by who && (n == q)) refl f

@@ -31,6 +31,7 @@ use Rattle.nq_run_steps.proofs.HostLine.{IsSettled}
 use Rattle.nq_run_steps.proofs.Packets.{Asked, Told, Mail}
 use Rattle.nq_run_steps.proofs.TagFacts.{IsDrawn}
 use Rattle.nq_base.specs.declared.Event.{Event}
+use Rattle.nq_server_steps.proofs.Modes.{writing-caches, caching-at-least}
 
 -- what is drawn is below the next tag
 pub drawn-below : (table : Table) (tag : Tag) → IsDrawn table.boot table.drawn tag → tag_below tag (next_tag table) ≡ true
@@ -58,22 +59,10 @@ at-least-same NonCaching = refl
 at-least-same Reading = refl
 at-least-same Writing = refl
 
-pub caching-at-least : (row mode : Mode) → caches mode ≡ true → is_at_least row mode ≡ true → caches row ≡ true
-caching-at-least row NonCaching c h = cc
-caching-at-least row Reading c h = h
-caching-at-least NonCaching Writing c h = cc
-caching-at-least Reading Writing c h = refl
-caching-at-least Writing Writing c h = refl
-
 pub writing-at-least : (row mode : Mode) → is_writing mode ≡ true → is_at_least row mode ≡ true → is_writing row ≡ true
 writing-at-least row NonCaching c h = cc
 writing-at-least row Reading c h = cc
 writing-at-least row Writing c h = h
-
-pub writing-caching : (mode : Mode) → is_writing mode ≡ true → caches mode ≡ true
-writing-caching NonCaching c = cc
-writing-caching Reading c = refl
-writing-caching Writing c = refl
 
 -- the continued row's tag is no earlier
 continued-tag : (before : Table) (row row' : Row) (tag : Tag) → IsDrawn before.boot before.drawn tag → Continues before row row' → tag_below row.tag tag ≡ false → tag_below row'.tag tag ≡ false
@@ -385,7 +374,7 @@ module _ (ps : List Packet) (s : Server) (events : List Event) (t : ServerStep) 
   bound-on file l row e writes chained = step (f.rows.on file row chained.own.stands (writing-at-least row.mode l.mode writes k.kind))
     where
       k : KnowsFile s.kept line row.mode l.mode file (rev_at c.revisions file) l.blocks (done_at s.kept c.who c.ticket file)
-      k = h.held.chained file l row e (writing-caching l.mode writes) chained
+      k = h.held.chained file l row e (writing-caches l.mode writes) chained
 
       vacates : (x : ℕ) (w : Who) (tag : Tag) → Asked ps c.who.host x (Request.Vacated w file tag) → w.inc ≡ row.who.inc → same_tag row.tag tag ≡ true → ⊥
       vacates x w tag sent inc same =

@@ -3,7 +3,7 @@ use Rattle.std.proofs.Common.{◌≡◌, ◌≢◌, ◌<◌, ◌≤◌, ℕ, ◌
 use Rattle.std.specs.List.{find}
 use Rattle.nq_base.specs.declared.Row.{Row}
 use Rattle.nq_base.specs.declared.Who.{Who}
-use Rattle.nq_chain_laws.proofs.LineMoves.{line-same, same-lines, replaced-there, replaced-other, by-file}
+use Rattle.nq_chain_laws.proofs.LineMoves.{line-same, replaced-there, replaced-other, by-file}
 use Rattle.nq_chain_laws.proofs.RowMoves.{rows-same, rows-ended, rows-loosened, rows-opened}
 use Rattle.nq_chain_laws.proofs.ServerChains.{RowsMove, LineTo, FilesGrow, rev_stays, rev_rises, FileMove, file_stays, file_changed}
 use Rattle.nq_chain_steps.proofs.ChainFacts.{line_for}
@@ -18,6 +18,7 @@ use Rattle.nq_model.specs.Server.{serving, recovering, Server, standing, standin
 use Rattle.nq_model.specs.ServerStep.{at_time, is_due, is_over, end_reading, fence, ends_writing, opens, tick, booted, boot, crash}
 use Rattle.nq_model.specs.Table.{Table, caches, is_writing, find_row, drop_row, with_rows, empty_table}
 use Rattle.nq_server_laws.proofs.ServerTables.{BootsFit, BootsFitOf, RecoversBoot, NoneRecoveringOf, none-opened, StandingFits, StandingFitsOf}
+use Rattle.nq_server_steps.proofs.KeptChanges.{same-lines}
 use Rattle.nq_server_steps.proofs.RowChanges.{found-any, found-kept, find-row-dropped, unique-filtered}
 use Rattle.nq_server_steps.proofs.Rows.{both-true, find-passes, same-number, number-same}
 use Rattle.nq_server_steps.proofs.ServerCases.{server-ticks}

@@ -1,6 +1,6 @@
 -- In every run within skew chained leases know their files.
 use Rattle.std.proofs.Common.{◌≡◌, ◌≢◌, ◌<◌, ◌≤◌, ◌⊎◌, ℕ, zero, suc, ◌+◌, Bool, true, false, ◌==◌, List, [], ◌∷◌, ◌++◌, Option, Some, None, map, length, refl, sym, subst, ap, ◌∙◌, arith, append-nil, inl, inr}
-use Rattle.std.specs.Prelude.{◌-◌, slice_get, slice_set, is_some, replicate, unwrap_or}
+use Rattle.std.specs.Prelude.{◌-◌, slice_get, slice_set}
 use Rattle.nq_base.specs.declared.Event.{Event}
 use Rattle.nq_base.specs.declared.HostRow.{HostRow}
 use Rattle.nq_base.specs.declared.Party.{Party}
@@ -24,22 +24,21 @@ use Rattle.nq_client_steps.proofs.ClientMoves.{some-same, none-some}
 use Rattle.nq_lease_laws.proofs.LeaseIntervals.{Runs, run-runs, none-served, tick-sends, crash-sends}
 use Rattle.nq_lease_laws.proofs.ServerEffects.{standing-serving}
 use Rattle.nq_lease_laws.specs.LeaseIntervalInRuns.{KeepsBounds}
-use Rattle.nq_model.specs.Client.{Client, ClientStep, Revision, revision_of, revision_or_zero}
+use Rattle.nq_model.specs.Client.{Client, ClientStep, revision_of, revision_or_zero}
 use Rattle.nq_model.specs.ClientStep.{client_call, client_tick, restart, starts, fresh_client, attached_client, next_incarnation}
 use Rattle.nq_model.specs.Hear.{hear}
-use Rattle.nq_model.specs.Kept.{fresh_row, host_row}
+use Rattle.nq_model.specs.Kept.{host_row}
 use Rattle.nq_model.specs.Message.{Message, Packet, call, reply, asker, Datagram, datagram_of, request}
-use Rattle.nq_model.specs.Profile.{most_hosts}
 use Rattle.nq_model.specs.Server.{serving, Server, ServerStep, standing, to_host}
 use Rattle.nq_model.specs.ServerStep.{receive, tick, crash, boot}
 use Rattle.nq_model.specs.Skew.{IsWithinSkew}
 use Rattle.nq_model.specs.Table.{find_row}
-use Rattle.nq_model.specs.World.{Head, World, first_row, from_host, after_server, after_client, at_client, after_hearing, sending_host, deliver_to_client, deliver_to, deliver, start, run}
+use Rattle.nq_model.specs.World.{Head, World, from_host, after_server, after_client, at_client, after_hearing, sending_host, deliver_to_client, deliver_to, deliver, start, run}
 use Rattle.nq_request_laws.proofs.Sequences.{Drew, DrewIf, call-draws, tick-draws, restart-draws, hear-draws}
 use Rattle.nq_request_laws.proofs.WorldSequences.{run-draws, asked-before-server}
 use Rattle.nq_run_cases.proofs.RunCases.{During, client_at, Keeps, run-keeps, OfClients, clients-after}
 use Rattle.nq_run_steps.proofs.ClientSteps.{KnowsOf}
-use Rattle.nq_run_steps.proofs.KnownWorlds.{takeable, first-there}
+use Rattle.nq_run_steps.proofs.KnownWorlds.{takeable, first-there, first-line}
 use Rattle.nq_run_steps.proofs.Mail.{packets_with}
 use Rattle.nq_run_steps.proofs.Packets.{In, in-append, in-get, Asked, Told, message-same}
 use Rattle.nq_run_steps.proofs.TagFacts.{IsDrawn}
@@ -50,6 +49,7 @@ use Rattle.nq_server_laws.proofs.ServerTables.{standing-boot}
 use Rattle.nq_server_laws.proofs.LogFits.{fits-start}
 use Rattle.nq_server_steps.proofs.Rows.{found-row, same-number, number-same}
 use Rattle.nq_server_steps.proofs.TableFits.{tag-in-order}
+use Rattle.nq_server_steps.proofs.Tests.{there-is}
 
 -- ---- the numbers of files
 
@@ -307,15 +307,6 @@ restart-fits s c ps past =
     idle-fits s (restart c).client ps (restart-idle c) (let one = k.0 in omega arith)
     (λ inc. let same : (line_for s.kept (restart c).client.who).inc ≡ (line_for s.kept c.who).inc = ap (λ n. (host_row s.kept n).inc) k.2 in let next = k.1 in absurd (omega arith))
 
-replicated : (count host : ℕ) (line : HostRow) (more : List HostRow) → host < count → slice_get (replicate count line ++ more) host ≡ Some line
-replicated zero host line more h = absurd (omega arith)
-replicated (suc count) zero line more h = refl
-replicated (suc count) (suc host) line more h = replicated count host line more (omega arith)
-
-first-line : (head : Head) (host : ℕ) → host < head.hosts → host_row (start head).server.kept host ≡ first_row
-unfolding start boot
-first-line head host there = ap (λ o. unwrap_or o fresh_row) (replicated head.hosts host first_row (replicate (most_hosts - head.hosts) fresh_row) there)
-
 start-fits : (s : Server) (who : Who) (term : ℕ) → (line_for s.kept who).seq ≡ 0 → ChainFits s (attached_client who term 0) []
 start-fits s who term none =
     let one = start-seq who term in
@@ -378,11 +369,6 @@ chain-fits most head events host c bounds within is = (run-chains most head even
 
 pub pushes-fit : (most : ℕ) (head : Head) (events : List Event) (host : ℕ) (c : Client) → KeepsBounds most head events → IsWithinSkew head.hosts most events → slice_get (run head events).clients host ≡ Some c → PushesFit (run head events).server host (run head events).packets
 pushes-fit most head events host c bounds within is = (run-chains most head events bounds within host c is).pushes
-
--- a revision that there is
-there-is : (o : Option Revision) → is_some o ≡ true → (r : Revision) × (o ≡ Some r)
-there-is None h = absurd (cc)
-there-is (Some r) h = (r, refl)
 
 held-know : (w : World) → OfClients ChainsOf w → ((host : ℕ) (c : Client) → slice_get w.clients host ≡ Some c → c.who.host ≡ host) → HeldKnow w
 held-know w h here host c lease row is holds caching chained =

@@ -1,7 +1,5 @@
 -- What a step of the server does to the line of a host, and to files, as one client sees it.
 use Rattle.std.proofs.Common.{◌≡◌, ◌≢◌, ◌<◌, ℕ, ◌+◌, Bool, true, false, ◌&&◌, ◌==◌, List, Option, Some, length, refl, sym, subst, ap, ◌∙◌, arith}
-use Rattle.std.specs.Option.{unwrap_or}
-use Rattle.std.specs.Prelude.{slice_get}
 use Rattle.std.proofs.lemmas.List.{length-set}
 use Rattle.nq_base.specs.declared.PushBase.{PushBase}
 use Rattle.nq_base.specs.declared.Request.{Request}
@@ -12,16 +10,13 @@ use Rattle.nq_chain_steps.proofs.ChainFacts.{line_for, done_at, VerdictFits}
 use Rattle.nq_chain_steps.specs.Chained.{is_done, has_done, has_done_write}
 use Rattle.nq_model.specs.Client.{Ticket}
 use Rattle.nq_model.specs.Decide.{Decision, row_after}
-use Rattle.nq_model.specs.Kept.{File, Kept, blocks_of, find_file, replace_file, written_file, fresh_row, host_row, with_row}
+use Rattle.nq_model.specs.Kept.{File, Kept, blocks_of, find_file, replace_file, written_file, host_row, with_row}
 use Rattle.nq_model.specs.Message.{Packet, asker, sequence_of}
 use Rattle.nq_model.specs.Profile.{most_hosts}
 use Rattle.nq_model.specs.Server.{Server}
 use Rattle.nq_run_steps.proofs.Packets.{Asked}
-use Rattle.nq_server_steps.proofs.KeptChanges.{own-line, other-line, find-own-replaced, find-other-replaced}
+use Rattle.nq_server_steps.proofs.KeptChanges.{own-line, other-line, find-own-replaced, find-other-replaced, same-lines}
 use Rattle.nq_server_steps.proofs.Rows.{same-number, number-same}
-
-pub same-lines : (kept after : Kept) (host : ℕ) → after.hosts ≡ kept.hosts → host_row after host ≡ host_row kept host
-same-lines kept after host same = ap (λ hosts. unwrap_or (slice_get hosts host) fresh_row) same
 
 -- the lines are the same
 pub line-same : (ps : List Packet) (s t : Server) (host : ℕ) → t.kept.hosts ≡ s.kept.hosts → LineTo ps s t host

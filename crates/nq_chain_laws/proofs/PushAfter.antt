@@ -8,7 +8,7 @@ use Rattle.nq_base.specs.declared.Request.{Request}
 use Rattle.nq_base.specs.declared.Row.{Row}
 use Rattle.nq_base.specs.declared.Tag.{Tag}
 use Rattle.nq_base.specs.declared.Who.{Who}
-use Rattle.nq_chain_laws.proofs.ChainAfter.{drawn-below, writing-at-least, writing-caching}
+use Rattle.nq_chain_laws.proofs.ChainAfter.{drawn-below, writing-at-least}
 use Rattle.nq_chain_laws.proofs.ServerChains.{RowOn, goes_on, vacated, superseded, loosened, removed, reopened, RowsMove, LineTo, line_stays, line_begins, line_decides, FileGrows, rev_stays, rev_rises, rev_gone}
 use Rattle.nq_chain_steps.proofs.ChainFacts.{line_for, done_at, rev_at, IsFenced, gone, ahead, earlier, IsBoundOrFenced, bound, fenced, IsPushed, ChainFits, StandsWriting, PushFits, PushesFit}
 use Rattle.nq_chain_steps.proofs.ChainLists.{fresh-undone}
@@ -25,10 +25,9 @@ use Rattle.nq_run_steps.proofs.ClientSteps.{KnowsOf}
 use Rattle.nq_run_steps.proofs.HostLine.{IsSettled}
 use Rattle.nq_run_steps.proofs.Packets.{Asked, Mail}
 use Rattle.nq_run_steps.proofs.TagFacts.{IsDrawn}
+use Rattle.nq_server_steps.proofs.Incarnations.{one-who}
+use Rattle.nq_server_steps.proofs.Modes.{writing-caches}
 use Rattle.nq_server_steps.proofs.Rows.{number-same}
-
-both-hosts : (v w : Who) → v.host ≡ w.host → v.inc ≡ w.inc → v ≡ w
-both-hosts v w a e = let make : ℕ → ℕ → Who = λ p q. record { host = p; inc = q } in ap (λ p. make p v.inc) a ∙ ap (λ q. make w.host q) e
 
 -- what was sent since is no request of the kept incarnation
 pub pushes-sends : (s : Server) (host : ℕ) (ps qs : List Packet) → ((x : ℕ) (r : Request) (v : Who) → Asked qs host x r → asker r ≡ Some v → v.inc ≡ (host_row s.kept host).inc → Asked ps host x r) → PushesFit s host ps → PushesFit s host qs
@@ -65,7 +64,7 @@ pushes-running s events host c ps at kept boots knows mail h x w n file block fi
     sent' = subst (λ m. Asked ps m x r) (sym at) sent
 
     one : w ≡ c.who
-    one = both-hosts w c.who (here ∙ sym at) running
+    one = one-who w c.who (here ∙ sym at) running
 
     waits' : (line_for s.kept c.who).seq < n
     waits' = subst (λ m. (host_row s.kept m).seq < n) (sym at) waits
@@ -91,7 +90,7 @@ pushes-running s events host c ps at kept boots knows mail h x w n file block fi
       by : IsBoundOrFenced (standing s) s.kept c.who file p.lease.tag (due (done_at s.kept c.who c.ticket file) (rev_at c.revisions file)) → IsFenced s.kept file base.boot base.base ⊎ StandsWriting (standing s) s.kept c.who file base ps
       by (fenced k) = inl (subst (λ b. IsFenced s.kept file b base.base) (sym p.boot) (subst (λ v. IsFenced s.kept file p.lease.tag.boot v) (ap (λ d. due d (rev_at c.revisions file)) undone ∙ sym p.rev) k))
       by (bound row k) =
-          let knows' = h.held.chained file p.lease row p.held (writing-caching p.lease.mode writing) k in
+          let knows' = h.held.chained file p.lease row p.held (writing-caches p.lease.mode writing) k in
           inr (record {
             row = row;
             own = k.own;

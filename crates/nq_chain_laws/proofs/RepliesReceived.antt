@@ -10,7 +10,6 @@ use Rattle.nq_base.specs.declared.Request.{Request}
 use Rattle.nq_base.specs.declared.Row.{Row}
 use Rattle.nq_base.specs.declared.Want.{Want}
 use Rattle.nq_base.specs.declared.Who.{Who}
-use Rattle.nq_chain_laws.proofs.RowMoves.{at-least-more}
 use Rattle.nq_chain_laws.proofs.ServerChains.{NewGrant, NewReply}
 use Rattle.nq_client_steps.proofs.ClientMoves.{some-same, none-some}
 use Rattle.nq_lease_laws.proofs.Covers.{granted-key}
@@ -27,21 +26,16 @@ use Rattle.nq_model.specs.ServerStep.{attaches, vacates, tells_later, serves, le
 use Rattle.nq_model.specs.Table.{Table, caches, greater_mode, find_row, put_row, next_tag, with_rows, after_draw}
 use Rattle.nq_run_steps.proofs.Packets.{In, in-append, Asked, Told, told-same, reply-same}
 use Rattle.nq_run_steps.proofs.ServerSays.{verdict-inc, verdict-grant, plain-inc, plain-grant}
+use Rattle.nq_server_laws.proofs.LogGrants.{granted-tag}
 use Rattle.nq_server_laws.proofs.ServerNumbers.{LinesFitOf}
 use Rattle.nq_server_steps.proofs.AskCases.{own_in, IsGranted, shares_again, begins_sharing, begins_caching, renews_row}
 use Rattle.nq_server_steps.proofs.KeptChanges.{own-line}
+use Rattle.nq_server_steps.proofs.Modes.{at-least-more}
 use Rattle.nq_server_steps.proofs.RowChanges.{find-put-same}
 use Rattle.nq_server_steps.proofs.ServerCases.{server-hears}
 use Rattle.nq_server_steps.proofs.ServerOutcomes.{error_for, only_asks, wanted_by, line_of, IsFrom, IsFresh, IsAsking, IsPlain, unattached, attached_again, not_yet, no_entry, entry, no_attributes, attributes, no_file, no_block, decided_again, is_old, ServerCases}
 
 -- ---- grants
-
-granted-tag : (table : Table) (q : Question) (want : Want) (row : Row) (term : ℕ) → IsGranted table q want row term → row.tag ≡ next_tag table
-unfolding sharing_row caching_row shared_again renewed_row
-granted-tag table q want row term (shares_again own found stays shares is lasts) = ap (λ r. r.tag) is
-granted-tag table q want row term (begins_sharing none room shared is lasts) = ap (λ r. r.tag) is
-granted-tag table q want row term (begins_caching none room shared is lasts) = ap (λ r. r.tag) is
-granted-tag table q want row term (renews_row own found stays caching is lasts) = ap (λ r. r.tag) is
 
 greater-caches : (own wanted : Mode) → caches own ≡ true → caches (greater_mode own wanted) ≡ true
 greater-caches own wanted c = at-least-more own wanted Reading c

@@ -19,9 +19,10 @@ use Rattle.nq_model.specs.LeaseInterval.{is_at_least}
 use Rattle.nq_model.specs.Message.{Packet}
 use Rattle.nq_model.specs.Server.{Phase, serving, recovering, Server, standing}
 use Rattle.nq_model.specs.ServerStep.{vacated_rows, is_over, is_due, end_reading}
-use Rattle.nq_model.specs.Table.{Table, caches, is_writing, greater_mode, same_tag, is_row_of, find_row, drop_row, drop_host, drop_rows_of, put_row, next_tag, with_rows, after_draw}
+use Rattle.nq_model.specs.Table.{Table, caches, is_writing, same_tag, is_row_of, find_row, drop_row, drop_host, drop_rows_of, put_row, next_tag, with_rows, after_draw}
 use Rattle.nq_run_steps.proofs.Packets.{Asked}
 use Rattle.nq_server_steps.proofs.AskCases.{own_in, with_marked, with_waiter, IsGranted, shares_again, begins_sharing, begins_caching, renews_row}
+use Rattle.nq_server_steps.proofs.Modes.{at-least-more}
 use Rattle.nq_server_steps.proofs.RowChanges.{HasUniqueKeys, of-key, found-put, find-put, kept_if, find-kept, found-kept, found-vacated, find-not-vacated, find-marked, found-marked, mark, mark-is, unique-filtered, find-other-host-dropped, find-other-file-dropped, find-other-dropped}
 use Rattle.nq_server_steps.proofs.Rows.{both-true, same-number, number-same}
 
@@ -43,19 +44,6 @@ both-on before a b c k who since tag mode = record {
 -- a marked row goes on
 marked-on : (before : Table) (file host : ℕ) (access : Access) (row : Row) → Continues before row (mark file host access row)
 marked-on before file host access row = let m = mark-is file host access row in both-on before row row (mark file host access row) (same-on before row) m.who m.since m.tag m.mode
-
-pub at-least-more : (row wanted mode : Mode) → is_at_least row mode ≡ true → is_at_least (greater_mode row wanted) mode ≡ true
-at-least-more row wanted NonCaching h = refl
-at-least-more NonCaching wanted Reading h = cc
-at-least-more NonCaching wanted Writing h = cc
-at-least-more Reading wanted Reading h = step (is_writing wanted)
-  where
-    step : (b : Bool) → caches (if b then Writing else Reading) ≡ true
-    step true = refl
-    step false = refl
-at-least-more Reading wanted Writing h = cc
-at-least-more Writing wanted Reading h = refl
-at-least-more Writing wanted Writing h = refl
 
 -- a renewed row goes on
 renewed-on : (table : Table) (q : Question) (own : Row) (mode : Mode) (term : ℕ) → Continues table own (renewed_row table q own mode term)

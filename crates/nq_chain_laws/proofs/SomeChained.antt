@@ -1,5 +1,5 @@
 -- A client can take a chained grant, and later holds its lease over a write of its own that was done.
-use Rattle.std.proofs.Common.{◌≡◌, zero, suc, true, false, List, [], ◌∷◌, Option, Some, None, refl, sym, arith}
+use Rattle.std.proofs.Common.{◌≡◌, zero, suc, true, false, List, [], ◌∷◌, Some, refl, sym, arith}
 use Rattle.std.specs.Prelude.{◌++◌, slice_get, unwrap_or, is_some, All}
 use Rattle.nq_base.specs.Block.{zeros}
 use Rattle.nq_base.specs.declared.Call.{Call}
@@ -31,6 +31,7 @@ use Rattle.nq_model.specs.Kept.{new_file, written_file, resized_file, fenced_fil
 use Rattle.nq_model.specs.Server.{quiet, drops, says, after_notices, keeping, keeping_with, with_table}
 use Rattle.nq_model.specs.Table.{empty_table, with_rows, after_draw, find_row}
 use Rattle.nq_model.specs.World.{after_server, after_client, start, run}
+use Rattle.nq_server_steps.proofs.Tests.{some-is}
 
 -- host 0 wants to write, and the server gives it the lease; the newest event first
 asked-for : List Event
@@ -78,10 +79,6 @@ given = record { mode = Mode.Writing; term = 30; tag = drawn; since = drawn; rev
 
 abbrev asked : Ticket
 asked = record { xid = 1; first = 0; last = 0; request = Request.GetLease holder 1 (record { mode = Mode.Writing; term = 30 }); job = for_call }
-
-some-is : (o : Option Client) (d : Client) → is_some o ≡ true → o ≡ Some (unwrap_or o d)
-some-is None d e = absurd (cc)
-some-is (Some c) d e = refl
 
 asking-is-there : is_some (slice_get (run two-hosts asked-for).clients 0) ≡ true
 unfolding asked-for grant_of sharing_row caching_row shared_again renewed_row put_off free put_off_by_own granted no_lease begins_call is_called says_busy at_time sends_again fresh_client attached_client starts decides creates writes_through stores wrote stores_recovering resizes removes puts_off commits vacates_lease loses without_lease granted_lease holds caches_block purges knows_revision marks_through ends_push spends attached pauses cancels notes_notice new_file written_file resized_file fenced_file with_row with_files with_new_file sends_request after_seq after_number takes_push gives_up quiet drops says after_notices keeping keeping_with with_table attaches tells_later serves leases vacates ends_writing opens boot crash answers after_read reads_cached after_write marks_written empty_table with_rows after_draw after_server after_client start

@@ -22,12 +22,8 @@ use Rattle.nq_model.specs.Message.{Packet}
 use Rattle.nq_model.specs.Server.{Server, standing}
 use Rattle.nq_model.specs.Settle.{with_write, ticket_is_for_call}
 use Rattle.nq_model.specs.Table.{caches, is_writing, tag_below}
+use Rattle.nq_server_steps.proofs.Modes.{writing-caches}
 use Rattle.nq_server_steps.proofs.Rows.{same-number}
-
-writing-caches : (mode : Mode) → is_writing mode ≡ true → caches mode ≡ true
-writing-caches NonCaching h = cc
-writing-caches Reading h = refl
-writing-caches Writing h = refl
 
 module _ (s : Server) (ps : List Packet) where
   -- a write is delayed under a writing lease that runs

@@ -1,5 +1,5 @@
 -- Look-ups in a client's lists, backwards; and whether a request under way was done.
-use Rattle.std.proofs.Common.{◌≡◌, ◌≢◌, ◌<◌, ◌⊎◌, ℕ, Bool, true, false, ◌||◌, ◌&&◌, not, ◌==◌, List, [], ◌∷◌, ◌++◌, Option, Some, None, if◌then◌else◌, map, is_some, refl, sym, subst, ap, ◌∙◌, arith, inl, inr}
+use Rattle.std.proofs.Common.{◌≡◌, ◌≢◌, ◌<◌, ◌⊎◌, ℕ, Bool, true, false, ◌||◌, ◌&&◌, not, ◌==◌, List, [], ◌∷◌, ◌++◌, Option, Some, None, if◌then◌else◌, is_some, refl, sym, subst, ap, ◌∙◌, arith, inl, inr}
 use Rattle.std.specs.List.{filter, list_any}
 use Rattle.nq_base.specs.declared.HostRow.{HostRow}
 use Rattle.nq_base.specs.declared.Push.{Push}
@@ -7,13 +7,13 @@ use Rattle.nq_base.specs.declared.Request.{Request}
 use Rattle.nq_chain_steps.proofs.ChainFacts.{rev_at}
 use Rattle.nq_chain_steps.specs.Chained.{is_done, has_done}
 use Rattle.nq_client_steps.proofs.ClientFacts.{is_clean_in}
-use Rattle.nq_client_steps.proofs.ClientLists.{other-number, number-other, marked-before, marked-tag, marked-mode, marked-expiry, lease-before-drop, other-lease-dropped, used-lease-found}
+use Rattle.nq_client_steps.proofs.ClientLists.{other-number, number-other, marked-before, marked-tag, marked-mode, marked-expiry, lease-before-drop, other-lease-dropped, used-lease-found, marked-blocks, any-overwritten}
 use Rattle.nq_client_steps.proofs.ClientMoves.{some-same, none-some}
 use Rattle.nq_client_steps.proofs.ClientWrites.{has-writes, writes-in-list, writes-under-way}
 use Rattle.nq_model.specs.Client.{Lease, Revision, lease_on, drop_lease, used_lease, marked_used, is_push_of, is_push_at, first_dirty, push_passes, drop_dirty, other_dirty, revision_of, revision_or_zero, put_revision}
 use Rattle.nq_model.specs.Hear.{other_push}
 use Rattle.nq_model.specs.Message.{sequence_of}
-use Rattle.nq_model.specs.Settle.{overwritten_at, with_write}
+use Rattle.nq_model.specs.Settle.{with_write}
 use Rattle.nq_server_steps.proofs.Rows.{find-filter, same-number, number-same, false-not}
 
 -- ---- leases
@@ -26,13 +26,6 @@ pub record WasLease (leases : List Lease) (file : ℕ) (l : Lease) : Type 0 wher
   pub tag : l.tag ≡ before.tag
   pub blocks : l.blocks ≡ before.blocks
   pub expiry : l.expiry ≡ before.expiry
-
-marked-blocks : (f : ℕ) (l : Lease) → (marked_used f l).blocks ≡ l.blocks
-marked-blocks f l = step (l.file == f)
-  where
-    step : (b : Bool) → (if b then record l { used = true } else l).blocks ≡ l.blocks
-    step true = refl
-    step false = refl
 
 pub was-used : (f : ℕ) (leases : List Lease) (file : ℕ) (l : Lease) → lease_on file (used_lease f leases) ≡ Some l → WasLease leases file l
 was-used f leases file l e =
@@ -119,17 +112,6 @@ pub none-found : (file : ℕ) (xs : List Push) → first_dirty file xs ≡ None 
 none-found file [] h = refl
 none-found file (y ∷ xs) h = none-found-step (is_push_of file) y xs (is_push_of file y) refl (first_dirty file xs) (none-found file xs) h
 
-overwritten-of : (file block number : ℕ) (body : List ℕ) (f : ℕ) (p : Push) → is_push_of f (overwritten_at file block number body p) ≡ is_push_of f p
-overwritten-of file block number body f p = step (is_push_at file block p)
-  where
-    step : (b : Bool) → is_push_of f (if b then record p { last = number; body = body } else p) ≡ is_push_of f p
-    step true = refl
-    step false = refl
-
-any-over : (file block number : ℕ) (body : List ℕ) (f : ℕ) (dirty : List Push) → list_any (is_push_of f) (map (overwritten_at file block number body) dirty) ≡ list_any (is_push_of f) dirty
-any-over file block number body f [] = refl
-any-over file block number body f (p ∷ dirty) = rw (overwritten-of file block number body f p, any-over file block number body f dirty) refl
-
 any-last-step : (a x b : Bool) → (x ≡ true → (b ≡ true) ⊎ (a ≡ true)) → (c : Bool) → (c || x) ≡ true → ((c || b) ≡ true) ⊎ (a ≡ true)
 any-last-step a x b rest true h = inl refl
 any-last-step a x b rest false h = rest h
@@ -144,7 +126,7 @@ any-last p (x ∷ xs) y h = any-last-step (p y) (list_any p (xs ++ y ∷ [])) (l
 
 -- of another file than the one that is written there were delayed writes before
 any-wrote : (f file block number : ℕ) (body : List ℕ) (dirty : List Push) (o : Option Push) → f ≢ file → list_any (is_push_of f) (with_write file block number body dirty o) ≡ true → list_any (is_push_of f) dirty ≡ true
-any-wrote f file block number body dirty (Some p) apart h = sym (any-over file block number body f dirty) ∙ h
+any-wrote f file block number body dirty (Some p) apart h = sym (any-overwritten file block number body f dirty) ∙ h
 any-wrote f file block number body dirty None apart h = step (any-last (is_push_of f) dirty (record { file = file; block = block; first = number; last = number; body = body }) h)
   where
     step : (list_any (is_push_of f) dirty ≡ true) ⊎ ((file == f) ≡ true) → list_any (is_push_of f) dirty ≡ true

@@ -1,5 +1,5 @@
 -- What is known of chained leases is kept where a client settles its call and sends its next request.
-use Rattle.std.proofs.Common.{◌≡◌, ◌<◌, ◌⊎◌, ℕ, ◌+◌, Bool, true, false, not, ◌||◌, ◌&&◌, ◌==◌, List, [], ◌∷◌, Option, Some, None, nat_le, nat_lt, map, if◌then◌else◌, refl, sym, subst, ap, ◌∙◌, arith, inl, inr}
+use Rattle.std.proofs.Common.{◌≡◌, ◌<◌, ◌⊎◌, ℕ, ◌+◌, Bool, true, false, not, ◌||◌, ◌&&◌, ◌==◌, List, [], ◌∷◌, Option, Some, None, nat_le, nat_lt, map, if◌then◌else◌, refl, sym, subst, ap, ◌∙◌, arith}
 use Rattle.std.proofs.lemmas.Bool.Decides.{nat_tests}
 use Rattle.std.specs.List.{filter, list_any}
 use Rattle.nq_base.specs.declared.Answer.{Answer}
@@ -20,15 +20,16 @@ use Rattle.nq_client_cases.proofs.SettleCases.{IsSettling, IsWrite, CanWrite, Se
 use Rattle.nq_client_steps.proofs.ClientFacts.{DelayingOf, push_in, is_clean_in}
 use Rattle.nq_client_steps.proofs.ClientMoves.{some-same, none-some}
 use Rattle.nq_client_steps.proofs.ClientWrites.{writes-in-list, no-push}
+use Rattle.nq_client_steps.proofs.SendWalk.{noticed-one, no-noticed, least-with-some}
 use Rattle.nq_model.specs.Client.{Client, ClientStep, Job, for_call, renewing, pushing, Lease, Notice, Ticket, UnderWay, lease_on, notice_on, is_clean, is_push_of, first_dirty, drop_dirty, is_live}
 use Rattle.nq_model.specs.LeaseInterval.{requested_file}
 use Rattle.nq_model.specs.Message.{Packet, sequence_of}
 use Rattle.nq_model.specs.Profile.{renewal}
-use Rattle.nq_model.specs.Send.{boot_of, sends_request, after_seq, after_number, base_of, takes_push, noticed_file, ending_file, is_to_push, least, least_with, file_of_notice, file_of_lease, sends_write, gives_up, want_of, shares_live, send_next}
+use Rattle.nq_model.specs.Send.{boot_of, sends_request, after_seq, after_number, base_of, takes_push, noticed_file, ending_file, is_to_push, least, file_of_lease, sends_write, gives_up, want_of, shares_live, send_next}
 use Rattle.nq_model.specs.Server.{Server}
 use Rattle.nq_model.specs.Settle.{answers, reads_cached, after_read, after_write, delays, marks_written, settle, ticket_is_for_call}
 use Rattle.nq_model.specs.Table.{caches, is_writing}
-use Rattle.nq_server_steps.proofs.Rows.{both-true, not-true, find-passes, same-number, number-same}
+use Rattle.nq_server_steps.proofs.Rows.{both-true, not-true, find-passes, same-number}
 use Rattle.nq_server_steps.proofs.ServerOutcomes.{base_in, file_changed_by}
 
 -- the view of a client in the middle of a step
@@ -99,33 +100,8 @@ module _ (s : Server) (ps : List Packet) where
 
 -- ---- where nothing is to be pushed first
 
-least-some : (n : ℕ) (o : Option ℕ) → least_with n o ≡ None → ⊥
-least-some n None h = cc
-least-some n (Some m) h = cc
-
-least-one : (n : ℕ) (o : Option ℕ) (k : ℕ) → least_with n o ≡ Some k → (n ≡ k) ⊎ (o ≡ Some k)
-least-one n None k h = inl (some-same n k h)
-least-one n (Some m) k h = step (nat_lt m n) h
-  where
-    step : (b : Bool) → Some (if b then m else n) ≡ Some k → (n ≡ k) ⊎ (Some m ≡ Some k)
-    step true e = inr e
-    step false e = inl (some-same n k e)
-
-noticed-there : (notices : List Notice) (file : ℕ) → least (map file_of_notice notices) ≡ Some file → (n : Notice) × (notice_on file notices ≡ Some n)
-noticed-there [] file h = none-some file h
-noticed-there (n ∷ notices) file h = step (n.file == file) refl (least-one n.file (least (map file_of_notice notices)) file h) (noticed-there notices file)
-  where
-    step : (b : Bool) → (n.file == file) ≡ b → (n.file ≡ file) ⊎ (least (map file_of_notice notices) ≡ Some file) → (least (map file_of_notice notices) ≡ Some file → (m : Notice) × (notice_on file notices ≡ Some m)) → (m : Notice) × ((if b then Some n else notice_on file notices) ≡ Some m)
-    step true e w rest = (n, refl)
-    step false e (inl same) rest = let yes : (n.file == file) ≡ true = number-same n.file file same in absurd (cc)
-    step false e (inr there) rest = rest there
-
-none-noticed : (notices : List Notice) → least (map file_of_notice notices) ≡ None → (file : ℕ) (n : Notice) → notice_on file notices ≡ Some n → ⊥
-none-noticed [] h file n e = none-some n e
-none-noticed (m ∷ notices) h file n e = absurd (least-some m.file (least (map file_of_notice notices)) h)
-
 passing-step : (p : Lease → Bool) (y l : Lease) (leases : List Lease) (b c : Bool) → p y ≡ c → (lease_on l.file leases ≡ Some l → least (map file_of_lease (filter p leases)) ≡ None → ⊥) → p l ≡ true → (if b then Some y else lease_on l.file leases) ≡ Some l → least (map file_of_lease (if c then y ∷ filter p leases else filter p leases)) ≡ None → ⊥
-passing-step p y l leases b true e rest passes found none = least-some y.file (least (map file_of_lease (filter p leases))) none
+passing-step p y l leases b true e rest passes found none = least-with-some y.file (least (map file_of_lease (filter p leases))) none
 passing-step p y l leases true false e rest passes found none = let one : y ≡ l = some-same y l found in let yes : p y ≡ true = subst (λ z. p z ≡ true) (sym one) passes in absurd (cc)
 passing-step p y l leases false false e rest passes found none = rest found none
 
@@ -155,8 +131,8 @@ module _ (t : ClientStep) (noticed : (file : ℕ) (n : Notice) → notice_on fil
   unnoticed file = step (notice_on file t.client.notices) refl
     where
       least-step : (o : Option ℕ) → noticed_file t.client ≡ o → (n : Notice) → notice_on file t.client.notices ≡ Some n → ⊥
-      least-step None is n e = none-noticed t.client.notices is file n e
-      least-step (Some g) is n e = let m = noticed-there t.client.notices g is in has-first g (noticed g m.0 m.1) (nothing.noticed g is)
+      least-step None is n e = no-noticed t.client.notices is file n e
+      least-step (Some g) is n e = let m = noticed-one t.client.notices g is in has-first g (noticed g m.0 m.1) (nothing.noticed g is)
 
       step : (o : Option Notice) → notice_on file t.client.notices ≡ o → notice_on file t.client.notices ≡ None
       step None e = e

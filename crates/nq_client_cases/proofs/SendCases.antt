@@ -1,16 +1,17 @@
 -- The next request, walked once: each outcome with what led to it.
-use Rattle.std.proofs.Common.{◌≡◌, ◌≤◌, ◌⊎◌, ℕ, Bool, true, false, ◌||◌, ◌==◌, List, [], ◌∷◌, Option, Some, None, is_some, map, nat_le, nat_lt, if◌then◌else◌, refl, sym, subst, ap, ◌∙◌, inl, inr}
+use Rattle.std.proofs.Common.{◌≡◌, ◌≤◌, ◌⊎◌, ℕ, Bool, true, false, ◌||◌, ◌==◌, List, [], ◌∷◌, Option, Some, None, is_some, map, nat_le, if◌then◌else◌, refl, sym, subst, ap, ◌∙◌, inl, inr}
 use Rattle.std.specs.List.{filter}
 use Rattle.nq_base.specs.declared.Call.{Call}
 use Rattle.nq_base.specs.declared.Mode.{Mode}
 use Rattle.nq_base.specs.declared.Push.{Push}
 use Rattle.nq_base.specs.declared.Request.{Request}
+use Rattle.nq_client_steps.proofs.ClientLists.{lease-file, first-is-of}
 use Rattle.nq_client_steps.proofs.ClientMoves.{some-same, none-some}
-use Rattle.nq_client_steps.proofs.SendWalk.{is-none}
-use Rattle.nq_model.specs.Client.{Client, ClientStep, Job, for_call, renewing, pushing, Lease, Ticket, UnderWay, lease_on, notice_on, is_clean, first_dirty, is_push_of}
-use Rattle.nq_model.specs.Send.{sends_request, after_seq, base_of, takes_push, pushes_these, pushes, noticed_file, ending_file, read_want, want_of, sends_write, next_write, next_put, gives_up, next_change, asks, next_of_call, next_of_under_way, renews_lease, renews, renewed_file, is_to_renew, is_asking, then_renews, then_calls, pushes_due, then_pushes, then_ending, send_next, shares_live, least, least_with, file_of_lease}
-use Rattle.nq_server_steps.proofs.Rows.{choice, both-true, not-true, same-number, find-passes}
-use Rattle.nq_server_steps.proofs.Tests.{is-at-most, either-false}
+use Rattle.nq_client_steps.proofs.SendWalk.{least-with-one}
+use Rattle.nq_model.specs.Client.{Client, ClientStep, Job, for_call, renewing, pushing, Lease, Ticket, UnderWay, lease_on, notice_on, is_clean, first_dirty}
+use Rattle.nq_model.specs.Send.{sends_request, after_seq, base_of, takes_push, pushes_these, pushes, noticed_file, ending_file, read_want, want_of, sends_write, next_write, next_put, gives_up, next_change, asks, next_of_call, next_of_under_way, renews_lease, renews, renewed_file, is_to_renew, is_asking, then_renews, then_calls, pushes_due, then_pushes, then_ending, send_next, shares_live, least, file_of_lease}
+use Rattle.nq_server_steps.proofs.Rows.{choice, both-true, not-true}
+use Rattle.nq_server_steps.proofs.Tests.{is-at-most, either-false, none-there}
 
 -- neither the file of the first notice nor the first file whose lease is about to end has delayed writes to be pushed
 pub record NothingToPush (c : Client) : Type 0 where
@@ -84,14 +85,6 @@ sent-asks t job request = refl
 
 -- ---- the lease to renew
 
-least-with-one : (n : ℕ) (o : Option ℕ) (k : ℕ) → least_with n o ≡ Some k → (n ≡ k) ⊎ (o ≡ Some k)
-least-with-one n None k h = inl (some-same n k h)
-least-with-one n (Some m) k h = step (nat_lt m n) h
-  where
-    step : (b : Bool) → Some (if b then m else n) ≡ Some k → (n ≡ k) ⊎ (Some m ≡ Some k)
-    step true e = inr e
-    step false e = inl (some-same n k e)
-
 -- the least file of the leases that pass a test is the file of one that passes
 pub least-passes : (p : Lease → Bool) (leases : List Lease) (file : ℕ) → least (map file_of_lease (filter p leases)) ≡ Some file → (l : Lease) × (l.file ≡ file) × (p l ≡ true)
 least-passes p [] file h = none-some file h
@@ -109,13 +102,7 @@ renewed-facts : (c : Client) (file : ℕ) → renewed_file c ≡ Some file → (
 renewed-facts c file h =
     let m = least-passes (is_to_renew c) c.leases file h in
     let a = both-true _ _ m.2 in
-    (subst (λ f. is_clean c f ≡ true) m.1 (both-true _ _ a.0).1, subst (λ f. notice_on f c.notices ≡ None) m.1 (is-none _ (not-true _ a.1)))
-
-lease-file : (file : ℕ) (leases : List Lease) (l : Lease) → lease_on file leases ≡ Some l → l.file ≡ file
-lease-file file leases l e = same-number l.file file (find-passes (λ m. m.file == file) l leases e)
-
-push-file : (file : ℕ) (dirty : List Push) (p : Push) → first_dirty file dirty ≡ Some p → p.file ≡ file
-push-file file dirty p e = same-number p.file file (find-passes (is_push_of file) p dirty e)
+    (subst (λ f. is_clean c f ≡ true) m.1 (both-true _ _ a.0).1, subst (λ f. notice_on f c.notices ≡ None) m.1 (none-there _ (not-true _ a.1)))
 
 -- ---- the walk
 
@@ -139,7 +126,7 @@ module _ (in_tick : Bool) (t : ClientStep) (Q : ClientStep → Type 0) (cases : 
   then-due R o pushes stays = choice R (is_asking t) t (pushes_due t o) (λ e. absurd (cc)) (λ e. due R o pushes stays)
 
   push : (file : ℕ) (p : Push) → first_dirty file t.client.dirty ≡ Some p → Q (pushed t p)
-  push file p e = cases.pushing file p free e (push-file file t.client.dirty p e)
+  push file p e = cases.pushing file p free e (first-is-of file t.client.dirty p e)
 
   push-then : (file : ℕ) (p : Push) → first_dirty file t.client.dirty ≡ Some p → Q (then_renews in_tick (pushed t p))
   push-then file p e = subst Q (sym (asking-renews in_tick (pushed t p) (sent-asks _ _ _))) (push file p e)

@@ -7,11 +7,10 @@ use Rattle.nq_base.specs.declared.Push.{Push}
 use Rattle.nq_base.specs.declared.Value.{Value}
 use Rattle.nq_client_steps.proofs.ClientLists.{any-written}
 use Rattle.nq_client_steps.proofs.ClientMoves.{some-same, none-some}
-use Rattle.nq_client_steps.proofs.SendWalk.{is-none}
 use Rattle.nq_model.specs.Client.{Client, ClientStep, Lease, UnderWay, lease_on, lets_read, lets_write, notice_on, is_clean, is_push_of, is_push_at, dirty_at}
 use Rattle.nq_model.specs.Settle.{answers, reads_cached, settle_body, cached_body, settle_read, after_write, delays, marks_written, after_delay, settle_write_in, settle_write, settle_sync, settle_put, settle_call, ticket_is_for_call, settle_under_way, settle, is_full, with_write}
 use Rattle.nq_server_steps.proofs.Rows.{choice, both-true, not-true, number-same}
-use Rattle.nq_server_steps.proofs.Tests.{is-at-most, is-not-at-most}
+use Rattle.nq_server_steps.proofs.Tests.{is-at-most, is-not-at-most, none-there}
 
 -- a call is under way, and its own request is not
 pub record IsSettling (t : ClientStep) (u : UnderWay) : Type 0 where
@@ -141,7 +140,7 @@ settle-cases t Q cases = under-way t.client.call refl
         (lets_write t.client.now lease && not (is_some (notice_on file t.client.notices)) && not u.through)
         (settle_write_in t u sync file block body lease)
         t
-        (λ lets. within (let a = both-true _ _ lets in let b = both-true _ _ a.0 in record { held = e; lets = b.0; unnoticed = is-none _ (not-true _ b.1); delayed = not-true _ a.1 }))
+        (λ lets. within (let a = both-true _ _ lets in let b = both-true _ _ a.0 in record { held = e; lets = b.0; unnoticed = none-there _ (not-true _ b.1); delayed = not-true _ a.1 }))
         (λ refuses. cases.write_waits u sync file block body is write (λ other can. refused other can refuses))
       where
         refused : (other : Lease) → CanWrite t.client u file other → (lets_write t.client.now lease && not (is_some (notice_on file t.client.notices)) && not u.through) ≡ false → ⊥

@@ -157,14 +157,14 @@ any-others file other dirty apart =
     any-filter (is_push_of file) (λ p. not (is_push_of other p)) dirty (λ p h. let of_file : p.file ≡ file = same-number p.file file h in let differs : (p.file == other) ≡ false = number-other p.file other (λ e. apart (sym e ∙ of_file)) in rw differs refl)
 
 -- an overwritten entry keeps its file
-overwritten-file : (file block number : ℕ) (body : List ℕ) (f : ℕ) (p : Push) → is_push_of f (overwritten_at file block number body p) ≡ is_push_of f p
+pub overwritten-file : (file block number : ℕ) (body : List ℕ) (f : ℕ) (p : Push) → is_push_of f (overwritten_at file block number body p) ≡ is_push_of f p
 overwritten-file file block number body f p = step (is_push_at file block p)
   where
     step : (b : Bool) → is_push_of f (if b then record p { last = number; body = body } else p) ≡ is_push_of f p
     step true = refl
     step false = refl
 
-any-overwritten : (file block number : ℕ) (body : List ℕ) (f : ℕ) (dirty : List Push) → list_any (is_push_of f) (map (overwritten_at file block number body) dirty) ≡ list_any (is_push_of f) dirty
+pub any-overwritten : (file block number : ℕ) (body : List ℕ) (f : ℕ) (dirty : List Push) → list_any (is_push_of f) (map (overwritten_at file block number body) dirty) ≡ list_any (is_push_of f) dirty
 any-overwritten file block number body f [] = refl
 any-overwritten file block number body f (p ∷ dirty) = rw (overwritten-file file block number body f p, any-overwritten file block number body f dirty) refl
 
@@ -180,3 +180,13 @@ any-append p (x ∷ xs) y h = any-append-step (p x) (list_any p xs) (list_any p 
 pub any-written : (f file block number : ℕ) (body : List ℕ) (dirty : List Push) (o : Option Push) → list_any (is_push_of f) dirty ≡ true → list_any (is_push_of f) (with_write file block number body dirty o) ≡ true
 any-written f file block number body dirty (Some p) h = any-overwritten file block number body f dirty ∙ h
 any-written f file block number body dirty None h = any-append (is_push_of f) dirty (record { file = file; block = block; first = number; last = number; body = body }) h
+
+pub lease-file : (file : ℕ) (leases : List Lease) (l : Lease) → lease_on file leases ≡ Some l → l.file ≡ file
+lease-file file leases l e = same-number l.file file (find-passes (λ m. m.file == file) l leases e)
+
+pub marked-blocks : (f : ℕ) (l : Lease) → (marked_used f l).blocks ≡ l.blocks
+marked-blocks f l = step (l.file == f)
+  where
+    step : (b : Bool) → (if b then record l { used = true } else l).blocks ≡ l.blocks
+    step true = refl
+    step false = refl

@@ -16,7 +16,7 @@ use Rattle.nq_client_steps.proofs.ClientMoves.{some-same, none-some, attached-wi
 use Rattle.nq_client_steps.proofs.ClientWrites as writes
 use Rattle.nq_client_steps.proofs.HearWalk.{Brings, answers-call-keeps, pauses-keeps, done-call-keeps, done-renewal-keeps, done-push-keeps, refused-push-keeps, spent-keeps, spent-free, spent-now, spent-notices}
 use Rattle.nq_server_steps.proofs.Rows.{choice}
-use Rattle.nq_client_steps.proofs.SendWalk.{at-true, from-true, is-none, send-next-keeps}
+use Rattle.nq_client_steps.proofs.SendWalk.{at-true, from-true, send-next-keeps}
 use Rattle.nq_client_steps.proofs.SettleWalk.{begun-call, settle-keeps}
 use Rattle.nq_model.specs.Client.{Client, ClientStep, Job, attaching, for_call, renewing, pushing, begun, Notice, Ticket, notice_on, drop_notice, is_clean, is_push_of, push_passes}
 use Rattle.nq_model.specs.ClientStep.{begins_call, is_called, sends_unless_cached, call_freely, tell_losses, call_past_losses, says_busy, losses_for, changed_file, client_call, at_time, sends_again, tick_asking, client_tick}
@@ -24,6 +24,7 @@ use Rattle.nq_model.specs.Hear.{wants_of, vacates_lease, answer_of, puts_off, sp
 use Rattle.nq_model.specs.Send.{send_next}
 use Rattle.nq_model.specs.LeaseInterval.{grant_in, requested_file}
 use Rattle.nq_model.specs.Settle.{answers, settle}
+use Rattle.nq_server_steps.proofs.Tests.{none-there}
 
 -- ---- replies
 
@@ -122,7 +123,7 @@ reply-keeps closed c number ticket r h = goes-on-keeps closed (replied (begun c)
 
 -- ---- notices
 
-push-wants-none : (f : ℕ) (r : Request) (p : Push) → push_in r ≡ Some p → wants_of f r ≡ false
+pub push-wants-none : (f : ℕ) (r : Request) (p : Push) → push_in r ≡ Some p → wants_of f r ≡ false
 push-wants-none f (Request.Write w seq file block first last (Some base) body) p e = refl
 push-wants-none f r p e = none-some p e
 
@@ -256,7 +257,7 @@ pub call-keeps : {Heard : ℕ → Tag → Type 0} {Given : ℕ → Grant → ℕ
 call-keeps {P = P} closed c op a core =
     choice (Both P) (is_some c.call || not c.attached) (says_busy (begins_call c op)) (call_past_losses (begins_call c op) op (losses_for (changed_file op) c.losses))
     (λ e. busy-keeps (begins_call c op) (begins-both c op a core))
-    (λ e. let k = neither (is_some c.call) c.attached e in past-losses-keeps closed (begins_call c op) op (losses_for (changed_file op) c.losses) ((begun-same c op).0 ∙ is-none c.call k.0) ((begun-same c op).1 ∙ k.1) (begins-both c op a core))
+    (λ e. let k = neither (is_some c.call) c.attached e in past-losses-keeps closed (begins_call c op) op (losses_for (changed_file op) c.losses) ((begun-same c op).0 ∙ none-there c.call k.0) ((begun-same c op).1 ∙ k.1) (begins-both c op a core))
 
 -- ---- ticks
 

@@ -18,11 +18,7 @@ use Rattle.nq_model.specs.Client.{Client, ClientStep, Job, attaching, for_call, 
 use Rattle.nq_model.specs.Hear.{wants_of}
 use Rattle.nq_model.specs.Message.{asker, sequence_of}
 use Rattle.nq_model.specs.Send.{sends_request, after_seq, after_number, base_of, takes_push, pushes_these, pushes, least, least_with, file_of_notice, file_of_lease, is_to_renew, noticed_file, ending_file, read_want, want_of, sends_write, next_write, next_put, gives_up, next_change, asks, next_of_call, next_of_under_way, renews_lease, renews, renewed_file, is_asking, then_renews, then_calls, pushes_due, then_pushes, then_ending, send_next, shares_live}
-
--- an option that is not there
-pub is-none : {A : Type 0} (o : Option A) → is_some o ≡ false → o ≡ None
-is-none None h = refl
-is-none (Some x) h = cc
+use Rattle.nq_server_steps.proofs.Tests.{none-there}
 
 -- a fact of a flag that is known
 pub at-true : (F : Bool → Type 0) (b : Bool) → b ≡ true → F b → F true
@@ -262,10 +258,10 @@ next-under-way-keeps closed t may_ask (Some u) is free quiet b =
 -- the call's request, where none is under way
 then-calls-keeps : {Heard : ℕ → Tag → Type 0} {Given : ℕ → Grant → ℕ → Type 0} {P : Core → Type 0} → Closed Heard Given P → (t : ClientStep) → NoNotice t → Both P t → Both P (then_calls t)
 then-calls-keeps {P = P} closed t quiet b =
-    choice (Both P) (is_asking t) t (next_of_under_way t (nat_le t.client.pause t.client.now) t.client.call) (λ e. b) (λ e. next-under-way-keeps closed t (nat_le t.client.pause t.client.now) t.client.call refl (is-none t.client.ticket e) quiet b)
+    choice (Both P) (is_asking t) t (next_of_under_way t (nat_le t.client.pause t.client.now) t.client.call) (λ e. b) (λ e. next-under-way-keeps closed t (nat_le t.client.pause t.client.now) t.client.call refl (none-there t.client.ticket e) quiet b)
 
 -- the least of some numbers is one of them, and there is one where there are some
-least-with-some : (n : ℕ) (o : Option ℕ) → least_with n o ≡ None → ⊥
+pub least-with-some : (n : ℕ) (o : Option ℕ) → least_with n o ≡ None → ⊥
 least-with-some n None h = cc
 least-with-some n (Some m) h = cc
 
@@ -273,7 +269,7 @@ least-none : (ns : List ℕ) → least ns ≡ None → ns ≡ []
 least-none [] h = refl
 least-none (n ∷ ns) h = absurd (least-with-some n (least ns) h)
 
-least-with-one : (n : ℕ) (o : Option ℕ) (k : ℕ) → least_with n o ≡ Some k → (n ≡ k) ⊎ (o ≡ Some k)
+pub least-with-one : (n : ℕ) (o : Option ℕ) (k : ℕ) → least_with n o ≡ Some k → (n ≡ k) ⊎ (o ≡ Some k)
 least-with-one n None k h = inl (some-same n k h)
 least-with-one n (Some m) k h = step (nat_lt m n) h
   where
@@ -282,7 +278,7 @@ least-with-one n (Some m) k h = step (nat_lt m n) h
     step false e = inl (some-same n k e)
 
 -- a file for which a notice waits has one
-noticed-one : (notices : List Notice) (file : ℕ) → least (map file_of_notice notices) ≡ Some file → (n : Notice) × (notice_on file notices ≡ Some n)
+pub noticed-one : (notices : List Notice) (file : ℕ) → least (map file_of_notice notices) ≡ Some file → (n : Notice) × (notice_on file notices ≡ Some n)
 noticed-one [] file h = none-some file h
 noticed-one (n ∷ notices) file h = step (n.file == file) refl (least-with-one n.file (least (map file_of_notice notices)) file h) (noticed-one notices file)
   where
@@ -291,7 +287,7 @@ noticed-one (n ∷ notices) file h = step (n.file == file) refl (least-with-one 
     step false e (inl same) rest = let is : (n.file == file) ≡ true = number-same n.file file same in absurd (cc)
     step false e (inr less) rest = rest less
 
-no-noticed : (notices : List Notice) → least (map file_of_notice notices) ≡ None → (file : ℕ) (n : Notice) → notice_on file notices ≡ Some n → ⊥
+pub no-noticed : (notices : List Notice) → least (map file_of_notice notices) ≡ None → (file : ℕ) (n : Notice) → notice_on file notices ≡ Some n → ⊥
 no-noticed [] h file n e = none-some n e
 no-noticed (m ∷ notices) h file n e = absurd (least-with-some m.file (least (map file_of_notice notices)) h)
 
@@ -329,14 +325,14 @@ due-keeps closed t (Some file) free b = pushes-keeps closed t file free b
 
 -- the first push that is due, where no request is under way
 then-pushes-keeps : {Heard : ℕ → Tag → Type 0} {Given : ℕ → Grant → ℕ → Type 0} {P : Core → Type 0} → Closed Heard Given P → (t : ClientStep) (o : Option ℕ) → Both P t → Both P (then_pushes t o)
-then-pushes-keeps {P = P} closed t o b = choice (Both P) (is_asking t) t (pushes_due t o) (λ e. b) (λ e. due-keeps closed t o (is-none t.client.ticket e) b)
+then-pushes-keeps {P = P} closed t o b = choice (Both P) (is_asking t) t (pushes_due t o) (λ e. b) (λ e. due-keeps closed t o (none-there t.client.ticket e) b)
 
 -- after the files with notices were seen to, no notice waits where no request is under way
 noticed-quiet : (t : ClientStep) (o : Option ℕ) → noticed_file t.client ≡ o → is_asking t ≡ false → DelayingOf t.client → NoNotice (pushes_due t o)
 noticed-quiet t None is idle h = λ free file n e. no-noticed t.client.notices is file n e
 noticed-quiet t (Some file) is idle h =
     let one = noticed-one t.client.notices file is in
-    let p = to-push t.client file one.0 (is-none t.client.ticket idle) one.1 h in
+    let p = to-push t.client file one.0 (none-there t.client.ticket idle) one.1 h in
     pushed-quiet t p.0 (first_dirty file t.client.dirty) p.1
 
 then-noticed-quiet : (t : ClientStep) → DelayingOf t.client → NoNotice (then_pushes t (noticed_file t.client))
@@ -362,7 +358,7 @@ renewed-one c (l ∷ leases) file h = step (is_to_renew c l) refl h (renewed-one
     step true e g rest = which (least-with-one l.file (least (map file_of_lease (filter (is_to_renew c) leases))) file g)
       where
         which : (l.file ≡ file) ⊎ (least (map file_of_lease (filter (is_to_renew c) leases)) ≡ Some file) → notice_on file c.notices ≡ None
-        which (inl same) = subst (λ f. notice_on f c.notices ≡ None) same (is-none (notice_on l.file c.notices) (not-true _ (both-true _ _ e).1))
+        which (inl same) = subst (λ f. notice_on f c.notices ≡ None) same (none-there (notice_on l.file c.notices) (not-true _ (both-true _ _ e).1))
         which (inr less) = rest less
     step false e g rest = rest g
 
@@ -391,7 +387,7 @@ then-renews-keeps closed false t b = b
 then-renews-keeps {P = P} closed true t b =
     choice (Both P) (is_asking t) t (if nat_le t.client.pause t.client.now then renews t (renewed_file t.client) else t)
     (λ e. b)
-    (λ e. choice (Both P) (nat_le t.client.pause t.client.now) (renews t (renewed_file t.client)) t (λ f. renews-keeps closed t (renewed_file t.client) refl (is-none t.client.ticket e) b) (λ f. b))
+    (λ e. choice (Both P) (nat_le t.client.pause t.client.now) (renews t (renewed_file t.client)) t (λ f. renews-keeps closed t (renewed_file t.client) refl (none-there t.client.ticket e) b) (λ f. b))
 
 -- the next request
 pub send-next-keeps : {Heard : ℕ → Tag → Type 0} {Given : ℕ → Grant → ℕ → Type 0} {P : Core → Type 0} → Closed Heard Given P → (in_tick : Bool) (t : ClientStep) → Both P t → Both P (send_next in_tick t)

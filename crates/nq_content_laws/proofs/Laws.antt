@@ -23,7 +23,7 @@ use Rattle.nq_model.specs.World.{World, from_host, run}
 use Rattle.nq_request_laws.proofs.WorldSequences.{Draws, run-draws}
 use Rattle.nq_run_steps.proofs.Packets.{Asked, Told, in-get}
 use Rattle.nq_run_steps.proofs.Worlds.{Holds, run-holds}
-use Rattle.nq_server_laws.proofs.LogRows.{one-who}
+use Rattle.nq_server_steps.proofs.Incarnations.{one-who}
 use Rattle.nq_server_steps.proofs.Rows.{both-true, same-number, find-passes}
 
 pub files-in-every-run : FilesAreTheirHistoryInEveryRun

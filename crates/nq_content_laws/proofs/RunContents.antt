@@ -95,7 +95,7 @@ restart-mid journal first next c ps m h = record {
 
 -- ---- a step of a client
 
-set-found : {A : Type 0} (xs : List A) (i : ℕ) (x y : A) → slice_get xs i ≡ Some y → slice_get (slice_set xs i x) i ≡ Some x
+pub set-found : {A : Type 0} (xs : List A) (i : ℕ) (x y : A) → slice_get xs i ≡ Some y → slice_get (slice_set xs i x) i ≡ Some x
 set-found [] i x y h = none-some y h
 set-found (z ∷ xs) zero x y h = refl
 set-found (z ∷ xs) (suc i) x y h = set-found xs i x y h

@@ -1,5 +1,5 @@
 -- A write is delayed, pushed and stored; and then its block is clean.
-use Rattle.std.proofs.Common.{◌≡◌, ℕ, zero, suc, true, List, [], ◌∷◌, Option, Some, None, refl, sym, ap, ◌∙◌, arith}
+use Rattle.std.proofs.Common.{◌≡◌, ℕ, zero, suc, true, List, [], ◌∷◌, Some, refl, sym, ap, ◌∙◌, arith}
 use Rattle.std.specs.Prelude.{slice_get, unwrap_or, is_some, All}
 use Rattle.nq_base.specs.Block.{filled, zeros, value_of}
 use Rattle.nq_base.specs.declared.Call.{Call}
@@ -26,6 +26,7 @@ use Rattle.nq_model.specs.Settle.{answers, after_read, reads_cached, after_write
 use Rattle.nq_model.specs.Skew.{is_within_skew}
 use Rattle.nq_model.specs.Table.{empty_table, with_rows, after_draw}
 use Rattle.nq_model.specs.World.{Head, after_server, after_client, start, run}
+use Rattle.nq_server_steps.proofs.Tests.{some-is}
 
 -- one host, one file of one block
 abbrev one-host : Head
@@ -65,10 +66,6 @@ after = unwrap_or (slice_get (run one-host heard).clients 0) none-yet
 
 abbrev kept-block : Clean
 kept-block = record { file = 1; block = 0; body = five }
-
-some-is : (o : Option Client) (d : Client) → is_some o ≡ true → o ≡ Some (unwrap_or o d)
-some-is None d e = absurd (cc)
-some-is (Some c) d e = refl
 
 is-there : is_some (slice_get (run one-host stored).clients 0) ≡ true
 unfolding filled zeros grant_of sharing_row caching_row shared_again renewed_row put_off free put_off_by_own granted no_lease begins_call is_called says_busy at_time sends_again fresh_client attached_client starts decides creates writes_through stores wrote stores_recovering resizes removes puts_off commits vacates_lease loses without_lease granted_lease holds caches_block purges knows_revision marks_through ends_push spends attached pauses cancels notes_notice new_file written_file resized_file fenced_file with_row with_files with_new_file sends_request after_seq after_number takes_push gives_up quiet drops says after_notices keeping keeping_with with_table attaches tells_later serves leases vacates ends_writing opens boot crash answers after_read reads_cached after_write marks_written empty_table with_rows after_draw after_server after_client start

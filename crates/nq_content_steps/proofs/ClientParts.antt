@@ -20,7 +20,7 @@ use Rattle.nq_model.specs.Journal.{same_who}
 use Rattle.nq_model.specs.Message.{Message, Packet, call, reply, sequence_of}
 use Rattle.nq_model.specs.Settle.{with_write}
 use Rattle.nq_run_steps.proofs.Packets.{In, in-last, Told}
-use Rattle.nq_server_laws.proofs.LogRows.{one-who}
+use Rattle.nq_server_steps.proofs.Incarnations.{one-who}
 use Rattle.nq_server_steps.proofs.Rows.{same-number, number-same}
 
 -- what of a client's step speaks of contents

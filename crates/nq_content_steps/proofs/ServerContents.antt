@@ -18,7 +18,7 @@ use Rattle.nq_client_steps.proofs.ClientMoves.{some-same, none-some}
 use Rattle.nq_content_steps.proofs.Facts.{History, Follows, follows, tells-follows, HadLength, GrantTells, Tells, IsDone, LineTells, line-follows, IsFile, FilesFit, UnusedFit}
 use Rattle.nq_content_steps.proofs.FileMoves.{ChangesOnly, files-idle, unused-idle, files-changed, unused-changed, files-removed, files-made, written-values, resized-values}
 use Rattle.nq_content_steps.proofs.Histories.{NoChanges, delayed-more}
-use Rattle.nq_content_steps.proofs.ServerDoes.{line-as, file-value, file-length, sets-block, sets-length, is-change, IsTrue, history_of, Shows, refused-tells, verdict-tells}
+use Rattle.nq_content_steps.proofs.ServerDoes.{file-value, file-length, sets-block, sets-length, is-change, IsTrue, history_of, Shows, refused-tells, verdict-tells}
 use Rattle.nq_content_steps.specs.Contents.{delayed_value, after_change}
 use Rattle.nq_content_steps.specs.Told.{GrantIsOf}
 use Rattle.nq_model.specs.Ask.{grant_of}
@@ -32,8 +32,8 @@ use Rattle.nq_model.specs.ServerStep.{attaches, vacates, tells_later, serves, le
 use Rattle.nq_model.specs.Table.{Table}
 use Rattle.nq_run_steps.proofs.Packets.{In, in-append, Asked, told-same, reply-same}
 use Rattle.nq_run_steps.proofs.ServerSays.{verdict-inc, plain-inc}
-use Rattle.nq_server_laws.proofs.LogRows.{one-who}
-use Rattle.nq_server_steps.proofs.KeptChanges.{find-new-added}
+use Rattle.nq_server_steps.proofs.Incarnations.{one-who}
+use Rattle.nq_server_steps.proofs.KeptChanges.{find-new-added, line-as}
 use Rattle.nq_server_steps.proofs.Rows.{number-same}
 use Rattle.nq_server_steps.proofs.ServerCases.{server-hears}
 use Rattle.nq_server_steps.proofs.ServerOutcomes.{error_for, IsFrom, IsDeclined, bad_length, name_taken, no_room, not_kept, outside, no_row, not_under, not_over, not_while_recovering, bad_size, no_room_to_grow, IsPlain, unattached, attached_again, not_yet, no_entry, entry, no_attributes, attributes, no_file, no_block, decided_again, is_old}

@@ -1,7 +1,6 @@
 -- What a step of the server does to contents, and what its replies tell of them.
-use Rattle.std.proofs.Common.{◌≡◌, ◌≤◌, ◌<◌, ◌⊎◌, ℕ, zero, suc, ◌+◌, List, [], ◌∷◌, ◌++◌, Some, None, map, replicate, length, refl, sym, subst, ap, ◌∙◌, arith, inl, inr}
+use Rattle.std.proofs.Common.{◌≡◌, ◌≤◌, ◌<◌, ◌⊎◌, ℕ, zero, suc, ◌+◌, List, [], ◌∷◌, ◌++◌, Some, None, map, replicate, length, refl, sym, ap, ◌∙◌, arith}
 use Rattle.std.specs.Prelude.{slice_get, slice_set}
-use Rattle.std.proofs.lemmas.Bool.{cases_eq}
 use Rattle.std.proofs.lemmas.List.{length-append, length-replicate, length-take, length-map}
 use Rattle.nq_base.specs.Block.{value_of}
 use Rattle.nq_base.specs.declared.Entry.{Entry}
@@ -18,12 +17,11 @@ use Rattle.nq_content_steps.proofs.Histories.{count-changed, content-stays, cont
 use Rattle.nq_content_steps.specs.Contents.{changes_of, after_change, with_length, content_at, change_at}
 use Rattle.nq_model.specs.Decide.{verdict_reply}
 use Rattle.nq_model.specs.Hear.{inc_of}
-use Rattle.nq_model.specs.Kept.{File, Kept, blocks_of, host_row, with_row}
+use Rattle.nq_model.specs.Kept.{File, blocks_of, host_row}
 use Rattle.nq_model.specs.Message.{Packet, reply, asker}
 use Rattle.nq_model.specs.Server.{Server, ServerStep, to_host}
 use Rattle.nq_run_steps.proofs.Packets.{In, Asked}
 use Rattle.nq_run_steps.proofs.Worlds.{get-set-other}
-use Rattle.nq_server_steps.proofs.KeptChanges.{other-line, own-line, no-line}
 
 -- ---- lists by place
 
@@ -36,20 +34,6 @@ pub get-mapped : {A B : Type 0} (f : A → B) (xs : List A) (i : ℕ) (x : A) �
 get-mapped f [] i x h = none-some x h
 get-mapped f (y ∷ xs) zero x h = ap (λ z. Some (f z)) (some-same y x h)
 get-mapped f (y ∷ xs) (suc i) x h = get-mapped f xs i x h
-
--- ---- lines
-
--- how a change of one line shows in what is kept of a host
-pub line-as : (kept : Kept) (host k : ℕ) (line : HostRow) (P : HostRow → Type 0) → P (host_row kept k) → (k ≡ host → P line) → P (host_row (with_row kept host line) k)
-line-as kept host k line P was own = by (cases_eq k host) (within-or-past kept.hosts)
-  where
-    within-or-past : (hosts : List HostRow) → (host < length hosts) ⊎ (length hosts ≤ host)
-    within-or-past hosts = grind arith
-
-    by : (k ≡ host) ⊎ (k ≡ host → ⊥) → (host < length kept.hosts) ⊎ (length kept.hosts ≤ host) → P (host_row (with_row kept host line) k)
-    by (inl e) (inl w) = subst P (sym (ap (λ i. host_row (with_row kept host line) i) e ∙ own-line kept host line w)) (own e)
-    by (inl e) (inr p) = subst P (sym (no-line kept host k line p)) was
-    by (inr d) place = subst P (sym (other-line kept host k line d)) was
 
 -- ---- what a kept file tells
 

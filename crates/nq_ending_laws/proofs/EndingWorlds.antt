@@ -1,12 +1,11 @@
 -- In every run the ends of writing leases come late enough.
-use Rattle.std.proofs.Common.{◌≡◌, ◌≤◌, ℕ, ◌+◌, ◌==◌, ◌&&◌, Bool, true, false, not, List, [], ◌∷◌, ◌++◌, Option, Some, None, if◌then◌else◌, length, max, nat_le, refl, sym, subst, ap, ◌∙◌, arith}
+use Rattle.std.proofs.Common.{◌≡◌, ◌≤◌, ℕ, ◌+◌, ◌==◌, ◌&&◌, Bool, true, false, not, List, [], ◌∷◌, ◌++◌, Option, Some, if◌then◌else◌, length, max, nat_le, refl, sym, subst, ap, ◌∙◌, arith}
 use Rattle.std.specs.List.{find}
 use Rattle.nq_base.specs.declared.Entry.{Entry}
 use Rattle.nq_base.specs.declared.Event.{Event}
 use Rattle.nq_base.specs.declared.Row.{Row}
 use Rattle.nq_base.specs.declared.Who.{Who}
 use Rattle.nq_ending_laws.specs.EndingsInRuns.{boot_opened, was_caching, IsLate, EndingsComeLate}
-use Rattle.nq_excuse_steps.proofs.BoundRows.{writing-caches}
 use Rattle.nq_excuse_steps.proofs.LateEndings.{late-end, long-wait, all-over}
 use Rattle.nq_excuse_steps.proofs.LogRuns.{Alone as ServerAlone, LogRuns, IsShortGrant, runs-start, runs-receive, runs-tick, runs-crash}
 use Rattle.nq_excuse_steps.proofs.UntimedSteps.{call-untimed, tick-untimed, hear-untimed, restart-untimed}
@@ -18,22 +17,24 @@ use Rattle.nq_model.specs.ClientStep.{client_call, client_tick, restart}
 use Rattle.nq_model.specs.CutOff.{Given, last_grant, IsLateEnd, IsLongWait, IsLateOpening}
 use Rattle.nq_model.specs.Journal.{Throughout, Exists, same_who}
 use Rattle.nq_model.specs.Decide.{decides, creates, writes_through, stores, wrote, stores_recovering, resizes, removes, puts_off, commits}
-use Rattle.nq_model.specs.Kept.{File, Kept, find_file, with_files, with_new_file, with_row}
+use Rattle.nq_model.specs.Kept.{find_file, with_files, with_new_file, with_row}
 use Rattle.nq_model.specs.Message.{Datagram, datagram_of}
 use Rattle.nq_model.specs.Profile.{write_slack}
 use Rattle.nq_model.specs.Server.{serving, recovering, Server, ServerStep, quiet, drops, says, keeping, keeping_with, with_table, after_notices}
-use Rattle.nq_model.specs.ServerStep.{boot, fence, is_over, attaches, vacates, tells_later, serves, leases, is_due, end_reading, at_time, opens, ends_writing, receive, tick, crash}
+use Rattle.nq_model.specs.ServerStep.{boot, is_over, attaches, vacates, tells_later, serves, leases, is_due, end_reading, at_time, opens, ends_writing, receive, tick, crash}
 use Rattle.nq_model.specs.Skew.{IsWithinSkew}
 use Rattle.nq_model.specs.Table.{Table, caches, is_writing, find_row, with_rows}
 use Rattle.nq_model.specs.World.{Head, World, after_server, after_client, sending_host, start, run}
 use Rattle.nq_run_cases.proofs.RunCases.{Keeps, run-keeps}
 use Rattle.nq_run_steps.proofs.Worlds.{run-holds}
 use Rattle.nq_server_laws.proofs.LogFits.{timed-append}
+use Rattle.nq_server_laws.proofs.LogGrants.{fence-opened}
 use Rattle.nq_server_laws.proofs.LogMoves.{timed}
 use Rattle.nq_server_laws.proofs.LogRows.{RowsGranted, RowsHear}
 use Rattle.nq_server_laws.proofs.LogTimes.{EachEntry, HeardAll, IsHeard, ToldBoot, is_boot}
 use Rattle.nq_server_laws.proofs.ServerNumbers.{Waits, PhaseWaits}
 use Rattle.nq_server_laws.proofs.ServerTables.{StandingFits}
+use Rattle.nq_server_steps.proofs.Modes.{writing-caches}
 use Rattle.nq_server_steps.proofs.RowChanges.{HasUniqueKeys, found-any, found-kept, unique-filtered}
 use Rattle.nq_server_steps.proofs.Rows.{both-true, find-passes, same-number}
 use Rattle.nq_server_steps.proofs.ServerCases.{server-hears, server-ticks}
@@ -134,11 +135,6 @@ module _ (s : Server) (sender next : ℕ) (d : Datagram) (journal : List Entry) 
 
   received-shows : Shows s journal (receive s sender next d)
   received-shows = server-hears s sender next d (Shows s journal) shows-cases
-
-fence-opened : (kept : Kept) (o : Option File) → (fence kept o).opened ≡ kept.opened
-unfolding with_files
-fence-opened kept None = refl
-fence-opened kept (Some f) = refl
 
 module _ (most booted : ℕ) (s : Server) (journal : List Entry) (fits : ServerAlone most s) (log : LogRuns booted s (timed journal)) (now : ℕ) where
   waits : Shows s journal (quiet (at_time s now))

@@ -3,31 +3,26 @@ use Rattle.std.proofs.Common.{◌≡◌, ℕ, Bool, true, false, List, Some, ref
 use Rattle.std.proofs.lemmas.Bool.Decides.{nat_tests}
 use Rattle.nq_base.specs.declared.Grant.{Grant}
 use Rattle.nq_base.specs.declared.Mode.{Mode}
-use Rattle.nq_base.specs.declared.Mode.TheVariants.{NonCaching, Reading, Writing}
+use Rattle.nq_base.specs.declared.Mode.TheVariants.{Writing}
 use Rattle.nq_base.specs.declared.Row.{Row}
 use Rattle.nq_base.specs.declared.Tag.{Tag}
 use Rattle.nq_chain_steps.proofs.ChainFacts.{ChainFits, GrantFits, GoesOnAs, line_for, done_at, rev_at}
 use Rattle.nq_chain_steps.specs.Chained.{OwnRow, KnowsFile}
 use Rattle.nq_client_steps.proofs.ClientMoves.{some-same}
 use Rattle.nq_excuse_steps.proofs.BoundBefore.{Stood}
-use Rattle.nq_excuse_steps.proofs.BoundRows.{IsBound, bound-fitting, fitting-bound, writing-caches}
+use Rattle.nq_excuse_steps.proofs.BoundRows.{IsBound, bound-fitting, fitting-bound}
 use Rattle.nq_excuse_steps.proofs.HoldingReplies.{TakesFit}
 use Rattle.nq_excuse_steps.proofs.Holdings.{IsHeldBound}
 use Rattle.nq_model.specs.Client.{Client, Lease, Ticket, is_clean, lease_on, lets_write}
 use Rattle.nq_model.specs.Hear.{granted_lease}
-use Rattle.nq_model.specs.LeaseInterval.{is_at_least, HasFitting}
+use Rattle.nq_model.specs.LeaseInterval.{HasFitting}
 use Rattle.nq_model.specs.Message.{Packet}
 use Rattle.nq_model.specs.Server.{Server, standing}
 use Rattle.nq_model.specs.Table.{caches, is_writing, tag_below}
 use Rattle.nq_run_steps.proofs.CoverFacts.{IsTakeable}
 use Rattle.nq_server_laws.proofs.ServerTables.{BootsFitOf, StandingFitsOf}
+use Rattle.nq_server_steps.proofs.Modes.{writing-caches, at-least-writing}
 use Rattle.nq_server_steps.proofs.Rows.{found-row}
-
--- what is at least a writing mode is it
-pub least-writes : (mode held : Mode) → is_writing held ≡ true → is_at_least mode held ≡ true → is_writing mode ≡ true
-least-writes mode Writing writes least = least
-least-writes mode Reading writes least = absurd (cc)
-least-writes mode NonCaching writes least = absurd (cc)
 
 -- the order of tags
 later-not : (held since row : Tag) → tag_below held since ≡ true → tag_below row since ≡ false → tag_below held row ≡ false → ⊥
@@ -64,7 +59,7 @@ module _ (s : Server) (c : Client) (ps : List Packet) (k : ChainFits s c ps) (bo
           fits = record {
             holder = stood.holder;
             of_file = (found-row file c.who.host (standing s).rows stood.row stood.stands).0;
-            kind = least-writes stood.row.mode l.mode writes knows.kind;
+            kind = at-least-writing stood.row.mode l.mode writes knows.kind;
             began = stood.began;
             goes_on = k.held.below file l stood.row held own;
             ends = omega arith;
@@ -115,7 +110,7 @@ module _ (s : Server) (c : Client) (ps : List Packet) (k : ChainFits s c ps) (bo
             let one : b.lease ≡ l = some-same b.lease l (sym b.held ∙ held) in
             let f : HasFitting c.who file Writing l.tag 0 (standing s) = bound-fitting s s.phase c.who file l.tag (subst (λ z. IsBound s s.phase c.who file z.tag) one b.bound) in
             let own : OwnRow (standing s) c.who file f.row = record { stands = f.stands; holder = f.fits.holder } in (
-              least-writes g.mode l.mode writes goes.kind,
+              at-least-writing g.mode l.mode writes goes.kind,
               fitting-bound s s.phase c.who file g.tag boots stands (record {
                 row = f.row;
                 stands = f.stands;

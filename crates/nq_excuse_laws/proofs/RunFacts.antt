@@ -16,7 +16,7 @@ use Rattle.nq_client_steps.proofs.ClientFacts.{push_in, fits_job}
 use Rattle.nq_client_steps.proofs.ClientMoves.{none-some}
 use Rattle.nq_excuse_laws.proofs.FromChains.{takes-fit}
 use Rattle.nq_excuse_laws.proofs.RefusedPushes.{PushShape, push-shape}
-use Rattle.nq_excuse_steps.proofs.BoundRows.{IsBound, covered-bound, writing-caches}
+use Rattle.nq_excuse_steps.proofs.BoundRows.{IsBound, covered-bound}
 use Rattle.nq_excuse_steps.proofs.HoldingCalls.{HearsFit}
 use Rattle.nq_excuse_steps.proofs.Holdings.{IsHeldBound}
 use Rattle.nq_model.specs.Client.{Client, attaching, Lease, Ticket, lease_on, lets_write}
@@ -32,6 +32,7 @@ use Rattle.nq_run_steps.proofs.CoverFacts.{IsTakeable}
 use Rattle.nq_run_steps.proofs.Packets.{Told}
 use Rattle.nq_run_steps.proofs.Worlds.{IsAt}
 use Rattle.nq_server_laws.proofs.ServerTables.{BootsFitOf, StandingFitsOf}
+use Rattle.nq_server_steps.proofs.Modes.{writing-caches}
 use Rattle.nq_server_steps.proofs.Rows.{both-true}
 
 is-writing : (mode : Mode) → is_writing mode ≡ true → mode ≡ Writing

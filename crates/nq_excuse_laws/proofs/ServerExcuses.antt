@@ -30,6 +30,7 @@ use Rattle.nq_model.specs.LeaseInterval.{HasFitting}
 use Rattle.nq_model.specs.Message.{Packet, Datagram, request, asker, sequence_of}
 use Rattle.nq_model.specs.Server.{Server, standing}
 use Rattle.nq_model.specs.ServerStep.{receive, tick, crash}
+use Rattle.nq_request_laws.proofs.OpenRequests.{tick-line}
 use Rattle.nq_run_steps.proofs.ClientSteps.{KnowsOf}
 use Rattle.nq_run_steps.proofs.HostLine.{IsSettled}
 use Rattle.nq_run_steps.proofs.Packets.{Asked}
@@ -37,10 +38,8 @@ use Rattle.nq_run_steps.proofs.ServerKnows.{Effect}
 use Rattle.nq_run_steps.proofs.TagFacts.{IsDrawn}
 use Rattle.nq_run_steps.proofs.Worlds.{IsAt}
 use Rattle.nq_server_laws.proofs.LogMoves.{timed}
-use Rattle.nq_server_laws.proofs.ServerFacts.{fence-lines}
 use Rattle.nq_server_laws.proofs.ServerNumbers.{LinesFitOf}
 use Rattle.nq_server_laws.proofs.ServerTables.{BootsFitOf, StandingFitsOf}
-use Rattle.nq_server_steps.proofs.ServerMoves.{tick-moves}
 use Rattle.nq_server_steps.proofs.ServerOutcomes.{IsDeclined, base_in}
 
 -- a bound file's row stands writing
@@ -48,15 +47,6 @@ bound-writing : (s : Server) (who : Who) (file : ℕ) (tag : Tag) → IsBound s 
 bound-writing s who file tag b =
     let f : HasFitting who file Writing tag 0 (standing s) = bound-fitting s s.phase who file tag b in
     record { row = f.row; stands = f.stands; holder = f.fits.holder; began = f.fits.began; writes = f.fits.kind }
-
--- a tick leaves the kept lines
-tick-line : (s : Server) (now host : ℕ) → host_row (tick s now).server.kept host ≡ host_row s.kept host
-tick-line s now host = tick-moves s now (λ kept phase table. host_row kept host ≡ host_row s.kept host) (record {
-  waits = λ until heard last p goes_on. refl;
-  opening = λ until heard last p over. refl;
-  ends_reading = λ p. refl;
-  ending_writing = λ row p due. fence-lines s.kept _ host;
-})
 
 module _ (s : Server) (events : List Event) (c : Client) (ps : List Packet) (journal : List Entry) (a : IsAt c.who.host c ps) (knows : KnowsOf (host_row s.kept c.who.host) s events c ps) (k : ChainFits s c ps) (boots : BootsFitOf s) (stands : StandingFitsOf s) (h : ClientExcused s c journal) where
   -- a step after which a bound file's row stood before, and the line is the same, keeps that a refused push is of an unbound file

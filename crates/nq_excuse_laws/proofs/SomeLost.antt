@@ -1,5 +1,5 @@
 -- A write is delayed, the lease ends in silence while the client's pushes are lost, and then one is refused.
-use Rattle.std.proofs.Common.{◌≡◌, zero, suc, Bool, true, false, List, [], ◌∷◌, ◌++◌, Option, Some, None, if◌then◌else◌, refl, arith}
+use Rattle.std.proofs.Common.{◌≡◌, zero, suc, Bool, true, false, List, [], ◌∷◌, ◌++◌, Some, if◌then◌else◌, refl, arith}
 use Rattle.std.specs.List.{list_any}
 use Rattle.std.specs.Prelude.{slice_get, unwrap_or, is_some, All}
 use Rattle.nq_base.specs.Block.{zeros}
@@ -23,6 +23,7 @@ use Rattle.nq_model.specs.ServerStep as server
 use Rattle.nq_model.specs.Settle.{answers, after_read, reads_cached, after_write, marks_written}
 use Rattle.nq_model.specs.Table.{empty_table, with_rows, after_draw}
 use Rattle.nq_model.specs.World.{after_server, after_client, start, run}
+use Rattle.nq_server_steps.proofs.Tests.{some-is}
 
 -- one host that wants terms of five ticks, and one file of one block
 abbrev one-host : Head
@@ -72,10 +73,6 @@ boots-within (e ∷ events) q (suc k) d below = boots-within events (quiet-withi
 
 writer : Client
 writer = unwrap_or (slice_get (run one-host delayed).clients 0) (attached_client (record { host = 0; inc = 1 }) 5 0)
-
-some-is : (o : Option Client) (d : Client) → is_some o ≡ true → o ≡ Some (unwrap_or o d)
-some-is None d e = absurd (cc)
-some-is (Some c) d e = refl
 
 is-there : is_some (slice_get (run one-host delayed).clients 0) ≡ true
 unfolding delayed grant_of sharing_row caching_row shared_again renewed_row put_off free put_off_by_own granted no_lease begins_call is_called says_busy at_time sends_again fresh_client attached_client starts decides creates writes_through stores wrote stores_recovering resizes removes puts_off commits vacates_lease loses without_lease granted_lease holds caches_block purges knows_revision marks_through ends_push spends attached pauses cancels notes_notice new_file written_file resized_file fenced_file with_row with_files with_new_file sends_request after_seq after_number takes_push gives_up quiet drops says after_notices keeping keeping_with with_table attaches tells_later serves leases vacates ends_writing opens boot crash answers after_read reads_cached after_write marks_written empty_table with_rows after_draw after_server after_client start

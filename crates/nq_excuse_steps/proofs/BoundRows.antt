@@ -2,7 +2,6 @@
 -- holds. A tick of the server's clock keeps it bound, or ends it late enough; a crash keeps it bound.
 use Rattle.std.proofs.Common.{◌≡◌, ◌≢◌, ◌<◌, ◌≤◌, ◌⊎◌, ℕ, ◌+◌, ◌==◌, ◌&&◌, Bool, true, false, not, List, [], ◌∷◌, Some, None, if◌then◌else◌, max, nat_le, refl, sym, subst, ap, ◌∙◌, arith, inl, inr}
 use Rattle.std.specs.List.{find}
-use Rattle.std.proofs.lemmas.Bool.Decides.{nat_tests}
 use Rattle.nq_base.specs.declared.Entry.{Entry}
 use Rattle.nq_base.specs.declared.Mode.{Mode}
 use Rattle.nq_base.specs.declared.Mode.TheVariants.{Writing}
@@ -12,20 +11,21 @@ use Rattle.nq_base.specs.declared.Who.{Who}
 use Rattle.nq_client_steps.proofs.ClientMoves.{some-same}
 use Rattle.nq_excuse_steps.proofs.LateEndings.{late-end, late-opening}
 use Rattle.nq_lease_laws.proofs.ServerChanges.{same-cover-table}
-use Rattle.nq_lease_laws.proofs.ServerLives.{HasServed}
+use Rattle.nq_lease_laws.proofs.ServerLives.{HasServed, booted-kept, booted-phase, between}
 use Rattle.nq_model.specs.CutOff.{Ends, IsLateEnd, IsLateOpening}
-use Rattle.nq_model.specs.Kept.{Kept, host_row}
+use Rattle.nq_model.specs.Kept.{host_row}
 use Rattle.nq_model.specs.LeaseInterval.{is_at_least, HasFitting, OutlivedBy, IsCovered}
 use Rattle.nq_model.specs.Profile.{skew, write_slack}
 use Rattle.nq_model.specs.Server.{Phase, serving, recovering, Server, ServerStep, standing, standing_in, quiet, with_table, keeping_with}
-use Rattle.nq_model.specs.ServerStep.{is_over, is_due, end_reading, at_time, opens, ends_writing, tick, crash, boot, booted, boot_phase}
-use Rattle.nq_model.specs.Table.{Table, caches, is_writing, tag_below, find_row, with_rows}
+use Rattle.nq_model.specs.ServerStep.{is_over, is_due, end_reading, at_time, opens, ends_writing, tick, crash, boot, booted}
+use Rattle.nq_model.specs.Table.{Table, is_writing, find_row, with_rows}
 use Rattle.nq_excuse_steps.proofs.LogRuns.{Alone, LogRuns}
 use Rattle.nq_server_laws.proofs.LogMoves.{timed}
 use Rattle.nq_server_laws.proofs.LogRows.{WasGranted, IsHeardOf, RowsHear, RowsGranted}
 use Rattle.nq_server_laws.proofs.LogTimes.{EachEntry, HeardAll, IsHeard, ToldBoot}
 use Rattle.nq_server_laws.proofs.ServerNumbers.{Waits, PhaseWaits}
 use Rattle.nq_server_laws.proofs.ServerTables.{BootsFit, BootsFitOf, RecoversBoot, StandingFits, StandingFitsOf}
+use Rattle.nq_server_steps.proofs.Modes.{writing-caches}
 use Rattle.nq_server_steps.proofs.RowChanges.{HasUniqueKeys, kept_if, find-kept, found-any, unique-filtered, find-other-dropped}
 use Rattle.nq_server_steps.proofs.Rows.{both-true, true-both, number-same, same-number, find-passes}
 use Rattle.nq_server_steps.proofs.ServerCases.{server-ticks}
@@ -55,11 +55,6 @@ covered-bound s (recovering end heard last) who file tag until c = record { of_l
 -- a row that is at least a writing one is one
 pub writes : (row : Row) → is_at_least row.mode Writing ≡ true → is_writing row.mode ≡ true
 writes row kind = kind
-
-pub writing-caches : (mode : Mode) → is_writing mode ≡ true → caches mode ≡ true
-writing-caches Mode.Writing e = refl
-writing-caches Mode.Reading e = refl
-writing-caches Mode.NonCaching e = absurd (cc)
 
 module _ (most booted : ℕ) (s : Server) (journal : List Entry) (fits : Alone most s) (log : LogRuns booted s (timed journal)) (who : Who) (file : ℕ) (tag : Tag) where
   -- what is kept of the file
@@ -165,23 +160,6 @@ module _ (most booted : ℕ) (s : Server) (journal : List Entry) (fits : Alone m
   })
 
 -- ---- a crash
-
-booted-kept : (kept : Kept) (longest : ℕ) → HasServed kept → booted kept longest ≡ record kept { boot = kept.boot + 1 }
-booted-kept kept longest served = by (kept.opened == 0) refl
-  where
-    by : (b : Bool) → (kept.opened == 0) ≡ b → (if b then record kept { boot = kept.boot + 1; opened = kept.boot + 1; longest = longest } else record kept { boot = kept.boot + 1 }) ≡ record kept { boot = kept.boot + 1 }
-    by true e = let some = served.opened in let none : kept.opened ≡ 0 = same-number kept.opened 0 e in absurd (omega arith)
-    by false e = refl
-
-booted-phase : (opened longest now : ℕ) (last : Table) → 0 < opened → boot_phase opened longest now last ≡ recovering (now + longest + (skew + write_slack)) now last
-booted-phase opened longest now last served = by (opened == 0) refl
-  where
-    by : (b : Bool) → (opened == 0) ≡ b → (if b then serving else recovering (now + longest + (skew + write_slack)) now last) ≡ recovering (now + longest + (skew + write_slack)) now last
-    by true e = let none : opened ≡ 0 = same-number opened 0 e in absurd (omega arith)
-    by false e = refl
-
-between : (boot : ℕ) (since tag latest : Tag) → since.boot ≡ boot → latest.boot ≡ boot → tag_below tag since ≡ false → tag_below latest tag ≡ false → tag.boot ≡ boot
-between boot since tag latest a b c e = grind (arith, nat_tests)
 
 -- a bound file is held with a tag of the boot that served last
 pub bound-boot : (s : Server) (phase : Phase) (who : Who) (file : ℕ) (tag : Tag) → BootsFit s.kept.boot s.kept.opened phase s.table → StandingFits s.kept.files phase s.table → IsBound s phase who file tag → tag.boot ≡ s.kept.opened

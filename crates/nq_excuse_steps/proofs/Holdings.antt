@@ -7,7 +7,7 @@ use Rattle.nq_base.specs.declared.Push.{Push}
 use Rattle.nq_base.specs.declared.Verdict.{Verdict}
 use Rattle.nq_base.specs.declared.Who.{Who}
 use Rattle.nq_client_steps.proofs.ClientFacts.{push_in}
-use Rattle.nq_client_steps.proofs.ClientLists.{other-number, marked-before, marked-tag, marked-mode, marked-expiry, used-lease-found, lease-before-drop, other-lease-dropped, lease-after-put, put-lease-found, other-lease-put}
+use Rattle.nq_client_steps.proofs.ClientLists.{other-number, marked-before, marked-tag, marked-mode, marked-expiry, used-lease-found, lease-before-drop, other-lease-dropped, lease-after-put, put-lease-found, other-lease-put, marked-blocks}
 use Rattle.nq_client_steps.proofs.ClientMoves.{none-some}
 use Rattle.nq_excuse_steps.proofs.BoundRows.{IsBound}
 use Rattle.nq_excuse_steps.proofs.Waiting.{IsWaiting}
@@ -86,13 +86,6 @@ pub record Holding (s : Server) (who : Who) (now : ℕ) (journal : List Entry) (
   pub refused : RefusedUnbound s who v.ticket v.leases
 
 -- ---- leases
-
-marked-blocks : (f : ℕ) (l : Lease) → (marked_used f l).blocks ≡ l.blocks
-marked-blocks f l = step (l.file == f)
-  where
-    step : (b : Bool) → (if b then record l { used = true } else l).blocks ≡ l.blocks
-    step true = refl
-    step false = refl
 
 -- a file that is held bound stays so where its lease is marked as used
 pub held-used : {s : Server} {who : Who} (f file : ℕ) (leases : List Lease) → IsHeldBound s who leases file → IsHeldBound s who (used_lease f leases) file

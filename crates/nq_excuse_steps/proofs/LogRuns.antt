@@ -11,6 +11,7 @@ use Rattle.nq_model.specs.Server.{Phase, serving, recovering, Server}
 use Rattle.nq_model.specs.ServerStep.{to_read, receive, fence, tick, booted, boot, crash}
 use Rattle.nq_model.specs.Table.{Table, caches, empty_table}
 use Rattle.nq_model.specs.World.{Head, start}
+use Rattle.nq_server_laws.proofs.LogFits.{crash-now}
 use Rattle.nq_server_laws.proofs.LogGrants.{granted-tag}
 use Rattle.nq_server_laws.proofs.LogMoves.{timed, LogMoves, log-moves, tick-log-moves}
 use Rattle.nq_server_laws.proofs.LogRows.{RowsGranted, granted-receive, granted-tick, granted-crash, RowsHear, hear-receive, hear-tick, hear-crash}
@@ -149,10 +150,6 @@ runs-tick most booted s now log later a l = record {
   hear = hear-tick s now log (none-recovering most s a) a.stands l.hear;
   waits = waits-tick booted s now later l.waits;
 }
-
-crash-now : (s : Server) (longest : ℕ) → (crash s longest).server.now ≡ s.now
-unfolding crash boot
-crash-now s longest = refl
 
 -- after a crash the last boot was at the server's time
 pub runs-crash : (most booted : ℕ) (s : Server) (longest : ℕ) (log : List Entry) → Alone most s → LogRuns booted s log → LogRuns s.now (crash s longest).server (timed (crash s longest).entries ++ log)

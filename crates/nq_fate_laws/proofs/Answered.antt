@@ -9,7 +9,7 @@ use Rattle.nq_base.specs.declared.Request.{Request}
 use Rattle.nq_base.specs.declared.Tag.{Tag}
 use Rattle.nq_base.specs.declared.Who.{Who}
 use Rattle.nq_client_steps.proofs.ClientCases.{Core, core_of, Closed, Both}
-use Rattle.nq_client_steps.proofs.ClientMoves.{some-same, none-some, keeps-or-cancels}
+use Rattle.nq_client_steps.proofs.ClientMoves.{some-same, none-some}
 use Rattle.nq_client_steps.proofs.ClientWalk.{Replying, reply-keeps, notice-keeps, call-keeps, tick-keeps}
 use Rattle.nq_fate_steps.proofs.ServerTells.{Tells, later, decided, Moves, same_lines, attaches_one, decides_one, Decides, Attaches, ServerTells}
 use Rattle.nq_model.specs.Client.{Client, ClientStep, begun, Ticket, lease_on}
@@ -22,7 +22,7 @@ use Rattle.nq_model.specs.Server.{Server, ServerStep, to_host}
 use Rattle.nq_model.specs.Table.{same_who}
 use Rattle.nq_model.specs.World.{from_host}
 use Rattle.nq_request_laws.proofs.Sequences.{Seqs}
-use Rattle.nq_run_steps.proofs.Mail.{packets_with, packets-last, spent-mail}
+use Rattle.nq_run_steps.proofs.Mail.{packets_with, packets-last, spent-mail, cancelled-fewer, same-fewer}
 use Rattle.nq_run_steps.proofs.Packets.{In, in-append, Asked, Told, not-both, Mail, IsFewer}
 use Rattle.nq_run_steps.proofs.ServerKnows.{NoneHeard, NoneGiven}
 use Rattle.nq_run_steps.proofs.TagFacts.{told-before}
@@ -85,12 +85,6 @@ record Hearing (line : HostRow) (who : Who) (ps : List Packet) (k : Core) : Type
 last-answered : (line : HostRow) (ps : List Packet) (who : Who) (seq : ℕ) (ticket : Option Ticket) (sends : List Message) (m : Message) → Answered line who seq ticket (packets_with ps who.host sends ++ from_host who.host m ∷ []) → Answered line who seq ticket (packets_with ps who.host (sends ++ m ∷ []))
 last-answered line ps who seq ticket sends m h = subst (λ qs. Answered line who seq ticket qs) (sym (packets-last ps who.host sends m)) h
 
-cancelled-few : (file : ℕ) (ticket : Option Ticket) → IsFewer (cancelled file ticket) ticket
-cancelled-few file ticket t e = (t, (keeps-or-cancels file ticket t e).0, refl, refl)
-
-again-few : (t : Ticket) (now : ℕ) → IsFewer (Some (record t { last = now })) (Some t)
-again-few t now u e = let one : record t { last = now } ≡ u = some-same (record t { last = now }) u e in (t, refl, ap (λ z. z.xid) one, ap (λ z. z.request) one)
-
 hearing-closed : (line : HostRow) (who : Who) (ps : List Packet) (Heard : ℕ → Tag → Type 0) (Given : ℕ → Grant → ℕ → Type 0) → Closed Heard Given (Hearing line who ps)
 hearing-closed line who ps Heard Given =
     let m = going-closed who ps Heard Given in
@@ -111,10 +105,10 @@ hearing-closed line who ps Heard Given =
       again = λ k t is d. record {
         going = m.again k t is d.going;
         answered = last-answered line ps k.who k.seq (Some (record t { last = k.now })) k.sends (call t.xid t.request) (more-answered (call t.xid t.request)
-            (fewer-answered (Some (record t { last = k.now })) (again-few t k.now) (subst (λ o. Answered line k.who k.seq o (packets_with ps k.who.host k.sends)) is d.answered)));
+            (fewer-answered (Some (record t { last = k.now })) (same-fewer t k.now) (subst (λ o. Answered line k.who k.seq o (packets_with ps k.who.host k.sends)) is d.answered)));
       };
       holds = λ k file g sent given free unnoticed d. record { going = m.holds k file g sent given free unnoticed d.going; answered = d.answered };
-      cancels = λ k file d. record { going = m.cancels k file d.going; answered = fewer-answered (cancelled file k.ticket) (cancelled-few file k.ticket) d.answered };
+      cancels = λ k file d. record { going = m.cancels k file d.going; answered = fewer-answered (cancelled file k.ticket) (cancelled-fewer file k.ticket) d.answered };
       notes = λ k file tag heard d. record { going = m.notes k file tag heard d.going; answered = d.answered };
     }
 

@@ -1,6 +1,5 @@
 -- In every run the replies that a client can take tell what the kept line of its host tells.
-use Rattle.std.proofs.Common.{◌≡◌, ◌<◌, ℕ, zero, suc, ◌+◌, ◌-◌, Bool, true, false, ◌==◌, List, [], ◌++◌, Some, length, refl, sym, subst, ap, arith}
-use Rattle.std.specs.Prelude.{slice_get, replicate, unwrap_or}
+use Rattle.std.proofs.Common.{◌≡◌, ◌<◌, ℕ, ◌+◌, ◌-◌, ◌==◌, List, [], ◌++◌, length, refl, sym, subst, ap, arith}
 use Rattle.nq_base.specs.declared.Event.{Event}
 use Rattle.nq_base.specs.declared.HostRow.{HostRow}
 use Rattle.nq_base.specs.declared.Party.{Party}
@@ -13,20 +12,20 @@ use Rattle.nq_lease_laws.proofs.LeaseIntervals.{Runs, run-runs}
 use Rattle.nq_lease_laws.specs.LeaseIntervalInRuns.{KeepsBounds}
 use Rattle.nq_model.specs.Client.{Client, ClientStep}
 use Rattle.nq_model.specs.ClientStep.{client_call, client_tick, restart, attached_client, fresh_client}
-use Rattle.nq_model.specs.Kept.{Kept, find_file, fresh_row, host_row}
+use Rattle.nq_model.specs.Kept.{find_file, host_row}
 use Rattle.nq_model.specs.Message.{Packet, datagram_of}
-use Rattle.nq_model.specs.Profile.{most_hosts}
 use Rattle.nq_model.specs.Server.{Server, ServerStep, quiet, keeping_with, with_table}
-use Rattle.nq_model.specs.ServerStep.{receive, tick, crash, boot, booted, opens, ends_writing, at_time}
+use Rattle.nq_model.specs.ServerStep.{receive, tick, crash, boot, opens, ends_writing, at_time}
 use Rattle.nq_model.specs.Skew.{IsWithinSkew}
 use Rattle.nq_model.specs.Table.{with_rows}
-use Rattle.nq_model.specs.World.{Head, World, after_server, after_client, sending_host, first_row, start, run}
+use Rattle.nq_model.specs.World.{Head, World, after_server, after_client, sending_host, start, run}
 use Rattle.nq_request_laws.proofs.WorldSequences.{Draws, run-draws}
 use Rattle.nq_run_cases.proofs.RunCases.{Keeps, run-keeps, OfClients, clients-after}
-use Rattle.nq_run_steps.proofs.KnownWorlds.{first-there}
+use Rattle.nq_run_steps.proofs.KnownWorlds.{first-there, first-line}
 use Rattle.nq_run_steps.proofs.Packets.{In, in-get}
 use Rattle.nq_run_steps.proofs.Worlds.{Holds, to-server, to-told, first-client, run-holds}
 use Rattle.nq_server_laws.proofs.ServerFacts.{fence-lines}
+use Rattle.nq_server_steps.proofs.KeptChanges.{booted-line}
 use Rattle.nq_server_steps.proofs.ServerCases.{server-ticks}
 
 -- ---- the server's other steps
@@ -55,10 +54,6 @@ tick-tells ps s now = server-ticks s now (ServerTells ps s) (record {
   ends_reading = λ p none. ends-tells ps s now _;
   ending_writing = λ row p due. ends-writing-tells ps s now _ row;
 })
-
-booted-line : (kept : Kept) (longest host : ℕ) (b : Bool) → (kept.opened == 0) ≡ b → host_row (booted kept longest) host ≡ host_row kept host
-booted-line kept longest host true e = rw e refl
-booted-line kept longest host false e = rw e refl
 
 -- nor does a crash
 pub crash-tells : (ps : List Packet) (s : Server) (longest : ℕ) → ServerTells ps s (crash s longest)
@@ -95,15 +90,6 @@ server-step w t tells head events same h = λ host c is.
     subst (λ n. Answered (host_row t.server.kept n) c.who c.seq c.ticket (w.packets ++ t.sends)) a.here
     (server-answers w.server t c.who c.xid c.seq c.ticket w.packets tells a.mail (drawn.clients host c is)
     (subst (λ n. Answered (host_row w.server.kept n) c.who c.seq c.ticket w.packets) (sym a.here) (h host c is)))
-
-replicated : (count host : ℕ) (line : HostRow) (more : List HostRow) → host < count → slice_get (replicate count line ++ more) host ≡ Some line
-replicated zero host line more h = absurd (omega arith)
-replicated (suc count) zero line more h = refl
-replicated (suc count) (suc host) line more h = replicated count host line more (omega arith)
-
-pub first-line : (head : Head) (host : ℕ) → host < head.hosts → host_row (start head).server.kept host ≡ first_row
-unfolding start boot
-first-line head host there = ap (λ o. unwrap_or o fresh_row) (replicated head.hosts host first_row (replicate (most_hosts - head.hosts) fresh_row) there)
 
 starts : (head : Head) → AllAnswered (start head)
 unfolding start attached_client fresh_client

@@ -13,7 +13,7 @@ use Rattle.nq_base.specs.declared.Request.{Request}
 use Rattle.nq_base.specs.declared.Who.{Who}
 use Rattle.nq_client_steps.proofs.ClientFacts.{push_in}
 use Rattle.nq_client_steps.proofs.ClientMoves.{some-same, none-some, attached-with-ticket}
-use Rattle.nq_fate_laws.proofs.AnsweredWorlds.{AllAnswered, first-line, run-answered, server-step, received-tells, tick-tells, crash-tells}
+use Rattle.nq_fate_laws.proofs.AnsweredWorlds.{AllAnswered, run-answered, server-step, received-tells, tick-tells, crash-tells}
 use Rattle.nq_fate_steps.proofs.ClientFates.{IsOwn, Mid}
 use Rattle.nq_fate_steps.proofs.FactMoves.{IsOfOther, behind-more, facts-others, facts-packets, facts-sends, journal-more, journal-quiets, journal-quiet}
 use Rattle.nq_fate_steps.proofs.FactServer.{Before, server-facts}
@@ -36,7 +36,7 @@ use Rattle.nq_request_laws.proofs.WorldSequences.{run-draws, asked-before-server
 use Rattle.nq_run_cases.proofs.RunCases.{client_at, Keeps, run-keeps, OfClients, clients-after}
 use Rattle.nq_run_steps.proofs.ClientRestarts.{asked-old}
 use Rattle.nq_run_steps.proofs.HostLine.{IsSettled}
-use Rattle.nq_run_steps.proofs.KnownWorlds.{Known, first-there}
+use Rattle.nq_run_steps.proofs.KnownWorlds.{Known, first-there, first-line}
 use Rattle.nq_run_steps.proofs.Mail.{packets_with}
 use Rattle.nq_run_steps.proofs.Packets.{In, in-get, Asked, Told, Mail}
 use Rattle.nq_run_steps.proofs.ServerSays.{AllSaid}
@@ -166,7 +166,7 @@ restarted line host c ps j past a h fits =
 
 -- ---- a step of the server
 
-no-attach : (t : Ticket) → t.job ≡ pushing → t.job ≡ attaching → ⊥
+pub no-attach : (t : Ticket) → t.job ≡ pushing → t.job ≡ attaching → ⊥
 no-attach t a b = cc
 
 -- a push is under way at an attached client alone, and its incarnation is the kept one

@@ -23,6 +23,7 @@ use Rattle.nq_model.specs.Server.{Server, ServerStep}
 use Rattle.nq_request_laws.proofs.OpenRequests.{IsOpenAt, OneOpenAt}
 use Rattle.nq_run_steps.proofs.HostLine.{IsSettled}
 use Rattle.nq_run_steps.proofs.Packets.{In, Asked, Mail}
+use Rattle.nq_server_steps.proofs.Incarnations.{one-who}
 use Rattle.nq_server_steps.proofs.Rows.{same-number, number-same}
 
 -- ---- one more entry, and another line
@@ -72,9 +73,6 @@ list-adds {who = who} {number = number} {dirty = dirty} {push = push} {j = j} e 
   unsaved f b n v (inr i) = more f b n (h.unsaved f b n v i)
 
 -- ---- a step of the server
-
-both-same : (v w : Who) → v.host ≡ w.host → v.inc ≡ w.inc → v ≡ w
-both-same v w a b = let make : ℕ → ℕ → Who = λ i j. record { host = i; inc = j } in ap (λ i. make i v.inc) a ∙ ap (λ j. make w.host j) b
 
 all-of-other : (host : ℕ) (es : List Entry) → AllQuiet es → (e : Entry) → In es e → IsOfOther host e
 all-of-other host es quiet e i = quiet-other host e (quiet e i)
@@ -194,7 +192,7 @@ module _ (s : Server) (t : ServerStep) (who : Who) (xid number seq : ℕ) (ticke
 
     -- a push under way is what is decided
     is-it : (p : Push) → push ≡ Some p → (w : k.w ≡ who) × (push_in k.r ≡ Some p)
-    is-it p is = (both-same k.w who (sym same) mine, case (b.settled kept k.x k.r k.w k.seq asked-here k.by mine k.draws))
+    is-it p is = (one-who k.w who (sym same) mine, case (b.settled kept k.x k.r k.w k.seq asked-here k.by mine k.draws))
       where
         kept : line.inc ≡ who.inc
         kept = b.pushing p is

@@ -1,6 +1,5 @@
 -- What the server's step for a datagram does to the journal and to the kept lines of hosts, and what its replies tell.
 use Rattle.std.proofs.Common.{◌≡◌, ◌<◌, ◌⊎◌, ℕ, ◌+◌, ◌%◌, true, List, [], ◌∷◌, Option, Some, None, length, refl, sym, subst, ap, ◌∙◌, arith, inl, inr}
-use Rattle.std.specs.Prelude.{slice_get, unwrap_or}
 use Rattle.nq_base.specs.Block.{value_of}
 use Rattle.nq_base.specs.declared.Entry.{Entry}
 use Rattle.nq_base.specs.declared.Entry.TheVariants.{W, S, L}
@@ -16,10 +15,10 @@ use Rattle.nq_base.specs.declared.Verdict.{Verdict}
 use Rattle.nq_base.specs.declared.Who.{Who}
 use Rattle.nq_client_steps.proofs.ClientFacts.{push_in}
 use Rattle.nq_client_steps.proofs.ClientMoves.{some-same, none-some}
-use Rattle.nq_lease_laws.proofs.ServerEffects.{reads-no-seq}
+use Rattle.nq_lease_laws.proofs.ServerEffects.{reads-no-seq, asks-no-seq}
 use Rattle.nq_model.specs.Decide.{Decision, decides, creates, writes_through, stores, wrote, stores_recovering, resizes, removes, puts_off as puts_off_change, verdict_reply, commits, row_after}
 use Rattle.nq_model.specs.Hear.{inc_of, puts_off}
-use Rattle.nq_model.specs.Kept.{File, Kept, fresh_row, host_row, with_row, with_files, with_new_file}
+use Rattle.nq_model.specs.Kept.{File, Kept, host_row, with_row, with_files, with_new_file}
 use Rattle.nq_model.specs.Message.{Message, Packet, call, reply, asker, Reason, Datagram, request, too_long, no_message, no_call, other_rpc, other_program, other_version, unknown_procedure, garbage_vacated, garbage, sequence_of}
 use Rattle.nq_model.specs.Profile.{xid_end, most_hosts}
 use Rattle.nq_model.specs.Server.{Server, ServerStep, to_host, quiet, drops, says, notices, after_notices, keeping, keeping_with, with_table}
@@ -28,9 +27,9 @@ use Rattle.nq_model.specs.Table.{Table, with_rows}
 use Rattle.nq_run_steps.proofs.Packets.{In, in-append, Asked, told-same, reply-same}
 use Rattle.nq_run_steps.proofs.ServerSays.{verdict-inc, plain-inc}
 use Rattle.nq_server_laws.proofs.ServerNumbers.{LinesFitOf}
-use Rattle.nq_server_steps.proofs.KeptChanges.{other-line, own-line}
+use Rattle.nq_server_steps.proofs.KeptChanges.{other-line, own-line, same-lines}
 use Rattle.nq_server_steps.proofs.ServerCases.{server-hears}
-use Rattle.nq_server_steps.proofs.ServerOutcomes.{error_for, only_asks, base_in, line_of, IsFrom, IsFresh, IsPlain, unattached, attached_again, not_yet, no_entry, entry, no_attributes, attributes, no_file, no_block, decided_again, is_old, IsDeclined, bad_length, name_taken, no_room, not_kept, outside, no_row, not_under, not_over, not_while_recovering, bad_size, no_room_to_grow}
+use Rattle.nq_server_steps.proofs.ServerOutcomes.{error_for, base_in, line_of, IsFrom, IsFresh, IsPlain, unattached, attached_again, not_yet, no_entry, entry, no_attributes, attributes, no_file, no_block, decided_again, is_old, IsDeclined, bad_length, name_taken, no_room, not_kept, outside, no_row, not_under, not_over, not_while_recovering, bad_size, no_room_to_grow}
 
 -- ---- entries
 
@@ -118,13 +117,6 @@ pub record ServerTells (ps : List Packet) (s : Server) (t : ServerStep) : Type 0
 
 -- ---- plain replies
 
-asks-no-seq : (r : Request) → only_asks r ≡ true → sequence_of r ≡ None
-asks-no-seq (Request.Lookup w name) e = refl
-asks-no-seq (Request.GetAttr w file) e = refl
-asks-no-seq (Request.Read w q file block want) e = refl
-asks-no-seq (Request.GetLease w file want) e = refl
-asks-no-seq r e = absurd (cc)
-
 plain-tells : (s : Server) (w : Who) (r : Request) (a : Reply) → IsPlain s w r a → (n : ℕ) → sequence_of r ≡ Some n → Tells (line_of s w) w n r a
 plain-tells s w r a (unattached above other e) n q = later Refusal.NotAttached e refl
 plain-tells s w r a (attached_again asks same e) n q = none-some n (ap sequence_of (sym asks) ∙ q)
@@ -137,9 +129,6 @@ plain-tells s w r a (no_file file same p on none e) n q = none-some n (sym (read
 plain-tells s w r a (no_block q' file block want f same p on some none e) n q = none-some n (ap sequence_of (sym on) ∙ q)
 plain-tells s w r a (decided_again seq same sq eq e) n q = let one : seq ≡ n = some-same seq n (sym sq ∙ q) in decided (sym same) (sym eq ∙ one) e
 plain-tells s w r a (is_old seq same sq below e) n q = later Refusal.Old e refl
-
-same-lines : (kept after : Kept) (host : ℕ) → after.hosts ≡ kept.hosts → host_row after host ≡ host_row kept host
-same-lines kept after host same = ap (λ hosts. unwrap_or (slice_get hosts host) fresh_row) same
 
 -- ---- messages
 

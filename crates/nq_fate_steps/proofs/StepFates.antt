@@ -17,6 +17,7 @@ use Rattle.nq_client_cases.proofs.RepliedCases.{replied-cases}
 use Rattle.nq_client_cases.proofs.StepCases.{call-cases, unless-cached-cases, tick-cases, evicted-cases, heard-cases}
 use Rattle.nq_client_steps.proofs.ClientFacts.{push_in, fits_job}
 use Rattle.nq_client_steps.proofs.ClientMoves.{some-same, none-some}
+use Rattle.nq_client_steps.proofs.ClientWalk.{push-wants-none}
 use Rattle.nq_fate_steps.proofs.ClientFates.{Mid, mid-quiet, mid-names, mid-settles, mid-next, last-facts}
 use Rattle.nq_fate_steps.proofs.FactMoves.{facts-packets, facts-ticket, no-push}
 use Rattle.nq_fate_steps.proofs.FactPushes.{facts-stored, IsLosable}
@@ -45,11 +46,6 @@ done-of inc Verdict.NoSpace value r i rev e = cc
 done-of inc Verdict.Invalid value r i rev e = cc
 done-of inc Verdict.Stale value r i rev e = cc
 done-of inc Verdict.TryLater value r i rev e = cc
-
--- a push takes nothing that is wanted
-push-wants-none : (f : ℕ) (r : Request) (p : Push) → push_in r ≡ Some p → wants_of f r ≡ false
-push-wants-none f (Request.Write w seq file block first last (Some base) body) p e = refl
-push-wants-none f r p e = none-some p e
 
 -- what is known of the reply
 pub record Replies (line : HostRow) (ps : List Packet) (c : Client) (ticket : Ticket) (r : Reply) : Type 0 where

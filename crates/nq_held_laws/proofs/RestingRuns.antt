@@ -14,6 +14,7 @@ use Rattle.nq_content_laws.proofs.RunContents.{lengths-first, run-fits}
 use Rattle.nq_content_laws.specs.ContentsInRuns.{first_length}
 use Rattle.nq_content_steps.specs.Contents.{content_at}
 use Rattle.nq_fate_laws.proofs.AnsweredWorlds.{received-tells, tick-tells, crash-tells}
+use Rattle.nq_fate_laws.proofs.WorldWrites.{no-attach}
 use Rattle.nq_fate_steps.proofs.ServerTells.{Moves}
 use Rattle.nq_fate_steps.proofs.WritesFit.{IsOpenPush, WritesFit, JournalFits}
 use Rattle.nq_lease_laws.specs.LeaseIntervalInRuns.{KeepsBounds}
@@ -25,7 +26,7 @@ use Rattle.nq_held_laws.proofs.Steps.{ClientActs, called, ticked, restarted, hea
 use Rattle.nq_legal_steps.proofs.HeldContents.{content}
 use Rattle.nq_legal_steps.proofs.HeldFiles.{RestsOn}
 use Rattle.nq_legal_steps.proofs.Stores.{StoreFits, Rests}
-use Rattle.nq_model.specs.Client.{Client, ClientStep, Ticket, pushing, attaching}
+use Rattle.nq_model.specs.Client.{Client, ClientStep, pushing, attaching}
 use Rattle.nq_model.specs.ClientStep.{client_call, client_tick, restart, starts, fresh_client}
 use Rattle.nq_model.specs.Decide.{decides, creates, writes_through, stores, stores_recovering, wrote, resizes, removes, puts_off, commits}
 use Rattle.nq_model.specs.Journal.{Throughout}
@@ -119,9 +120,6 @@ renamed first after w same h = record {
   inside = throughout-weaker (IsInsideAt first w.server.kept.next) (IsInsideAt after w.server.kept.next) (inside-later first after w.server.kept.next w.server.kept.next (omega arith) same) w.journal h.inside;
   earlier = h.earlier;
 }
-
-no-attach : (t : Ticket) → t.job ≡ pushing → t.job ≡ attaching → ⊥
-no-attach t a b = cc
 
 -- ---- a client's step
 

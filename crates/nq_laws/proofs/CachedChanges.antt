@@ -1,12 +1,12 @@
 -- In every run a cached read changes its client's count of calls, the mark of its lease and the order of its clean blocks,
 -- and nothing else.
-use Rattle.std.proofs.Common.{◌≡◌, ◌≢◌, ℕ, zero, suc, ◌+◌, ◌==◌, not, Bool, true, false, List, [], ◌∷◌, ◌++◌, Option, Some, None, if◌then◌else◌, refl, sym, subst, ap, ◌∙◌, inl, inr, append-nil}
+use Rattle.std.proofs.Common.{◌≡◌, ◌≢◌, ℕ, ◌+◌, ◌==◌, not, Bool, true, false, List, [], ◌∷◌, ◌++◌, Option, Some, None, if◌then◌else◌, refl, sym, subst, ap, ◌∙◌, inl, inr, append-nil}
 use Rattle.std.specs.Option.{option_map}
-use Rattle.std.specs.Prelude.{slice_get, slice_set}
+use Rattle.std.specs.Prelude.{slice_get}
 use Rattle.nq_base.specs.declared.Call.{Call}
+use Rattle.nq_content_laws.proofs.RunContents.{set-found}
 use Rattle.nq_laws.proofs.CachedReads.{cached-in-every-run}
-use Rattle.nq_client_steps.proofs.ClientLists.{used-lease-found, number-other}
-use Rattle.nq_client_steps.proofs.ClientMoves.{none-some}
+use Rattle.nq_client_steps.proofs.ClientLists.{used-lease-found, number-other, lease-file}
 use Rattle.nq_server_steps.proofs.Rows.{find-passes, find-filter, same-number, number-same, both-true, false-not, choice}
 use Rattle.nq_run_steps.proofs.Worlds.{get-set-other}
 use Rattle.nq_laws.specs.CachedChanges.{ReadsBlock, IsAsItWas, ChangesNothingElse, CachedReadsChangeNothingElse}
@@ -63,9 +63,6 @@ marks file l false e same = let yes : (l.file == file) ≡ true = number-same l.
 spares : (file : ℕ) (l : Lease) → (l.file == file) ≡ false → marked_used file l ≡ l
 spares file l e = rw e refl
 
-lease-file : (file : ℕ) (leases : List Lease) (l : Lease) → lease_on file leases ≡ Some l → l.file ≡ file
-lease-file file leases l e = same-number l.file file (find-passes (λ z. z.file == file) l leases e)
-
 used-found : (file : ℕ) (leases : List Lease) (l : Lease) → lease_on file leases ≡ Some l → lease_on file (used_lease file leases) ≡ Some (record l { used = true })
 used-found file leases l e = used-lease-found file file leases ∙ ap (option_map (marked_used file)) e ∙ ap Some (marks file l (l.file == file) refl (lease-file file leases l e))
 
@@ -84,16 +81,11 @@ as-it-was c file block lease free held = record {
   clean = λ other b. choice (λ z. clean_at other b z ≡ clean_at other b c.clean) (reads_clean c file block) (touched file block (clean_at file block c.clean) c.clean) c.clean (λ reads. touched-finds other b file block c.clean (clean_at file block c.clean) refl) (λ dirty. refl);
 }
 
-get-set : {A : Type 0} (xs : List A) (i : ℕ) (x y : A) → slice_get xs i ≡ Some y → slice_get (slice_set xs i x) i ≡ Some x
-get-set [] i x y h = none-some y h
-get-set (z ∷ xs) zero x y h = refl
-get-set (z ∷ xs) (suc i) x y h = get-set xs i x y h
-
 changes : (w : World) (host : ℕ) (c : Client) (op : Call) (file block : ℕ) (lease : Lease) (body : List ℕ) → slice_get w.clients host ≡ Some c → IsReady c file block lease body → AnswersAtOnce c op file block body (client_call c op) → ChangesNothingElse w (after_client w host (client_call c op)) host c op file block lease body
 unfolding after_client
 changes w host c op file block lease body is ready a = record {
   client = (client_call c op).client;
-  there = get-set w.clients host (client_call c op).client c is;
+  there = set-found w.clients host (client_call c op).client c is;
   as_it_was = subst (λ d. IsAsItWas c d file lease) (sym a.client) (as-it-was c file block lease ready.free ready.held);
   others = λ other apart. get-set-other w.clients host other (client_call c op).client apart;
   server = refl;

@@ -22,6 +22,7 @@ use Rattle.nq_model.specs.ServerStep.{attaches, tells_later, serves, leases, vac
 use Rattle.nq_model.specs.Settle.{answers, after_read, reads_cached, after_write, marks_written}
 use Rattle.nq_model.specs.Table.{empty_table, with_rows, after_draw}
 use Rattle.nq_model.specs.World.{Head, after_server, after_client, start, run}
+use Rattle.nq_report_laws.proofs.SomeLoss.{one-first, no-crash-within}
 
 -- one host that wants short leases, and one file
 abbrev one-host : Head
@@ -41,10 +42,6 @@ lost-one = record { file = 1; block = 0; first = 1; last = 1 }
 none-first : (most : ℕ) → All (BootsWithin most) []
 none-first most k d below = absurd (omega arith)
 
-one-first : (most : ℕ) (e : Event) (events : List Event) → BootsWithin most e → All (BootsWithin most) events → All (BootsWithin most) (e ∷ events)
-one-first most e events here rest zero d below = here
-one-first most e events here rest (suc k) d below = rest k d (omega arith)
-
 -- whether no event is a crash
 abbrev no_crash : List Event → Bool
 no_crash [] = true
@@ -55,11 +52,6 @@ no-crash-after : (most : ℕ) (events earlier : List Event) → no_crash events 
 no-crash-after most [] earlier h rest = rest
 no-crash-after most (Event.Crash longest ∷ events) earlier h rest = absurd (cc)
 no-crash-after most (e ∷ events) earlier h rest = one-first most e (events ++ earlier) tt (no-crash-after most events earlier h rest)
-
-no-crash-within : (most : ℕ) (events : List Event) → no_crash events ≡ true → All (BootsWithin most) events
-no-crash-within most [] h = none-first most
-no-crash-within most (Event.Crash longest ∷ events) h = absurd (cc)
-no-crash-within most (e ∷ events) h = one-first most e events tt (no-crash-within most events h)
 
 -- ---- the schedules, the newest event first
 

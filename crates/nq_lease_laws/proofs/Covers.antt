@@ -3,19 +3,20 @@ use Rattle.std.proofs.Common.{◌≡◌, ◌≤◌, ℕ, ◌+◌, Bool, true, fa
 use Rattle.std.proofs.lemmas.Bool.Decides.{nat_tests}
 use Rattle.nq_base.specs.declared.Access.{Access}
 use Rattle.nq_base.specs.declared.Mode.{Mode}
-use Rattle.nq_base.specs.declared.Mode.TheVariants.{NonCaching, Reading, Writing}
+use Rattle.nq_base.specs.declared.Mode.TheVariants.{Reading}
 use Rattle.nq_base.specs.declared.Row.{Row}
 use Rattle.nq_base.specs.declared.Tag.{Tag}
 use Rattle.nq_base.specs.declared.Want.{Want}
 use Rattle.nq_base.specs.declared.Who.{Who}
 use Rattle.nq_server_steps.proofs.AskCases.{own_in, with_marked, with_waiter, IsGranted, shares_again, begins_sharing, begins_caching, renews_row}
 use Rattle.nq_client_steps.proofs.ClientMoves.{some-same, none-some}
+use Rattle.nq_server_steps.proofs.Modes.{caching-at-least, at-least-more}
 use Rattle.nq_server_steps.proofs.RowChanges.{of-key, find-put, find-marked, mark, mark-is}
 use Rattle.nq_server_steps.proofs.Rows.{found-row}
 use Rattle.nq_model.specs.Ask.{Question, marked, sharing_row, caching_row, shared_again, renewed_row, term_of}
 use Rattle.nq_model.specs.LeaseInterval.{is_at_least, HasFitting, IsCovered}
 use Rattle.nq_model.specs.Server.{serving, Server}
-use Rattle.nq_model.specs.Table.{Table, caches, is_writing, greater_mode, tag_below, is_row_of, find_row, put_row, with_rows, after_draw}
+use Rattle.nq_model.specs.Table.{Table, caches, tag_below, is_row_of, find_row, put_row, with_rows, after_draw}
 
 -- a row goes on: the same holder and file, a kind that lets him do no less, a chain that began no later and a tag no
 -- earlier, and it ends no earlier
@@ -48,18 +49,10 @@ abbrev pub GoesOnAt : (file host : ℕ) → (before after : List Row) → Type 0
 GoesOnAt file host before after =
     (was : Row) → find_row file host before ≡ Some was → caches was.mode ≡ true → (row : Row) × (find_row file host after ≡ Some row) × GoesOn was row
 
--- a lease that caches has a fitting row that caches
-caching-kind : (row mode : Mode) → caches mode ≡ true → is_at_least row mode ≡ true → caches row ≡ true
-caching-kind row NonCaching c h = cc
-caching-kind row Reading c h = h
-caching-kind NonCaching Writing c h = cc
-caching-kind Reading Writing c h = refl
-caching-kind Writing Writing c h = refl
-
 pub fitting-goes-on : (who : Who) (file : ℕ) (mode : Mode) (tag : Tag) (until : ℕ) (before after : Table) → caches mode ≡ true → GoesOnAt file who.host before.rows after.rows → HasFitting who file mode tag until before → HasFitting who file mode tag until after
 fitting-goes-on who file mode tag until before after c goes h =
     let f = h.fits in
-    let n = goes h.row h.stands (caching-kind h.row.mode mode c f.kind) in
+    let n = goes h.row h.stands (caching-at-least h.row.mode mode c f.kind) in
     record {
       row = n.0;
       stands = n.1;
@@ -103,19 +96,6 @@ put-goes-on file host row rows own was found c = step (is_row_of file host row) 
     step : (b : Bool) → is_row_of file host row ≡ b → (r : Row) × (find_row file host (put_row row rows) ≡ Some r) × GoesOn was r
     step true e = (row, find-put file host row rows ∙ rw e refl, own was e found c)
     step false e = (was, find-put file host row rows ∙ rw e found, same-goes-on was)
-
-at-least-more : (row wanted mode : Mode) → is_at_least row mode ≡ true → is_at_least (greater_mode row wanted) mode ≡ true
-at-least-more row wanted NonCaching h = refl
-at-least-more NonCaching wanted Reading h = cc
-at-least-more NonCaching wanted Writing h = cc
-at-least-more Reading wanted Reading h = step (is_writing wanted)
-  where
-    step : (b : Bool) → caches (if b then Writing else Reading) ≡ true
-    step true = refl
-    step false = refl
-at-least-more Reading wanted Writing h = cc
-at-least-more Writing wanted Reading h = refl
-at-least-more Writing wanted Writing h = refl
 
 -- a tag drawn next is no earlier than a tag that was drawn in this boot, nor than one that is no later than such a tag
 fresh-no-earlier : (boot drawn : ℕ) (was tag : Tag) → was.boot ≡ boot → was.number ≤ drawn → tag_below was tag ≡ false → tag_below (record { boot = boot; number = drawn + 1 }) tag ≡ false

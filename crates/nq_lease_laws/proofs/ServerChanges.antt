@@ -1,7 +1,5 @@
 -- What a decision, ATTACH and VACATED do to the server, as one client sees it.
 use Rattle.std.proofs.Common.{◌≡◌, ◌≢◌, ◌<◌, ◌≤◌, ℕ, ◌+◌, Bool, true, false, ◌==◌, ◌&&◌, List, [], ◌∷◌, Option, Some, None, if◌then◌else◌, length, max, refl, sym, subst, ap, ◌∙◌, arith, inl, inr}
-use Rattle.std.specs.Option.{unwrap_or}
-use Rattle.std.specs.Prelude.{slice_get}
 use Rattle.std.proofs.lemmas.Bool.Decides.{nat_tests}
 use Rattle.nq_base.specs.declared.Access.{Access}
 use Rattle.nq_base.specs.declared.Event.{Event}
@@ -18,7 +16,7 @@ use Rattle.nq_client_steps.proofs.ClientMoves.{some-same, none-some}
 use Rattle.nq_lease_laws.proofs.Covers.{GoesOnAt, marked-goes-on, heard-goes-on}
 use Rattle.nq_lease_laws.proofs.Hearing.{Hearing}
 use Rattle.nq_run_steps.proofs.HostLine.{IsSettled}
-use Rattle.nq_server_steps.proofs.KeptChanges.{own-line}
+use Rattle.nq_server_steps.proofs.KeptChanges.{own-line, same-lines}
 use Rattle.nq_run_steps.proofs.Packets.{In, Asked}
 use Rattle.nq_server_steps.proofs.RowChanges.{no-clash, find-other-dropped, find-other-host-dropped, find-other-file-dropped}
 use Rattle.nq_server_steps.proofs.Rows.{both-true, same-number, number-same, found-row}
@@ -31,7 +29,7 @@ use Rattle.nq_run_steps.proofs.TagFacts.{IsDrawn}
 use Rattle.nq_model.specs.Ask.{marked}
 use Rattle.nq_model.specs.Client.{Lease, Notice, Ticket}
 use Rattle.nq_model.specs.Decide.{Decision, decides, creates, writes_through, stores, wrote, stores_recovering, resizes, removes, puts_off, in_the_way, verdict_reply, commits, row_after}
-use Rattle.nq_model.specs.Kept.{File, Kept, fresh_row, host_row, with_row, with_files, with_new_file}
+use Rattle.nq_model.specs.Kept.{File, host_row, with_row, with_files, with_new_file}
 use Rattle.nq_model.specs.LeaseInterval.{is_at_least, HasFitting, IsCovered, requested_file}
 use Rattle.nq_model.specs.Message.{Packet, reply, asker, Datagram, request, sequence_of}
 use Rattle.nq_model.specs.Profile.{write_slack, most_hosts}
@@ -51,9 +49,6 @@ same-cover-table s t phase who file mode tag until same table c = covered-tables
 drawn-rows : (phase : Phase) (table after : Table) (tag : Tag) → after.boot ≡ table.boot → after.drawn ≡ table.drawn → IsDrawn (standing_in phase table).boot (standing_in phase table).drawn tag → IsDrawn (standing_in phase after).boot (standing_in phase after).drawn tag
 drawn-rows serving table after tag boot drawn k = drawn-more table.boot table.drawn after.boot after.drawn boot (omega arith) tag k
 drawn-rows (recovering until heard last) table after tag boot drawn k = k
-
-same-lines : (kept after : Kept) (host : ℕ) → after.hosts ≡ kept.hosts → host_row after host ≡ host_row kept host
-same-lines kept after host same = ap (λ hosts. unwrap_or (slice_get hosts host) fresh_row) same
 
 module _ (ps : List Packet) (s : Server) (most sender next : ℕ) (d : Datagram) (events : List Event) (who : Who) (now xid : ℕ) (attached : Bool) (ticket : Option Ticket) (leased : List Lease) (noticed : List Notice) (c : Hearing ps s most sender d events who now xid attached ticket leased noticed) where
   goes : (t : ServerStep) → s.phase ≡ serving → t.server.phase ≡ serving → t.server.table.boot ≡ s.table.boot → s.table.drawn ≤ t.server.table.drawn → t.server.kept.opened ≡ s.kept.opened → t.server.kept.longest ≡ s.kept.longest → LineMoves ps who.host (host_row s.kept who.host) (host_row t.server.kept who.host) → ((file : ℕ) → GoesOnAt file who.host s.table.rows t.server.table.rows) → ((q : Packet) → In t.sends q → IsNew ps s t.server q) → Effect ps s t who ticket leased

@@ -90,7 +90,7 @@ verdict-no-attach inc Verdict.Stale value r i e = cc
 verdict-no-attach inc Verdict.TryLater value r i e = cc
 
 -- a request that only asks has no sequence
-asks-no-seq : (r : Request) → only_asks r ≡ true → sequence_of r ≡ None
+pub asks-no-seq : (r : Request) → only_asks r ≡ true → sequence_of r ≡ None
 asks-no-seq (Request.Lookup w name) e = refl
 asks-no-seq (Request.GetAttr w file) e = refl
 asks-no-seq (Request.Read w q file block want) e = refl

@@ -66,7 +66,7 @@ lives-knows s t e events who now attached ticket leases notices ps times f h = r
 
 -- ---- what is covered is of the boot that served last
 
-between : (boot : ℕ) (since tag latest : Tag) → since.boot ≡ boot → latest.boot ≡ boot → tag_below tag since ≡ false → tag_below latest tag ≡ false → tag.boot ≡ boot
+pub between : (boot : ℕ) (since tag latest : Tag) → since.boot ≡ boot → latest.boot ≡ boot → tag_below tag since ≡ false → tag_below latest tag ≡ false → tag.boot ≡ boot
 between boot since tag latest a b c e = grind (arith, nat_tests)
 
 covered-boot : (s : Server) (phase : Phase) (who : Who) (file : ℕ) (mode : Mode) (tag : Tag) (until : ℕ) → BootsFit s.kept.boot s.kept.opened phase s.table → StandingFits s.kept.files phase s.table → IsCovered s phase who file mode tag until → tag.boot ≡ s.kept.opened
@@ -237,14 +237,14 @@ pub record HasServed (kept : Kept) : Type 0 where
   pub opened : 0 < kept.opened
   pub booted : 0 < kept.boot
 
-booted-kept : (kept : Kept) (longest : ℕ) → HasServed kept → booted kept longest ≡ record kept { boot = kept.boot + 1 }
+pub booted-kept : (kept : Kept) (longest : ℕ) → HasServed kept → booted kept longest ≡ record kept { boot = kept.boot + 1 }
 booted-kept kept longest served = by (kept.opened == 0) refl
   where
     by : (b : Bool) → (kept.opened == 0) ≡ b → (if b then record kept { boot = kept.boot + 1; opened = kept.boot + 1; longest = longest } else record kept { boot = kept.boot + 1 }) ≡ record kept { boot = kept.boot + 1 }
     by true e = let some = served.opened in let none : kept.opened ≡ 0 = same-number kept.opened 0 e in absurd (omega arith)
     by false e = refl
 
-booted-phase : (opened longest now : ℕ) (last : Table) → 0 < opened → boot_phase opened longest now last ≡ recovering (now + longest + (skew + write_slack)) now last
+pub booted-phase : (opened longest now : ℕ) (last : Table) → 0 < opened → boot_phase opened longest now last ≡ recovering (now + longest + (skew + write_slack)) now last
 booted-phase opened longest now last served = by (opened == 0) refl
   where
     by : (b : Bool) → (opened == 0) ≡ b → (if b then serving else recovering (now + longest + (skew + write_slack)) now last) ≡ recovering (now + longest + (skew + write_slack)) now last

@@ -26,6 +26,7 @@ use Rattle.nq_content_steps.specs.Contents.{content_at}
 use Rattle.nq_content_steps.specs.Told.{HasValue, IsDoneAs}
 use Rattle.nq_fate_steps.proofs.FactPushes.{dirty-clear}
 use Rattle.nq_fate_steps.proofs.JournalMoves.{store-covers}
+use Rattle.nq_fate_steps.proofs.PushLists.{is-at, at-is}
 use Rattle.nq_fate_steps.proofs.WritesFit.{CoversNumber, IsClear, IsDirty, IsDecidedAs, PushStands, waits, stored, LiesWithin, in_list, under_way, WritesFit}
 use Rattle.nq_lease_laws.specs.LeaseIntervalInRuns.{KeepsBounds}
 use Rattle.nq_held_laws.proofs.EarlierStores.{Earlier, push-behind}
@@ -134,12 +135,6 @@ through-job job r who seq file block first last body asks fits = go job (subst (
 
 -- ---- blocks that a client has
 
-push-at : (file block : ℕ) (p : Push) → is_push_at file block p ≡ true → (p.file ≡ file) × (p.block ≡ block)
-push-at file block p is = let a = both-true _ _ is in (same-number _ _ a.0, same-number _ _ a.1)
-
-pub at-push : (file block : ℕ) (p : Push) → p.file ≡ file → p.block ≡ block → is_push_at file block p ≡ true
-at-push file block p f b = grind (arith, nat_tests)
-
 find-in : (test : Push → Bool) (ps : List Push) (p : Push) → find test ps ≡ Some p → In ps p
 find-in test [] p e = none-some p e
 find-in test (q ∷ ps) p e = case (test q) e (find-in test ps p)
@@ -171,7 +166,7 @@ has-body c file block body is = dirty (dirty_at file block c.dirty) refl is
     clean (Some k) e d p h = is_clean k d p e (some-same k.body body h)
 
     pushed-now : (q : Push) → c.push ≡ Some q → dirty_at file block c.dirty ≡ None → (b : Bool) → is_push_at file block q ≡ b → held_body None (if b then Some q.body else None) (clean_body (clean_at file block c.clean)) ≡ Some body → HasBody c file block body
-    pushed-now q e d true at h = let a = push-at file block q at in is_pushed q d e a.0 a.1 (some-same q.body body h)
+    pushed-now q e d true at h = let a = is-at file block q at in is_pushed q d e a.0 a.1 (some-same q.body body h)
     pushed-now q e d false at h = clean (clean_at file block c.clean) refl d (ap (pushed_body file block) e ∙ rw at refl) h
 
     pushed : (o : Option Push) → c.push ≡ o → dirty_at file block c.dirty ≡ None → held_body None (pushed_body file block o) (clean_body (clean_at file block c.clean)) ≡ Some body → HasBody c file block body
@@ -179,7 +174,7 @@ has-body c file block body is = dirty (dirty_at file block c.dirty) refl is
     pushed (Some q) e d h = pushed-now q e d (is_push_at file block q) refl h
 
     dirty : (o : Option Push) → dirty_at file block c.dirty ≡ o → held_body o (pushed_body file block c.push) (clean_body (clean_at file block c.clean)) ≡ Some body → HasBody c file block body
-    dirty (Some p) e h = let a = push-at file block p (find-passes (is_push_at file block) p c.dirty e) in is_dirty p (find-in (is_push_at file block) c.dirty p e) a.0 a.1 (some-same p.body body h)
+    dirty (Some p) e h = let a = is-at file block p (find-passes (is_push_at file block) p c.dirty e) in is_dirty p (find-in (is_push_at file block) c.dirty p e) a.0 a.1 (some-same p.body body h)
     dirty None e h = pushed c.push refl e h
 
 -- no unsaved write of the block encloses a number
@@ -273,13 +268,13 @@ module _ (most : ℕ) (head : Head) (known : (events : List Event) → KeepsBoun
               let past = earlier.under_way p e clear n (stored-value journal c.who p.file p.block n u 0 st) in
               let ordered = (push-behind (host_row w.server.kept c.who.host) c w.packets journal facts p e).ordered in
               absurd (omega arith)
-      later n u above (inr (in_list q j f g low high)) = absurd (find-none (is_push_at file block) c.dirty q none j (at-push file block q (f ∙ of) (g ∙ at)))
+      later n u above (inr (in_list q j f g low high)) = absurd (find-none (is_push_at file block) c.dirty q none j (at-is file block q (f ∙ of) (g ∙ at)))
       later n u above (inr (under_way q h f g low high)) = let last : q.last ≡ p.last = ap (λ z. z.last) (some-same q p (sym h ∙ e)) in absurd (omega arith)
 
   -- ---- what the server holds
 
   dirty-none : (file_is : dirty_at file block c.dirty ≡ None) → (n : ℕ) (q : Push) → In c.dirty q → q.file ≡ file → q.block ≡ block → ⊥
-  dirty-none none n q j f g = find-none (is_push_at file block) c.dirty q none j (at-push file block q f g)
+  dirty-none none n q j f g = find-none (is_push_at file block) c.dirty q none j (at-is file block q f g)
 
   -- the decided request of the client
   decided-as : (t : Ticket) → c.ticket ≡ Some t → (host_row w.server.kept c.who.host).inc ≡ c.who.inc → sequence_of t.request ≡ Some (host_row w.server.kept c.who.host).seq → (host_row w.server.kept c.who.host).verdict ≡ Verdict.Done → IsDoneAs (first_length head events) journal (host_row w.server.kept c.who.host).value t.request
@@ -311,7 +306,7 @@ module _ (most : ℕ) (head : Head) (known : (events : List Event) → KeepsBoun
               let asks : d.t.request ≡ Request.Write d.who d.seq file d.block d.first d.last (Some base) d.body = d.asks ∙ ap (λ o. Request.Write d.who d.seq file d.block d.first d.last o d.body) q in
               let p : Push = record { file = file; block = d.block; first = d.first; last = d.last; body = d.body } in
               let way : c.push ≡ Some p = ((k.chains host c is).writes.pushed d.t d.who d.seq file d.block d.first d.last base d.body d.has asks).under_way in
-              let here_is : is_push_at file block p ≡ true = at-push file block p refl (sym same) in
+              let here_is : is_push_at file block p ≡ true = at-is file block p refl (sym same) in
               let some : pushed_body file block c.push ≡ Some d.body = ap (pushed_body file block) way ∙ rw here_is refl in
               none-some d.body (sym none ∙ some)
           by-push None q =
@@ -363,7 +358,7 @@ module _ (most : ℕ) (head : Head) (known : (events : List Event) → KeepsBoun
   clean-waits : dirty_at file block c.dirty ≡ None → pushed_body file block c.push ≡ None → NoneEncloses c file block
   clean-waits none unpushed n (in_list q j f g low high) = dirty-none none n q j f g
   clean-waits none unpushed n (under_way q h f g low high) =
-      let here_is : is_push_at file block q ≡ true = at-push file block q f g in
+      let here_is : is_push_at file block q ≡ true = at-is file block q f g in
       let some : pushed_body file block c.push ≡ Some q.body = ap (pushed_body file block) h ∙ rw here_is refl in
       none-some q.body (sym unpushed ∙ some)
 

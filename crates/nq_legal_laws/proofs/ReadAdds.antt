@@ -16,8 +16,8 @@ use Rattle.nq_call_facts.proofs.Placed.{Placed, IsServedInOrder, exists-right, r
 use Rattle.nq_call_steps.proofs.CallWorlds.{CallsKnown}
 use Rattle.nq_fate_steps.proofs.WritesFit.{IsRising}
 use Rattle.nq_legal_laws.proofs.ReadClient.{Adds, accesses-writes, put-reads-nothing, told-reads-nothing, plain-reads}
-use Rattle.nq_legal_laws.proofs.ReadFacts.{IsServed, IsBacked, reads_nothing, counted_read, IsGood, ReadsOf, ReadsFit, placed-append, exists-before, exists-entry, reads-called, told-more, served-once, waits-more, standing-before}
-use Rattle.nq_legal_steps.proofs.Places.{IsPlaced, placed-in, throughout-at, in-exists}
+use Rattle.nq_legal_laws.proofs.ReadFacts.{IsServed, IsBacked, reads_nothing, counted_read, IsGood, ReadsOf, ReadsFit, placed-append, exists-entry, reads-called, told-more, served-once, waits-more, standing-before}
+use Rattle.nq_legal_steps.proofs.Places.{IsPlaced, placed-in, throughout-at, in-exists, before-exists}
 use Rattle.nq_legal_steps.proofs.ReaderValues.{NoneWaits}
 use Rattle.nq_legal_steps.proofs.ReadSteps.{Done, NewRead, OldRead, ValuedBy, IsServedAnswer, IsNamedAnswer}
 use Rattle.nq_legal_steps.proofs.Stores.{Rests, standing-more}
@@ -33,10 +33,8 @@ use Rattle.nq_model.specs.Stands.{IsStandingValue}
 use Rattle.nq_model.specs.World.{World, from_host}
 use Rattle.nq_run_steps.proofs.Packets.{In, in-append, in-left, Asked, message-same, in-right}
 use Rattle.nq_run_steps.proofs.Worlds.{IsAt, Holds}
+use Rattle.nq_server_steps.proofs.Incarnations.{one-who}
 use Rattle.nq_undisturbed_laws.proofs.Accesses.{Accesses, neither, read, wrote, IsHeld, IsCalm}
-
-one-who : (v w : Who) → v.host ≡ w.host → v.inc ≡ w.inc → v ≡ w
-one-who v w a b = let make : ℕ → ℕ → Who = λ i j. record { host = i; inc = j } in ap (λ i. make i v.inc) a ∙ ap (λ j. make w.host j) b
 
 sent-in : (host other : ℕ) (ms : List Message) (x : ℕ) (r : Request) → In (map (from_host host) ms) (from_host other (call x r)) → In ms (call x r)
 sent-in host other [] x r bad = bad
@@ -118,7 +116,7 @@ module _ (w : World) (host : ℕ) (c : Client) (t : ClientStep) (k : ℕ) (m : M
       case (inl new) = absurd (unserved c.who u.q file block v n new)
       case (inr old) =
           let o : IsServedInOrder before c.who u.q file block n = throughout-at Placed (R c.who u.q file block v (Some n)) before w.journal calls.journal.placed old in
-          let x = before-too u is (exists-before (IsCall c.who u.q) (R c.who u.q file block v (Some n)) before w.journal old o.called) in
+          let x = before-too u is (before-exists (IsCall c.who u.q) (R c.who u.q file block v (Some n)) before w.journal old o.called) in
           standing-more t.entries w.journal rising rests c.who u.q file block v (Some n) before old
           (this.standing x.0 x.1 file block v n before (subst (λ q. IsPlaced (R c.who q file block v (Some n)) before w.journal) (sym x.2) old))
 

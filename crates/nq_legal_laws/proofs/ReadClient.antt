@@ -42,7 +42,7 @@ pub record Adds (w : World) (host : ℕ) (t : ClientStep) : Type 0 where
   pub served : (who : Who) (q file block v k : ℕ) (before : List Entry) → IsPlaced (R who q file block v (Some k)) before w.journal → Exists (IsAnswerBy who q k) t.entries → IsGood (t.entries ++ w.journal) before who q file block v
   pub answers : (who : Who) (q v : ℕ) (said : Said) → In t.entries (A who q said) → GivesValue v said → IsBacked (t.entries ++ w.journal) who q v
 
-good-more : (es j before : List Entry) → Throughout IsRising (es ++ j) → Throughout Rests (es ++ j) → (who : Who) (q file block v : ℕ) (by : Option ℕ) → IsPlaced (R who q file block v by) before j → IsGood j before who q file block v → IsGood (es ++ j) before who q file block v
+pub good-more : (es j before : List Entry) → Throughout IsRising (es ++ j) → Throughout Rests (es ++ j) → (who : Who) (q file block v : ℕ) (by : Option ℕ) → IsPlaced (R who q file block v by) before j → IsGood j before who q file block v → IsGood (es ++ j) before who q file block v
 good-more es j before rising rests who q file block v by p g = record {
   standing = standing-more es j rising rests who q file block v by before p g.standing;
   answer = exists-right (IsAnswerWith who q v) es j g.answer;

@@ -81,11 +81,6 @@ placed-append e before (x ∷ es) j (inr p) = step (placed-append e before es j 
     step (inl i) = inl (inr i)
     step (inr q) = inr q
 
-pub exists-before : (Fact : Entry → Type 0) (e : Entry) (before j : List Entry) → IsPlaced e before j → Exists Fact before → Exists Fact j
-exists-before Fact e before [] p h = absurd p
-exists-before Fact e before (x ∷ j) (inl p) h = inr (subst (Exists Fact) (sym p.1) h)
-exists-before Fact e before (x ∷ j) (inr p) h = inr (exists-before Fact e before j p h)
-
 pub exists-entry : (Fact : Entry → Type 0) (es : List Entry) → Exists Fact es → (e : Entry) × In es e × Fact e
 exists-entry Fact [] h = absurd h
 exists-entry Fact (x ∷ es) (inl h) = (x, inl refl, h)

@@ -18,9 +18,10 @@ use Rattle.nq_client_cases.proofs.SendCases.{least-passes}
 use Rattle.nq_client_steps.proofs.ClientFacts.{push_in}
 use Rattle.nq_client_steps.proofs.ClientMoves.{none-some, some-same}
 use Rattle.nq_content_steps.proofs.ServerDelays.{Never, receive-never, tick-never, crash-never}
+use Rattle.nq_fate_steps.proofs.PushLists.{at-is}
 use Rattle.nq_fate_steps.proofs.WritesFit.{in_list, under_way, IsRising}
 use Rattle.nq_lease_laws.specs.LeaseIntervalInRuns.{KeepsBounds}
-use Rattle.nq_legal_laws.proofs.CachedReads.{cached-stands, none-waits, NoneEncloses, find-none, at-push}
+use Rattle.nq_legal_laws.proofs.CachedReads.{cached-stands, none-waits, NoneEncloses, find-none}
 use Rattle.nq_held_laws.proofs.HeldRuns.{kept-held}
 use Rattle.nq_legal_laws.proofs.ReadAdds.{step-adds}
 use Rattle.nq_legal_laws.proofs.ReadClient.{Adds, reads-after}
@@ -50,8 +51,9 @@ use Rattle.nq_run_cases.proofs.RunCases.{During}
 use Rattle.nq_run_steps.proofs.Packets.{In, in-get}
 use Rattle.nq_run_steps.proofs.ServerSays.{AllSaid}
 use Rattle.nq_run_steps.proofs.Worlds.{IsAt, to-server, received-said, tick-said, crash-said, first-client}
+use Rattle.nq_server_steps.proofs.Modes.{writing-caches}
 use Rattle.nq_undisturbed_laws.proofs.Accesses.{Accesses, IsHeld, call-accesses, tick-accesses, hear-accesses}
-use Rattle.nq_undisturbed_laws.proofs.Holders.{KnownOf, writing-caches}
+use Rattle.nq_undisturbed_laws.proofs.Holders.{KnownOf}
 use Rattle.nq_undisturbed_laws.proofs.Tags.{unclean-entry}
 use Rattle.nq_server_steps.proofs.Rows.{both-true, not-true, same-number, find-passes}
 use Rattle.std.proofs.lemmas.Bool.Decides.{nat_tests}
@@ -125,7 +127,7 @@ has-dirty : (c : Client) (file block : ℕ) (p : Push) → In c.dirty p → p.fi
 has-dirty c file block p i f g none = case (dirty_at file block c.dirty) refl none
   where
     case : (o : Option Push) → dirty_at file block c.dirty ≡ o → held_body o (pushed_body file block c.push) (clean_body (clean_at file block c.clean)) ≡ None → ⊥
-    case None e h = find-none (is_push_at file block) c.dirty p e i (at-push file block p f g)
+    case None e h = find-none (is_push_at file block) c.dirty p e i (at-is file block p f g)
     case (Some q) e h = none-some q.body (sym h)
 
 to-push-unclean : (c : Client) (l : Lease) → is_to_push c l ≡ true → is_clean c l.file ≡ false

@@ -11,12 +11,13 @@ use Rattle.nq_base.specs.declared.Said.{Said}
 use Rattle.nq_base.specs.declared.Want.{Want}
 use Rattle.nq_base.specs.declared.Who.{Who}
 use Rattle.nq_call_facts.proofs.ClientMoves.{IsBelow}
-use Rattle.nq_call_facts.proofs.Placed.{exists-right, exists-either}
+use Rattle.nq_call_facts.proofs.Placed.{exists-either}
 use Rattle.nq_call_steps.proofs.CallWorlds.{CallsKnown}
 use Rattle.nq_client_steps.proofs.ClientMoves.{none-some, some-same}
 use Rattle.nq_content_steps.proofs.ServerDelays.{Never}
 use Rattle.nq_content_steps.specs.Contents.{delayed_by}
 use Rattle.nq_fate_steps.proofs.WritesFit.{IsRising}
+use Rattle.nq_legal_laws.proofs.ReadClient.{good-more}
 use Rattle.nq_legal_laws.proofs.ReadFacts.{IsServed, IsBacked, IsGood, ReadsFit, placed-append, exists-entry, get-append, served-more, backed-more, waits-more, standing-after}
 use Rattle.nq_legal_laws.proofs.ServerReads.{IsUnread, TellsNone, ServesRead, reads_none, reads_one}
 use Rattle.nq_legal_steps.proofs.Held.{HasHeld}
@@ -28,7 +29,7 @@ use Rattle.nq_model.proofs.Telling.{tells_4, tells_same}
 use Rattle.nq_model.specs.Client.{Client, UnderWay}
 use Rattle.nq_model.specs.Journal.{Each, Exists, Throughout, IsAnswerBy, IsCounted, same_who}
 use Rattle.nq_model.specs.Kept.{File, find_file}
-use Rattle.nq_model.specs.Legal.{GivesValue, IsAnswerWith}
+use Rattle.nq_model.specs.Legal.{GivesValue}
 use Rattle.nq_model.specs.Message.{reply}
 use Rattle.nq_model.specs.Server.{Server, ServerStep, to_host}
 use Rattle.nq_model.specs.ServerStep.{serves, grants}
@@ -71,12 +72,6 @@ below-answer limit [] who q k each h = absurd h
 below-answer limit (e ∷ j) who q k each (inr h) = below-answer limit j who q k each.1 h
 below-answer limit (A by n (Said.OkBy v p) ∷ j) who q k each (inl h) = let below : p < limit = each.0 in let same : p ≡ k = h.2 in omega arith
 below-answer limit (e ∷ j) who q k each (inl h) = absurd h
-
-good-more : (es j before : List Entry) → Throughout IsRising (es ++ j) → Throughout Rests (es ++ j) → (who : Who) (q file block v : ℕ) (by : Option ℕ) → IsPlaced (R who q file block v by) before j → IsGood j before who q file block v → IsGood (es ++ j) before who q file block v
-good-more es j before rising rests who q file block v by p g = record {
-  standing = standing-more es j rising rests who q file block v by before p g.standing;
-  answer = exists-right (IsAnswerWith who q v) es j g.answer;
-}
 
 -- ---- a step
 

@@ -10,11 +10,12 @@ use Rattle.nq_base.specs.declared.Said.TheVariants.{Lost}
 use Rattle.nq_base.specs.declared.Span.{Span}
 use Rattle.nq_base.specs.declared.Told.{Told}
 use Rattle.nq_base.specs.declared.Who.{Who}
+use Rattle.nq_server_steps.proofs.Incarnations.{who-same}
 use Rattle.nq_server_steps.proofs.Rows.{both-true, same-number, number-same, false-not, not-true}
 use Rattle.nq_report_laws.specs.LossesInRuns.{IsLossOf}
 use Rattle.nq_report_laws.proofs.Tallies.{IsOne, exists-map, one-passed, one-passes, tally, tally-cons, tally-split}
 use Rattle.nq_report_laws.proofs.Told.{IsExcused, IsNamedIn, IsToldAt, IsCalled, Grows, grows, some-names-back}
-use Rattle.nq_report_laws.proofs.Journals.{who-same, same-who, IsPast, Journals, journals-add, told-none, call-numbered, call-begun}
+use Rattle.nq_report_laws.proofs.Journals.{same-who, IsPast, Journals, journals-add, told-none, call-numbered, call-begun}
 use Rattle.nq_model.specs.Client.{losses_of, other_losses, span_of, span_list}
 use Rattle.nq_model.specs.ClientStep.{told, changed_file, losses_for}
 use Rattle.nq_model.specs.Hear.{waits_for}

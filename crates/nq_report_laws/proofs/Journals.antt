@@ -5,6 +5,7 @@ use Rattle.nq_base.specs.declared.Entry.TheVariants.{C, L, A}
 use Rattle.nq_base.specs.declared.Loss.{Loss}
 use Rattle.nq_base.specs.declared.Told.{Told}
 use Rattle.nq_base.specs.declared.Who.{Who}
+use Rattle.nq_server_steps.proofs.Incarnations.{who-same}
 use Rattle.nq_server_steps.proofs.Rows.{both-true, true-both, same-number, number-same}
 use Rattle.nq_report_laws.specs.LossesInRuns.{IsLossOf}
 use Rattle.nq_report_laws.proofs.Tallies.{IsOne, exists-left, exists-right, exists-append, each-append, each-map}
@@ -13,13 +14,6 @@ use Rattle.nq_model.specs.Journal.{Each, Exists, AtEachPlace, same_who, call_of,
 use Rattle.nq_model.specs.Reported.{Names}
 
 -- ---- incarnations
-
-pub who-same : (a b : Who) → same_who a b ≡ true → a ≡ b
-who-same a b h =
-    let k = both-true _ _ h in
-    let host : a.host ≡ b.host = same-number a.host b.host k.0 in
-    let inc : a.inc ≡ b.inc = same-number a.inc b.inc k.1 in
-    ap (λ n. record { host = n; inc = a.inc }) host ∙ ap (λ n. record { host = b.host; inc = n }) inc
 
 pub same-who : (a b : Who) → a ≡ b → same_who a b ≡ true
 same-who a b e = true-both _ _ (number-same a.host b.host (ap (λ w. w.host) e)) (number-same a.inc b.inc (ap (λ w. w.inc) e))

@@ -81,7 +81,7 @@ is-named = inl (refl, refl, inl (refl, refl, refl))
 none-first : (most : ℕ) → All (BootsWithin most) []
 none-first most k d below = absurd (omega arith)
 
-one-first : (most : ℕ) (e : Event) (events : List Event) → BootsWithin most e → All (BootsWithin most) events → All (BootsWithin most) (e ∷ events)
+pub one-first : (most : ℕ) (e : Event) (events : List Event) → BootsWithin most e → All (BootsWithin most) events → All (BootsWithin most) (e ∷ events)
 one-first most e events here rest zero d below = here
 one-first most e events here rest (suc k) d below = rest k d (omega arith)
 
@@ -91,7 +91,7 @@ no_crash [] = true
 no_crash (Event.Crash longest ∷ events) = false
 no_crash (other ∷ events) = no_crash events
 
-no-crash-within : (most : ℕ) (events : List Event) → no_crash events ≡ true → All (BootsWithin most) events
+pub no-crash-within : (most : ℕ) (events : List Event) → no_crash events ≡ true → All (BootsWithin most) events
 no-crash-within most [] h = none-first most
 no-crash-within most (Event.Crash longest ∷ events) h = absurd (cc)
 no-crash-within most (e ∷ events) h = one-first most e events tt (no-crash-within most events h)

@@ -15,6 +15,7 @@ use Rattle.nq_run_steps.proofs.KnownWorlds.{Known}
 use Rattle.nq_lease_laws.proofs.LeaseIntervals.{Runs, run-runs, hearing, bounds-before}
 use Rattle.nq_run_steps.proofs.Mail.{packets_with}
 use Rattle.nq_run_steps.proofs.Packets.{In, in-get, Asked, Told}
+use Rattle.nq_server_steps.proofs.KeptChanges.{booted-line}
 use Rattle.nq_server_steps.proofs.Rows.{same-number, number-same}
 use Rattle.nq_request_laws.proofs.Sequences.{Seqs, Drew, DrewIf, call-draws, tick-draws, restart-draws, hear-draws}
 use Rattle.nq_server_steps.proofs.ServerCases.{server-ticks}
@@ -28,10 +29,10 @@ use Rattle.nq_lease_laws.specs.LeaseIntervalInRuns.{KeepsBounds}
 use Rattle.nq_model.specs.Client.{Client, ClientStep, Ticket}
 use Rattle.nq_model.specs.ClientStep.{client_call, client_tick, restart}
 use Rattle.nq_model.specs.Hear.{hear}
-use Rattle.nq_model.specs.Kept.{Kept, find_file, host_row}
+use Rattle.nq_model.specs.Kept.{find_file, host_row}
 use Rattle.nq_model.specs.Message.{Message, Packet, asker, datagram_of, sequence_of}
 use Rattle.nq_model.specs.Server.{Server, ServerStep, quiet, with_table, keeping_with}
-use Rattle.nq_model.specs.ServerStep.{receive, tick, crash, boot, booted, opens, ends_writing, at_time}
+use Rattle.nq_model.specs.ServerStep.{receive, tick, crash, boot, opens, ends_writing, at_time}
 use Rattle.nq_model.specs.Skew.{IsWithinSkew}
 use Rattle.nq_model.specs.Table.{with_rows}
 use Rattle.nq_model.specs.World.{Head, World, after_server, after_client, at_client, after_hearing, sending_host, deliver_to_client, deliver_to, deliver, step, start, run}
@@ -162,17 +163,13 @@ ends-writing-line : (s : Server) (now host : ℕ) (rows : List Row) (row : Row) 
 unfolding ends_writing at_time keeping_with with_rows
 ends-writing-line s now host rows row = fence-lines s.kept (find_file row.file s.kept.files) host
 
-tick-line : (s : Server) (now host : ℕ) → host_row (tick s now).server.kept host ≡ host_row s.kept host
+pub tick-line : (s : Server) (now host : ℕ) → host_row (tick s now).server.kept host ≡ host_row s.kept host
 tick-line s now host = server-ticks s now (λ t. host_row t.server.kept host ≡ host_row s.kept host) (record {
   waits = λ until heard last p goes_on. waits-line s now host;
   opening = λ until heard last p over. opens-line s now until heard host;
   ends_reading = λ p none. ends-line s now host _;
   ending_writing = λ row p due. ends-writing-line s now host _ row;
 })
-
-booted-line : (kept : Kept) (longest host : ℕ) (b : Bool) → (kept.opened == 0) ≡ b → host_row (booted kept longest) host ≡ host_row kept host
-booted-line kept longest host true e = rw e refl
-booted-line kept longest host false e = rw e refl
 
 crash-line : (s : Server) (longest host : ℕ) → host_row (crash s longest).server.kept host ≡ host_row s.kept host
 unfolding crash boot

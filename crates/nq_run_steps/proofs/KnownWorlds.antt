@@ -160,7 +160,7 @@ replicated zero host line more h = absurd (omega arith)
 replicated (suc count) zero line more h = refl
 replicated (suc count) (suc host) line more h = replicated count host line more (omega arith)
 
-first-line : (head : Head) (host : ℕ) → host < head.hosts → host_row (start head).server.kept host ≡ first_row
+pub first-line : (head : Head) (host : ℕ) → host < head.hosts → host_row (start head).server.kept host ≡ first_row
 unfolding start boot
 first-line head host there = ap (λ o. unwrap_or o fresh_row) (replicated head.hosts host first_row (replicate (most_hosts - head.hosts) fresh_row) there)
 

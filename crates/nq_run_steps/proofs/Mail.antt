@@ -35,10 +35,10 @@ MailIn ps k = Mail k.who k.xid k.ticket (packets_with ps k.who.host k.sends)
 no-fewer : (ticket : Option Ticket) → IsFewer None ticket
 no-fewer ticket t e = none-some t e
 
-same-fewer : (t : Ticket) (now : ℕ) → IsFewer (Some (record t { last = now })) (Some t)
+pub same-fewer : (t : Ticket) (now : ℕ) → IsFewer (Some (record t { last = now })) (Some t)
 same-fewer t now u e = let one : record t { last = now } ≡ u = some-same (record t { last = now }) u e in (t, refl, ap (λ z. z.xid) one, ap (λ z. z.request) one)
 
-cancelled-fewer : (file : ℕ) (ticket : Option Ticket) → IsFewer (cancelled file ticket) ticket
+pub cancelled-fewer : (file : ℕ) (ticket : Option Ticket) → IsFewer (cancelled file ticket) ticket
 cancelled-fewer file ticket t e = (t, (keeps-or-cancels file ticket t e).0, refl, refl)
 
 asks-mail : (ps : List Packet) (k : Core) (job : Job) (request : Request) → k.ticket ≡ None → asker request ≡ Some k.who → MailIn ps k → MailIn ps (after_request k job request)

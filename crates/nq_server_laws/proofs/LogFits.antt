@@ -49,7 +49,7 @@ log-tick most booted s now log later f l = record {
   hear = hear-tick s now log (none-fits most booted s f) f.stands l.hear;
 }
 
-crash-now : (s : Server) (longest : ℕ) → (crash s longest).server.now ≡ s.now
+pub crash-now : (s : Server) (longest : ℕ) → (crash s longest).server.now ≡ s.now
 unfolding crash boot
 crash-now s longest = refl
 

@@ -102,7 +102,7 @@ module _ (most booted : ℕ) (s : Server) (d : Datagram) (log : List Entry) (f :
 pub grants-receive : (most booted : ℕ) (s : Server) (sender next : ℕ) (d : Datagram) (log : List Entry) → ServerFits most booted s → GrantsFitOf s log → GrantsFitOf (receive s sender next d).server (timed (receive s sender next d).entries ++ log)
 grants-receive most booted s sender next d log f g = log-moves s sender next d log GrantsFit (grants-moves most booted s d log f g)
 
-fence-opened : (kept : Kept) (o : Option File) → (fence kept o).opened ≡ kept.opened
+pub fence-opened : (kept : Kept) (o : Option File) → (fence kept o).opened ≡ kept.opened
 unfolding with_files
 fence-opened kept None = refl
 fence-opened kept (Some f) = refl

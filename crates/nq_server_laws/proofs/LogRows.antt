@@ -20,16 +20,13 @@ use Rattle.nq_model.specs.Table.{Table, caches, is_writing, greater_mode, same_w
 use Rattle.nq_server_steps.proofs.AskCases.{with_marked, IsGranted, shares_again, begins_sharing, begins_caching, renews_row}
 use Rattle.nq_server_laws.proofs.LogMoves.{timed, LogMoves, log-moves, tick-log-moves}
 use Rattle.nq_server_laws.proofs.LogTimes.{EachEntry, each-entry, IsBy, LogBy}
+use Rattle.nq_server_steps.proofs.Incarnations.{one-who}
 use Rattle.nq_server_steps.proofs.RowChanges.{HasUniqueKeys, unique-filtered, has-key, found-put, found-kept, found-vacated, found-marked}
 use Rattle.nq_server_laws.proofs.RowTimes.{EachRow, each-fewer, each-put}
 use Rattle.nq_server_steps.proofs.Rows.{both-true, true-both, same-number, number-same, found-row}
 use Rattle.nq_server_laws.proofs.ServerFacts.{IncsFit, IncsFitOf, AreCurrent}
 use Rattle.nq_server_laws.proofs.ServerTables.{NoneRecoveringOf, none-opened, StandingFits, StandingFitsOf}
 use Rattle.nq_server_steps.proofs.TableFits.{TableFits}
-
--- two incarnations are one where their hosts and numbers are
-pub one-who : (a b : Who) → a.host ≡ b.host → a.inc ≡ b.inc → a ≡ b
-one-who a b e f = λ i. record { host = e i; inc = f i }
 
 -- a granted row is of the asker and of the file that he asked for
 pub granted-to : (kept : Kept) (table : Table) (q : Question) (want : Want) (row : Row) (term : ℕ) → AreCurrent kept table.rows → q.who.inc ≡ (host_row kept q.who.host).inc → IsGranted table q want row term → (row.who ≡ q.who) × (row.file ≡ q.file)

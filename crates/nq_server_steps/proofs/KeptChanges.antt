@@ -9,6 +9,7 @@ use Rattle.std.proofs.lemmas.List.Folds.{find-append}
 use Rattle.std.proofs.lemmas.Option.{unwrap_or-slice_get}
 use Rattle.nq_base.specs.declared.HostRow.{HostRow}
 use Rattle.nq_model.specs.Kept.{File, Kept, find_file, replace_file, drop_file, fresh_row, host_row, with_row}
+use Rattle.nq_model.specs.ServerStep.{booted}
 use Rattle.nq_server_steps.proofs.Rows.{same-number, number-same, find-passes, find-filter, find-dropped, find-map}
 use Rattle.nq_server_steps.proofs.Tests.{is-other}
 
@@ -38,7 +39,7 @@ unfolding with_row
 no-line kept host k line past = ap (λ hosts. unwrap_or (slice_get hosts k) fresh_row) (set_past kept.hosts host line past)
 
 -- how a change of one line shows in what is kept of a host
-line-as : (kept : Kept) (host k : ℕ) (line : HostRow) (P : HostRow → Type 0) → P (host_row kept k) → (k ≡ host → P line) → P (host_row (with_row kept host line) k)
+pub line-as : (kept : Kept) (host k : ℕ) (line : HostRow) (P : HostRow → Type 0) → P (host_row kept k) → (k ≡ host → P line) → P (host_row (with_row kept host line) k)
 line-as kept host k line P was own = by (cases_eq k host) (within-or-past kept.hosts)
   where
     within-or-past : (hosts : List HostRow) → (host < length hosts) ⊎ (length hosts ≤ host)
@@ -141,3 +142,11 @@ found-added id file f files h = by (find_file id files) refl (sym (find-append (
     by : (o : Option File) → find_file id files ≡ o → option_or o (find_file id (file ∷ [])) ≡ Some f → (find_file id files ≡ Some f) ⊎ ((id ≡ file.id) × (f ≡ file))
     by None e m = new (file.id == id) refl m
     by (Some g) e m = inl (e ∙ m)
+
+-- rows of hosts where nothing of them changed, and after a boot
+pub same-lines : (kept after : Kept) (host : ℕ) → after.hosts ≡ kept.hosts → host_row after host ≡ host_row kept host
+same-lines kept after host same = ap (λ hosts. unwrap_or (slice_get hosts host) fresh_row) same
+
+pub booted-line : (kept : Kept) (longest host : ℕ) (b : Bool) → (kept.opened == 0) ≡ b → host_row (booted kept longest) host ≡ host_row kept host
+booted-line kept longest host true e = rw e refl
+booted-line kept longest host false e = rw e refl

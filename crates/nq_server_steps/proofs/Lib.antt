@@ -1,5 +1,7 @@
 pub mod Rows
 pub mod Tests
+pub mod Modes
+pub mod Incarnations
 pub mod AskCases
 pub mod ServerOutcomes
 pub mod ServerCases

@@ -9,7 +9,7 @@ use Rattle.nq_base.specs.declared.Who.{Who}
 use Rattle.nq_model.specs.Ask.{mode_conflicts, conflicts, shares, marked}
 use Rattle.nq_model.specs.ServerStep.{vacated_rows}
 use Rattle.nq_model.specs.Table.{caches, same_tag, is_row_of, find_row, drop_row, drop_host, drop_rows_of, row_before, insert_row, put_row}
-use Rattle.nq_server_steps.proofs.Rows.{both-true, true-both, same-number, number-same, find-passes, find-none, find-filter, find-dropped, find-map}
+use Rattle.nq_server_steps.proofs.Rows.{both-true, true-both, same-number, number-same, find-passes, find-none, find-filter, find-dropped, find-map, insert-step}
 
 -- no two rows are of one file and host
 abbrev pub HasUniqueKeys : List Row → Type 0
@@ -41,17 +41,6 @@ same-keys file host row r h = let e = of-key file host row h in rw (e.0, e.1) re
 none-head : (b : Bool) (r : Row) (rest : Option Row) → (if b then Some r else rest) ≡ None → (b ≡ false) × (rest ≡ None)
 none-head true r rest h = cc
 none-head false r rest h = (refl, h)
-
--- a row that was put before the others, or after the first of them
-insert-step : (file host : ℕ) (row r : Row) (rows : List Row) (b : Bool) → find_row file host (insert_row row rows) ≡ (if is_row_of file host row then Some row else find_row file host rows) → (is_row_of file host row ≡ true → is_row_of file host r ≡ false) → find_row file host (if b then row ∷ r ∷ rows else r ∷ insert_row row rows) ≡ (if is_row_of file host row then Some row else find_row file host (r ∷ rows))
-insert-step file host row r rows true rest other = refl
-insert-step file host row r rows false rest other = later (is_row_of file host row) (is_row_of file host r) refl refl
-  where
-    later : (b c : Bool) → is_row_of file host row ≡ b → is_row_of file host r ≡ c → find_row file host (r ∷ insert_row row rows) ≡ (if is_row_of file host row then Some row else find_row file host (r ∷ rows))
-    later true true e f = let bad : is_row_of file host r ≡ false = other e in cc
-    later true false e f = rw (f, rest, e) refl
-    later false true e f = rw (f, e) refl
-    later false false e f = rw (f, rest, e) refl
 
 find-inserted : (file host : ℕ) (row : Row) (rows : List Row) → find_row row.file row.who.host rows ≡ None → find_row file host (insert_row row rows) ≡ (if is_row_of file host row then Some row else find_row file host rows)
 find-inserted file host row [] none = refl

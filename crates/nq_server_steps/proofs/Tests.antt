@@ -1,5 +1,6 @@
 -- What tests of numbers say.
 use Rattle.std.proofs.Common.{◌≡◌, ◌≢◌, ◌<◌, ◌≤◌, ℕ, ◌==◌, Bool, true, false, ◌||◌, nat_lt, Option, Some, None, refl, arith}
+use Rattle.std.specs.Option.{unwrap_or}
 use Rattle.std.specs.Prelude.{is_some, nat_le}
 use Rattle.std.proofs.lemmas.Bool.Decides.{nat_tests}
 
@@ -31,3 +32,11 @@ either-false false b h = (refl, h)
 pub none-there : {A : Type 0} (o : Option A) → is_some o ≡ false → o ≡ None
 none-there None h = refl
 none-there (Some x) h = cc
+
+pub some-is : {A : Type 0} (o : Option A) (d : A) → is_some o ≡ true → o ≡ Some (unwrap_or o d)
+some-is None d h = cc
+some-is (Some x) d h = refl
+
+pub there-is : {A : Type 0} (o : Option A) → is_some o ≡ true → (x : A) × (o ≡ Some x)
+there-is None h = cc
+there-is (Some x) h = (x, refl)

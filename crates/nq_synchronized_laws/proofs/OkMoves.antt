@@ -16,6 +16,7 @@ use Rattle.nq_model.specs.Hear.{loss_entry, push_of}
 use Rattle.nq_model.specs.Journal.{Each, Exists, Somewhere, IsAnswer}
 use Rattle.nq_model.specs.Settle.{overwritten, overwritten_at, with_write}
 use Rattle.nq_model.specs.Synchronized.{IsSettledResize, IsDelayedBy}
+use Rattle.nq_report_laws.proofs.Books.{unsaved_on}
 use Rattle.nq_run_steps.proofs.Packets.{In, in-append, in-last}
 use Rattle.nq_synchronized_laws.proofs.KeptPlaces.{each-more, somewhere-more, call-later, settled-later, settled-answered}
 use Rattle.nq_synchronized_laws.proofs.OkFacts.{PutWaits, Made, IsOpenAs, Numbered}
@@ -197,12 +198,8 @@ passing-in f (x ∷ xs) p h = step (f x) refl (λ i. passing-in f xs p i) h
     step true e rest (inr h) = let k = rest h in (inr k.0, k.1)
     step false e rest h = let k = rest h in (inr k.0, k.1)
 
--- all delayed writes of a file
-abbrev pub writes_on : (file : ℕ) → Option Push → List Push → List Push
-writes_on file push dirty = push_of file push ++ filter (is_push_of file) dirty
-
 -- each is of the file, and was there
-pub writes-there : (file : ℕ) (push : Option Push) (dirty : List Push) (p : Push) → In (writes_on file push dirty) p → ((push ≡ Some p) ⊎ In dirty p) × (is_push_of file p ≡ true)
+pub writes-there : (file : ℕ) (push : Option Push) (dirty : List Push) (p : Push) → In (unsaved_on file push dirty) p → ((push ≡ Some p) ⊎ In dirty p) × (is_push_of file p ≡ true)
 writes-there file push dirty p i = case (in-append (push_of file push) (filter (is_push_of file) dirty) p i)
   where
     under-way : (o : Option Push) → In (push_of file o) p → (o ≡ Some p) × (is_push_of file p ≡ true)

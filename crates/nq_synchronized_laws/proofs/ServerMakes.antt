@@ -1,6 +1,6 @@
 -- What a step of the server makes in the journal: no answer, loss or delayed write; and what a request that was done asks.
 use Rattle.std.proofs.Common.{◌≡◌, ◌<◌, ℕ, ◌==◌, Bool, true, false, List, [], ◌∷◌, Option, Some, None, length, refl, sym, subst, ap, ◌∙◌, arith, inl, inr}
-use Rattle.std.specs.Prelude.{⊤, slice_get, unwrap_or}
+use Rattle.std.specs.Prelude.{⊤}
 use Rattle.nq_base.specs.Block.{value_of}
 use Rattle.nq_base.specs.declared.Entry.{Entry}
 use Rattle.nq_base.specs.declared.Entry.TheVariants.{W, Z}
@@ -13,16 +13,16 @@ use Rattle.nq_base.specs.declared.Tag.{Tag}
 use Rattle.nq_base.specs.declared.Verdict.{Verdict}
 use Rattle.nq_base.specs.declared.Who.{Who}
 use Rattle.nq_model.specs.Decide.{Decision, decides, creates, writes_through, stores, wrote, stores_recovering, resizes, removes, puts_off, commits, row_after}
-use Rattle.nq_model.specs.Kept.{File, Kept, find_file, fresh_row, host_row, with_row, with_files, with_new_file}
+use Rattle.nq_model.specs.Kept.{File, Kept, find_file, host_row, with_row, with_files, with_new_file}
 use Rattle.nq_model.specs.Message.{Message, Packet, asker, Datagram, Reason, request, sequence_of}
 use Rattle.nq_model.specs.Profile.{most_hosts}
 use Rattle.nq_model.specs.Server.{Server, ServerStep, quiet, drops, says, after_notices, keeping, keeping_with, with_table}
-use Rattle.nq_model.specs.ServerStep.{attaches, vacates, tells_later, serves, leases, grants, receive, tick, crash, boot, booted, opens, ends_writing, at_time}
+use Rattle.nq_model.specs.ServerStep.{attaches, vacates, tells_later, serves, leases, grants, receive, tick, crash, boot, opens, ends_writing, at_time}
 use Rattle.nq_model.specs.Table.{Table, with_rows}
 use Rattle.nq_run_steps.proofs.Packets.{In, Asked}
 use Rattle.nq_server_laws.proofs.ServerFacts.{fence-lines}
 use Rattle.nq_server_laws.proofs.ServerNumbers.{LinesFitOf}
-use Rattle.nq_server_steps.proofs.KeptChanges.{other-line, own-line}
+use Rattle.nq_server_steps.proofs.KeptChanges.{other-line, own-line, same-lines, booted-line}
 use Rattle.nq_server_steps.proofs.Rows.{same-number, number-same}
 use Rattle.nq_server_steps.proofs.ServerCases.{server-hears, server-ticks}
 use Rattle.nq_server_steps.proofs.ServerOutcomes.{line_of, IsFrom, IsFresh, IsDeclined, bad_length, name_taken, no_room, not_kept, outside, no_row, not_under, not_over, not_while_recovering, bad_size, no_room_to_grow}
@@ -80,9 +80,6 @@ pub data LineMoves (ps : List Packet) (old new : HostRow) (host : ℕ) (entries 
 pub record ServerMakes (ps : List Packet) (s : Server) (t : ServerStep) : Type 0 where
   pub mild : AllMild t.entries
   pub moves : (host : ℕ) → LineMoves ps (host_row s.kept host) (host_row t.server.kept host) host t.entries
-
-same-lines : (kept after : Kept) (host : ℕ) → after.hosts ≡ kept.hosts → host_row after host ≡ host_row kept host
-same-lines kept after host same = ap (λ hosts. unwrap_or (slice_get hosts host) fresh_row) same
 
 -- what the server does where no line changes
 no-move : (ps : List Packet) (s : Server) (t : ServerStep) → ((host : ℕ) → host_row t.server.kept host ≡ host_row s.kept host) → AllMild t.entries → ServerMakes ps s t
@@ -282,10 +279,6 @@ tick-makes ps s now = server-ticks s now (ServerMakes ps s) (record {
   ends_reading = λ p none. ends-makes ps s now _;
   ending_writing = λ row p due. ends-writing-makes ps s now _ row;
 })
-
-booted-line : (kept : Kept) (longest host : ℕ) (b : Bool) → (kept.opened == 0) ≡ b → host_row (booted kept longest) host ≡ host_row kept host
-booted-line kept longest host true e = rw e refl
-booted-line kept longest host false e = rw e refl
 
 pub crash-makes : (ps : List Packet) (s : Server) (longest : ℕ) → ServerMakes ps s (crash s longest)
 unfolding crash boot

@@ -1,5 +1,5 @@
 -- After a lease was given up, its client holds another on the file, and can take a third.
-use Rattle.std.proofs.Common.{◌≡◌, ℕ, zero, suc, true, false, List, [], ◌∷◌, Option, Some, None, refl, arith}
+use Rattle.std.proofs.Common.{◌≡◌, ℕ, zero, suc, true, false, List, [], ◌∷◌, Some, refl, arith}
 use Rattle.std.specs.Prelude.{slice_get, unwrap_or, is_some, All}
 use Rattle.nq_base.specs.Block.{zeros}
 use Rattle.nq_base.specs.declared.Call.{Call}
@@ -12,6 +12,7 @@ use Rattle.nq_base.specs.declared.Tag.{Tag}
 use Rattle.nq_base.specs.declared.Who.{Who}
 use Rattle.nq_lease_laws.proofs.SomeLease.{two-hosts}
 use Rattle.nq_lease_laws.specs.LeaseIntervalInRuns.{BootsWithin}
+use Rattle.nq_server_steps.proofs.Tests.{some-is}
 use Rattle.nq_tag_laws.specs.TagsInRuns.{IsPastSometime}
 use Rattle.nq_model.proofs.SkewTest.{skew-test-is-sound}
 use Rattle.nq_model.specs.Client.{Client, Lease, Ticket, for_call, lease_on}
@@ -82,10 +83,6 @@ given = record { mode = Mode.Writing; term = 30; tag = drawn 3; since = drawn 2;
 
 abbrev asked : Ticket
 asked = record { xid = 4; first = 0; last = 0; request = Request.GetLease holder 1 (record { mode = Mode.Writing; term = 30 }); job = for_call }
-
-some-is : (o : Option Client) (d : Client) → is_some o ≡ true → o ≡ Some (unwrap_or o d)
-some-is None d e = absurd (cc)
-some-is (Some c) d e = refl
 
 is-there : is_some (slice_get (run two-hosts again).clients 0) ≡ true
 unfolding again grant_of sharing_row caching_row shared_again renewed_row put_off free put_off_by_own granted no_lease begins_call is_called says_busy at_time sends_again fresh_client attached_client starts decides creates writes_through stores wrote stores_recovering resizes removes puts_off commits vacates_lease loses without_lease granted_lease holds caches_block purges knows_revision marks_through ends_push spends attached pauses cancels notes_notice new_file written_file resized_file fenced_file with_row with_files with_new_file sends_request after_seq after_number takes_push gives_up quiet drops says after_notices keeping keeping_with with_table attaches tells_later serves leases vacates ends_writing opens boot crash answers after_read reads_cached after_write marks_written empty_table with_rows after_draw after_server after_client start

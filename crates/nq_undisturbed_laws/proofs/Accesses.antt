@@ -20,13 +20,14 @@ use Rattle.nq_client_cases.proofs.StepCases.{call-cases, unless-cached-cases, ti
 use Rattle.nq_client_steps.proofs.ClientFacts.{Alone, push_in}
 use Rattle.nq_client_steps.proofs.ClientLists.{used-lease-found}
 use Rattle.nq_client_steps.proofs.ClientMoves.{none-some, some-same}
+use Rattle.nq_fate_steps.proofs.PushLists.{is-at}
 use Rattle.nq_model.specs.Client.{Client, ClientStep, Job, Lease, Ticket, UnderWay, begun, lease_on, used_lease, marked_used, lets_read, lets_write, dirty_at, first_dirty, is_push_of, drop_dirty, is_push_at, clean_at, is_clean_at, drop_clean, Clean}
 use Rattle.nq_model.specs.ClientStep.{begins_call, is_called, sends_unless_cached, client_call, client_tick, at_time, sends_again, restart, starts}
 use Rattle.nq_model.specs.Hear.{vacates_lease, notes_notice, evicted, cancels, cancelled, wants_of, replied, goes_on, hear}
 use Rattle.nq_model.specs.Message.{Message}
 use Rattle.nq_model.specs.Send.{sends_request, after_seq, after_number, takes_push, gives_up, send_next}
 use Rattle.nq_model.specs.Settle.{answers, cached_body, held_body, pushed_body, clean_body, touched, reads_clean, reads_cached, after_read, after_write, delays, marks_written, settle}
-use Rattle.nq_server_steps.proofs.Rows.{find-passes, both-true, same-number, number-same}
+use Rattle.nq_server_steps.proofs.Rows.{find-passes, number-same}
 use Rattle.nq_undisturbed_laws.proofs.Journals.{AllEntries}
 use Rattle.nq_undisturbed_laws.proofs.PlainParts.{IsPlain, PlainOf, plain-evicted, plain-answered, plain-named, plain-begins, plain-busy, plain-called, plain-replied}
 
@@ -187,18 +188,14 @@ gives-plain : (t : ClientStep) (file : ℕ) (job : Job) (r : Request) → PlainO
 unfolding sends_request after_seq gives_up
 gives-plain t file job r h = h
 
--- delayed writes that are pushed can be read still
-at-same : (file block : ℕ) (p : Push) → is_push_at file block p ≡ true → (p.file ≡ file) × (p.block ≡ block)
-at-same file block p h = let a = both-true _ _ h in (same-number _ _ a.0, same-number _ _ a.1)
-
 not-moved : (file block : ℕ) (p q : Push) → is_push_at file block p ≡ false → is_push_at file block q ≡ true → not (is_push_at p.file p.block q) ≡ true
 not-moved file block p q apart there = case (is_push_at p.file p.block q) refl
   where
     case : (b : Bool) → is_push_at p.file p.block q ≡ b → not b ≡ true
     case false e = refl
     case true e =
-        let a = at-same file block q there in
-        let b = at-same p.file p.block q e in
+        let a = is-at file block q there in
+        let b = is-at p.file p.block q e in
         let file_same : p.file ≡ file = sym b.0 ∙ a.0 in
         let block_same : p.block ≡ block = sym b.1 ∙ a.1 in
         let f : (p.file == file) ≡ true = number-same p.file file file_same in
@@ -209,7 +206,7 @@ not-moved file block p q apart there = case (is_push_at p.file p.block q) refl
 moved : (file block : ℕ) (p : Push) (dirty : List Push) (clean : Option (List ℕ)) (b : Bool) → is_push_at file block p ≡ b → (dirty_at p.file p.block dirty ≡ Some p) → held_body (dirty_at file block (drop_dirty p.file p.block dirty)) (if b then Some p.body else None) clean ≡ held_body (dirty_at file block dirty) None clean
 moved file block p dirty clean false same first = ap (λ o. held_body o None clean) (find-filter (is_push_at file block) (λ q. not (is_push_at p.file p.block q)) dirty (λ q there. not-moved file block p q same there))
 moved file block p dirty clean true same first =
-    let a = at-same file block p same in
+    let a = is-at file block p same in
     let gone : dirty_at file block (drop_dirty file block dirty) ≡ None = none-filter (is_push_at file block) dirty in
     let here : dirty_at file block (drop_dirty p.file p.block dirty) ≡ None = subst (λ f. dirty_at file block (drop_dirty f p.block dirty) ≡ None) (sym a.0) (subst (λ n. dirty_at file block (drop_dirty file n dirty) ≡ None) (sym a.1) gone) in
     let there : dirty_at file block dirty ≡ Some p = subst (λ f. dirty_at f block dirty ≡ Some p) a.0 (subst (λ n. dirty_at p.file n dirty ≡ Some p) a.1 first) in

@@ -1,5 +1,5 @@
 -- The laws: a file that is not clean is bound or fenced, and what can still be stored is undisturbed.
-use Rattle.std.proofs.Common.{◌≡◌, ◌<◌, ◌⊎◌, ℕ, true, false, List, Option, Some, None, is_some, refl, sym, subst, ap, ◌∙◌, arith, inl, inr}
+use Rattle.std.proofs.Common.{◌≡◌, ◌<◌, ◌⊎◌, ℕ, true, false, List, Some, sym, subst, ap, ◌∙◌, arith, inl, inr}
 use Rattle.std.proofs.lemmas.Bool.Decides.{nat_tests}
 use Rattle.std.specs.Prelude.{slice_get}
 use Rattle.nq_base.specs.declared.Event.{Event}
@@ -20,7 +20,9 @@ use Rattle.nq_model.specs.Server.{standing}
 use Rattle.nq_model.specs.Table.{is_writing, tag_below}
 use Rattle.nq_model.specs.World.{World, from_host, run}
 use Rattle.nq_run_steps.proofs.Packets.{In, in-get}
-use Rattle.nq_undisturbed_laws.proofs.Holders.{KnownOf, at-least-writing, writing-caches}
+use Rattle.nq_server_steps.proofs.Modes.{writing-caches, at-least-writing}
+use Rattle.nq_server_steps.proofs.Tests.{there-is}
+use Rattle.nq_undisturbed_laws.proofs.Holders.{KnownOf}
 use Rattle.nq_undisturbed_laws.proofs.KnownRuns.{run-known, still-fits}
 use Rattle.nq_undisturbed_laws.proofs.StillFits.{standing-boot}
 use Rattle.nq_undisturbed_laws.proofs.Tags.{IsEntry}
@@ -28,10 +30,6 @@ use Rattle.nq_undisturbed_laws.proofs.UndisturbedRuns.{Still}
 use Rattle.nq_undisturbed_laws.specs.UndisturbedInRuns as law
 
 -- ---- bound or fenced
-
-there-is : (o : Option Revision) → is_some o ≡ true → (r : Revision) × (o ≡ Some r)
-there-is None h = absurd (cc)
-there-is (Some r) h = (r, refl)
 
 fenced-for : (kept : Kept) (file boot rev : ℕ) → IsFenced kept file boot rev → law.IsFencedFor kept file boot rev
 fenced-for kept file boot rev (gone none) = law.IsFencedFor.gone none

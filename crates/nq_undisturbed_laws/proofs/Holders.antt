@@ -24,6 +24,7 @@ use Rattle.nq_model.specs.Table.{Table, is_writing, caches, find_row}
 use Rattle.nq_model.specs.World.{World}
 use Rattle.nq_request_laws.specs.OneRequests.{OpensOne}
 use Rattle.nq_run_steps.proofs.Worlds.{Holds}
+use Rattle.nq_server_steps.proofs.Modes.{writing-caches, at-least-writing}
 use Rattle.nq_server_steps.proofs.Rows.{both-true, same-number, number-same, find-passes}
 use Rattle.nq_server_steps.proofs.TableFits.{TableFits}
 use Rattle.nq_undisturbed_laws.proofs.Accesses.{Accesses, neither, read, wrote}
@@ -64,16 +65,6 @@ one-holder files table fits file who other h k = case (other.host == who.host) r
         let free : caches k.row.mode ≡ false = fits.alone file who.host other.host h.row k.row h.stands k.stands (λ same. let yes : (other.host == who.host) ≡ true = number-same _ _ same in absurd (cc)) h.writes in
         let bars = k.caching in
         absurd (cc)
-
-pub at-least-writing : (mode held : Mode) → is_writing held ≡ true → is_at_least mode held ≡ true → is_writing mode ≡ true
-at-least-writing mode Mode.Writing w h = h
-at-least-writing mode Mode.Reading w h = absurd (cc)
-at-least-writing mode Mode.NonCaching w h = absurd (cc)
-
-pub writing-caches : (mode : Mode) → is_writing mode ≡ true → caches mode ≡ true
-writing-caches Mode.Writing w = refl
-writing-caches Mode.Reading w = refl
-writing-caches Mode.NonCaching w = absurd (cc)
 
 at-least-caching : (mode held : Mode) → caches held ≡ true → is_at_least mode held ≡ true → caches mode ≡ true
 at-least-caching mode Mode.Writing c h = writing-caches mode h

@@ -19,6 +19,7 @@ use Rattle.nq_model.specs.ServerStep.{attaches, vacates, tells_later, serves, le
 use Rattle.nq_model.specs.Table.{Table, is_writing, caches, find_row, drop_row, with_rows}
 use Rattle.nq_server_laws.proofs.ServerFacts.{IncsFit, IncsFitOf}
 use Rattle.nq_server_laws.proofs.ServerTables.{StandingFits, StandingFitsOf}
+use Rattle.nq_server_steps.proofs.Incarnations.{one-who}
 use Rattle.nq_server_steps.proofs.RowChanges.{found-kept, found-any, find-row-dropped, no-clash, unique-filtered, HasUniqueKeys}
 use Rattle.nq_server_steps.proofs.Rows.{both-true, same-number, number-same, find-passes, found-row}
 use Rattle.nq_server_steps.proofs.ServerCases.{server-hears, server-ticks}
@@ -58,12 +59,6 @@ none-caches Mode.Writing w c = absurd (cc)
 none-caches Mode.Reading w c = absurd (cc)
 none-caches Mode.NonCaching w c = absurd (cc)
 
-pub who-same : (a b : Who) → a.host ≡ b.host → a.inc ≡ b.inc → a ≡ b
-who-same a b host inc = ap (λ n. who_of n a.inc) host ∙ ap (λ n. who_of b.host n) inc
-  where
-    who_of : ℕ → ℕ → Who
-    who_of host inc = record { host = host; inc = inc }
-
 module _ (s : Server) (sender next : ℕ) (d : Datagram) (who : Who) (file : ℕ) (stood : StandingFitsOf s) (incs : IncsFitOf s) (has : HasWriting (standing s) who file) where
   served-table : s.phase ≡ serving → TableFits s.kept.files s.table.boot s.table.drawn s.table.rows
   served-table p = subst (λ p. StandingFits s.kept.files p s.table) p stood
@@ -77,7 +72,7 @@ module _ (s : Server) (sender next : ℕ) (d : Datagram) (who : Who) (file : ℕ
       let h = has-served p in
       let host : who.host ≡ other.host = own-row file other.host who.host access s.table.rows h.row none h.stands h.writes in
       let kept : h.row.who.inc ≡ (host_row s.kept who.host).inc = (subst (λ q. IncsFit s.kept q s.table) p incs) file who.host h.row h.stands in
-      who-same other who (sym host) (current.inc ∙ ap (λ n. (host_row s.kept n).inc) (sym host) ∙ sym kept ∙ ap (λ w. w.inc) h.holder)
+      one-who other who (sym host) (current.inc ∙ ap (λ n. (host_row s.kept n).inc) (sym host) ∙ sym kept ∙ ap (λ w. w.inc) h.holder)
 
   -- one whose writing row stands on the file is its holder
   writer-is : (table : Table) (fits : TableFits s.kept.files table.boot table.drawn table.rows) (other : Who) → HasWriting table who file → HasWriting table other file → other ≡ who
@@ -150,7 +145,7 @@ module _ (s : Server) (sender next : ℕ) (d : Datagram) (who : Who) (file : ℕ
       (λ same. writer-is s.table (served-table changing.serves) other (has-served changing.serves) (record {
         row = row;
         stands = subst (λ n. find_row n other.host s.table.rows ≡ Some row) same can.row_found;
-        holder = who-same row.who other (found-row f.id other.host s.table.rows row can.row_found).1 can.inc;
+        holder = one-who row.who other (found-row f.id other.host s.table.rows row can.row_found).1 can.inc;
         writes = can.writes;
       })),
       tt,

@@ -23,13 +23,14 @@ use Rattle.nq_request_laws.specs.OneRequests.{IsOpen, IsUnderWay}
 use Rattle.nq_run_cases.proofs.RunCases.{OfClients, clients-after}
 use Rattle.nq_run_steps.proofs.Packets.{In, in-append, Asked, message-same, call-same}
 use Rattle.nq_run_steps.proofs.Worlds.{get-set-other}
+use Rattle.nq_server_steps.proofs.Incarnations.{one-who}
 use Rattle.nq_server_steps.proofs.Rows.{same-number, number-same}
 use Rattle.nq_undisturbed_laws.proofs.Accesses.{Accesses}
 use Rattle.nq_undisturbed_laws.proofs.Holders.{KnownOf, chained-writes, step-leaves}
 use Rattle.nq_undisturbed_laws.proofs.Journals.{AllEntries, undisturbed-more}
 use Rattle.nq_undisturbed_laws.proofs.Marks.{clear-less}
 use Rattle.nq_undisturbed_laws.proofs.OwnSends.{IsBy, AllOwn}
-use Rattle.nq_undisturbed_laws.proofs.ServerLeaves.{HasWriting, who-same}
+use Rattle.nq_undisturbed_laws.proofs.ServerLeaves.{HasWriting}
 use Rattle.nq_undisturbed_laws.proofs.StillFits.{StillFits, Takes, push-writes, push-sequence, own-unsaved}
 use Rattle.nq_undisturbed_laws.proofs.Tags.{IsEntry, unclean-entry, Follows}
 use Rattle.nq_undisturbed_laws.specs.Undisturbed.{LeavesAlone, IsUndisturbed}
@@ -201,7 +202,7 @@ module _ (hosts most : ℕ) (w : World) (e : Event) (events : List Event) (host 
   } where
     case : (x : ℕ) (v : Who) (n file block first last : ℕ) (base : PushBase) (body : List ℕ) → Asked (w.packets ++ map (from_host host) t.sends) t.client.who.host x (Request.Write v n file block first last (Some base) body) → v.host ≡ t.client.who.host → v.inc ≡ (host_row w.server.kept t.client.who.host).inc → (host_row w.server.kept t.client.who.host).seq < n → (IsFenced w.server.kept file base.boot base.base → ⊥) → (b : Bool) → (v.inc == t.client.who.inc) ≡ b → IsUndisturbed v file block first (t.entries ++ w.journal)
     case x v n file block first last base body asked of inc above free true now =
-        let one : t.client.who ≡ v = who-same t.client.who v (sym of) (sym (same-number _ _ now)) in
+        let one : t.client.who ≡ v = one-who t.client.who v (sym of) (sym (same-number _ _ now)) in
         subst (λ u. IsUndisturbed u file block first (t.entries ++ w.journal)) one
         (running-sent hosts most (after_client w host t) (e ∷ events) z.after host t.client own-is here-now own-entries x n file block first last base body
         (subst (λ u. Asked (w.packets ++ map (from_host host) t.sends) t.client.who.host x (Request.Write u n file block first last (Some base) body)) (sym one) asked)

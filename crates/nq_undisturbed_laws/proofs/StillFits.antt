@@ -26,8 +26,8 @@ use Rattle.nq_model.specs.Table.{is_writing, caches, tag_below}
 use Rattle.nq_run_steps.proofs.CoverFacts.{IsTakeable}
 use Rattle.nq_run_steps.proofs.Packets.{In, in-append, Asked}
 use Rattle.nq_server_laws.proofs.ServerTables.{BootsFit, BootsFitOf, StandingFitsOf}
+use Rattle.nq_server_steps.proofs.Modes.{writing-caches}
 use Rattle.nq_undisturbed_laws.proofs.Accesses.{Accesses}
-use Rattle.nq_undisturbed_laws.proofs.Holders.{writing-caches}
 use Rattle.nq_undisturbed_laws.proofs.Journals.{AllEntries, undisturbed-more}
 use Rattle.nq_undisturbed_laws.proofs.Marks.{since-later, fresh-write, covers-more}
 use Rattle.nq_undisturbed_laws.proofs.ServerLeaves.{HasWriting}
