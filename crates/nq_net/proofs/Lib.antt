@@ -1,1 +1,2 @@
+mod Repeating
 mod Marks

@@ -5,6 +5,7 @@
 
 mod memory;
 mod packets;
+mod runs;
 
 pub use memory::NoMemory;
 pub use nq_base::Party;

@@ -1,28 +1,91 @@
 ghost use Rattle.std.specs.Prelude.{◌≡◌, ◌+◌, ◌≤◌, [], ◌∷◌, ◌++◌, length, slice_get, Some, IsOk, IfOk, OnOk, OnErr, IsNone, IfSome, IsTrue, ◌↔◌};
 
+use crate::runs::{Run, push_words};
 use crate::{NoMemory, Party};
 use std::alloc::Global;
 use std::marker::Model;
 
-/// A datagram that was sent.
-#[derive(Clone, Copy)]
+/// A datagram that was sent. Contracts see its sender, its receiver and its bytes.
+#[derive(Drop)]
 pub struct Packet<'a> {
-    pub sender: Party,
-    pub to: Party,
-    pub bytes: &'a [u8],
+    sender: Party,
+    to: Party,
+    front: &'a [u8],
+    word: [u8; 4],
+    times: usize,
+    back: &'a [u8],
 }
 
-/// Where the bytes of a datagram stand among those of all.
+impl<'a> Model for Packet<'a> {
+    ghost use Rattle.std.specs.Prelude.{◌≡◌, ◌+◌, ◌*◌, ◌<◌, ◌^◌, ◌++◌, length};
+    ghost use Rattle.nq_net.specs.Packets.{Datagram};
+    ghost use Rattle.nq_net.specs.Runs.{repeats};
+
+    ghost Value = { Datagram };
+
+    ghost view = { λ p. record {
+      sender = p.sender;
+      to = p.to;
+      bytes = p.front.now ++ (repeats p.times p.word ++ p.back.now);
+    } };
+
+    ghost invariant = { λ p. (length p.word ≡ 4) × (length p.front.now + 4 * p.times + length p.back.now < 2 ^ 63) };
+}
+
+impl<'a> Packet<'a> {
+    /// Who sent it.
+    pub fn sender(&self) -> Party
+        ensures { result ≡ self.now.sender }
+    {
+        self.sender
+    }
+
+    /// Whom it is for.
+    pub fn to(&self) -> Party
+        ensures { result ≡ self.now.to }
+    {
+        self.to
+    }
+
+    /// How many bytes it has.
+    fn len(&self) -> usize
+        ensures { result ≡ length self.now.bytes }
+    {
+        self.front.len() + 4 * self.times + self.back.len()
+    }
+
+    /// Adds its bytes at the end of a vector.
+    ///
+    /// # Errors
+    ///
+    /// Only want of memory, and then the vector is as before.
+    pub fn bytes_into(&self, out: &mut Vec<u8>) -> Result<(), NoMemory>
+        ensures ok { OnOk result (out.new.items ≡ out.old.items ++ self.now.bytes) }
+        ensures err { OnErr result (out.new.items ≡ out.old.items) }
+    {
+        out.reserve(self.len())?;
+        out.extend_from_slice(self.front).unwrap();
+        push_words(out, self.word, self.times);
+        out.extend_from_slice(self.back).unwrap();
+        Ok(())
+    }
+}
+
+/// Where the bytes of a datagram stand among those of all, and the word that is repeated between them.
 #[derive(Clone, Copy)]
 struct Mark {
     sender: Party,
     to: Party,
     start: usize,
+    middle: usize,
     end: usize,
+    word: [u8; 4],
+    times: usize,
 }
 
 /// All datagrams that were sent, the first one first. Contracts see them, and how many further datagrams
-/// and bytes fit before memory is wanted.
+/// and bytes fit before memory is wanted. Of a word that a datagram repeats, one is kept and how often it
+/// stands there.
 #[derive(Drop)]
 pub struct Packets {
     marks: Vec<Mark>,
@@ -81,14 +144,23 @@ impl Packets {
         ensures spare_bytes { self.old.spare_bytes ≤ self.new.spare_bytes + length bytes.now }
     {
         self.reserve(1, bytes.len())?;
+        let run = Run::in_bytes(bytes);
+        let word = run.word;
         let start = self.bytes.len();
-        self.bytes.extend_from_slice(bytes).unwrap();
+        self.bytes.extend_from_slice(&bytes[..run.at]).unwrap();
+        let middle = self.bytes.len();
+        self.bytes
+            .extend_from_slice(&bytes[run.at + 4 * run.times..])
+            .unwrap();
         let end = self.bytes.len();
         let mark = Mark {
             sender,
             to,
             start,
+            middle,
             end,
+            word,
+            times: run.times,
         };
         self.marks.push(mark).unwrap();
         Ok(())
@@ -111,13 +183,17 @@ impl Packets {
     /// The datagram of a number; None exactly where so many were not sent.
     pub fn get(&self, number: u64) -> Option<Packet<'_>>
         ensures none { IsNone result ↔ (length self.now.datagrams ≤ number) }
-        ensures some { IfSome result (λ p. slice_get self.now.datagrams number ≡ Some (record { sender = p.sender; to = p.to; bytes = p.bytes.now })) }
+        ensures some { IfSome result (λ p. slice_get self.now.datagrams number ≡ Some p) }
     {
         let mark = self.marks.get(number as usize)?;
+        let word = mark.word;
         Some(Packet {
             sender: mark.sender,
             to: mark.to,
-            bytes: &self.bytes[mark.start..mark.end],
+            front: &self.bytes[mark.start..mark.middle],
+            word,
+            times: mark.times,
+            back: &self.bytes[mark.middle..mark.end],
         })
     }
 }

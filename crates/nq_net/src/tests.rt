@@ -16,28 +16,75 @@ fn datagrams_are_numbered_as_they_were_sent(rt: HostRuntime) -> Result<(), Fail>
     packets.push(Party::Server, Party::Client(Host(4)), b"four")?;
     assert_eq!(rt; packets.len(), 3);
     assert!(rt; !packets.is_empty());
+    let mut bytes = Vec::new(alloc);
     match packets.get(0) {
         Some(packet) => {
-            assert!(rt; packet.sender == HOST);
-            assert!(rt; packet.to == Party::Server);
-            assert_eq!(rt; packet.bytes, b"one".as_slice());
+            assert!(rt; packet.sender() == HOST);
+            assert!(rt; packet.to() == Party::Server);
+            packet.bytes_into(&mut bytes)?;
         }
         None => assert!(rt; false),
     }
     match packets.get(1) {
-        Some(packet) => assert_eq!(rt; packet.bytes, b"".as_slice()),
+        Some(packet) => packet.bytes_into(&mut bytes)?,
         None => assert!(rt; false),
     }
     match packets.get(2) {
         Some(packet) => {
-            assert!(rt; packet.sender == Party::Server);
-            assert!(rt; packet.to == Party::Client(Host(4)));
-            assert_eq!(rt; packet.bytes, b"four".as_slice());
+            assert!(rt; packet.sender() == Party::Server);
+            assert!(rt; packet.to() == Party::Client(Host(4)));
+            packet.bytes_into(&mut bytes)?;
         }
         None => assert!(rt; false),
     }
+    assert_eq!(rt; bytes.as_slice(), b"onefour".as_slice());
     assert!(rt; packets.get(3).is_none());
     assert!(rt; packets.get(u64::MAX).is_none());
+    Ok(())
+}
+
+/// Sends bytes, and tells whether the datagram has them.
+fn comes_back(rt: HostRuntime, bytes: &[u8]) -> Result<bool, Fail> {
+    let mut packets = Packets::new(rt.alloc())?;
+    packets.push(HOST, Party::Server, bytes)?;
+    let mut read = Vec::new(rt.alloc());
+    match packets.get(0) {
+        Some(packet) => packet.bytes_into(&mut read)?,
+        None => return Ok(false),
+    }
+    Ok(read.as_slice() == bytes)
+}
+
+#[test]
+fn datagrams_with_a_repeated_word_keep_their_bytes(rt: HostRuntime) -> Result<(), Fail> {
+    let alloc = rt.alloc();
+    let mut bytes = Vec::new(alloc);
+    for place in 0..40 {
+        bytes.push(place)?;
+    }
+    for _ in 0..1024 {
+        bytes.extend_from_slice(b"word")?;
+    }
+    assert!(rt; comes_back(rt, &bytes)?);
+    bytes.extend_from_slice(b"end")?;
+    assert!(rt; comes_back(rt, &bytes)?);
+    bytes[3000] = 0;
+    assert!(rt; comes_back(rt, &bytes)?);
+    assert!(rt; comes_back(rt, &[7; 200])?);
+    Ok(())
+}
+
+#[test]
+fn datagrams_without_a_repeated_word_keep_their_bytes(rt: HostRuntime) -> Result<(), Fail> {
+    let mut bytes = Vec::new(rt.alloc());
+    for place in 0..10 {
+        assert!(rt; comes_back(rt, &bytes)?);
+        bytes.push(place)?;
+    }
+    for place in 0..200 {
+        bytes.push(place)?;
+    }
+    assert!(rt; comes_back(rt, &bytes)?);
     Ok(())
 }
 

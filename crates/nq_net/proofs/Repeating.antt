@@ -1,0 +1,138 @@
+-- Words that are repeated.
+use Rattle.std.proofs.Common.{◌≡◌, ℕ, ◌+◌, ◌-◌, ◌*◌, ◌/◌, ◌%◌, ◌≤◌, ◌<◌, List, [], ◌∷◌, ◌++◌, length, take, drop, get_or, replicate, slice_set, zero, suc, refl, ap, sym, ◌∙◌, arith}
+use Rattle.std.proofs.lemmas.List.{take_all, take_at, take-take, take-append-drop, drop-drop, drop_more, append_assoc, length-append, length-take-le, length-drop, append-nil}
+use Rattle.std.specs.List.{copy_within}
+use Rattle.nq_net.specs.Runs.{repeats, many}
+
+pub repeats-length : (times : ℕ) (word : List ℕ) → length word ≡ 4 → length (repeats times word) ≡ 4 * times
+repeats-length zero word four = refl
+repeats-length (suc times) word four =
+    let shorter = repeats-length times word four in
+    let both = length-append word (repeats times word) in
+    omega (arith, shorter, both, four)
+
+pub repeats-add : (m n : ℕ) (word : List ℕ) → repeats (m + n) word ≡ repeats m word ++ repeats n word
+repeats-add zero n word = let same : 0 + n ≡ n = omega arith in ap (λ k. repeats k word) same
+repeats-add (suc m) n word =
+    let same : suc m + n ≡ suc (m + n) = omega arith in
+    ap (λ k. repeats k word) same ∙ ap (λ rest. word ++ rest) (repeats-add m n word) ∙ sym (append_assoc word (repeats m word) (repeats n word))
+
+-- the first of them
+repeats-take : (m n : ℕ) (word : List ℕ) → length word ≡ 4 → take (4 * m) (repeats (m + n) word) ≡ repeats m word
+repeats-take m n word four =
+    ap (take (4 * m)) (repeats-add m n word) ∙ take_at (repeats m word) (repeats n word) (4 * m) (repeats-length m word four)
+
+-- ---- written
+
+pub doubled : (bytes new : List ℕ) (n : ℕ) (word : List ℕ) → new ≡ copy_within bytes 0 (4 * n) (4 * n) → take (4 * n) bytes ≡ repeats n word
+    → 4 * (n + n) ≤ length bytes → take (4 * (n + n)) new ≡ repeats (n + n) word
+doubled bytes new n word is before room =
+    let none : 4 * n - 0 ≡ 4 * n = omega arith in
+    let same : new ≡ repeats (n + n) word ++ drop (4 * n + 4 * n) bytes = is ∙ rw (none, before, repeats-add n n word) refl in
+    let size : length (take (4 * n) bytes) ≡ 4 * n = length-take-le (4 * n) bytes (omega arith) in
+    let one : length (repeats n word) ≡ 4 * n = rw before at size in
+    let long : length (repeats (n + n) word) ≡ 4 * (n + n) =
+    ap length (repeats-add n n word) ∙ length-append (repeats n word) (repeats n word) ∙ omega (arith, one) in
+    ap (take (4 * (n + n))) same ∙ take_at (repeats (n + n) word) (drop (4 * n + 4 * n) bytes) (4 * (n + n)) long
+
+pub many-all : (bytes word : List ℕ) → length bytes ≡ 256 → take 256 bytes ≡ repeats 64 word → bytes ≡ many word
+unfolding many
+many-all bytes word long all = sym (take_all 256 bytes (omega arith)) ∙ all
+
+first_in : (n a b c d : ℕ) → take 4 (slice_set (slice_set (slice_set (slice_set (replicate (suc (suc (suc (suc n)))) 0) 0 a) 1 b) 2 c) 3 d) ≡ a ∷ b ∷ c ∷ d ∷ []
+first_in n a b c d = refl
+
+four_bytes : (word : List ℕ) → length word ≡ 4 → get_or word 0 0 ∷ get_or word 1 0 ∷ get_or word 2 0 ∷ get_or word 3 0 ∷ [] ≡ word
+four_bytes [] four = absurd (omega (arith, four))
+four_bytes (a ∷ []) four = absurd (omega (arith, four))
+four_bytes (a ∷ b ∷ []) four = absurd (omega (arith, four))
+four_bytes (a ∷ b ∷ c ∷ []) four = absurd (omega (arith, four))
+four_bytes (a ∷ b ∷ c ∷ d ∷ []) four = refl
+four_bytes (a ∷ b ∷ c ∷ d ∷ e ∷ rest) four = absurd (omega (arith, four))
+
+pub first_word : (word : List ℕ) → length word ≡ 4
+    → take 4 (slice_set (slice_set (slice_set (slice_set (replicate 256 0) 0 (get_or word 0 0)) 1 (get_or word 1 0)) 2 (get_or word 2 0)) 3 (get_or word 3 0)) ≡ repeats 1 word
+first_word word four = first_in 252 _ _ _ _ ∙ four_bytes word four ∙ sym (append-nil word)
+
+pub more-words : (base : List ℕ) (done : ℕ) (word : List ℕ) → (base ++ repeats (64 * done) word) ++ many word ≡ base ++ repeats (64 * (done + 1)) word
+unfolding many
+more-words base done word =
+    let next : 64 * (done + 1) ≡ 64 * done + 64 = omega arith in
+    append_assoc base (repeats (64 * done) word) (repeats 64 word)
+    ∙ ap (λ words. base ++ words) (sym (ap (λ k. repeats k word) next ∙ repeats-add (64 * done) 64 word))
+
+pub all-words : (base : List ℕ) (times : ℕ) (word : List ℕ) → length word ≡ 4
+    → (base ++ repeats (64 * (times / 64)) word) ++ take (4 * (times % 64)) (many word) ≡ base ++ repeats times word
+unfolding many
+all-words base times word four =
+    let some : 64 ≡ times % 64 + (64 - times % 64) = omega arith in
+    let first : take (4 * (times % 64)) (repeats 64 word) ≡ repeats (times % 64) word =
+    ap (λ k. take (4 * (times % 64)) (repeats k word)) some ∙ repeats-take (times % 64) (64 - times % 64) word four in
+    let split : times ≡ 64 * (times / 64) + times % 64 = omega arith in
+    append_assoc base (repeats (64 * (times / 64)) word) (take (4 * (times % 64)) (repeats 64 word))
+    ∙ ap (λ words. base ++ words) (ap (λ rest. repeats (64 * (times / 64)) word ++ rest) first ∙ sym (ap (λ k. repeats k word) split ∙ repeats-add (64 * (times / 64)) (times % 64) word))
+
+pub many-length : (word : List ℕ) → length word ≡ 4 → length (many word) ≡ 256
+unfolding many
+many-length word four = repeats-length 64 word four
+
+-- ---- found
+
+-- bytes behind a word that are the same as those four places before them
+same_words : (n a b c d : ℕ) (rest : List ℕ) → length rest ≡ 4 * n → take (4 * n) (a ∷ b ∷ c ∷ d ∷ rest) ≡ rest → rest ≡ repeats n (a ∷ b ∷ c ∷ d ∷ [])
+same_words zero a b c d [] long same = refl
+same_words zero a b c d (p ∷ rest) long same = absurd (omega (arith, long))
+same_words (suc n) a b c d [] long same = absurd (omega (arith, long))
+same_words (suc n) a b c d (p ∷ []) long same = absurd (omega (arith, long))
+same_words (suc n) a b c d (p ∷ q ∷ []) long same = absurd (omega (arith, long))
+same_words (suc n) a b c d (p ∷ q ∷ r ∷ []) long same = absurd (omega (arith, long))
+same_words (suc n) a b c d (p ∷ q ∷ r ∷ s ∷ rest) long same =
+    let four : suc (suc (suc (suc (4 * n)))) ≡ 4 * suc n = omega arith in
+    let shifted : a ∷ b ∷ c ∷ d ∷ take (4 * n) (p ∷ q ∷ r ∷ s ∷ rest) ≡ p ∷ q ∷ r ∷ s ∷ rest =
+    ap (λ k. take k (a ∷ b ∷ c ∷ d ∷ p ∷ q ∷ r ∷ s ∷ rest)) four ∙ same in
+    let behind : take (4 * n) (p ∷ q ∷ r ∷ s ∷ rest) ≡ rest = cc in
+    let ap-p : a ≡ p = cc in
+    let ap-q : b ≡ q = cc in
+    let ap-r : c ≡ r = cc in
+    let ap-s : d ≡ s = cc in
+    let later : rest ≡ repeats n (p ∷ q ∷ r ∷ s ∷ []) = same_words n p q r s rest (omega (arith, long)) behind in
+    rw (ap-p, ap-q, ap-r, ap-s) (ap (λ words. p ∷ q ∷ r ∷ s ∷ words) later)
+
+word_at : (bytes : List ℕ) (at : ℕ) → at + 4 ≤ length bytes
+    → drop at bytes ≡ get_or bytes at 0 ∷ get_or bytes (at + 1) 0 ∷ get_or bytes (at + 2) 0 ∷ get_or bytes (at + 3) 0 ∷ drop (at + 4) bytes
+word_at bytes at room =
+    let one = drop_more bytes at 0 (omega arith) in
+    let two = drop_more bytes (at + 1) 0 (omega arith) in
+    let three = drop_more bytes (at + 2) 0 (omega arith) in
+    let four = drop_more bytes (at + 3) 0 (omega arith) in
+    let e2 : at + 1 + 1 ≡ at + 2 = omega arith in
+    let e3 : at + 2 + 1 ≡ at + 3 = omega arith in
+    let e4 : at + 3 + 1 ≡ at + 4 = omega arith in
+    let two' = rw e2 at two in
+    let three' = rw e3 at three in
+    let four' = rw e4 at four in
+    one ∙ ap (λ xs. get_or bytes at 0 ∷ xs) (two' ∙ ap (λ xs. get_or bytes (at + 1) 0 ∷ xs) (three' ∙ ap (λ xs. get_or bytes (at + 2) 0 ∷ xs) four'))
+
+run_of : (n a b c d : ℕ) (rest : List ℕ) → 4 * n ≤ length rest → take (4 * n) (a ∷ b ∷ c ∷ d ∷ rest) ≡ take (4 * n) rest
+    → take (4 * suc n) (a ∷ b ∷ c ∷ d ∷ rest) ≡ repeats (suc n) (a ∷ b ∷ c ∷ d ∷ [])
+run_of n a b c d rest room same =
+    let four : 4 * suc n ≡ suc (suc (suc (suc (4 * n)))) = omega arith in
+    let long : length (take (4 * n) rest) ≡ 4 * n = length-take-le (4 * n) rest room in
+    let cut : take (4 * n) (a ∷ b ∷ c ∷ d ∷ take (4 * n) rest) ≡ take (4 * n) (a ∷ b ∷ c ∷ d ∷ rest) =
+    take-take (4 * n) (suc (suc (suc (suc (4 * n))))) (a ∷ b ∷ c ∷ d ∷ rest) (omega arith) in
+    ap (λ k. take k (a ∷ b ∷ c ∷ d ∷ rest)) four ∙ ap (λ words. a ∷ b ∷ c ∷ d ∷ words) (same_words n a b c d (take (4 * n) rest) long (cut ∙ same))
+
+-- bytes of which some are the same as those four places further on are a word, repeated
+pub run_found : (bytes : List ℕ) (at times : ℕ) → 1 ≤ times → at + 4 * times ≤ length bytes
+    → take (4 * times - 4) (drop at bytes) ≡ take (4 * times - 4) (drop (at + 4) bytes)
+    → bytes ≡ take at bytes ++ (repeats times (get_or bytes at 0 ∷ get_or bytes (at + 1) 0 ∷ get_or bytes (at + 2) 0 ∷ get_or bytes (at + 3) 0 ∷ []) ++ drop (at + 4 * times) bytes)
+run_found bytes at zero some room same = absurd (omega (arith, some))
+run_found bytes at (suc n) some room same =
+    let less : 4 * suc n - 4 ≡ 4 * n = omega arith in
+    let there = word_at bytes at (omega arith) in
+    let left = length-drop (at + 4) bytes in
+    let same' = rw (less, there) at same in
+    let words = run_of n (get_or bytes at 0) (get_or bytes (at + 1) 0) (get_or bytes (at + 2) 0) (get_or bytes (at + 3) 0) (drop (at + 4) bytes) (omega (arith, left, room)) same' in
+    let words' = ap (take (4 * suc n)) there ∙ words in
+    sym (take-append-drop at bytes)
+    ∙ ap (λ xs. take at bytes ++ xs) (sym (take-append-drop (4 * suc n) (drop at bytes)) ∙ ap (λ xs. xs ++ drop (4 * suc n) (drop at bytes)) words' ∙ ap (λ xs. repeats (suc n) (get_or bytes at 0 ∷ get_or bytes (at + 1) 0 ∷ get_or bytes (at + 2) 0 ∷ get_or bytes (at + 3) 0 ∷ []) ++ xs) (drop-drop (4 * suc n) at bytes))

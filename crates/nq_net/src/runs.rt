@@ -1,0 +1,131 @@
+//! A word of four bytes that is repeated within a datagram.
+
+ghost use Rattle.std.specs.Prelude.{◌≡◌, ℕ, ◌+◌, ◌*◌, ◌≤◌, ◌++◌, List, length, take, drop, vec_len, vec_capacity};
+ghost use Rattle.nq_net.specs.Runs.{repeats, many};
+
+/// A place at which a word is repeated.
+#[derive(Clone, Copy)]
+pub(crate) struct Run {
+    pub(crate) at: usize,
+    pub(crate) times: usize,
+    pub(crate) word: [u8; 4],
+}
+
+/// How many bytes a datagram has at least in which a repeated word is looked for.
+const FEW: usize = 64;
+
+impl Run {
+    /// No repetition.
+    const NONE: Run = Run {
+        at: 0,
+        times: 0,
+        word: [0; 4],
+    };
+
+    /// How the word in the middle of the bytes is repeated on both sides of it.
+    pub(crate) fn in_bytes(bytes: &[u8]) -> Run
+        ensures four { length result.word ≡ 4 }
+        ensures within { result.at + 4 * result.times ≤ length bytes.now }
+        ensures parts { bytes.now ≡ take result.at bytes.now ++ (repeats result.times result.word ++ drop (result.at + 4 * result.times) bytes.now) }
+    {
+        if bytes.len() < FEW {
+            return Run::NONE;
+        }
+        let middle = bytes.len() / 8 * 4;
+        let at = begin_of(bytes, begin_of(bytes, begin_of(bytes, middle, 512), 64), 4);
+        let end = end_of(bytes, end_of(bytes, end_of(bytes, middle + 4, 512), 64), 4);
+        run_at(bytes, at, (end - at) / 4)
+    }
+}
+
+/// How far back from a place the bytes are the same as four bytes further on, in steps of so many.
+fn begin_of(bytes: &[u8], place: usize, step: usize) -> usize
+    requires within { place + 4 ≤ length bytes.now }
+    requires step { 1 ≤ step }
+    ensures { result ≤ place }
+{
+    let mut at = place;
+    while at >= step && bytes[at - step..at] == bytes[at + 4 - step..at + 4] {
+        at -= step;
+    }
+    at
+}
+
+/// How far on from a place the bytes are the same as four bytes before, in steps of so many.
+fn end_of(bytes: &[u8], place: usize, step: usize) -> usize
+    requires before { 4 ≤ place }
+    requires within { place ≤ length bytes.now }
+    requires step { 1 ≤ step }
+    ensures further { place ≤ result }
+    ensures within { result ≤ length bytes.now }
+{
+    let mut end = place;
+    while bytes.len() - end >= step && bytes[end - 4..end + step - 4] == bytes[end..end + step] {
+        end += step;
+    }
+    end
+}
+
+/// The word at a place as a run, where it is repeated so many times.
+fn run_at(bytes: &[u8], at: usize, times: usize) -> Run
+    requires some { 1 ≤ times }
+    requires within { at + 4 * times ≤ length bytes.now }
+    ensures four { length result.word ≡ 4 }
+    ensures within { result.at + 4 * result.times ≤ length bytes.now }
+    ensures parts { bytes.now ≡ take result.at bytes.now ++ (repeats result.times result.word ++ drop (result.at + 4 * result.times) bytes.now) }
+{
+    let end = at + 4 * times;
+    if bytes[at..end - 4] == bytes[at + 4..end] {
+        Run {
+            at,
+            times,
+            word: [bytes[at], bytes[at + 1], bytes[at + 2], bytes[at + 3]],
+        }
+    } else {
+        Run::NONE
+    }
+}
+
+/// How many words are written at once.
+const MANY: usize = 64;
+
+/// Adds a word at the end, so many times. There is room for them.
+pub(crate) fn push_words(out: &mut Vec<u8>, word: [u8; 4], times: usize)
+    requires { vec_len out.old + 4 * times ≤ vec_capacity out.old }
+    ensures words { out.new.items ≡ out.old.items ++ repeats times word }
+    ensures capacity { vec_capacity out.old ≤ vec_capacity out.new }
+{
+    let many = many_of(word);
+    for _round in 0..times / MANY {
+        out.extend_from_slice(&many).unwrap();
+    }
+    out.extend_from_slice(&many[..4 * (times % MANY)]).unwrap();
+}
+
+/// A word, 64 times over.
+fn many_of(word: [u8; 4]) -> [u8; 4 * MANY]
+    ensures { result ≡ many word }
+{
+    let mut bytes = [0; 4 * MANY];
+    bytes[0] = word[0];
+    bytes[1] = word[1];
+    bytes[2] = word[2];
+    bytes[3] = word[3];
+    double(&mut bytes, 1);
+    double(&mut bytes, 2);
+    double(&mut bytes, 4);
+    double(&mut bytes, 8);
+    double(&mut bytes, 16);
+    double(&mut bytes, 32);
+    bytes
+}
+
+/// Copies the first words, so many of them, behind themselves.
+fn double(bytes: &mut [u8], words: usize)
+    requires { 4 * (words + words) ≤ length bytes.old }
+    ensures doubled { (word : List ℕ) → take (4 * words) bytes.old ≡ repeats words word → take (4 * (words + words)) bytes.new ≡ repeats (words + words) word }
+    ensures size { length bytes.new ≡ length bytes.old }
+{
+    let done = 4 * words;
+    bytes.copy_within(0..done, done);
+}
