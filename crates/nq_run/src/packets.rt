@@ -90,7 +90,13 @@ impl Packets {
         ensures { IfOk result (λ packet. slice_get self.now.items number ≡ Some packet) }
     {
         match self.datagrams.get(number) {
-            Some(datagram) => packet_in(self.alloc, datagram.sender, datagram.to, datagram.bytes),
+            Some(datagram) => {
+                let mut bytes = Vec::new(self.alloc);
+                if datagram.bytes_into(&mut bytes).is_err() {
+                    return Err(NoMemory::Memory);
+                }
+                packet_in(self.alloc, datagram.sender(), datagram.to(), &bytes)
+            }
             None => unreachable!(),
         }
     }
