@@ -12,7 +12,7 @@ pub(crate) struct Run {
 }
 
 /// How many bytes a datagram has at least in which a repeated word is looked for.
-const FEW: usize = 64;
+const FEW: usize = 256;
 
 impl Run {
     /// No repetition.
@@ -95,6 +95,9 @@ pub(crate) fn push_words(out: &mut Vec<u8>, word: [u8; 4], times: usize)
     ensures words { out.new.items ≡ out.old.items ++ repeats times word }
     ensures capacity { vec_capacity out.old ≤ vec_capacity out.new }
 {
+    if times == 0 {
+        return;
+    }
     let many = many_of(word);
     for _round in 0..times / MANY {
         out.extend_from_slice(&many).unwrap();

@@ -17,6 +17,8 @@ use std::marker::Model;
 pub(crate) struct Packets {
     alloc: Global,
     datagrams: nq_net::Packets,
+    /// The bytes of the datagram that was read last. Nothing rests on them.
+    bytes: Vec<u8>,
 }
 
 impl Model for Packets {
@@ -40,6 +42,7 @@ impl Packets {
         Packets {
             alloc,
             datagrams: nq_net::Packets::new(alloc).unwrap(),
+            bytes: Vec::new(alloc),
         }
     }
 
@@ -85,19 +88,18 @@ impl Packets {
     /// # Errors
     ///
     /// Only want of memory.
-    pub(crate) fn read(&self, number: u64) -> Result<Packet, NoMemory>
-        requires { number < length self.now.items }
-        ensures { IfOk result (λ packet. slice_get self.now.items number ≡ Some packet) }
+    pub(crate) fn read(&mut self, number: u64) -> Result<Packet, NoMemory>
+        requires { number < length self.old.items }
+        ensures packet { IfOk result (λ packet. slice_get self.old.items number ≡ Some packet) }
+        ensures same { self.new ≡ self.old }
     {
-        match self.datagrams.get(number) {
-            Some(datagram) => {
-                let mut bytes = Vec::new(self.alloc);
-                if datagram.bytes_into(&mut bytes).is_err() {
-                    return Err(NoMemory::Memory);
-                }
-                packet_in(self.alloc, datagram.sender(), datagram.to(), &bytes)
-            }
-            None => unreachable!(),
+        let Some(datagram) = self.datagrams.get(number) else {
+            unreachable!();
+        };
+        self.bytes.clear();
+        match datagram.bytes_into(&mut self.bytes) {
+            Ok(()) => packet_in(self.alloc, datagram.sender(), datagram.to(), &self.bytes),
+            Err(_) => Err(NoMemory::Memory),
         }
     }
 

@@ -1,4 +1,4 @@
-use Rattle.std.proofs.Common.{◌≡◌, ◌+◌, ◌*◌, ◌++◌, ◌∷◌, [], ◌<◌, ◌^◌, ℕ, List, length, take, drop, ◌∙◌, ap, sym, arith}
+use Rattle.std.proofs.Common.{◌≡◌, ◌+◌, ◌*◌, ◌++◌, ◌<◌, ℕ, List, length, take, drop, ◌∙◌, ap, arith}
 use Rattle.std.proofs.lemmas.List.{length-take-le, length-drop, take_rest}
 use Rattle.nq_net.proofs.Marks.{datagrams_pushed, Added}
 use Rattle.nq_net.specs.declared.packets.Mark.{Mark}
