@@ -305,8 +305,10 @@ fn packets_are_datagrams(rt: HostRuntime) -> Result<(), Fail> {
             for (number, bytes) in sent.iter().enumerate() {
                 match packets.get(number as u64) {
                     Some(packet) => {
-                        assert!(rt; ends.get(number) == Some(&(packet.sender, packet.to)));
-                        assert_eq!(rt; packet.bytes, bytes.as_slice());
+                        let mut read = Vec::new(alloc);
+                        packet.bytes_into(&mut read)?;
+                        assert!(rt; ends.get(number) == Some(&(packet.sender(), packet.to())));
+                        assert_eq!(rt; read.as_slice(), bytes.as_slice());
                     }
                     None => assert!(rt; false),
                 }
