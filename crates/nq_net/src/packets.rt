@@ -1,4 +1,4 @@
-ghost use Rattle.std.specs.Prelude.{◌≡◌, ◌+◌, ◌≤◌, [], ◌∷◌, ◌++◌, length, slice_get, Some, IsOk, IfOk, OnOk, OnErr, IsNone, IfSome, IsTrue, ◌↔◌};
+ghost use Rattle.std.specs.Prelude.{◌≡◌, ◌+◌, ◌≤◌, [], ◌∷◌, ◌++◌, length, slice_get, vec_len, vec_capacity, Some, IsOk, IfOk, OnOk, OnErr, IsNone, IfSome, IsTrue, ◌↔◌};
 
 use crate::runs::{Run, push_words};
 use crate::{NoMemory, Party};
@@ -58,10 +58,11 @@ impl<'a> Packet<'a> {
     ///
     /// # Errors
     ///
-    /// Only want of memory, and then the vector is as before.
+    /// Only want of memory, and then the vector is as before. Where it has room for them none is wanted.
     pub fn bytes_into(&self, out: &mut Vec<u8>) -> Result<(), NoMemory>
         ensures ok { OnOk result (out.new.items ≡ out.old.items ++ self.now.bytes) }
         ensures err { OnErr result (out.new.items ≡ out.old.items) }
+        ensures succeeds { vec_len out.old + length self.now.bytes ≤ vec_capacity out.old → IsOk result }
     {
         out.reserve(self.len())?;
         out.extend_from_slice(self.front).unwrap();
