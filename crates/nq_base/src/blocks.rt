@@ -1,7 +1,7 @@
 //! A block of a file.
 
-ghost use Rattle.std.specs.Prelude.{◌≡◌, ◌↔◌, length, IsSome, IfSome};
-ghost use Rattle.nq_base.specs.Block.{word, value_of, filled};
+ghost use Rattle.std.specs.Prelude.{◌≡◌, ◌≤◌, ◌+◌, ◌*◌, ◌↔◌, ℕ, length, take, IsSome, IfSome};
+ghost use Rattle.nq_base.specs.Block.{word, value_of, repeated, filled};
 
 use std::marker::Model;
 
@@ -31,11 +31,18 @@ impl Block {
         ensures size { length result ≡ 4096 }
         ensures value { value_of result ≡ value }
     {
-        let word = word_of(value);
         let mut bytes = [0; Block::SIZE];
-        for (i, byte) in bytes.iter_mut().enumerate() {
-            *byte = word[i % 4];
-        }
+        bytes[..4].copy_from_slice(&word_of(value));
+        double(&mut bytes, 1);
+        double(&mut bytes, 2);
+        double(&mut bytes, 4);
+        double(&mut bytes, 8);
+        double(&mut bytes, 16);
+        double(&mut bytes, 32);
+        double(&mut bytes, 64);
+        double(&mut bytes, 128);
+        double(&mut bytes, 256);
+        double(&mut bytes, 512);
         Block { bytes }
     }
 
@@ -87,4 +94,14 @@ fn word_of(value: u32) -> [u8; 4]
         (value / 0x0100 % 0x0100) as u8,
         (value % 0x0100) as u8,
     ]
+}
+
+/// Copies the first words, so many of them, behind themselves.
+fn double(bytes: &mut [u8], words: usize)
+    requires { 4 * (words + words) ≤ length bytes.old }
+    ensures doubled { (v : ℕ) → take (4 * words) bytes.old ≡ repeated words v → take (4 * (words + words)) bytes.new ≡ repeated (words + words) v }
+    ensures size { length bytes.new ≡ length bytes.old }
+{
+    let done = 4 * words;
+    bytes.copy_within(0..done, done);
 }

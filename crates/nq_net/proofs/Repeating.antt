@@ -1,8 +1,9 @@
 -- Words that are repeated.
 use Rattle.std.proofs.Common.{◌≡◌, ℕ, ◌+◌, ◌-◌, ◌*◌, ◌/◌, ◌%◌, ◌≤◌, List, [], ◌∷◌, ◌++◌, length, take, drop, get_or, replicate, slice_set, zero, suc, refl, ap, sym, ◌∙◌, arith}
 use Rattle.std.proofs.lemmas.List.{take_all, take_at, take-take, take-append-drop, drop-drop, drop_more, append_assoc, length-append, length-take-le, length-drop, append-nil}
+use Rattle.std.proofs.Math.Seq.{take-add}
 use Rattle.std.specs.List.{copy_within}
-use Rattle.nq_net.specs.Runs.{repeats, many}
+use Rattle.nq_net.specs.Runs.{repeats, many, IsRepeated}
 
 pub repeats-length : (times : ℕ) (word : List ℕ) → length word ≡ 4 → length (repeats times word) ≡ 4 * times
 repeats-length zero word four = refl
@@ -136,3 +137,27 @@ run_found bytes at (suc n) some room same =
     let words' = ap (take (4 * suc n)) there ∙ words in
     sym (take-append-drop at bytes)
     ∙ ap (λ xs. take at bytes ++ xs) (sym (take-append-drop (4 * suc n) (drop at bytes)) ∙ ap (λ xs. xs ++ drop (4 * suc n) (drop at bytes)) words' ∙ ap (λ xs. repeats (suc n) (get_or bytes at 0 ∷ get_or bytes (at + 1) 0 ∷ get_or bytes (at + 2) 0 ∷ get_or bytes (at + 3) 0 ∷ []) ++ xs) (drop-drop (4 * suc n) at bytes))
+
+-- ---- the same as four places further on
+
+-- bytes that are repeated, and behind them further ones
+pub repeated-more : (bytes : List ℕ) (place m n : ℕ) → IsRepeated bytes place m → IsRepeated bytes (place + m) n → IsRepeated bytes place (m + n)
+repeated-more bytes place m n first rest =
+    let same : place + m + 4 ≡ place + 4 + m = omega arith in
+    take-add m n (drop place bytes)
+    ∙ ap (λ xs. take m (drop place bytes) ++ take n xs) (drop-drop m place bytes)
+    ∙ ap (λ xs. take m (drop place bytes) ++ xs) (rest ∙ ap (λ k. take n (drop k bytes)) same)
+    ∙ ap (λ xs. xs ++ take n (drop (place + 4 + m) bytes)) first
+    ∙ ap (λ xs. take m (drop (place + 4) bytes) ++ take n xs) (sym (drop-drop m (place + 4) bytes))
+    ∙ sym (take-add m n (drop (place + 4) bytes))
+
+-- the same, where the places and the counts are told
+pub repeated-on : (bytes : List ℕ) (place middle m n all : ℕ) → place + m ≡ middle → m + n ≡ all
+    → IsRepeated bytes place m → IsRepeated bytes middle n → IsRepeated bytes place all
+repeated-on bytes place middle m n all there sum first rest =
+    rw (sym sum) (repeated-more bytes place m n first (rw there rest))
+
+-- fewer of them
+pub repeated-fewer : (bytes : List ℕ) (place m n : ℕ) → n ≤ m → IsRepeated bytes place m → IsRepeated bytes place n
+repeated-fewer bytes place m n fewer all =
+    sym (take-take n m (drop place bytes) fewer) ∙ ap (take n) all ∙ take-take n m (drop (place + 4) bytes) fewer

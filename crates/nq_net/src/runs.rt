@@ -1,7 +1,7 @@
 //! A word of four bytes that is repeated within a datagram.
 
-ghost use Rattle.std.specs.Prelude.{◌≡◌, ℕ, ◌+◌, ◌*◌, ◌≤◌, ◌++◌, List, length, take, drop, vec_len, vec_capacity};
-ghost use Rattle.nq_net.specs.Runs.{repeats, many};
+ghost use Rattle.std.specs.Prelude.{◌≡◌, ℕ, ◌+◌, ◌-◌, ◌*◌, ◌≤◌, ◌++◌, List, length, take, drop, vec_len, vec_capacity};
+ghost use Rattle.nq_net.specs.Runs.{repeats, many, IsRepeated};
 
 /// A place at which a word is repeated.
 #[derive(Clone, Copy)]
@@ -32,17 +32,29 @@ impl Run {
             return Run::NONE;
         }
         let middle = bytes.len() / 8 * 4;
-        let at = begin_of(bytes, begin_of(bytes, begin_of(bytes, middle, 512), 64), 4);
-        let end = end_of(bytes, end_of(bytes, end_of(bytes, middle + 4, 512), 64), 4);
-        run_at(bytes, at, (end - at) / 4)
+        let at = first_before(bytes, middle);
+        let end = last_behind(bytes, middle + 4);
+        run_at(bytes, at, end)
     }
 }
 
+/// How far back from a place the bytes are the same as four bytes further on.
+fn first_before(bytes: &[u8], place: usize) -> usize
+    requires within { place + 4 ≤ length bytes.now }
+    ensures before { result ≤ place }
+    ensures same { IsRepeated bytes.now result (place - result) }
+{
+    let far = first_by(bytes, place, 512);
+    let near = first_by(bytes, far, 64);
+    first_by(bytes, near, 4)
+}
+
 /// How far back from a place the bytes are the same as four bytes further on, in steps of so many.
-fn begin_of(bytes: &[u8], place: usize, step: usize) -> usize
+fn first_by(bytes: &[u8], place: usize, step: usize) -> usize
     requires within { place + 4 ≤ length bytes.now }
     requires step { 1 ≤ step }
-    ensures { result ≤ place }
+    ensures before { result ≤ place }
+    ensures same { IsRepeated bytes.now result (place - result) }
 {
     let mut at = place;
     while at >= step && bytes[at - step..at] == bytes[at + 4 - step..at + 4] {
@@ -51,13 +63,27 @@ fn begin_of(bytes: &[u8], place: usize, step: usize) -> usize
     at
 }
 
+/// How far on from a place the bytes are the same as four bytes before.
+fn last_behind(bytes: &[u8], place: usize) -> usize
+    requires before { 4 ≤ place }
+    requires within { place ≤ length bytes.now }
+    ensures behind { place ≤ result }
+    ensures within { result ≤ length bytes.now }
+    ensures same { IsRepeated bytes.now (place - 4) (result - place) }
+{
+    let far = last_by(bytes, place, 512);
+    let near = last_by(bytes, far, 64);
+    last_by(bytes, near, 4)
+}
+
 /// How far on from a place the bytes are the same as four bytes before, in steps of so many.
-fn end_of(bytes: &[u8], place: usize, step: usize) -> usize
+fn last_by(bytes: &[u8], place: usize, step: usize) -> usize
     requires before { 4 ≤ place }
     requires within { place ≤ length bytes.now }
     requires step { 1 ≤ step }
-    ensures further { place ≤ result }
+    ensures behind { place ≤ result }
     ensures within { result ≤ length bytes.now }
+    ensures same { IsRepeated bytes.now (place - 4) (result - place) }
 {
     let mut end = place;
     while bytes.len() - end >= step && bytes[end - 4..end + step - 4] == bytes[end..end + step] {
@@ -66,23 +92,19 @@ fn end_of(bytes: &[u8], place: usize, step: usize) -> usize
     end
 }
 
-/// The word at a place as a run, where it is repeated so many times.
-fn run_at(bytes: &[u8], at: usize, times: usize) -> Run
-    requires some { 1 ≤ times }
-    requires within { at + 4 * times ≤ length bytes.now }
+/// The word at a place as a run, which goes on to the last whole word of it before an end.
+fn run_at(bytes: &[u8], at: usize, end: usize) -> Run
+    requires some { at + 4 ≤ end }
+    requires within { end ≤ length bytes.now }
+    requires same { IsRepeated bytes.now at (end - 4 - at) }
     ensures four { length result.word ≡ 4 }
     ensures within { result.at + 4 * result.times ≤ length bytes.now }
     ensures parts { bytes.now ≡ take result.at bytes.now ++ (repeats result.times result.word ++ drop (result.at + 4 * result.times) bytes.now) }
 {
-    let end = at + 4 * times;
-    if bytes[at..end - 4] == bytes[at + 4..end] {
-        Run {
-            at,
-            times,
-            word: [bytes[at], bytes[at + 1], bytes[at + 2], bytes[at + 3]],
-        }
-    } else {
-        Run::NONE
+    Run {
+        at,
+        times: (end - at) / 4,
+        word: [bytes[at], bytes[at + 1], bytes[at + 2], bytes[at + 3]],
     }
 }
 

@@ -4,7 +4,6 @@ mod Plays
 mod WordLists
 pub mod Arrived
 pub mod Callings
-pub mod Doubling
 pub mod Filled
 pub mod Numbering
 pub mod Requests

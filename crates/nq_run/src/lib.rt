@@ -4,7 +4,6 @@
 mod clients;
 mod ending;
 mod files;
-mod filling;
 mod messages;
 mod packets;
 mod playing;

@@ -11,10 +11,9 @@ ghost use Rattle.nq_run.specs.Datagrams.{call_message, reply_message, message_of
 ghost use Rattle.nq_run.specs.Packet.{first_of, packet_of};
 ghost use Rattle.nq_wire.specs.Request.{HasSpelling};
 
-use crate::filling::filled;
 use crate::messages::Packet;
 use crate::servers::first_of;
-use nq_base::{BlockNo, FileId, Host, Inc, Number, Party, Refusal, Reply, Request, Rev, Seq};
+use nq_base::{Block, BlockNo, FileId, Host, Inc, Number, Party, Refusal, Reply, Request, Rev, Seq};
 use nq_rpc::{Bytes, CallMessage, Head, Message, Outcome, ReplyMessage};
 use nq_wire::{Procedure, encode_reply_into, encode_request_into};
 use nq_xdr::Writer;
@@ -134,7 +133,7 @@ fn write_call(
         first: Number(number),
         last: Number(number),
         push: None,
-        body: filled(value),
+        body: Block::fill(value),
     };
     call_message(xid, &request, room)
 }
@@ -150,7 +149,7 @@ fn read_reply(xid: u32, rev: Rev, value: u32, room: Writer) -> Message
     let answer = Reply::Read {
         inc: Inc(1),
         rev,
-        body: filled(value),
+        body: Block::fill(value),
         grant: None,
     };
     reply_message(xid, &answer, room)
