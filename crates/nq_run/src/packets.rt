@@ -8,9 +8,11 @@ use crate::messages::Packet;
 use crate::reading::packet_in;
 use crate::rooms::{LONGEST, Room};
 use nq_base::NoMemory;
-use nq_rpc::encode_into;
+use nq_rpc::{Message, Outcome, encode_into};
+use nq_xdr::Writer;
 use std::alloc::Global;
 use std::marker::Model;
+use std::mem::replace;
 
 /// The packets, the first one first. Clauses see them, and how many further datagrams and bytes there is room for.
 #[derive(Drop)]
@@ -19,6 +21,8 @@ pub(crate) struct Packets {
     datagrams: nq_net::Packets,
     /// The bytes of the datagram that was read last. Nothing rests on them.
     bytes: Vec<u8>,
+    /// Where the last packet was written. Nothing rests on it.
+    room: Room,
 }
 
 impl Model for Packets {
@@ -43,6 +47,7 @@ impl Packets {
             alloc,
             datagrams: nq_net::Packets::new(alloc).unwrap(),
             bytes: Vec::new(alloc),
+            room: Room::none(alloc),
         }
     }
 
@@ -53,7 +58,7 @@ impl Packets {
         ensures room_bytes { OnOk result (longest ≤ self.new.spare_bytes) }
         ensures items { self.new.items ≡ self.old.items }
     {
-        let room = Room::new(self.alloc)?;
+        let room = replace(&mut self.room, Room::none(self.alloc)).emptied()?;
         match self.datagrams.reserve(1, LONGEST) {
             Ok(()) => Ok(room),
             Err(_) => Err(NoMemory::Memory),
@@ -69,11 +74,15 @@ impl Packets {
     {
         let Room { body, message } = room;
         let mut out = message;
-        encode_into(&packet.message(body), &mut out).unwrap();
-        let bytes = out.into_bytes();
+        let said = packet.message(body);
+        encode_into(&said, &mut out).unwrap();
         self.datagrams
-            .push(packet.sender(), packet.to(), &bytes)
+            .push(packet.sender(), packet.to(), out.as_bytes())
             .unwrap();
+        self.room = Room {
+            body: body_of(self.alloc, said),
+            message: out,
+        };
     }
 
     /// How many there are.
@@ -109,5 +118,16 @@ impl Packets {
         ensures fit { All Fits (map packet_of self.now.items) }
     {
         &self.datagrams
+    }
+}
+
+/// The arguments or results of a message, to be written over.
+fn body_of(alloc: Global, message: Message) -> Writer {
+    match message {
+        Message::Call(call) => Writer::behind(call.arguments.into_vec()),
+        Message::Reply(reply) => match reply.outcome {
+            Outcome::Success(results) => Writer::behind(results.into_vec()),
+            _ => Writer::new(alloc).unwrap(),
+        },
     }
 }

@@ -21,25 +21,33 @@ pub(crate) struct Room {
 }
 
 impl Room {
-    /// Enough room for any packet.
-    pub(crate) fn new(alloc: Global) -> Result<Room, NoMemory>
+    /// No room. It takes no memory.
+    pub(crate) fn none(alloc: Global) -> Room {
+        Room {
+            body: Writer::new(alloc).unwrap(),
+            message: Writer::new(alloc).unwrap(),
+        }
+    }
+
+    /// Forgets what is written, and makes enough room for any packet.
+    pub(crate) fn emptied(self) -> Result<Room, NoMemory>
         ensures { IfOk result IsRoom }
     {
+        let Room { body, message } = self;
         Ok(Room {
-            body: writer(alloc, LONGEST_BODY)?,
-            message: writer(alloc, LONGEST)?,
+            body: emptied(body, LONGEST_BODY)?,
+            message: emptied(message, LONGEST)?,
         })
     }
 }
 
-/// A writer that holds nothing, and has this much room.
-fn writer(alloc: Global, room: usize) -> Result<Writer, NoMemory>
+/// The writer, which holds nothing and has this much room.
+fn emptied(written: Writer, room: usize) -> Result<Writer, NoMemory>
     ensures empty { IfOk result (λ w. w.bytes ≡ []) }
     ensures room { IfOk result (λ w. room ≤ w.spare) }
 {
-    let Ok(mut out) = Writer::new(alloc) else {
-        return Err(NoMemory::Memory);
-    };
+    let mut out = written;
+    out.clear();
     match out.reserve(room) {
         Ok(()) => Ok(out),
         Err(_) => Err(NoMemory::Memory),

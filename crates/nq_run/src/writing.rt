@@ -13,7 +13,9 @@ ghost use Rattle.nq_wire.specs.Request.{HasSpelling};
 
 use crate::messages::Packet;
 use crate::servers::first_of;
-use nq_base::{Block, BlockNo, FileId, Host, Inc, Number, Party, Refusal, Reply, Request, Rev, Seq};
+use nq_base::{
+    Block, BlockNo, FileId, Host, Inc, Number, Party, Refusal, Reply, Request, Rev, Seq,
+};
 use nq_rpc::{Bytes, CallMessage, Head, Message, Outcome, ReplyMessage};
 use nq_wire::{Procedure, encode_reply_into, encode_request_into};
 use nq_xdr::Writer;

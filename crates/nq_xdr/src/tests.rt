@@ -82,3 +82,17 @@ fn hostile_opaque_data_has_its_fault(rt: HostRuntime) {
         assert_eq!(rt; reader.rest(), bytes.as_slice());
     }
 }
+
+#[test]
+fn a_writer_goes_on_and_begins_again(rt: HostRuntime) -> Result<(), Fail> {
+    let mut first = Writer::new(rt.alloc())?;
+    first.u32(5)?;
+    let mut writer = Writer::behind(first.into_bytes());
+    writer.boolean(true)?;
+    assert_eq!(rt; writer.as_bytes(), [0, 0, 0, 5, 0, 0, 0, 1].as_slice());
+    writer.clear();
+    assert_eq!(rt; writer.as_bytes().len(), 0);
+    writer.append(b"abcd")?;
+    assert_eq!(rt; writer.as_bytes(), b"abcd".as_slice());
+    Ok(())
+}

@@ -36,6 +36,22 @@ impl Writer {
         })
     }
 
+    /// A writer that goes on behind these bytes. It takes no memory.
+    pub fn behind(bytes: Vec<u8>) -> Writer
+        ensures bytes { result.bytes ≡ bytes.items }
+        ensures spare { result.spare ≡ vec_capacity bytes - vec_len bytes }
+    {
+        Writer { bytes }
+    }
+
+    /// Forgets what was written. Its room is room again.
+    pub fn clear(&mut self)
+        ensures empty { self.new.bytes ≡ [] }
+        ensures spare { self.new.spare ≡ self.old.spare + length self.old.bytes }
+    {
+        self.bytes.clear();
+    }
+
     /// Makes room for `more` bytes.
     pub fn reserve(&mut self, more: usize) -> Result<(), NoMemory>
         ensures bytes { self.new.bytes ≡ self.old.bytes }
@@ -112,6 +128,13 @@ impl Writer {
         self.append(bytes).unwrap();
         self.append(&[0; 3][..residual]).unwrap();
         Ok(())
+    }
+
+    /// The bytes that were written so far.
+    pub fn as_bytes(&self) -> &[u8]
+        ensures { result.now ≡ self.now.bytes }
+    {
+        &self.bytes
     }
 
     /// The bytes that were written.
