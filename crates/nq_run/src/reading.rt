@@ -14,13 +14,8 @@ ghost use Rattle.nq_wire.specs.Reply.{results, IsReply};
 use crate::messages::{Packet, Reply};
 use nq_base::{Host, NoMemory, Party};
 use nq_rpc::{CallMessage, Message, Outcome, ReplyMessage, decode};
-use nq_wire::{decode_reply, decode_request};
+use nq_wire::{Procedure, decode_reply, decode_request};
 use std::alloc::Global;
-
-/// The numbers of READ and WRITE.
-const READ: u32 = 5;
-
-const WRITE: u32 = 6;
 
 /// How many bytes the results of WRITE have. Those of READ have more, and a refusal, which both read alike, has fewer.
 const WRITTEN: usize = 16;
@@ -128,19 +123,21 @@ fn answer_of(alloc: Global, bytes: &[u8]) -> Option<Reply>
     }
 }
 
+/// The reply of these results, to WRITE.
 fn written(alloc: Global, bytes: &[u8]) -> Option<Reply>
     ensures { (r : Reply) → IsReply (reply_of r) → bytes.now ≡ results (reply_of r) → length bytes.now ≡ 16 → result ≡ Some r }
 {
-    match decode_reply(alloc, WRITE, bytes) {
+    match decode_reply(alloc, Procedure::Write.number(), bytes) {
         Ok(reply) => answer_in(&reply),
         Err(_) => None,
     }
 }
 
+/// The reply of these results, to READ.
 fn read(alloc: Global, bytes: &[u8]) -> Option<Reply>
     ensures { (r : Reply) → IsReply (reply_of r) → bytes.now ≡ results (reply_of r) → (length bytes.now ≡ 16 → ⊥) → result ≡ Some r }
 {
-    match decode_reply(alloc, READ, bytes) {
+    match decode_reply(alloc, Procedure::Read.number(), bytes) {
         Ok(reply) => answer_in(&reply),
         Err(_) => None,
     }
