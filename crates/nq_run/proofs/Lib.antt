@@ -1,5 +1,6 @@
 mod Endings
 mod Events
+mod Lawful
 mod Plays
 mod WordLists
 pub mod Arrived

@@ -243,7 +243,7 @@ of_replay-line hosts (Line.Round times) text names spells = absurd spells
 of_replay-line hosts Line.Flow text names spells = absurd spells
 of_replay-line hosts Line.End text names spells = absurd names
 
-of_replay-lines : (hosts : ℕ) (lines : List Line) (texts : List (List ℕ)) → SpellsLines hosts lines texts → AreOfReplay hosts (events_of lines)
+pub of_replay-lines : (hosts : ℕ) (lines : List Line) (texts : List (List ℕ)) → SpellsLines hosts lines texts → AreOfReplay hosts (events_of lines)
 of_replay-lines hosts [] [] spells = tt
 of_replay-lines hosts [] (text ∷ texts) spells = absurd spells
 of_replay-lines hosts (line ∷ lines) [] spells = absurd spells

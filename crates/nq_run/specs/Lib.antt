@@ -8,4 +8,5 @@ pub mod Lengths
 pub mod Stepping
 pub mod Playing
 pub mod Replay
+pub mod Promised
 pub mod Ending

@@ -4,7 +4,8 @@ ghost use Rattle.std.specs.Prelude.{◌≡◌, ◌↔◌, ◌<◌, ◌≤◌, �
 ghost use Rattle.nq_base.specs.declared.Entry.{Entry};
 ghost use Rattle.nq_run.specs.Ending.{Ends, EndsText, EndsWorld, IsUnlessFault, WithStatus, status_of};
 ghost use Rattle.nq_run.specs.Playing.{MakesJournal, FaultyLine};
-ghost use Rattle.nq_run.specs.Replay.{IsReplay, most_bytes};
+ghost use Rattle.nq_run.specs.Promised.{PrintsLawfully};
+ghost use Rattle.nq_run.specs.Replay.{IsReplay, OfInput, most_bytes};
 ghost use Rattle.nq_run.specs.declared.ending.Ending.{Ending};
 
 use crate::ending::Ending;
@@ -20,7 +21,8 @@ use std::alloc::Global;
 const MOST_BYTES: usize = 16_777_216;
 
 /// Runs what the words say. `replay` reads a schedule of puts, fetches and deliveries to the end of the input, runs it,
-/// and prints the journal of the run. The exit statuses:
+/// and prints the journal of the run. The headline of `nq_laws` holds at each moment of a run whose journal was printed.
+/// The exit statuses:
 ///
 /// - 0: the journal was printed.
 /// - 1: the words are not the one word `replay`; prints `usage`.
@@ -46,6 +48,8 @@ pub fn run<S: Source, K: Sink>(alloc: Global, words: &Words, input: &mut S, out:
         → (entries : List Entry) → MakesJournal text entries
         → WithStatus result (λ end. IsUnlessFault end Ending.Done
         (S.faults input.old) (S.faults input.new) (K.faults out.old) (K.faults out.new)) }
+    ensures headline { result ≡ status_of Ending.Done
+        → OfInput most_bytes (S.left input.old) (S.left input.new) (λ text. PrintsLawfully text (K.held out.old) (K.held out.new)) }
 {
     run_words(alloc, words, input, out, MOST_BYTES).status()
 }

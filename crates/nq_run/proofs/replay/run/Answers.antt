@@ -1,4 +1,5 @@
 use Rattle.nq_run.specs.Replay.{most_bytes}
+use Rattle.nq_run.proofs.Lawful.{lawful_end}
 use Rattle.nq_run.proofs.replay.run.Goals as goal
 
 pub returns-clause-ends : goal.returns-clause-ends
@@ -16,3 +17,7 @@ returns-clause-script g c = λ is text told within number faulty. (c.run_words.r
 pub returns-clause-done : goal.returns-clause-done
 unfolding most_bytes
 returns-clause-done g c = λ is text told within entries made. (c.run_words.result, c.status.ensures, c.run_words.ensures.done is text told within entries made)
+
+pub returns-clause-headline : goal.returns-clause-headline
+unfolding most_bytes
+returns-clause-headline g c = lawful_end _ _ _ _ _ _ _ _ _ _ _ c.status.ensures c.run_words.ensures.ends
