@@ -31,11 +31,12 @@ LeaseIntervalInEveryRun =
     → IsWithinSkew head.hosts most events
     → KeepsLeaseInterval (run head events) events
 
--- whether a client holds a caching lease on a file that runs by its clock
+-- whether a lease is a caching one, and runs by the client's clock
 abbrev pub lease_runs : Client → Option Lease → Bool
 lease_runs c None = false
 lease_runs c (Some lease) = caches lease.mode && nat_lt c.now lease.expiry
 
+-- whether there is a client that holds a caching lease on the file which runs by its clock
 abbrev pub holds_running : (file : ℕ) → Option Client → Bool
 holds_running file None = false
 holds_running file (Some c) = lease_runs c (lease_on file c.leases)

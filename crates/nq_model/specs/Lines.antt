@@ -35,6 +35,7 @@ delivered other fresh = fresh
 abbrev pub added : (before after : World) → List ℕ
 added before after = numbers_from (length before.packets) (length after.packets - length before.packets)
 
+-- the play goes on to a world that an event led to
 abbrev pub played_to : Play → Event → World → Play
 played_to p event world = record {
   world = world;
@@ -77,6 +78,7 @@ play_line fuel p (times n event) = play_times n event p
 play_line fuel p (round n) = play_rounds n p
 play_line fuel p flow = play_flow fuel p
 
+-- line after line
 abbrev pub play_lines : (fuel : ℕ) → Play → List Line → Play
 play_lines fuel p [] = p
 play_lines fuel p (line ∷ lines) = play_lines fuel (play_line fuel p line) lines

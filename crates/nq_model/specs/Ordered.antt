@@ -63,6 +63,7 @@ pub record IsWriteOf (before : List Entry) (who : Who) (file block number value 
   pub first : Throughout (IsBeforeCall who q) before
   pub fresh : ¬ Exists (IsNumbered who number) before
 
+-- a W is of some call
 abbrev pub IsWriteInOrder : (before : List Entry) (who : Who) (file block number value : ℕ) → Type 0
 IsWriteInOrder before who file block number value = (q : ℕ) × IsWriteOf before who file block number value q
 

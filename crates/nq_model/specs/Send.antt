@@ -82,6 +82,7 @@ abbrev pub least : List ℕ → Option ℕ
 least [] = None
 least (n ∷ ns) = least_with n (least ns)
 
+-- the file of a notice, and of a lease
 abbrev pub file_of_notice : Notice → ℕ
 file_of_notice n = n.file
 
@@ -216,9 +217,11 @@ abbrev pub pushes_due : ClientStep → Option ℕ → ClientStep
 pushes_due t None = t
 pushes_due t (Some file) = pushes t file
 
+-- unless a request is under way
 abbrev pub then_pushes : ClientStep → Option ℕ → ClientStep
 then_pushes t file = if is_asking t then t else pushes_due t file
 
+-- and for the least file whose lease is about to end
 abbrev pub then_ending : ClientStep → ClientStep
 then_ending t = then_pushes t (ending_file t.client)
 

@@ -1,4 +1,4 @@
--- In every run: what can still be stored is undisturbed, and what can not was fenced for good (Macklem 1994).
+-- In every run: what can still be stored is undisturbed, and what can not be stored any more was fenced (Macklem 1994).
 use Rattle.std.specs.Prelude.{◌≡◌, ◌<◌, ◌≤◌, ◌⊎◌, ℕ, true, false, List, Some, None, slice_get}
 use Rattle.nq_base.specs.declared.Entry.{Entry}
 use Rattle.nq_base.specs.declared.Entry.TheVariants.{W}
@@ -36,8 +36,8 @@ pub record IsBoundAndDue (w : World) (host : ℕ) (c : Client) (file : ℕ) : Ty
   pub found : find_file file w.server.kept.files ≡ Some f
   pub is_due : f.rev ≡ due (has_done_write (host_row w.server.kept host) c.who.inc file c.ticket) revision.rev
 
--- a file is fenced for good at a client that holds it for writing, and for each of its delayed writes an entry of the journal
--- that ended the lease, late enough, comes after the first of them
+-- a file that a client holds for writing is fenced for the delayed writes that the client has of it: they can not be stored
+-- any more, and for those of each block an entry of the journal that ended the lease, late enough, comes after the first
 pub record IsFencedAt (w : World) (host : ℕ) (c : Client) (file : ℕ) : Type 0 where
   pub lease : Lease
   pub held : lease_on file c.leases ≡ Some lease
@@ -48,7 +48,7 @@ pub record IsFencedAt (w : World) (host : ℕ) (c : Client) (file : ℕ) : Type 
   pub by : (p : Push) → IsUnsaved c p → p.file ≡ file → IsExcusedLoss w.journal c.who p
 
 -- after every schedule within skew each file that is not clean at a client is bound, with the revision that is due, or fenced
--- for good, and the entry that fenced it stands in the journal
+-- for its delayed writes, and the entry that fenced it stands in the journal
 abbrev pub UnsavedFilesAreBoundOrFenced : Type 0
 UnsavedFilesAreBoundOrFenced =
     (most : ℕ) (head : Head) (events : List Event) (host : ℕ) (c : Client) (file : ℕ)

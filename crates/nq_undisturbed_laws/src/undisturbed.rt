@@ -3,8 +3,9 @@
 ghost use Rattle.nq_undisturbed_laws.specs.UndisturbedInRuns.{DelayedWritesAreUndisturbed, UnsavedFilesAreBoundOrFenced};
 
 /// After every schedule within skew, a file with delayed writes at a client is held for writing; and the client's row stands and
-/// the file is kept at the revision that is due, or the file is fenced for good, by its revision, by a later boot or because it
-/// is kept no more, and the entry that ended the lease stands in the journal, late enough (Macklem 1994).
+/// the file is kept at the revision that is due, or these writes can not be stored any more, by the file's revision, by a later
+/// boot or because the file is kept no more, and the entry that ended the lease stands in the journal, late enough (Macklem
+/// 1994).
 pub fn unsaved_files_are_bound_or_fenced_in_every_run()
     ensures { UnsavedFilesAreBoundOrFenced }
 {}
