@@ -1,7 +1,9 @@
 -- A client reads, reads again, writes, changes a file's length and puts.
-use Rattle.std.proofs.Common.{◌≡◌, Bool, true, ◌&&◌, zero, suc, List, [], ◌∷◌, refl, arith}
-use Rattle.std.specs.Prelude.{All, IsTrue}
+use Rattle.std.proofs.Common.{◌≡◌, Bool, true, ◌&&◌, List, [], ◌∷◌, refl, arith}
+use Rattle.std.specs.Prelude.{IsTrue}
+use Rattle.std.proofs.lemmas.Bool.{and_parts}
 use Rattle.nq_base.specs.Block.{filled, zeros}
+use Rattle.nq_lease_laws.proofs.NoCrash.{no-crash-within}
 use Rattle.nq_model.specs.Ask.{grant_of, sharing_row, caching_row, shared_again, renewed_row, put_off, free, put_off_by_own, granted, no_lease}
 use Rattle.nq_model.specs.ClientStep.{begins_call, is_called, says_busy, at_time, sends_again, fresh_client, attached_client, starts}
 use Rattle.nq_model.specs.Decide.{decides, creates, writes_through, stores, wrote, stores_recovering, resizes, removes, puts_off, commits}
@@ -17,8 +19,6 @@ use Rattle.nq_base.specs.declared.Call.{Call}
 use Rattle.nq_base.specs.declared.Entry.{Entry}
 use Rattle.nq_base.specs.declared.Event.{Event}
 use Rattle.nq_call_laws.specs.CallsInRuns.{AreMet, is_delayed, went_through, is_resize, is_cached, is_counted_served}
-use Rattle.nq_server_steps.proofs.Rows.{both-true}
-use Rattle.nq_lease_laws.specs.LeaseIntervalInRuns.{BootsWithin}
 use Rattle.nq_model.proofs.SkewTest.{skew-test-is-sound}
 use Rattle.nq_model.specs.Journal.{exists}
 use Rattle.nq_model.specs.World.{Head, run}
@@ -34,24 +34,6 @@ some-calls =
     ∷ Event.Call 0 (Call.Resize 1 2) ∷ Event.Deliver 3 ∷ Event.Deliver 2 ∷ Event.Call 0 (Call.Write 1 0 (filled 7))
     ∷ Event.Call 0 (Call.Read 1 0) ∷ Event.Deliver 1 ∷ Event.Deliver 0 ∷ Event.Call 0 (Call.Read 1 0) ∷ []
 
-within-bounds : All (BootsWithin 60) some-calls
-within-bounds zero d below = tt
-within-bounds (suc zero) d below = tt
-within-bounds (suc (suc zero)) d below = tt
-within-bounds (suc (suc (suc zero))) d below = tt
-within-bounds (suc (suc (suc (suc zero)))) d below = tt
-within-bounds (suc (suc (suc (suc (suc zero))))) d below = tt
-within-bounds (suc (suc (suc (suc (suc (suc zero)))))) d below = tt
-within-bounds (suc (suc (suc (suc (suc (suc (suc zero))))))) d below = tt
-within-bounds (suc (suc (suc (suc (suc (suc (suc (suc zero)))))))) d below = tt
-within-bounds (suc (suc (suc (suc (suc (suc (suc (suc (suc zero))))))))) d below = tt
-within-bounds (suc (suc (suc (suc (suc (suc (suc (suc (suc (suc zero)))))))))) d below = tt
-within-bounds (suc (suc (suc (suc (suc (suc (suc (suc (suc (suc (suc zero))))))))))) d below = tt
-within-bounds (suc (suc (suc (suc (suc (suc (suc (suc (suc (suc (suc (suc zero)))))))))))) d below = tt
-within-bounds (suc (suc (suc (suc (suc (suc (suc (suc (suc (suc (suc (suc (suc zero))))))))))))) d below = tt
-within-bounds (suc (suc (suc (suc (suc (suc (suc (suc (suc (suc (suc (suc (suc (suc zero)))))))))))))) d below = tt
-within-bounds (suc (suc (suc (suc (suc (suc (suc (suc (suc (suc (suc (suc (suc (suc (suc k))))))))))))))) d below = absurd (omega arith)
-
 -- the journal then
 abbrev has_all : List Entry → Bool
 has_all journal = exists is_delayed journal && exists went_through journal && exists is_resize journal && exists is_cached journal && exists (is_counted_served journal) journal
@@ -62,10 +44,10 @@ all-there = refl
 
 there : (a b c d e : Bool) → (a && b && c && d && e) ≡ true → IsTrue a × IsTrue b × IsTrue c × IsTrue d × IsTrue e
 there a b c d e h =
-    let p = both-true (a && b && c && d) e h in
-    let q = both-true (a && b && c) d p.0 in
-    let r = both-true (a && b) c q.0 in
-    let t = both-true a b r.0 in
+    let p = and_parts (a && b && c && d) e h in
+    let q = and_parts (a && b && c) d p.0 in
+    let r = and_parts (a && b) c q.0 in
+    let t = and_parts a b r.0 in
     (t.0, t.1, r.1, q.1, p.1)
 
 pub calls-are-met : AreMet
@@ -75,7 +57,7 @@ calls-are-met =
       most = 60;
       head = one-host;
       events = some-calls;
-      bounds = record { hosts = omega arith; first_long = omega arith; first_short = omega arith; boots = within-bounds };
+      bounds = record { hosts = omega arith; first_long = omega arith; first_short = omega arith; boots = no-crash-within 60 some-calls refl };
       within = skew-test-is-sound 1 60 some-calls refl;
       delayed = t.0;
       through = t.1;

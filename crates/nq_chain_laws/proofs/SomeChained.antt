@@ -1,5 +1,5 @@
 -- A client can take a chained grant, and later holds its lease over a write of its own that was done.
-use Rattle.std.proofs.Common.{◌≡◌, zero, suc, true, false, List, [], ◌∷◌, Some, refl, sym, arith}
+use Rattle.std.proofs.Common.{◌≡◌, true, false, List, [], ◌∷◌, Some, refl, sym, arith}
 use Rattle.std.specs.Prelude.{◌++◌, slice_get, unwrap_or, is_some, All}
 use Rattle.nq_base.specs.Block.{zeros}
 use Rattle.nq_base.specs.declared.Call.{Call}
@@ -13,6 +13,7 @@ use Rattle.nq_base.specs.declared.Tag.{Tag}
 use Rattle.nq_base.specs.declared.Who.{Who}
 use Rattle.nq_chain_steps.specs.Chained.{has_done_write}
 use Rattle.nq_chain_laws.specs.ChainsInRuns.{ChainsAreMet}
+use Rattle.nq_lease_laws.proofs.NoCrash.{no-crash-within}
 use Rattle.nq_lease_laws.proofs.SomeLease.{two-hosts}
 use Rattle.nq_lease_laws.specs.LeaseIntervalInRuns.{BootsWithin}
 use Rattle.nq_model.proofs.SkewTest.{skew-test-is-sound}
@@ -43,18 +44,11 @@ pushed = Event.Deliver 2 ∷ Event.Call 0 (Call.Sync 1) ∷ Event.Deliver 1 ∷ 
 
 within-asked : All (BootsWithin 60) asked-for
 unfolding asked-for
-within-asked zero d below = tt
-within-asked (suc zero) d below = tt
-within-asked (suc (suc k)) d below = absurd (omega arith)
+within-asked = no-crash-within 60 asked-for refl
 
 within-pushed : All (BootsWithin 60) (pushed ++ asked-for)
 unfolding asked-for pushed
-within-pushed zero d below = tt
-within-pushed (suc zero) d below = tt
-within-pushed (suc (suc zero)) d below = tt
-within-pushed (suc (suc (suc zero))) d below = tt
-within-pushed (suc (suc (suc (suc zero)))) d below = tt
-within-pushed (suc (suc (suc (suc (suc k))))) d below = absurd (omega arith)
+within-pushed = no-crash-within 60 (pushed ++ asked-for) refl
 
 abbrev holder : Who
 holder = record { host = 0; inc = 1 }

@@ -1,6 +1,6 @@
 -- A write is delayed, pushed and stored; and then its block is clean.
-use Rattle.std.proofs.Common.{◌≡◌, ℕ, zero, suc, true, List, [], ◌∷◌, Some, refl, sym, ap, ◌∙◌, arith}
-use Rattle.std.specs.Prelude.{slice_get, unwrap_or, is_some, All}
+use Rattle.std.proofs.Common.{◌≡◌, ℕ, true, List, [], ◌∷◌, Some, refl, sym, ap, ◌∙◌, arith}
+use Rattle.std.specs.Prelude.{slice_get, unwrap_or, is_some}
 use Rattle.nq_base.specs.Block.{filled, zeros, value_of}
 use Rattle.nq_base.specs.declared.Call.{Call}
 use Rattle.nq_base.specs.declared.Event.{Event}
@@ -10,7 +10,7 @@ use Rattle.nq_base.specs.declared.Request.{Request}
 use Rattle.nq_base.specs.declared.Verdict.{Verdict}
 use Rattle.nq_base.specs.declared.Who.{Who}
 use Rattle.nq_content_laws.specs.ContentsInRuns.{IsContentSometime}
-use Rattle.nq_lease_laws.specs.LeaseIntervalInRuns.{BootsWithin}
+use Rattle.nq_lease_laws.proofs.NoCrash.{no-crash-within}
 use Rattle.nq_model.proofs.SkewTest.{skew-test-is-sound}
 use Rattle.nq_model.specs.Ask.{grant_of, sharing_row, caching_row, shared_again, renewed_row, put_off, free, put_off_by_own, granted, no_lease}
 use Rattle.nq_model.specs.Client.{Clean, Client, Job, Ticket, clean_at, revision_of}
@@ -128,15 +128,6 @@ five-value = refl
 within : is_within_skew 1 60 heard ≡ true
 within = refl
 
-no-boots : All (BootsWithin 60) heard
-no-boots zero d below = tt
-no-boots (suc zero) d below = tt
-no-boots (suc (suc zero)) d below = tt
-no-boots (suc (suc (suc zero))) d below = tt
-no-boots (suc (suc (suc (suc zero)))) d below = tt
-no-boots (suc (suc (suc (suc (suc zero))))) d below = tt
-no-boots (suc (suc (suc (suc (suc (suc k)))))) d below = absurd (omega arith)
-
 pub is-content-sometime : IsContentSometime
 is-content-sometime = record {
   most = 60;
@@ -154,7 +145,7 @@ is-content-sometime = record {
   place = 3;
   after = after;
   kept = kept-block;
-  bounds = record { hosts = omega arith; first_long = omega arith; first_short = omega arith; boots = no-boots };
+  bounds = record { hosts = omega arith; first_long = omega arith; first_short = omega arith; boots = no-crash-within 60 heard refl };
   within = skew-test-is-sound 1 60 heard within;
   runs = runs;
   has = has;

@@ -1,14 +1,14 @@
 -- A writing lease ends in silence; and a recovery ends after a crash.
-use Rattle.std.proofs.Common.{◌≡◌, zero, suc, Bool, true, false, List, [], ◌∷◌, ◌++◌, ◌==◌, if◌then◌else◌, refl, arith}
+use Rattle.std.proofs.Common.{◌≡◌, true, List, [], ◌∷◌, ◌++◌, refl, arith}
 use Rattle.std.specs.List.{list_any}
 use Rattle.std.specs.Prelude.{All}
 use Rattle.nq_base.specs.Block.{zeros}
 use Rattle.nq_base.specs.declared.Call.{Call}
 use Rattle.nq_base.specs.declared.Event.{Event}
 use Rattle.nq_ending_laws.specs.EndingsInRuns.{was_caching, is_silent_end, is_opening, EndsSometime}
+use Rattle.nq_lease_laws.proofs.NoCrash.{one-first, no-crash-within, no-crash-after}
 use Rattle.nq_lease_laws.specs.LeaseIntervalInRuns.{BootsWithin}
 use Rattle.nq_model.proofs.SkewTest.{skew-test-is-sound}
-use Rattle.nq_server_steps.proofs.Rows.{same-number}
 use Rattle.nq_model.specs.Skew.{is_within_skew}
 use Rattle.nq_model.specs.World.{Head}
 use Rattle.nq_model.specs.Ask.{grant_of, sharing_row, caching_row, shared_again, renewed_row, put_off, free, put_off_by_own, granted, no_lease}
@@ -58,28 +58,6 @@ silent = rounds ++ delayed
 opening : List Event
 opening = rounds ++ Event.Crash 5 ∷ delayed
 
--- whether an event is no crash, or one with the shortest term
-abbrev is-fine : Event → Bool
-is-fine (Event.Crash longest) = longest == 5
-is-fine other = true
-
-abbrev all-fine : List Event → Bool
-all-fine [] = true
-all-fine (e ∷ events) = if is-fine e then all-fine events else false
-
-both-fine : (a b : Bool) → (if a then b else false) ≡ true → (a ≡ true) × (b ≡ true)
-both-fine true b e = (refl, e)
-both-fine false b e = absurd (cc)
-
-fine-within : (e : Event) → is-fine e ≡ true → BootsWithin 60 e
-fine-within (Event.Crash longest) q = let same : longest ≡ 5 = same-number longest 5 q in (omega arith, omega arith)
-fine-within e q = tt
-
-boots-within : (events : List Event) → all-fine events ≡ true → All (BootsWithin 60) events
-boots-within [] q k d below = absurd (omega arith)
-boots-within (e ∷ events) q zero d below = fine-within e (both-fine (is-fine e) (all-fine events) q).0
-boots-within (e ∷ events) q (suc k) d below = boots-within events (both-fine (is-fine e) (all-fine events) q).1 k d (omega arith)
-
 silent-ends : list_any is_silent_end (run one-host silent).journal ≡ true
 unfolding delayed rounds silent server.at_time grant_of sharing_row caching_row shared_again renewed_row put_off free put_off_by_own granted no_lease begins_call is_called says_busy at_time sends_again fresh_client attached_client starts decides creates writes_through stores wrote stores_recovering resizes removes puts_off commits vacates_lease loses without_lease granted_lease holds caches_block purges knows_revision marks_through ends_push spends attached pauses cancels notes_notice new_file written_file resized_file fenced_file with_row with_files with_new_file sends_request after_seq after_number takes_push gives_up quiet drops says after_notices keeping keeping_with with_table attaches tells_later serves leases vacates ends_writing opens boot crash answers after_read reads_cached after_write marks_written empty_table with_rows after_draw after_server after_client start
 silent-ends = refl
@@ -92,13 +70,13 @@ cached : was_caching 1 (run one-host opening).journal (record { host = 0; inc = 
 unfolding delayed rounds opening server.at_time grant_of sharing_row caching_row shared_again renewed_row put_off free put_off_by_own granted no_lease begins_call is_called says_busy at_time sends_again fresh_client attached_client starts decides creates writes_through stores wrote stores_recovering resizes removes puts_off commits vacates_lease loses without_lease granted_lease holds caches_block purges knows_revision marks_through ends_push spends attached pauses cancels notes_notice new_file written_file resized_file fenced_file with_row with_files with_new_file sends_request after_seq after_number takes_push gives_up quiet drops says after_notices keeping keeping_with with_table attaches tells_later serves leases vacates ends_writing opens boot crash answers after_read reads_cached after_write marks_written empty_table with_rows after_draw after_server after_client start
 cached = refl
 
-fine-silent : all-fine silent ≡ true
+bounds-silent : All (BootsWithin 60) silent
 unfolding delayed rounds silent
-fine-silent = refl
+bounds-silent = no-crash-within 60 silent refl
 
-fine-opening : all-fine opening ≡ true
+bounds-opening : All (BootsWithin 60) opening
 unfolding delayed rounds opening
-fine-opening = refl
+bounds-opening = no-crash-after 60 rounds (Event.Crash 5 ∷ delayed) refl (one-first 60 (Event.Crash 5) delayed (omega arith, omega arith) (no-crash-within 60 delayed refl))
 
 within-silent : is_within_skew 1 60 silent ≡ true
 unfolding delayed rounds silent
@@ -116,10 +94,10 @@ ends-sometime = record {
   opening = opening;
   who = record { host = 0; inc = 1 };
   file = 1;
-  bounds_silent = record { hosts = omega arith; first_long = omega arith; first_short = omega arith; boots = boots-within silent fine-silent };
+  bounds_silent = record { hosts = omega arith; first_long = omega arith; first_short = omega arith; boots = bounds-silent };
   within_silent = skew-test-is-sound 1 60 silent within-silent;
   ends = silent-ends;
-  bounds_opening = record { hosts = omega arith; first_long = omega arith; first_short = omega arith; boots = boots-within opening fine-opening };
+  bounds_opening = record { hosts = omega arith; first_long = omega arith; first_short = omega arith; boots = bounds-opening };
   within_opening = skew-test-is-sound 1 60 opening within-opening;
   opens = recovery-ends;
   cached = cached;

@@ -1,6 +1,6 @@
 -- Three writes are delayed: the first is stored, the second is lost, and the third waits.
-use Rattle.std.proofs.Common.{◌≡◌, ℕ, zero, suc, Bool, true, false, List, [], ◌∷◌, ◌++◌, Option, Some, None, is_some, refl, sym, subst, ap, arith, inl, inr}
-use Rattle.std.specs.Prelude.{slice_get, unwrap_or, All}
+use Rattle.std.proofs.Common.{◌≡◌, ℕ, true, false, List, [], ◌∷◌, ◌++◌, Option, Some, None, is_some, refl, sym, subst, ap, arith, inl, inr}
+use Rattle.std.specs.Prelude.{slice_get, unwrap_or}
 use Rattle.nq_base.specs.Block.{filled, zeros}
 use Rattle.nq_base.specs.declared.Call.{Call}
 use Rattle.nq_base.specs.declared.Entry.{Entry}
@@ -10,21 +10,20 @@ use Rattle.nq_base.specs.declared.Said.{Said}
 use Rattle.nq_base.specs.declared.Told.{Told}
 use Rattle.nq_base.specs.declared.Who.{Who}
 use Rattle.nq_fate_laws.specs.FatesInRuns.{Encloses, HasEachFate}
-use Rattle.nq_lease_laws.specs.LeaseIntervalInRuns.{BootsWithin}
+use Rattle.nq_lease_laws.proofs.NoCrash.{no-crash-within}
 use Rattle.nq_model.proofs.SkewTest.{skew-test-is-sound}
 use Rattle.nq_model.specs.Ask.{grant_of, sharing_row, caching_row, shared_again, renewed_row, put_off, free, put_off_by_own, granted, no_lease}
 use Rattle.nq_model.specs.Client.{Client}
 use Rattle.nq_model.specs.ClientStep.{begins_call, is_called, says_busy, at_time, sends_again, fresh_client, attached_client, starts}
 use Rattle.nq_model.specs.Decide.{decides, creates, writes_through, stores, wrote, stores_recovering, resizes, removes, puts_off, commits}
 use Rattle.nq_model.specs.Hear.{vacates_lease, loses, without_lease, granted_lease, holds, caches_block, purges, knows_revision, marks_through, ends_push, spends, attached, pauses, cancels, notes_notice}
-use Rattle.nq_model.specs.Journal.{Exists, exists, each, covers, is_stored, is_lost}
+use Rattle.nq_model.specs.Journal.{Exists, exists, covers, is_stored, is_lost}
 use Rattle.nq_model.specs.Kept.{new_file, written_file, resized_file, fenced_file, with_row, with_files, with_new_file}
 use Rattle.nq_model.specs.Send.{sends_request, after_seq, after_number, takes_push, gives_up}
 use Rattle.nq_model.specs.Server.{quiet, drops, says, after_notices, keeping, keeping_with, with_table}
 use Rattle.nq_model.specs.ServerStep.{attaches, tells_later, serves, leases, vacates, ends_writing, opens, boot, crash, at_time as at_server_time}
 use Rattle.nq_model.specs.Settle.{answers, after_read, reads_cached, after_write, marks_written}
 use Rattle.nq_model.specs.Table.{empty_table, with_rows, after_draw}
-use Rattle.nq_server_steps.proofs.Rows.{both-true}
 use Rattle.nq_model.specs.World.{Head, after_server, after_client, start, run}
 
 -- one host, one file of one block, and short terms
@@ -44,24 +43,6 @@ three-writes =
     Event.Deliver 12 ∷ Event.Deliver 11 ∷ writes ∷ writes ∷ Event.Deliver 10 ∷ Event.Deliver 4
     ∷ round ++ round ++ round ++ round ++ round ++ round ++ round ++ round ++ round ++ round ++ round ++ round ++ round
     ++ writes ∷ Event.Deliver 3 ∷ Event.Deliver 2 ∷ Event.Call 0 (Call.Sync 1) ∷ Event.Deliver 1 ∷ Event.Deliver 0 ∷ writes ∷ []
-
--- no event is a crash
-abbrev no_crash : Event → Bool
-no_crash (Event.Crash longest) = false
-no_crash other = true
-
-no-crash-within : (most : ℕ) (e : Event) → no_crash e ≡ true → BootsWithin most e
-no-crash-within most (Event.Crash longest) h = absurd (cc)
-no-crash-within most (Event.Call host op) h = tt
-no-crash-within most (Event.Deliver k) h = tt
-no-crash-within most Event.ServerTick h = tt
-no-crash-within most (Event.ClientTick host) h = tt
-no-crash-within most (Event.Restart host) h = tt
-
-within-bounds : (most : ℕ) (events : List Event) → each no_crash events ≡ true → All (BootsWithin most) events
-within-bounds most [] h k d below = absurd (omega arith)
-within-bounds most (e ∷ events) h zero d below = no-crash-within most e (both-true _ _ h).0
-within-bounds most (e ∷ events) h (suc k) d below = within-bounds most events (both-true _ _ h).1 k d (omega arith)
 
 abbrev writer : Client
 writer = unwrap_or (slice_get (run one-host three-writes).clients 0) (fresh_client (record { host = 0; inc = 1 }) 5 0)
@@ -124,7 +105,7 @@ each-fate = record {
   stored = write 1;
   lost = write 2;
   waiting = write 3;
-  bounds = record { hosts = omega arith; first_long = omega arith; first_short = omega arith; boots = within-bounds 5 three-writes refl };
+  bounds = record { hosts = omega arith; first_long = omega arith; first_short = omega arith; boots = no-crash-within 5 three-writes refl };
   within = skew-test-is-sound 1 5 three-writes refl;
   runs = some-there (slice_get (run one-host three-writes).clients 0) (fresh_client (record { host = 0; inc = 1 }) 5 0) runs;
   stored_there = subst (Exists (λ entry. entry ≡ write 1)) (sym is-told) (inr (inr (inr (inr (inr (inr (inr (inr (inr (inr (inr (inr (inr (inr (inr (inl refl))))))))))))))));

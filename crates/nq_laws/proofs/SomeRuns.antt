@@ -1,5 +1,5 @@
 -- Four schedules, after which the journal has what the laws over runs speak of.
-use Rattle.std.proofs.Common.{◌≡◌, ℕ, zero, suc, Bool, true, false, List, [], ◌∷◌, refl, arith}
+use Rattle.std.proofs.Common.{◌≡◌, ℕ, zero, suc, true, false, List, [], ◌∷◌, refl, arith}
 use Rattle.std.specs.Prelude.{◌++◌, All}
 use Rattle.nq_base.specs.Block.{filled, zeros}
 use Rattle.nq_base.specs.declared.Call.{Call}
@@ -7,6 +7,7 @@ use Rattle.nq_base.specs.declared.Event.{Event}
 use Rattle.nq_base.specs.declared.Loss.{Loss}
 use Rattle.nq_base.specs.declared.Who.{Who}
 use Rattle.nq_laws.specs.LawsAreMet.{in_order, is_delayed, is_lost_write, is_loss, is_store, is_silence, is_silence_of, is_crash, is_opening, is_start, is_read, is_cut, is_growth, is_write, is_refusal, LosesAfterSilence, LosesAfterRecovery, StoresAfterRestart, CutsAndGrows, LawsAreMet}
+use Rattle.nq_lease_laws.proofs.NoCrash.{one-first, no-crash-within, no-crash-after}
 use Rattle.nq_lease_laws.specs.LeaseIntervalInRuns.{BootsWithin, KeepsBounds}
 use Rattle.nq_model.proofs.SkewTest.{skew-test-is-sound}
 use Rattle.nq_model.specs.Ask.{grant_of, sharing_row, caching_row, shared_again, renewed_row, put_off, free, put_off_by_own, granted, no_lease}
@@ -22,7 +23,6 @@ use Rattle.nq_model.specs.ServerStep.{attaches, tells_later, serves, leases, vac
 use Rattle.nq_model.specs.Settle.{answers, after_read, reads_cached, after_write, marks_written}
 use Rattle.nq_model.specs.Table.{empty_table, with_rows, after_draw}
 use Rattle.nq_model.specs.World.{Head, after_server, after_client, start, run}
-use Rattle.nq_report_laws.proofs.SomeLoss.{one-first, no-crash-within}
 
 -- one host that wants short leases, and one file
 abbrev one-host : Head
@@ -36,22 +36,6 @@ first-one = record { host = 0; inc = 1 }
 
 abbrev lost-one : Loss
 lost-one = record { file = 1; block = 0; first = 1; last = 1 }
-
--- ---- bounds
-
-none-first : (most : ℕ) → All (BootsWithin most) []
-none-first most k d below = absurd (omega arith)
-
--- whether no event is a crash
-abbrev no_crash : List Event → Bool
-no_crash [] = true
-no_crash (Event.Crash longest ∷ events) = false
-no_crash (other ∷ events) = no_crash events
-
-no-crash-after : (most : ℕ) (events earlier : List Event) → no_crash events ≡ true → All (BootsWithin most) earlier → All (BootsWithin most) (events ++ earlier)
-no-crash-after most [] earlier h rest = rest
-no-crash-after most (Event.Crash longest ∷ events) earlier h rest = absurd (cc)
-no-crash-after most (e ∷ events) earlier h rest = one-first most e (events ++ earlier) tt (no-crash-after most events earlier h rest)
 
 -- ---- the schedules, the newest event first
 

@@ -6,4 +6,5 @@ pub mod ServerHears
 pub mod ServerLives
 pub mod Unrowed
 pub mod LeaseIntervals
+pub mod NoCrash
 pub mod SomeLease

@@ -1,11 +1,11 @@
 -- After one delayed write whose lease ends in silence the write is lost, and the next sync names it.
-use Rattle.std.proofs.Common.{◌≡◌, ℕ, zero, suc, Bool, true, false, List, [], ◌∷◌, refl, arith, inl}
-use Rattle.std.specs.Prelude.{slice_get, All}
+use Rattle.std.proofs.Common.{◌≡◌, ℕ, List, [], ◌∷◌, refl, arith, inl}
+use Rattle.std.specs.Prelude.{slice_get}
 use Rattle.nq_base.specs.Block.{filled, zeros}
 use Rattle.nq_base.specs.declared.Call.{Call}
 use Rattle.nq_base.specs.declared.Event.{Event}
 use Rattle.nq_base.specs.declared.Loss.{Loss}
-use Rattle.nq_lease_laws.specs.LeaseIntervalInRuns.{BootsWithin}
+use Rattle.nq_lease_laws.proofs.NoCrash.{no-crash-within}
 use Rattle.nq_report_laws.specs.LossesInRuns.{IsLossOf, untold, IsLostAndNamed}
 use Rattle.nq_model.proofs.SkewTest.{skew-test-is-sound}
 use Rattle.nq_model.specs.Ask.{grant_of, sharing_row, caching_row, shared_again, renewed_row, put_off, free, put_off_by_own, granted, no_lease}
@@ -77,28 +77,6 @@ is-named : Exists (Names (run one-host (Event.Call 0 (Call.Sync 1) ∷ one-loss)
 unfolding filled zeros grant_of sharing_row caching_row shared_again renewed_row put_off free put_off_by_own granted no_lease begins_call is_called says_busy at_time at_server_time sends_again fresh_client attached_client starts decides creates writes_through stores wrote stores_recovering resizes removes puts_off commits vacates_lease loses without_lease granted_lease holds caches_block purges knows_revision marks_through ends_push spends attached pauses cancels notes_notice new_file written_file resized_file fenced_file with_row with_files with_new_file sends_request after_seq after_number takes_push gives_up quiet drops says after_notices keeping keeping_with with_table attaches tells_later serves leases vacates ends_writing opens boot crash answers after_read reads_cached after_write marks_written empty_table with_rows after_draw after_server after_client start
 is-named = inl (refl, refl, inl (refl, refl, refl))
 
--- no event is a boot with a longer term, one after the other
-none-first : (most : ℕ) → All (BootsWithin most) []
-none-first most k d below = absurd (omega arith)
-
-pub one-first : (most : ℕ) (e : Event) (events : List Event) → BootsWithin most e → All (BootsWithin most) events → All (BootsWithin most) (e ∷ events)
-one-first most e events here rest zero d below = here
-one-first most e events here rest (suc k) d below = rest k d (omega arith)
-
--- whether no event is a crash
-abbrev no_crash : List Event → Bool
-no_crash [] = true
-no_crash (Event.Crash longest ∷ events) = false
-no_crash (other ∷ events) = no_crash events
-
-pub no-crash-within : (most : ℕ) (events : List Event) → no_crash events ≡ true → All (BootsWithin most) events
-no-crash-within most [] h = none-first most
-no-crash-within most (Event.Crash longest ∷ events) h = absurd (cc)
-no-crash-within most (e ∷ events) h = one-first most e events tt (no-crash-within most events h)
-
-within-bounds : All (BootsWithin 60) one-loss
-within-bounds = no-crash-within 60 one-loss refl
-
 pub lost-and-named : IsLostAndNamed
 lost-and-named = record {
   most = 60;
@@ -108,7 +86,7 @@ lost-and-named = record {
   op = Call.Sync 1;
   who = record { host = 0; inc = 1 };
   loss = loss;
-  bounds = record { hosts = omega arith; first_long = omega arith; first_short = omega arith; boots = within-bounds };
+  bounds = record { hosts = omega arith; first_long = omega arith; first_short = omega arith; boots = no-crash-within 60 one-loss refl };
   within = skew-test-is-sound 1 60 one-loss refl;
   waits = waits;
   lost = has-lost;

@@ -1,12 +1,12 @@
 -- A file is created: its request is sent twice, and the first packet of it is answered.
-use Rattle.std.proofs.Common.{◌≡◌, zero, suc, List, [], ◌∷◌, Some, refl, arith}
-use Rattle.std.specs.Prelude.{slice_get, unwrap_or, All}
+use Rattle.std.proofs.Common.{◌≡◌, List, [], ◌∷◌, Some, refl, arith}
+use Rattle.std.specs.Prelude.{slice_get, unwrap_or}
 use Rattle.nq_base.specs.Block.{filled, zeros}
 use Rattle.nq_base.specs.declared.Call.{Call}
 use Rattle.nq_base.specs.declared.Event.{Event}
 use Rattle.nq_base.specs.declared.Reply.{Reply}
 use Rattle.nq_base.specs.declared.Request.{Request}
-use Rattle.nq_lease_laws.specs.LeaseIntervalInRuns.{BootsWithin}
+use Rattle.nq_lease_laws.proofs.NoCrash.{no-crash-within}
 use Rattle.nq_request_laws.specs.OneRequests.{IsOpen, IsAskedTwice}
 use Rattle.nq_model.proofs.SkewTest.{skew-test-is-sound}
 use Rattle.nq_model.specs.Client.{Client, Job, Ticket}
@@ -38,16 +38,6 @@ create = Request.Create (record { host = 0; inc = 1 }) 1 (98 ∷ []) 1
 
 abbrev ticket : Ticket
 ticket = record { xid = 1; first = 0; last = 2; request = create; job = Job.for_call }
-
-within-bounds : All (BootsWithin 60) one-create
-within-bounds zero d below = tt
-within-bounds (suc zero) d below = tt
-within-bounds (suc (suc zero)) d below = tt
-within-bounds (suc (suc (suc k))) d below = absurd (omega arith)
-
-restarts-within : All (BootsWithin 60) (Event.Restart 0 ∷ one-create)
-restarts-within zero d below = tt
-restarts-within (suc k) d below = within-bounds k d (omega arith)
 
 runs : slice_get (run two-hosts one-create).clients 0 ≡ Some creator
 unfolding filled zeros begins_call is_called at_time sends_again fresh_client attached_client starts new_file sends_request after_seq after_number boot answers empty_table after_server after_client start
@@ -94,12 +84,12 @@ asked-twice = record {
   ticket = ticket;
   place = 2;
   answer = Reply.Create 1 2;
-  bounds = record { hosts = omega arith; first_long = omega arith; first_short = omega arith; boots = within-bounds };
+  bounds = record { hosts = omega arith; first_long = omega arith; first_short = omega arith; boots = no-crash-within 60 one-create refl };
   within = skew-test-is-sound 2 60 one-create refl;
   runs = runs;
   first = first-open;
   again = again-open;
-  bounds_restarted = record { hosts = omega arith; first_long = omega arith; first_short = omega arith; boots = restarts-within };
+  bounds_restarted = record { hosts = omega arith; first_long = omega arith; first_short = omega arith; boots = no-crash-within 60 (Event.Restart 0 ∷ one-create) refl };
   within_restarted = skew-test-is-sound 2 60 (Event.Restart 0 ∷ one-create) refl;
   outlives = outlives;
   stays = stays;

@@ -1,11 +1,10 @@
 -- One write is delayed, and a sync stores it.
-use Rattle.std.proofs.Common.{◌≡◌, ℕ, zero, suc, List, [], ◌∷◌, Some, refl, arith, inl, inr}
-use Rattle.std.specs.Prelude.{All}
+use Rattle.std.proofs.Common.{◌≡◌, ℕ, List, [], ◌∷◌, Some, refl, arith, inl, inr}
 use Rattle.nq_base.specs.Block.{filled, zeros}
 use Rattle.nq_base.specs.declared.Call.{Call}
 use Rattle.nq_base.specs.declared.Event.{Event}
 use Rattle.nq_base.specs.declared.Told.{Told}
-use Rattle.nq_lease_laws.specs.LeaseIntervalInRuns.{BootsWithin}
+use Rattle.nq_lease_laws.proofs.NoCrash.{no-crash-within}
 use Rattle.nq_model.proofs.SkewTest.{skew-test-is-sound}
 use Rattle.nq_model.specs.Journal.{Exists, call_of}
 use Rattle.nq_model.specs.Ask.{grant_of, sharing_row, caching_row, shared_again, renewed_row, put_off, free, put_off_by_own, granted, no_lease}
@@ -39,15 +38,6 @@ one-sync =
     ∷ Event.Call 0 (Call.Write 1 0 body)
     ∷ []
 
-within-bounds : All (BootsWithin 60) one-sync
-within-bounds zero d below = tt
-within-bounds (suc zero) d below = tt
-within-bounds (suc (suc zero)) d below = tt
-within-bounds (suc (suc (suc zero))) d below = tt
-within-bounds (suc (suc (suc (suc zero)))) d below = tt
-within-bounds (suc (suc (suc (suc (suc zero))))) d below = tt
-within-bounds (suc (suc (suc (suc (suc (suc k)))))) d below = absurd (omega arith)
-
 asks : call_of (run one-host one-sync).journal (record { host = 0; inc = 1 }) 2 ≡ Some (Told.Sync 1)
 unfolding filled zeros grant_of sharing_row caching_row shared_again renewed_row put_off free put_off_by_own granted no_lease begins_call is_called says_busy at_time at_server_time sends_again fresh_client attached_client starts decides creates writes_through stores wrote stores_recovering resizes removes puts_off commits vacates_lease loses without_lease granted_lease holds caches_block purges knows_revision marks_through ends_push spends attached pauses cancels notes_notice new_file written_file resized_file fenced_file with_row with_files with_new_file sends_request after_seq after_number takes_push gives_up quiet drops says after_notices keeping keeping_with with_table attaches tells_later serves leases vacates ends_writing opens boot crash answers after_read reads_cached after_write marks_written empty_table with_rows after_draw after_server after_client start
 asks = refl
@@ -68,7 +58,7 @@ synced-once = record {
   who = record { host = 0; inc = 1 };
   q = 2;
   file = 1;
-  bounds = record { hosts = omega arith; first_long = omega arith; first_short = omega arith; boots = within-bounds };
+  bounds = record { hosts = omega arith; first_long = omega arith; first_short = omega arith; boots = no-crash-within 60 one-sync refl };
   within = skew-test-is-sound 1 60 one-sync refl;
   asks = asks;
   answered = answered;

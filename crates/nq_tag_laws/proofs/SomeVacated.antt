@@ -1,5 +1,5 @@
 -- After a lease was given up, its client holds another on the file, and can take a third.
-use Rattle.std.proofs.Common.{◌≡◌, ℕ, zero, suc, true, false, List, [], ◌∷◌, Some, refl, arith}
+use Rattle.std.proofs.Common.{◌≡◌, ℕ, true, false, List, [], ◌∷◌, Some, refl, arith}
 use Rattle.std.specs.Prelude.{slice_get, unwrap_or, is_some, All}
 use Rattle.nq_base.specs.Block.{zeros}
 use Rattle.nq_base.specs.declared.Call.{Call}
@@ -10,6 +10,7 @@ use Rattle.nq_base.specs.declared.Reply.{Reply}
 use Rattle.nq_base.specs.declared.Request.{Request}
 use Rattle.nq_base.specs.declared.Tag.{Tag}
 use Rattle.nq_base.specs.declared.Who.{Who}
+use Rattle.nq_lease_laws.proofs.NoCrash.{no-crash-within}
 use Rattle.nq_lease_laws.proofs.SomeLease.{two-hosts}
 use Rattle.nq_lease_laws.specs.LeaseIntervalInRuns.{BootsWithin}
 use Rattle.nq_server_steps.proofs.Tests.{some-is}
@@ -52,19 +53,7 @@ again =
 
 no-boots : All (BootsWithin 60) again
 unfolding again
-no-boots zero d below = tt
-no-boots (suc zero) d below = tt
-no-boots (suc (suc zero)) d below = tt
-no-boots (suc (suc (suc zero))) d below = tt
-no-boots (suc (suc (suc (suc zero)))) d below = tt
-no-boots (suc (suc (suc (suc (suc zero))))) d below = tt
-no-boots (suc (suc (suc (suc (suc (suc zero)))))) d below = tt
-no-boots (suc (suc (suc (suc (suc (suc (suc zero))))))) d below = tt
-no-boots (suc (suc (suc (suc (suc (suc (suc (suc zero)))))))) d below = tt
-no-boots (suc (suc (suc (suc (suc (suc (suc (suc (suc zero))))))))) d below = tt
-no-boots (suc (suc (suc (suc (suc (suc (suc (suc (suc (suc zero)))))))))) d below = tt
-no-boots (suc (suc (suc (suc (suc (suc (suc (suc (suc (suc (suc zero))))))))))) d below = tt
-no-boots (suc (suc (suc (suc (suc (suc (suc (suc (suc (suc (suc (suc k)))))))))))) d below = absurd (omega arith)
+no-boots = no-crash-within 60 again refl
 
 abbrev holder : Who
 holder = record { host = 0; inc = 1 }
