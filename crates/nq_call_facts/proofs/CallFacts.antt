@@ -1,6 +1,7 @@
 -- What is kept of the calls of a client: of the journal alone, of its call under way, and of its request under way.
 use Rattle.std.proofs.Common.{◌≡◌, ◌<◌, ◌≤◌, ◌⊎◌, ℕ, ◌+◌, ◌==◌, Bool, true, false, ◌&&◌, List, [], ◌∷◌, ◌++◌, Option, Some, None, if◌then◌else◌, refl, sym, subst, ap, ◌∙◌, arith, inl, inr}
 use Rattle.std.specs.Prelude.{⊤}
+use Rattle.std.proofs.lemmas.Bool.{and_parts, and_from}
 use Rattle.nq_base.specs.declared.Call.{Call}
 use Rattle.nq_base.specs.declared.Entry.{Entry}
 use Rattle.nq_base.specs.declared.Entry.TheVariants.{C, W, R, Z, A}
@@ -19,9 +20,10 @@ use Rattle.nq_model.specs.ClientStep.{told}
 use Rattle.nq_model.specs.Journal.{Each, Exists, Throughout, AtEachPlace, IsCall, IsAnswer, IsOpen, call_of, told_by, same_who}
 use Rattle.nq_model.specs.Message.{Message, call, asker, sequence_of}
 use Rattle.nq_model.specs.Ordered.{IsCallBelow, HasOpen, IsOpenCall, IsBusyNext, IsBeforeCall, IsNumbered, IsResizeBy}
+use Rattle.nq_run_steps.proofs.Members.{exists-in}
 use Rattle.nq_run_steps.proofs.Packets.{In}
 use Rattle.nq_server_steps.proofs.Incarnations.{who-same}
-use Rattle.nq_server_steps.proofs.Rows.{both-true, true-both, same-number, number-same}
+use Rattle.nq_server_steps.proofs.Rows.{same-number, number-same}
 
 -- ---- the records
 
@@ -138,11 +140,6 @@ journal-busy who q told said journal rises busy first uncached h = record {
 
 -- ---- entries and their numbers
 
-pub exists-in : {A : Type 0} (P : A → Type 0) (xs : List A) → Exists P xs → (x : A) × In xs x × P x
-exists-in P [] h = absurd h
-exists-in P (x ∷ xs) (inl p) = (x, inl refl, p)
-exists-in P (x ∷ xs) (inr h) = let r = exists-in P xs h in (r.0, inr r.1, r.2)
-
 pub call-entry : (who : Who) (q : ℕ) (e : Entry) → IsCall who q e → (entry_who e ≡ Some who) × (entry_call e ≡ Some q)
 call-entry who q (C by n told) h = (ap (λ w. Some w) h.0, ap (λ m. Some m) h.1)
 call-entry who q other h = absurd h
@@ -194,13 +191,13 @@ rises who calls number under journal h = rises-from who calls journal h.numbers
 -- ---- what a call asks
 
 told-first : (who : Who) (q : ℕ) (told : Told) → told_by (C who q told) who q ≡ Some told
-told-first who q told = rw (true-both _ _ (true-both _ _ (number-same who.host who.host refl) (number-same who.inc who.inc refl)) (number-same q q refl)) refl
+told-first who q told = rw (and_from _ _ (and_from _ _ (number-same who.host who.host refl) (number-same who.inc who.inc refl)) (number-same q q refl)) refl
 
 told-other : (who : Who) (q : ℕ) (e : Entry) → (IsCall who q e → ⊥) → told_by e who q ≡ None
 told-other who q (C by n told) none = case (same_who by who && (n == q)) refl
   where
     case : (b : Bool) → (same_who by who && (n == q)) ≡ b → (if b then Some told else None) ≡ None
-    case true e = let a = both-true _ _ e in absurd (none (who-same by who a.0, same-number n q a.1))
+    case true e = let a = and_parts _ _ e in absurd (none (who-same by who a.0, same-number n q a.1))
     case false e = refl
 told-other who q other none = refl
 

@@ -13,7 +13,7 @@ use Rattle.nq_base.specs.declared.Said.{Said}
 use Rattle.nq_base.specs.declared.Said.TheVariants.{Busy}
 use Rattle.nq_base.specs.declared.Tag.{Tag}
 use Rattle.nq_base.specs.declared.Who.{Who}
-use Rattle.nq_call_facts.proofs.CallFacts.{JournalFits, CallsAt, Pending, TicketFits, Requesting, journal-more, journal-busy, rises, has-open, answered-below, cached-below, call-entry, exists-in}
+use Rattle.nq_call_facts.proofs.CallFacts.{JournalFits, CallsAt, Pending, TicketFits, Requesting, journal-more, journal-busy, rises, has-open, answered-below, cached-below, call-entry}
 use Rattle.nq_call_facts.proofs.CallMoves.{NotForCall, calls-called, calls-busy, pending-called, pending-more, pending-none, asks-idle, asks-busy}
 use Rattle.nq_call_facts.proofs.Entries.{entry_who, entry_call, entry_number}
 use Rattle.nq_call_facts.proofs.ClientCalls.{replied-keeps}
@@ -32,6 +32,7 @@ use Rattle.nq_model.specs.Journal.{Exists, IsCall, IsAnswer, IsOpen}
 use Rattle.nq_model.specs.Message.{Message, call, reply}
 use Rattle.nq_model.specs.Ordered.{HasOpen}
 use Rattle.nq_model.specs.Settle.{said, answers, names_losses, settle}
+use Rattle.nq_run_steps.proofs.Members.{exists-in}
 use Rattle.nq_run_steps.proofs.Packets.{In}
 
 -- what is known of a client's calls at the end of a step, over this journal

@@ -1,15 +1,21 @@
 -- What holds of each entry at its place, whatever comes after: from it the order of calls and what they make follows.
-use Rattle.std.proofs.Common.{◌≡◌, ◌⊎◌, ℕ, List, [], ◌∷◌, ◌++◌, Option, Some, None, refl, sym, subst, ap, ◌∙◌, inl, inr}
+use Rattle.std.proofs.Common.{◌≡◌, ◌⊎◌, ℕ, List, [], ◌∷◌, ◌++◌, Option, Some, None, refl, sym, subst, ap, ◌∙◌, inl, inr, Bool, true, false, if◌then◌else◌, ◌==◌, ◌&&◌}
 use Rattle.std.specs.Prelude.{⊤}
+use Rattle.std.specs.Option.{option_or}
+use Rattle.std.proofs.lemmas.Bool.{and_parts}
 use Rattle.nq_base.specs.declared.Entry.{Entry}
 use Rattle.nq_base.specs.declared.Entry.TheVariants.{C, W, R, Z, A}
 use Rattle.nq_base.specs.declared.Said.TheVariants.{OkBy}
 use Rattle.nq_base.specs.declared.Told.{Told}
 use Rattle.nq_base.specs.declared.Who.{Who}
-use Rattle.nq_model.specs.Journal.{Each, Exists, Throughout, AtEachPlace, IsCall, IsAnswer, IsOpen, call_of, IsAnswerBy}
+use Rattle.nq_client_steps.proofs.ClientMoves.{none-some}
+use Rattle.nq_model.proofs.Lists.{exists-right, exists-append}
+use Rattle.nq_model.specs.Journal.{Each, Exists, Throughout, AtEachPlace, IsCall, IsAnswer, IsOpen, call_of, IsAnswerBy, told_by, same_who}
 use Rattle.nq_model.specs.Legal.{IsCountedBy}
 use Rattle.nq_model.specs.OfTheirCall.{Reads, IsOfItsCall, AreOfTheirCall}
 use Rattle.nq_model.specs.Ordered.{IsCallBelow, HasOpen, IsBusyNext, IsWriteInOrder, IsResizeInOrder, IsReadInOrder, IsInOrder, IsOrdered}
+use Rattle.nq_server_steps.proofs.Incarnations.{who-of}
+use Rattle.nq_server_steps.proofs.Rows.{same-number}
 
 -- the entry is a cached read of call q of an incarnation
 abbrev pub IsCachedBy : (who : Who) (q : ℕ) → Entry → Type 0
@@ -52,19 +58,6 @@ Spaced after (C who q told) before = HasOpen before who → ¬ Exists (IsAnswer 
 Spaced after other before = ⊤
 
 -- ---- parts of journals
-
-pub exists-right : {A : Type 0} (P : A → Type 0) (xs ys : List A) → Exists P ys → Exists P (xs ++ ys)
-exists-right P [] ys h = h
-exists-right P (x ∷ xs) ys h = inr (exists-right P xs ys h)
-
-pub exists-either : {A : Type 0} (P : A → Type 0) (xs ys : List A) → Exists P (xs ++ ys) → Exists P xs ⊎ Exists P ys
-exists-either P [] ys h = inr h
-exists-either P (x ∷ xs) ys (inl h) = inl (inl h)
-exists-either P (x ∷ xs) ys (inr h) = step (exists-either P xs ys h)
-  where
-    step : Exists P xs ⊎ Exists P ys → Exists P (x ∷ xs) ⊎ Exists P ys
-    step (inl a) = inl (inr a)
-    step (inr b) = inr b
 
 -- an answer by a packet is an answer
 by-answers : (who : Who) (q packet : ℕ) (entries : List Entry) → Exists (IsAnswerBy who q packet) entries → Exists (IsAnswer who q) entries
@@ -140,7 +133,7 @@ cached-in-order later before who q file block value t p = record { is_open = p.i
   where
     case : WasCounted (later ++ R who q file block value None ∷ before) before who q → ⊥
     case (was_cached c) = p.is_open.1 (p.settled c)
-    case (was_served k s a) = either (exists-either (IsAnswerBy who q k) later (R who q file block value None ∷ before) a)
+    case (was_served k s a) = either (exists-append (IsAnswerBy who q k) later (R who q file block value None ∷ before) a)
       where
         either : Exists (IsAnswerBy who q k) later ⊎ Exists (IsAnswerBy who q k) (R who q file block value None ∷ before) → ⊥
         either (inl l) = (later-by who q k later (R who q file block value None ∷ before) t l).uncached (inl (refl, refl))
@@ -148,7 +141,7 @@ cached-in-order later before who q file block value t p = record { is_open = p.i
         either (inr (inr b)) = p.is_open.1 (by-answers who q k before b)
 
 served-in-order : (later before : List Entry) (who : Who) (q file block value packet : ℕ) → Throughout Placed (later ++ R who q file block value (Some packet) ∷ before) → IsServedInOrder before who q file block packet → Exists (IsAnswerBy who q packet) (later ++ R who q file block value (Some packet) ∷ before) → IsReadInOrder (later ++ R who q file block value (Some packet) ∷ before) before who q
-served-in-order later before who q file block value packet t p counted = case (exists-either (IsAnswerBy who q packet) later (R who q file block value (Some packet) ∷ before) counted)
+served-in-order later before who q file block value packet t p counted = case (exists-append (IsAnswerBy who q packet) later (R who q file block value (Some packet) ∷ before) counted)
   where
     Whole : List Entry
     Whole = later ++ R who q file block value (Some packet) ∷ before
@@ -197,16 +190,43 @@ ordered journal t s = order-from [] [] journal t t s
 pub call-told : (entry : Entry) (before : List Entry) (who : Who) (q : ℕ) (told : Told) → call_of before who q ≡ Some told → call_of (entry ∷ before) who q ≡ Some told
 call-told entry before who q told e = rw e refl
 
+pub call-later : (later before : List Entry) (who : Who) (q : ℕ) (told : Told) → call_of before who q ≡ Some told → call_of (later ++ before) who q ≡ Some told
+call-later [] before who q told e = e
+call-later (x ∷ later) before who q told e = call-told x (later ++ before) who q told (call-later later before who q told e)
+
 pub reads-on : (later before : List Entry) (who : Who) (q file block : ℕ) → Reads file block (call_of before who q) → Reads file block (call_of (later ++ before) who q)
 reads-on later before who q file block h = case (call_of before who q) refl h
   where
-    told-on : (more : List Entry) (told : Told) → call_of before who q ≡ Some told → call_of (more ++ before) who q ≡ Some told
-    told-on [] told e = e
-    told-on (x ∷ more) told e = call-told x (more ++ before) who q told (told-on more told e)
-
     case : (o : Option Told) → call_of before who q ≡ o → Reads file block o → Reads file block (call_of (later ++ before) who q)
     case None e r = absurd r
-    case (Some told) e r = subst (Reads file block) (sym (told-on later told e)) r
+    case (Some told) e r = subst (Reads file block) (sym (call-later later before who q told e)) r
+
+-- where a call asks something its C stands
+called-of : (journal : List Entry) (who : Who) (q : ℕ) (told : Told) → call_of journal who q ≡ Some told → Exists (IsCall who q) journal
+called-of [] who q told e = none-some told e
+called-of (x ∷ journal) who q told e = case (called-of journal who q) (call_of journal who q) refl e
+  where
+    same : (by : Who) → same_who by who ≡ true → by ≡ who
+    same by h = let a = and_parts _ _ h in who-of by.host by.inc who.host who.inc (same-number _ _ a.0) (same-number _ _ a.1)
+
+    now : (y : Entry) → told_by y who q ≡ Some told → IsCall who q y
+    now (C by n t) f = by-test (same_who by who && (n == q)) refl f
+      where
+        by-test : (b : Bool) → (same_who by who && (n == q)) ≡ b → (if b then Some t else None) ≡ Some told → (by ≡ who) × (n ≡ q)
+        by-test true h k = let a = and_parts _ _ h in (same by a.0, same-number n q a.1)
+        by-test false h k = none-some told k
+    now other f = none-some told f
+
+    case : ((t : Told) → call_of journal who q ≡ Some t → Exists (IsCall who q) journal) → (o : Option Told) → call_of journal who q ≡ o → option_or o (told_by x who q) ≡ Some told → Exists (IsCall who q) (x ∷ journal)
+    case rest (Some t) is f = inr (rest t is)
+    case rest None is f = inl (now x f)
+
+pub reads-called : (journal : List Entry) (who : Who) (q file block : ℕ) → Reads file block (call_of journal who q) → Exists (IsCall who q) journal
+reads-called journal who q file block h = case (call_of journal who q) refl h
+  where
+    case : (o : Option Told) → call_of journal who q ≡ o → Reads file block o → Exists (IsCall who q) journal
+    case None e r = absurd r
+    case (Some told) e r = called-of journal who q told e
 
 of-its-call : (later : List Entry) (entry : Entry) (before : List Entry) → Placed entry before → IsOfItsCall (later ++ entry ∷ before) entry
 of-its-call later (R who q file block value None) before p = λ counted. subst (λ j. Reads file block (call_of j who q)) (append-one later (R who q file block value None) before) (reads-on (later ++ R who q file block value None ∷ []) before who q file block p.reads)

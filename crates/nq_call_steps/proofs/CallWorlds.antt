@@ -22,17 +22,15 @@ use Rattle.nq_client_steps.proofs.ClientMoves.{some-same}
 use Rattle.nq_model.specs.Client.{Client, ClientStep, Job, attaching, for_call, renewing, pushing, Ticket}
 use Rattle.nq_model.specs.Journal.{Each}
 use Rattle.nq_model.specs.Kept.{host_row}
-use Rattle.nq_model.specs.Message.{Message, Packet, call, reply, asker, sequence_of}
-use Rattle.nq_model.specs.Server.{to_host}
+use Rattle.nq_model.specs.Message.{Packet, call, reply, asker, sequence_of}
 use Rattle.nq_model.specs.World.{World, from_host, after_client}
 use Rattle.nq_request_laws.proofs.OpenRequests.{IsOpenAt}
 use Rattle.nq_request_laws.proofs.Sequences.{Drew}
 use Rattle.nq_run_cases.proofs.RunCases.{clients-after}
-use Rattle.nq_run_steps.proofs.ClientRestarts.{asked-old}
 use Rattle.nq_run_steps.proofs.HostLine.{IsSettled}
 use Rattle.nq_run_steps.proofs.KnownWorlds.{Known}
-use Rattle.nq_run_steps.proofs.Mail.{packets_with}
-use Rattle.nq_run_steps.proofs.Packets.{In, in-append, Asked, Told, message-same, not-both}
+use Rattle.nq_run_steps.proofs.Mail.{packets_with, old-told, sent-calls, other-asked}
+use Rattle.nq_run_steps.proofs.Packets.{In, in-append, Asked, Told}
 use Rattle.nq_run_steps.proofs.Worlds.{Holds}
 
 -- ---- the world
@@ -163,24 +161,6 @@ open-known w events held known g host c is x r o = case (either (host_row w.serv
 
 -- ---- a step of a client
 
--- it sends no reply
-told-before-client : (ps : List Packet) (host other : ℕ) (sends : List Message) (x : ℕ) (a : Reply) → Told (packets_with ps host sends) other (reply x a) → Told ps other (reply x a)
-told-before-client ps host other sends x a told = case (in-append ps (map (from_host host) sends) (to_host other (reply x a)) told)
-  where
-    none : (ms : List Message) → In (map (from_host host) ms) (to_host other (reply x a)) → ⊥
-    none [] i = i
-    none (m ∷ ms) (inl e) = not-both host other m (reply x a) e
-    none (m ∷ ms) (inr i) = none ms i
-
-    case : Told ps other (reply x a) ⊎ In (map (from_host host) sends) (to_host other (reply x a)) → Told ps other (reply x a)
-    case (inl old) = old
-    case (inr new) = absurd (none sends new)
-
-sent-calls : (host other : ℕ) (sends : List Message) (x : ℕ) (r : Request) → In (map (from_host host) sends) (from_host other (call x r)) → In sends (call x r)
-sent-calls host other [] x r i = i
-sent-calls host other (m ∷ ms) x r (inl e) = inl (message-same host other m (call x r) e).1
-sent-calls host other (m ∷ ms) x r (inr i) = inr (sent-calls host other ms x r i)
-
 -- the client after its step
 pub client-known : (w : World) (events : List Event) (host : ℕ) (c : Client) (t : ClientStep) (mine : Who) → slice_get w.clients host ≡ Some c → mine.host ≡ host → c.who.inc ≤ mine.inc → Holds w → Known w events → Drew host w.packets t → Doing (host_row w.server.kept host) (IsRefused w.packets mine) (length w.packets) mine w.journal ⊤ t → CallsKnown w → CallsKnown (after_client w host t)
 unfolding after_client
@@ -205,7 +185,7 @@ client-known w events host c t mine is here up held known drew d g = record {
 
   own : CallsOf line (IsRefused (packets_with w.packets host t.sends) t.client.who) t.client (t.entries ++ w.journal)
   own = calls-of-refused line (IsRefused w.packets mine) (IsRefused (packets_with w.packets host t.sends) t.client.who) t.client (t.entries ++ w.journal)
-      (λ x some. (some.0, told-before-client w.packets host mine.host t.sends x (Reply.Refused mine.inc some.0) (subst (λ v. Told (packets_with w.packets host t.sends) v.host (reply x (Reply.Refused v.inc some.0))) d.same some.1)))
+      (λ x some. (some.0, old-told w.packets host mine.host t.sends (reply x (Reply.Refused mine.inc some.0)) (subst (λ v. Told (packets_with w.packets host t.sends) v.host (reply x (Reply.Refused v.inc some.0))) d.same some.1)))
       (record {
         calls_fit = d.calls_fit;
         pending = d.pending tt;
@@ -222,7 +202,7 @@ client-known w events host c t mine is here up held known drew d g = record {
       calls-of-more (host_row w.server.kept other) (IsRefused (packets_with w.packets host t.sends) e.who) e t.entries w.journal
       (λ f i. foreign e.who e.calls e.number f (not-here other e apart there f i))
       (calls-of-refused (host_row w.server.kept other) (IsRefused w.packets e.who) (IsRefused (packets_with w.packets host t.sends) e.who) e w.journal
-      (λ x some. (some.0, told-before-client w.packets host e.who.host t.sends x (Reply.Refused e.who.inc some.0) some.1))
+      (λ x some. (some.0, old-told w.packets host e.who.host t.sends (reply x (Reply.Refused e.who.inc some.0)) some.1))
       (g.clients other e there))
 
   reads : (other x : ℕ) (r : Request) → Asked w.packets other x r ⊎ In (map (from_host host) t.sends) (from_host other (call x r)) → ReadFits r (t.entries ++ w.journal)
@@ -238,7 +218,7 @@ client-known w events host c t mine is here up held known drew d g = record {
 
   still : (other : ℕ) (e : Client) → other ≢ host → slice_get w.clients other ≡ Some e → (host_row w.server.kept other).inc < e.who.inc → (x : ℕ) (r : Request) → IsOpenAt (host_row w.server.kept other) (packets_with w.packets host t.sends) other x r → OpenFits r (t.entries ++ w.journal)
   still other e apart there later x r o =
-      let old : Asked w.packets other x r = asked-old (record { host = other; inc = 0 }) host w.packets t.sends apart x r o.asked in
+      let old : Asked w.packets other x r = other-asked w.packets host other t.sends x r apart o.asked in
       let there_by : o.who.host ≡ other = ((held.clients other e there).mail.asked x r o.who (subst (λ n. Asked w.packets n x r) (sym (held.clients other e there).here) old) o.by).host ∙ (held.clients other e there).here in
       open-fits-later r o.who t.entries w.journal o.by
       (λ f i. foreign-quiet o.who f (λ v by same. not-here other e apart there f i v by (ap (λ z. z.host) same ∙ there_by ∙ sym (held.clients other e there).here)))

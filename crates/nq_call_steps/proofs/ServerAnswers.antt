@@ -13,11 +13,12 @@ use Rattle.nq_base.specs.declared.Verdict.{Verdict}
 use Rattle.nq_base.specs.declared.Want.{Want}
 use Rattle.nq_base.specs.declared.Who.{Who}
 use Rattle.nq_call_facts.proofs.CallFacts.{JournalFits, IsBounded, journal-more, called-below}
+use Rattle.nq_call_facts.proofs.Placed.{reads-called}
 use Rattle.nq_call_steps.proofs.CallsFit.{entry_who, entry_call, entry_number}
 use Rattle.nq_call_steps.proofs.CallWorlds.{CallsKnown}
 use Rattle.nq_call_facts.proofs.ClientMoves.{IsBelow}
 use Rattle.nq_call_facts.proofs.Quiet.{IsQuiet, told-more}
-use Rattle.nq_call_steps.proofs.ServerHears.{reads-called, served-now, silent-quiet, refuse-reply}
+use Rattle.nq_call_steps.proofs.ServerHears.{served-now, silent-quiet, refuse-reply}
 use Rattle.nq_call_steps.proofs.ServerCalls.{IsStill, Outcome, line_same, line_begins, ServerDoes}
 use Rattle.nq_client_steps.proofs.ClientMoves.{some-same, none-some}
 use Rattle.nq_model.specs.Client.{Client}

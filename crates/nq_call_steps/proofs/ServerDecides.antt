@@ -19,7 +19,7 @@ use Rattle.nq_call_facts.proofs.ClientMoves.{IsBelow}
 use Rattle.nq_call_facts.proofs.Quiet.{IsNoCall, IsNoChange, foreign-quiet, OpenFits}
 use Rattle.nq_call_steps.proofs.Refusals.{seq-same, done-tells, verdict-inc, plain-why}
 use Rattle.nq_call_steps.proofs.ServerHears as hears
-use Rattle.nq_call_steps.proofs.ServerHears.{refuse-none, refuse-both, refuse-notices, refuse-reply, refuse-error, error-no-reply}
+use Rattle.nq_call_steps.proofs.ServerHears.{refuse-none, refuse-both, refuse-notices, refuse-reply, refuse-error}
 use Rattle.nq_call_steps.proofs.ServerAnswers as answers
 use Rattle.nq_call_steps.proofs.ServerAnswers.{asked-by, asker-bounded}
 use Rattle.nq_call_steps.proofs.ServerCalls.{otherwise, AllRefuse, IsChange, Outcome, line_same, line_decided, ServerDoes}
@@ -42,7 +42,7 @@ use Rattle.nq_run_steps.proofs.Worlds.{Holds}
 use Rattle.nq_server_steps.proofs.KeptChanges.{other-line, own-line, same-lines}
 use Rattle.nq_server_steps.proofs.Rows.{same-number, number-same}
 use Rattle.nq_server_steps.proofs.ServerCases.{server-hears}
-use Rattle.nq_server_steps.proofs.ServerOutcomes.{IsFresh}
+use Rattle.nq_server_steps.proofs.ServerOutcomes.{IsFresh, error-no-reply}
 
 module _ (w : World) (events : List Event) (held : Holds w) (known : Known w events) (g : CallsKnown w) (sender : ℕ) (d : Datagram) (was_sent : (xid : ℕ) (r : Request) → d ≡ request xid r → Asked w.packets sender xid r) (lines : length w.server.kept.hosts ≡ most_hosts) where
   abbrev s : Server
@@ -240,7 +240,7 @@ module _ (w : World) (events : List Event) (held : Holds w) (known : Known w eve
     received-does = server-hears s sender next d (λ t. ServerDoes w t) (record {
       stays = hears.quiet-does w events held known g sender d was_sent lines;
       dropping = λ reason. hears.drops-does w events held known g sender d was_sent lines reason;
-      erring = λ m e. hears.says-does w events held known g sender d was_sent lines sender m (refuse-error w.packets _ sender m (error-no-reply d m e));
+      erring = λ m e. hears.says-does w events held known g sender d was_sent lines sender m (refuse-error w.packets _ sender m (λ x a is. error-no-reply d m x a e is));
       answers_null = λ xid e. hears.says-does w events held known g sender d was_sent lines sender (reply xid Reply.Null) (refuse-reply w.packets _ sender xid Reply.Null (λ inc status is. absurd (cc)));
       replying = λ xid who r a e by from plain. hears.says-does w events held known g sender d was_sent lines who.host (reply xid a)
           (refuse-reply w.packets (λ h. host_row s.kept h) who.host xid a (λ inc status is. let y = plain-why s who r a inc status plain is in hears.to-asker w events held known g sender d was_sent lines (λ h. host_row s.kept h) xid who r inc e by from.host y.0 y.1));

@@ -1,8 +1,7 @@
 -- Each step of the server for a datagram does to the calls what is said of it.
-use Rattle.std.proofs.Common.{◌≡◌, ◌<◌, ◌⊎◌, ℕ, ◌+◌, ◌%◌, Bool, true, false, ◌==◌, ◌&&◌, List, [], ◌∷◌, ◌++◌, Option, Some, None, if◌then◌else◌, length, refl, sym, subst, ◌∙◌, arith, inl, inr}
-use Rattle.std.specs.Option.{option_or}
+use Rattle.std.proofs.Common.{◌≡◌, ◌<◌, ◌⊎◌, ℕ, ◌+◌, ◌%◌, List, [], ◌∷◌, ◌++◌, Some, length, refl, sym, subst, arith, inl, inr}
 use Rattle.nq_base.specs.declared.Entry.{Entry}
-use Rattle.nq_base.specs.declared.Entry.TheVariants.{C, R, A}
+use Rattle.nq_base.specs.declared.Entry.TheVariants.{R, A}
 use Rattle.nq_base.specs.declared.Event.{Event}
 use Rattle.nq_base.specs.declared.HostRow.{HostRow}
 use Rattle.nq_base.specs.declared.Refusal.{Refusal}
@@ -11,20 +10,18 @@ use Rattle.nq_base.specs.declared.Request.{Request}
 use Rattle.nq_base.specs.declared.Row.{Row}
 use Rattle.nq_base.specs.declared.Said.TheVariants.{OkBy}
 use Rattle.nq_base.specs.declared.Tag.{Tag}
-use Rattle.nq_base.specs.declared.Told.{Told as Telling}
 use Rattle.nq_base.specs.declared.Who.{Who}
 use Rattle.nq_call_facts.proofs.CallFacts.{JournalFits}
 use Rattle.nq_call_steps.proofs.CallWorlds.{CallsKnown}
 use Rattle.nq_call_facts.proofs.ClientMoves.{IsBelow}
-use Rattle.nq_call_facts.proofs.Placed.{IsServedIn, IsServedInOrder}
+use Rattle.nq_call_facts.proofs.Placed.{IsServedIn, IsServedInOrder, reads-called}
 use Rattle.nq_call_facts.proofs.Quiet.{IsQuiet}
 use Rattle.nq_call_steps.proofs.ServerCalls.{IsWhy, undrawn, Refuses, AllRefuse, line_same, ServerDoes}
-use Rattle.nq_client_steps.proofs.ClientMoves.{some-same, none-some}
 use Rattle.nq_lease_laws.proofs.ServerEffects.{reads-no-seq}
-use Rattle.nq_model.specs.Journal.{Each, Exists, IsCall, IsAnswerBy, call_of, told_by, same_who}
+use Rattle.nq_model.specs.Journal.{Each, Exists, IsAnswerBy, call_of}
 use Rattle.nq_model.specs.Kept.{host_row}
 use Rattle.nq_model.specs.LeaseInterval.{requested_file}
-use Rattle.nq_model.specs.Message.{Message, Packet, call, reply, asker, Datagram, too_long, no_message, no_call, other_rpc, other_program, other_version, unknown_procedure, garbage_vacated, garbage, request, Reason}
+use Rattle.nq_model.specs.Message.{Message, Packet, call, reply, asker, Datagram, request, Reason}
 use Rattle.nq_model.specs.OfTheirCall.{Reads}
 use Rattle.nq_model.specs.Profile.{most_hosts, xid_end}
 use Rattle.nq_model.specs.Server.{Server, ServerStep, to_host, quiet, drops, says, notices, with_table, after_notices}
@@ -34,38 +31,8 @@ use Rattle.nq_model.specs.World.{World}
 use Rattle.nq_run_steps.proofs.KnownWorlds.{Known}
 use Rattle.nq_run_steps.proofs.Packets.{In, in-append, Asked, told-same, reply-same}
 use Rattle.nq_run_steps.proofs.Worlds.{Holds}
-use Rattle.nq_server_steps.proofs.Incarnations.{who-of}
-use Rattle.nq_server_steps.proofs.Rows.{both-true, same-number}
-use Rattle.nq_server_steps.proofs.ServerOutcomes.{error_for}
 
 -- ---- reads of the journal
-
--- where a call asks something its C stands
-called-of : (journal : List Entry) (who : Who) (q : ℕ) (told : Telling) → call_of journal who q ≡ Some told → Exists (IsCall who q) journal
-called-of [] who q told e = none-some told e
-called-of (x ∷ journal) who q told e = case (called-of journal who q) (call_of journal who q) refl e
-  where
-    same : (by : Who) → same_who by who ≡ true → by ≡ who
-    same by h = let a = both-true _ _ h in who-of by.host by.inc who.host who.inc (same-number _ _ a.0) (same-number _ _ a.1)
-
-    now : (y : Entry) → told_by y who q ≡ Some told → IsCall who q y
-    now (C by n t) f = by-test (same_who by who && (n == q)) refl f
-      where
-        by-test : (b : Bool) → (same_who by who && (n == q)) ≡ b → (if b then Some t else None) ≡ Some told → (by ≡ who) × (n ≡ q)
-        by-test true h k = let a = both-true _ _ h in (same by a.0, same-number n q a.1)
-        by-test false h k = none-some told k
-    now other f = none-some told f
-
-    case : ((t : Telling) → call_of journal who q ≡ Some t → Exists (IsCall who q) journal) → (o : Option Telling) → call_of journal who q ≡ o → option_or o (told_by x who q) ≡ Some told → Exists (IsCall who q) (x ∷ journal)
-    case rest (Some t) is f = inr (rest t is)
-    case rest None is f = inl (now x f)
-
-pub reads-called : (journal : List Entry) (who : Who) (q file block : ℕ) → Reads file block (call_of journal who q) → Exists (IsCall who q) journal
-reads-called journal who q file block h = case (call_of journal who q) refl h
-  where
-    case : (o : Option Telling) → call_of journal who q ≡ o → Reads file block o → Exists (IsCall who q) journal
-    case None e r = absurd r
-    case (Some told) e r = called-of journal who q told e
 
 not-served : (n : ℕ) (journal : List Entry) → Each (IsBelow n) journal → Exists (IsServedIn n) journal → ⊥
 not-served n [] b h = h
@@ -121,18 +88,6 @@ refuse-reply ps line host x a h other y inc status (inl e) =
 pub refuse-error : (ps : List Packet) (line : ℕ → HostRow) (host : ℕ) (m : Message) → ((x : ℕ) (a : Reply) → m ≡ reply x a → ⊥) → AllRefuse ps line (to_host host m ∷ [])
 refuse-error ps line host m none other y inc status (inr bad) = absurd bad
 refuse-error ps line host m none other y inc status (inl e) = absurd (none y (Reply.Refused inc status) (told-same host other m (reply y (Reply.Refused inc status)) e).1)
-
-pub error-no-reply : (d : Datagram) (m : Message) → error_for d ≡ Some m → (x : ℕ) (a : Reply) → m ≡ reply x a → ⊥
-error-no-reply too_long m e x a is = none-some m e
-error-no-reply no_message m e x a is = none-some m e
-error-no-reply no_call m e x a is = none-some m e
-error-no-reply (other_rpc xid) m e x a is = let k = some-same _ m e ∙ is in absurd (cc)
-error-no-reply (other_program xid) m e x a is = let k = some-same _ m e ∙ is in absurd (cc)
-error-no-reply (other_version xid) m e x a is = let k = some-same _ m e ∙ is in absurd (cc)
-error-no-reply (unknown_procedure xid) m e x a is = let k = some-same _ m e ∙ is in absurd (cc)
-error-no-reply garbage_vacated m e x a is = none-some m e
-error-no-reply (garbage xid) m e x a is = let k = some-same _ m e ∙ is in absurd (cc)
-error-no-reply (request xid r) m e x a is = none-some m e
 
 module _ (w : World) (events : List Event) (held : Holds w) (known : Known w events) (g : CallsKnown w) (sender : ℕ) (d : Datagram) (was_sent : (xid : ℕ) (r : Request) → d ≡ request xid r → Asked w.packets sender xid r) (lines : length w.server.kept.hosts ≡ most_hosts) where
   abbrev s : Server

@@ -31,7 +31,7 @@ use Rattle.nq_run_steps.proofs.HostLine.{IsSettled}
 use Rattle.nq_run_steps.proofs.Packets.{Asked, Told, Mail}
 use Rattle.nq_run_steps.proofs.TagFacts.{IsDrawn}
 use Rattle.nq_base.specs.declared.Event.{Event}
-use Rattle.nq_server_steps.proofs.Modes.{writing-caches, caching-at-least}
+use Rattle.nq_server_steps.proofs.Modes.{writing-caches, at-least-writing, at-least-caching}
 
 -- what is drawn is below the next tag
 pub drawn-below : (table : Table) (tag : Tag) → IsDrawn table.boot table.drawn tag → tag_below tag (next_tag table) ≡ true
@@ -58,11 +58,6 @@ at-least-same : (mode : Mode) → is_at_least mode mode ≡ true
 at-least-same NonCaching = refl
 at-least-same Reading = refl
 at-least-same Writing = refl
-
-pub writing-at-least : (row mode : Mode) → is_writing mode ≡ true → is_at_least row mode ≡ true → is_writing row ≡ true
-writing-at-least row NonCaching c h = cc
-writing-at-least row Reading c h = cc
-writing-at-least row Writing c h = h
 
 -- the continued row's tag is no earlier
 continued-tag : (before : Table) (row row' : Row) (tag : Tag) → IsDrawn before.boot before.drawn tag → Continues before row row' → tag_below row.tag tag ≡ false → tag_below row'.tag tag ≡ false
@@ -191,8 +186,8 @@ module _ (ps : List Packet) (s : Server) (events : List Event) (t : ServerStep) 
             length = long ∙ ap blocks_of one ∙ k.length;
             value = λ d. value;
           }
-      step (file_changed f0 f1 found found' rises done none) = absurd (none row row' own (caching-at-least row.mode mode caching k.kind) own' claim)
-      step (file_gone lost none) = absurd (none row row' own (caching-at-least row.mode mode caching k.kind) own' claim)
+      step (file_changed f0 f1 found found' rises done none) = absurd (none row row' own (at-least-caching row.mode mode caching k.kind) own' claim)
+      step (file_gone lost none) = absurd (none row row' own (at-least-caching row.mode mode caching k.kind) own' claim)
 
   -- ---- leases that are held
 
@@ -371,7 +366,7 @@ module _ (ps : List Packet) (s : Server) (events : List Event) (t : ServerStep) 
 
   -- a lease that was bound is bound, or its file is fenced
   bound-on : (file : ℕ) (l : Lease) (row : Row) → lease_on file c.leases ≡ Some l → is_writing l.mode ≡ true → IsChained (standing s) c.who file l.tag row → IsBoundOrFenced (standing t.server) t.server.kept c.who file l.tag (due-after file)
-  bound-on file l row e writes chained = step (f.rows.on file row chained.own.stands (writing-at-least row.mode l.mode writes k.kind))
+  bound-on file l row e writes chained = step (f.rows.on file row chained.own.stands (at-least-writing row.mode l.mode writes k.kind))
     where
       k : KnowsFile s.kept line row.mode l.mode file (rev_at c.revisions file) l.blocks (done_at s.kept c.who c.ticket file)
       k = h.held.chained file l row e (writing-caches l.mode writes) chained

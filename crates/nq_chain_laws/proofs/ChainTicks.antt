@@ -1,6 +1,7 @@
 -- What a tick of the server's clock and a crash do to rows, lines and files.
 use Rattle.std.proofs.Common.{◌≡◌, ◌≢◌, ◌<◌, ◌≤◌, ℕ, ◌+◌, Bool, true, false, not, ◌==◌, List, Option, Some, None, is_some, if◌then◌else◌, refl, sym, subst, ap, ◌∙◌, arith}
 use Rattle.std.specs.List.{find}
+use Rattle.std.proofs.lemmas.Bool.{and_parts}
 use Rattle.nq_base.specs.declared.Row.{Row}
 use Rattle.nq_base.specs.declared.Who.{Who}
 use Rattle.nq_chain_laws.proofs.LineMoves.{line-same, replaced-there, replaced-other, by-file}
@@ -20,7 +21,7 @@ use Rattle.nq_model.specs.Table.{Table, caches, is_writing, find_row, drop_row, 
 use Rattle.nq_server_laws.proofs.ServerTables.{BootsFit, BootsFitOf, RecoversBoot, NoneRecoveringOf, none-opened, StandingFits, StandingFitsOf}
 use Rattle.nq_server_steps.proofs.KeptChanges.{same-lines}
 use Rattle.nq_server_steps.proofs.RowChanges.{found-any, found-kept, find-row-dropped, unique-filtered}
-use Rattle.nq_server_steps.proofs.Rows.{both-true, find-passes, same-number, number-same}
+use Rattle.nq_server_steps.proofs.Rows.{find-passes, same-number, number-same}
 use Rattle.nq_server_steps.proofs.ServerCases.{server-ticks}
 use Rattle.nq_server_steps.proofs.TableFits.{TableFits}
 
@@ -53,7 +54,7 @@ module _ (ps : List Packet) (s : Server) (now : ℕ) (host : ℕ) (stood : Stand
   due-row p row due =
       let u = (own-table p).unique in
       let found = found-any (is_due now) (end_reading now s.table.rows) row (unique-filtered (λ r. not (is_over now r)) s.table.rows u) due in
-      ((found-kept (λ r. not (is_over now r)) row.file row.who.host s.table.rows row u found).0, (both-true _ _ (find-passes (is_due now) row (end_reading now s.table.rows) due)).0)
+      ((found-kept (λ r. not (is_over now r)) row.file row.who.host s.table.rows row u found).0, (and_parts _ _ (find-passes (is_due now) row (end_reading now s.table.rows) due)).0)
 
   -- its file is kept
   due-file : s.phase ≡ serving → (row : Row) → find (is_due now) (end_reading now s.table.rows) ≡ Some row → (f : File) × (find_file row.file s.kept.files ≡ Some f) × (f.id ≡ row.file)

@@ -1,8 +1,7 @@
 -- In every run within skew chained leases know their files.
-use Rattle.std.proofs.Common.{◌≡◌, ◌≢◌, ◌<◌, ◌≤◌, ◌⊎◌, ℕ, zero, suc, ◌+◌, Bool, true, false, ◌==◌, List, [], ◌∷◌, ◌++◌, Option, Some, None, map, length, refl, sym, subst, ap, ◌∙◌, arith, append-nil, inl, inr}
-use Rattle.std.specs.Prelude.{◌-◌, slice_get, slice_set}
+use Rattle.std.proofs.Common.{◌≡◌, ◌≢◌, ◌<◌, ◌≤◌, ◌⊎◌, ℕ, ◌+◌, Bool, true, false, ◌==◌, List, [], ◌∷◌, ◌++◌, Option, Some, None, length, refl, sym, subst, ap, ◌∙◌, arith, append-nil, inl, inr}
+use Rattle.std.specs.Prelude.{slice_get}
 use Rattle.nq_base.specs.declared.Event.{Event}
-use Rattle.nq_base.specs.declared.HostRow.{HostRow}
 use Rattle.nq_base.specs.declared.Party.{Party}
 use Rattle.nq_base.specs.declared.Reply.{Reply}
 use Rattle.nq_base.specs.declared.Request.{Request}
@@ -28,21 +27,21 @@ use Rattle.nq_model.specs.Client.{Client, ClientStep, revision_of, revision_or_z
 use Rattle.nq_model.specs.ClientStep.{client_call, client_tick, restart, starts, fresh_client, attached_client, next_incarnation}
 use Rattle.nq_model.specs.Hear.{hear}
 use Rattle.nq_model.specs.Kept.{host_row}
-use Rattle.nq_model.specs.Message.{Message, Packet, call, reply, asker, Datagram, datagram_of, request}
+use Rattle.nq_model.specs.Message.{Message, Packet, reply, asker, Datagram, datagram_of, request}
 use Rattle.nq_model.specs.Server.{serving, Server, ServerStep, standing, to_host}
-use Rattle.nq_model.specs.ServerStep.{receive, tick, crash, boot}
+use Rattle.nq_model.specs.ServerStep.{receive, tick, crash}
 use Rattle.nq_model.specs.Skew.{IsWithinSkew}
 use Rattle.nq_model.specs.Table.{find_row}
-use Rattle.nq_model.specs.World.{Head, World, from_host, after_server, after_client, at_client, after_hearing, sending_host, deliver_to_client, deliver_to, deliver, start, run}
+use Rattle.nq_model.specs.World.{Head, World, after_server, after_client, at_client, after_hearing, sending_host, deliver_to_client, deliver_to, deliver, start, run}
 use Rattle.nq_request_laws.proofs.Sequences.{Drew, DrewIf, call-draws, tick-draws, restart-draws, hear-draws}
 use Rattle.nq_request_laws.proofs.WorldSequences.{run-draws, asked-before-server}
 use Rattle.nq_run_cases.proofs.RunCases.{During, client_at, Keeps, run-keeps, OfClients, clients-after}
 use Rattle.nq_run_steps.proofs.ClientSteps.{KnowsOf}
 use Rattle.nq_run_steps.proofs.KnownWorlds.{takeable, first-there, first-line}
-use Rattle.nq_run_steps.proofs.Mail.{packets_with}
-use Rattle.nq_run_steps.proofs.Packets.{In, in-append, in-get, Asked, Told, message-same}
+use Rattle.nq_run_steps.proofs.Mail.{packets_with, other-asked}
+use Rattle.nq_run_steps.proofs.Packets.{In, in-append, in-get, Asked, Told}
 use Rattle.nq_run_steps.proofs.TagFacts.{IsDrawn}
-use Rattle.nq_run_steps.proofs.Worlds.{Holds, run-holds, received-said, to-told, to-server, first-client}
+use Rattle.nq_run_steps.proofs.Worlds.{Holds, run-holds, received-said, to-told, to-server, first-client, set-there}
 use Rattle.nq_server_laws.proofs.ServerFacts.{IncsFit}
 use Rattle.nq_server_laws.proofs.ServerNumbers.{IdsFitOf, ids-receive, ids-tick, ids-crash}
 use Rattle.nq_server_laws.proofs.ServerTables.{standing-boot}
@@ -216,23 +215,6 @@ module _ (most : ℕ) (head : Head) (events : List Event) (bounds : KeepsBounds 
 
   -- ---- a step of a client
 
-  other-asks : (host other : ℕ) (ms : List Message) → other ≢ host → (x : ℕ) (r : Request) → Asked (packets_with w.packets host ms) other x r → Asked w.packets other x r
-  other-asks host other ms apart x r asked = step (in-append w.packets (map (from_host host) ms) (from_host other (call x r)) asked)
-    where
-      theirs : (ns : List Message) → In (map (from_host host) ns) (from_host other (call x r)) → ⊥
-      theirs [] i = i
-      theirs (n ∷ ns) (inl e) = apart (sym (message-same host other n (call x r) e).0)
-      theirs (n ∷ ns) (inr i) = theirs ns i
-
-      step : In w.packets (from_host other (call x r)) ⊎ In (map (from_host host) ms) (from_host other (call x r)) → Asked w.packets other x r
-      step (inl old) = old
-      step (inr new) = absurd (theirs ms new)
-
-  get-set-there : (xs : List Client) (i : ℕ) (x y : Client) → slice_get xs i ≡ Some y → slice_get (slice_set xs i x) i ≡ Some x
-  get-set-there [] i x y e = none-some y e
-  get-set-there (z ∷ xs) zero x y e = refl
-  get-set-there (z ∷ xs) (suc i) x y e = get-set-there xs i x y e
-
   client-chains : (e : Event) (host : ℕ) (c : Client) (t : ClientStep) → slice_get w.clients host ≡ Some c → ChainFits w.server t.client (packets_with w.packets host t.sends) → Drew host w.packets t → Runs head.hosts most (after_client w host t) (e ∷ events) → Holds (after_client w host t) → OfClients ChainsOf w → OfClients ChainsOf (after_client w host t)
   unfolding after_client
   client-chains e host c t is fits drew runs' holds' g = clients-after ChainsOf w host t
@@ -241,11 +223,11 @@ module _ (most : ℕ) (head : Head) (events : List Event) (bounds : KeepsBounds 
       let k = g other d there in
       record {
         fits = fits-sends w.server d w.packets host t.sends k.fits;
-        pushes = pushes-sends w.server other w.packets (packets_with w.packets host t.sends) (λ x r v asked by inc. other-asks host other t.sends apart x r asked) k.pushes;
+        pushes = pushes-sends w.server other w.packets (packets_with w.packets host t.sends) (λ x r v asked by inc. other-asked w.packets host other t.sends x r apart asked) k.pushes;
       })
     where
       there : slice_get (after_client w host t).clients host ≡ Some t.client
-      there = get-set-there w.clients host t.client c is
+      there = set-there w.clients host t.client c is
 
       at : t.client.who.host ≡ host
       at = (holds'.clients host t.client there).here

@@ -8,7 +8,7 @@ use Rattle.nq_base.specs.declared.Request.{Request}
 use Rattle.nq_base.specs.declared.Row.{Row}
 use Rattle.nq_base.specs.declared.Tag.{Tag}
 use Rattle.nq_base.specs.declared.Who.{Who}
-use Rattle.nq_chain_laws.proofs.ChainAfter.{drawn-below, writing-at-least}
+use Rattle.nq_chain_laws.proofs.ChainAfter.{drawn-below}
 use Rattle.nq_chain_laws.proofs.ServerChains.{RowOn, goes_on, vacated, superseded, loosened, removed, reopened, RowsMove, LineTo, line_stays, line_begins, line_decides, FileGrows, rev_stays, rev_rises, rev_gone}
 use Rattle.nq_chain_steps.proofs.ChainFacts.{line_for, done_at, rev_at, IsFenced, gone, ahead, earlier, IsBoundOrFenced, bound, fenced, IsPushed, ChainFits, StandsWriting, PushFits, PushesFit}
 use Rattle.nq_chain_steps.proofs.ChainLists.{fresh-undone}
@@ -26,7 +26,7 @@ use Rattle.nq_run_steps.proofs.HostLine.{IsSettled}
 use Rattle.nq_run_steps.proofs.Packets.{Asked, Mail}
 use Rattle.nq_run_steps.proofs.TagFacts.{IsDrawn}
 use Rattle.nq_server_steps.proofs.Incarnations.{one-who}
-use Rattle.nq_server_steps.proofs.Modes.{writing-caches}
+use Rattle.nq_server_steps.proofs.Modes.{writing-caches, at-least-writing}
 use Rattle.nq_server_steps.proofs.Rows.{number-same}
 
 -- what was sent since is no request of the kept incarnation
@@ -94,7 +94,7 @@ pushes-running s events host c ps at kept boots knows mail h x w n file block fi
           inr (record {
             row = row;
             own = k.own;
-            writes = writing-at-least row.mode p.lease.mode writing knows'.kind;
+            writes = at-least-writing row.mode p.lease.mode writing knows'.kind;
             past = λ y v tag asked i. after tag p.lease.tag row.tag (knows.tagged.past_held y v file tag p.lease asked i p.held) (h.held.below file p.lease row p.held k.own);
             boot = let same = p.boot in let below = drawn-boot (standing s).boot (standing s).drawn boots (knows.tagged.held file p.lease p.held) in omega arith;
             rev = λ f found.

@@ -1,9 +1,8 @@
 -- What the server replies to a datagram: grants of rows that were put, and what the kept verdict gives.
-use Rattle.std.proofs.Common.{◌≡◌, ◌<◌, ◌⊎◌, ℕ, ◌+◌, ◌%◌, true, false, List, [], ◌∷◌, ◌++◌, Some, None, length, refl, sym, subst, ap, ◌∙◌, arith, inl, inr}
+use Rattle.std.proofs.Common.{◌≡◌, ◌<◌, ◌⊎◌, ℕ, true, false, List, [], ◌∷◌, ◌++◌, Some, None, length, refl, sym, subst, ap, ◌∙◌, arith, inl, inr}
 use Rattle.nq_base.specs.declared.Access.{Access}
 use Rattle.nq_base.specs.declared.Grant.{Grant}
 use Rattle.nq_base.specs.declared.Mode.{Mode}
-use Rattle.nq_base.specs.declared.Mode.TheVariants.{Reading}
 use Rattle.nq_base.specs.declared.Refusal.{Refusal}
 use Rattle.nq_base.specs.declared.Reply.{Reply}
 use Rattle.nq_base.specs.declared.Request.{Request}
@@ -19,26 +18,23 @@ use Rattle.nq_model.specs.Decide.{Decision, commits, row_after, decides, creates
 use Rattle.nq_model.specs.Hear.{inc_of}
 use Rattle.nq_model.specs.Kept.{File, Kept, host_row, with_row, with_files, with_new_file}
 use Rattle.nq_model.specs.LeaseInterval.{is_at_least, grant_in, requested_file}
-use Rattle.nq_model.specs.Message.{Message, Packet, call, reply, Datagram, request, too_long, no_message, no_call, other_rpc, other_program, other_version, unknown_procedure, garbage_vacated, garbage, asker, sequence_of}
-use Rattle.nq_model.specs.Profile.{most_hosts, xid_end}
+use Rattle.nq_model.specs.Message.{Message, Packet, reply, Datagram, request, asker, sequence_of}
+use Rattle.nq_model.specs.Profile.{most_hosts}
 use Rattle.nq_model.specs.Server.{serving, Server, ServerStep, standing, to_host, quiet, drops, says, notices, keeping, keeping_with, with_table, after_notices}
 use Rattle.nq_model.specs.ServerStep.{attaches, vacates, tells_later, serves, leases, to_read, access_of, receive}
-use Rattle.nq_model.specs.Table.{Table, caches, greater_mode, find_row, put_row, next_tag, with_rows, after_draw}
+use Rattle.nq_model.specs.Table.{Table, caches, find_row, put_row, next_tag, with_rows, after_draw}
 use Rattle.nq_run_steps.proofs.Packets.{In, in-append, Asked, Told, told-same, reply-same}
-use Rattle.nq_run_steps.proofs.ServerSays.{verdict-inc, verdict-grant, plain-inc, plain-grant}
+use Rattle.nq_run_steps.proofs.ServerSays.{verdict-inc, verdict-grant, plain-inc, plain-grant, notices-no-reply}
 use Rattle.nq_server_laws.proofs.LogGrants.{granted-tag}
 use Rattle.nq_server_laws.proofs.ServerNumbers.{LinesFitOf}
 use Rattle.nq_server_steps.proofs.AskCases.{own_in, IsGranted, shares_again, begins_sharing, begins_caching, renews_row}
 use Rattle.nq_server_steps.proofs.KeptChanges.{own-line}
-use Rattle.nq_server_steps.proofs.Modes.{at-least-more}
+use Rattle.nq_server_steps.proofs.Modes.{at-least-more, greater-caches}
 use Rattle.nq_server_steps.proofs.RowChanges.{find-put-same}
 use Rattle.nq_server_steps.proofs.ServerCases.{server-hears}
-use Rattle.nq_server_steps.proofs.ServerOutcomes.{error_for, only_asks, wanted_by, line_of, IsFrom, IsFresh, IsAsking, IsPlain, unattached, attached_again, not_yet, no_entry, entry, no_attributes, attributes, no_file, no_block, decided_again, is_old, ServerCases}
+use Rattle.nq_server_steps.proofs.ServerOutcomes.{only_asks, wanted_by, line_of, IsFrom, IsFresh, IsAsking, IsPlain, unattached, attached_again, not_yet, no_entry, entry, no_attributes, attributes, no_file, no_block, decided_again, is_old, ServerCases, error-no-reply}
 
 -- ---- grants
-
-greater-caches : (own wanted : Mode) → caches own ≡ true → caches (greater_mode own wanted) ≡ true
-greater-caches own wanted c = at-least-more own wanted Reading c
 
 granted-alone : (table : Table) (q : Question) (want : Want) (row : Row) (term : ℕ) → IsGranted table q want row term → caches row.mode ≡ false → row.since ≡ row.tag
 unfolding sharing_row caching_row shared_again renewed_row
@@ -98,29 +94,12 @@ module _ (ps : List Packet) (s : Server) (sender next : ℕ) (d : Datagram) (was
   one t host' m new host x a (inl e) = let k = told-same host' host m (reply x a) e in subst (λ n. NewReply ps s t n x a) k.0 (new x a k.1)
   one t host' m new host x a (inr bad) = absurd bad
 
-  no-reply : (y : ℕ) (rows : List Row) (host x : ℕ) (a : Reply) → In (notices y rows) (to_host host (reply x a)) → ⊥
-  no-reply y [] host x a bad = bad
-  no-reply y (row ∷ rows) host x a (inl e) = let k = told-same row.who.host host (call y (Request.Evicted row.who row.file row.tag)) (reply x a) e in absurd (cc)
-  no-reply y (row ∷ rows) host x a (inr i) = no-reply ((y + 1) % xid_end) rows host x a i
-
   after-notices : (t : Server) (y : ℕ) (rows : List Row) (sends : List Packet) → ((host x : ℕ) (a : Reply) → Told sends host (reply x a) → NewReply ps s t host x a) → (host x : ℕ) (a : Reply) → Told (notices y rows ++ sends) host (reply x a) → NewReply ps s t host x a
   after-notices t y rows sends new host x a i = step (in-append (notices y rows) sends (to_host host (reply x a)) i)
     where
       step : In (notices y rows) (to_host host (reply x a)) ⊎ In sends (to_host host (reply x a)) → NewReply ps s t host x a
-      step (inl bad) = absurd (no-reply y rows host x a bad)
+      step (inl bad) = absurd (notices-no-reply y rows host x a bad)
       step (inr there) = new host x a there
-
-  error-no-reply : (e : Datagram) (m : Message) (x : ℕ) (a : Reply) → error_for e ≡ Some m → m ≡ reply x a → ⊥
-  error-no-reply too_long m x a e is = none-some m e
-  error-no-reply no_message m x a e is = none-some m e
-  error-no-reply no_call m x a e is = none-some m e
-  error-no-reply (other_rpc y) m x a e is = let bad = some-same _ m e ∙ is in absurd (cc)
-  error-no-reply (other_program y) m x a e is = let bad = some-same _ m e ∙ is in absurd (cc)
-  error-no-reply (other_version y) m x a e is = let bad = some-same _ m e ∙ is in absurd (cc)
-  error-no-reply (unknown_procedure y) m x a e is = let bad = some-same _ m e ∙ is in absurd (cc)
-  error-no-reply garbage_vacated m x a e is = none-some m e
-  error-no-reply (garbage y) m x a e is = let bad = some-same _ m e ∙ is in absurd (cc)
-  error-no-reply (request y r) m x a e is = none-some m e
 
   sent-to : (x : ℕ) (r : Request) (w : Who) → d ≡ request x r → w.host ≡ sender → Asked ps w.host x r
   sent-to x r w e from = subst (λ n. Asked ps n x r) (sym from) (was_sent x r e)

@@ -1,6 +1,7 @@
 -- What a step of the server does to the rows of a host.
-use Rattle.std.proofs.Common.{◌≡◌, ◌≢◌, ◌<◌, ◌⊎◌, ℕ, Bool, true, false, not, ◌&&◌, ◌==◌, List, [], Some, None, option_map, if◌then◌else◌, refl, sym, subst, ap, ◌∙◌, inl, inr}
+use Rattle.std.proofs.Common.{◌≡◌, ◌≢◌, ◌<◌, ◌⊎◌, ℕ, Bool, true, false, not, ◌&&◌, ◌==◌, List, [], Some, None, option_map, refl, sym, subst, ap, ◌∙◌, inl, inr}
 use Rattle.std.specs.List.{find}
+use Rattle.std.proofs.lemmas.Bool.{and_parts}
 use Rattle.nq_base.specs.declared.Access.{Access}
 use Rattle.nq_base.specs.declared.Mode.{Mode}
 use Rattle.nq_base.specs.declared.Mode.TheVariants.{NonCaching, Reading, Writing}
@@ -24,7 +25,7 @@ use Rattle.nq_run_steps.proofs.Packets.{Asked}
 use Rattle.nq_server_steps.proofs.AskCases.{own_in, with_marked, with_waiter, IsGranted, shares_again, begins_sharing, begins_caching, renews_row}
 use Rattle.nq_server_steps.proofs.Modes.{at-least-more}
 use Rattle.nq_server_steps.proofs.RowChanges.{HasUniqueKeys, of-key, found-put, find-put, kept_if, find-kept, found-kept, found-vacated, find-not-vacated, find-marked, found-marked, mark, mark-is, unique-filtered, find-other-host-dropped, find-other-file-dropped, find-other-dropped}
-use Rattle.nq_server_steps.proofs.Rows.{both-true, same-number, number-same}
+use Rattle.nq_server_steps.proofs.Rows.{same-number, number-same}
 
 -- a row that is not changed goes on
 same-on : (before : Table) (row : Row) → Continues before row row
@@ -232,7 +233,7 @@ rows-vacated ps s t host x w g tag unique same is sent = step s.phase refl
 
     own : (p : s.phase ≡ serving) (q : t.phase ≡ serving) (file : ℕ) (row : Row) → file ≡ g → host ≡ w.host → find_row file host s.table.rows ≡ Some row → (b : Bool) → (row.who.inc == w.inc && same_tag row.tag tag) ≡ b → RowOn ps s t file host row
     own p q file row at here e true gives =
-        let k = both-true _ _ gives in
+        let k = and_parts _ _ gives in
         vacated x w tag (subst (λ n. Asked ps host x (Request.Vacated w n tag)) (sym at) (sent (sym here))) (sym here) (sym (same-number row.who.inc w.inc k.0)) k.1
     own p q file row at here e false stays =
         let there : find_row g w.host s.table.rows ≡ Some row = subst (λ n. find_row n w.host s.table.rows ≡ Some row) at (subst (λ n. find_row file n s.table.rows ≡ Some row) here e) in

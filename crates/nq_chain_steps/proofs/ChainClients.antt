@@ -1,5 +1,5 @@
 -- What is known of chained leases is kept by each step of their client.
-use Rattle.std.proofs.Common.{◌≡◌, ◌⊎◌, ℕ, ◌+◌, true, false, List, [], ◌∷◌, Option, Some, None, is_some, map, refl, sym, subst, ap, arith, inl, inr}
+use Rattle.std.proofs.Common.{◌≡◌, ℕ, ◌+◌, true, false, List, Option, Some, None, is_some, refl, sym, subst, ap, arith}
 use Rattle.nq_base.specs.declared.Call.{Call}
 use Rattle.nq_base.specs.declared.Event.{Event}
 use Rattle.nq_base.specs.declared.Grant.{Grant}
@@ -23,14 +23,13 @@ use Rattle.nq_model.specs.ClientStep.{begins_call, is_called, says_busy, client_
 use Rattle.nq_model.specs.Hear.{inc_of, reply_counts, hear, replied, evicted, cancels}
 use Rattle.nq_model.specs.LeaseInterval.{HasFitting, IsCovered}
 use Rattle.nq_model.specs.Message.{Message, Packet, reply}
-use Rattle.nq_model.specs.Server.{Phase, serving, recovering, Server, standing_in, to_host}
+use Rattle.nq_model.specs.Server.{Phase, serving, recovering, Server, standing_in}
 use Rattle.nq_model.specs.Settle.{answers, names_losses, settle, ticket_is_for_call}
 use Rattle.nq_model.specs.Table.{Table}
-use Rattle.nq_model.specs.World.{from_host}
 use Rattle.nq_run_steps.proofs.ClientSteps.{KnowsOf}
 use Rattle.nq_run_steps.proofs.CoverFacts.{IsTakeable}
-use Rattle.nq_run_steps.proofs.Mail.{packets_with}
-use Rattle.nq_run_steps.proofs.Packets.{In, in-append, Told, not-both}
+use Rattle.nq_run_steps.proofs.Mail.{packets_with, old-told}
+use Rattle.nq_run_steps.proofs.Packets.{Told}
 use Rattle.nq_run_steps.proofs.Worlds.{IsAt, given-by}
 
 -- ---- a client alone
@@ -83,25 +82,13 @@ begins-mid s events host c ps b = record {
 
 -- ---- after a step
 
-told-before : (ps : List Packet) (host h : ℕ) (sends : List Message) (x : ℕ) (a : Reply) → Told (packets_with ps host sends) h (reply x a) → Told ps h (reply x a)
-told-before ps host h sends x a told = step (in-append ps (map (from_host host) sends) (to_host h (reply x a)) told)
-  where
-    no-reply : (ms : List Message) → In (map (from_host host) ms) (to_host h (reply x a)) → ⊥
-    no-reply [] i = i
-    no-reply (n ∷ ms) (inl e) = not-both host h n (reply x a) e
-    no-reply (n ∷ ms) (inr i) = no-reply ms i
-
-    step : In ps (to_host h (reply x a)) ⊎ In (map (from_host host) sends) (to_host h (reply x a)) → Told ps h (reply x a)
-    step (inl there) = there
-    step (inr new) = absurd (no-reply sends new)
-
 -- what a client sends leaves what it knows
 pub fits-sends : (s : Server) (c : Client) (ps : List Packet) (host : ℕ) (sends : List Message) → ChainFits s c ps → ChainFits s c (packets_with ps host sends)
 fits-sends s c ps host sends h = record {
   held = h.held;
-  given = record { fits = λ file g t k. h.given.fits file g t (record { x = k.x; a = k.a; told = told-before ps host c.who.host sends k.x k.a k.told; inc = k.inc; asked = k.asked; number = k.number; on_file = k.on_file; gives = k.gives }) };
+  given = record { fits = λ file g t k. h.given.fits file g t (record { x = k.x; a = k.a; told = old-told ps host c.who.host sends (reply k.x k.a) k.told; inc = k.inc; asked = k.asked; number = k.number; on_file = k.on_file; gives = k.gives }) };
   writes = h.writes;
-  line = record { above = h.line.above; drawn = h.line.drawn; last = h.line.last; replied = λ x a t n told. h.line.replied x a t n (told-before ps host c.who.host sends x a told); decided = h.line.decided };
+  line = record { above = h.line.above; drawn = h.line.drawn; last = h.line.last; replied = λ x a t n told. h.line.replied x a t n (old-told ps host c.who.host sends (reply x a) told); decided = h.line.decided };
 }
 
 mid-fits : (s : Server) (ps : List Packet) (host : ℕ) (t : ClientStep) → MidOf s ps t → ChainFits s t.client (packets_with ps host t.sends)

@@ -13,7 +13,7 @@ use Rattle.nq_chain_steps.proofs.ChainLists.{rev-put, known-put, known-put-other
 use Rattle.nq_chain_steps.proofs.ChainMoves.{View, Mid, Ready, mid-uses, mid-spends}
 use Rattle.nq_chain_steps.specs.Chained.{OwnRow, IsChained, due, KnowsFile}
 use Rattle.nq_client_steps.proofs.ClientFacts.{is_clean_in}
-use Rattle.nq_client_steps.proofs.ClientLists.{lease-after-put, put-lease-found, other-lease-put, other-number}
+use Rattle.nq_client_steps.proofs.ClientLists.{lease-after-put, put-lease-found, other-lease-put}
 use Rattle.nq_client_steps.proofs.ClientMoves.{some-same, none-some}
 use Rattle.nq_model.specs.Client.{for_call, Lease, Ticket, UnderWay, lease_on, put_lease, used_lease, other_dirty, revision_of, put_revision}
 use Rattle.nq_model.specs.Hear.{other_push, granted_lease}
@@ -24,6 +24,7 @@ use Rattle.nq_model.specs.Settle.{with_write, ticket_is_for_call}
 use Rattle.nq_model.specs.Table.{caches, is_writing, tag_below}
 use Rattle.nq_server_steps.proofs.Modes.{writing-caches}
 use Rattle.nq_server_steps.proofs.Rows.{same-number}
+use Rattle.nq_server_steps.proofs.Tests.{is-other}
 
 module _ (s : Server) (ps : List Packet) where
   -- a write is delayed under a writing lease that runs
@@ -50,7 +51,7 @@ module _ (s : Server) (ps : List Packet) where
       not-own t e job = let yes : ticket_is_for_call v.ticket ≡ true = rw (e, job) refl in absurd (cc)
 
       before : (file : ℕ) → (file == f) ≡ false → is_clean_in file (with_write f block number body v.dirty o) v.push ≡ false → is_clean_in file v.dirty v.push ≡ false
-      before file differs u = unclean-wrote file f block number body v.dirty o v.push (other-number file f differs) u
+      before file differs u = unclean-wrote file f block number body v.dirty o v.push (is-other file f differs) u
 
       held-by : (file : ℕ) (b : Bool) → (file == f) ≡ b → is_clean_in file (with_write f block number body v.dirty o) v.push ≡ false → (l : Lease) × (lease_on file v.leases ≡ Some l) × (is_writing l.mode ≡ true)
       held-by file true same u = (lease, subst (λ n. lease_on n v.leases ≡ Some lease) (sym (same-number file f same)) held, writes)
@@ -165,7 +166,7 @@ module _ (s : Server) (ps : List Packet) where
         let one : file ≡ f = same-number file f same in
         let v' : is_clean_in f v.dirty v.push ≡ false = subst (λ n. is_clean_in n v.dirty v.push ≡ false) one u in
         (m, put-lease-found m file v.leases one, writes-still g.mode (was v').0.mode (goes-on v').kind (was v').2)
-    held-by file false differs u = let l = h.writes.held file u in (l.0, other-lease-put m file v.leases (other-number file f differs) ∙ l.1, l.2)
+    held-by file false differs u = let l = h.writes.held file u in (l.0, other-lease-put m file v.leases (is-other file f differs) ∙ l.1, l.2)
 
     bound-there : (u : is_clean_in f v.dirty v.push ≡ false) → IsBoundOrFenced (standing s) s.kept v.who f (was u).0.tag (due (done_at s.kept v.who v.ticket f) (rev_at v.revisions f)) → IsBoundOrFenced (standing s) s.kept v.who f g.tag (due (done_at s.kept v.who v.ticket f) (rev_at v.revisions f))
     bound-there u (bound row k) = bound row (still-chained v.who f (was u).0.tag g.tag row (ready.fits.above (was u).0 (was u).1) k)
@@ -223,11 +224,11 @@ module _ (s : Server) (ps : List Packet) where
           let one : file ≡ f = same-number file f same in
           subst (λ n. rev_at (put_revision f rev v.revisions) n ≡ due (done_at s.kept v.who v.ticket n) (rev_at v.revisions n)) (sym one)
           (known-put f rev v.revisions ∙ k.chained l row (subst (λ n. lease_on n v.leases ≡ Some l) one e) c (subst (λ n. IsChained (standing s) v.who n l.tag row) one chained))
-      knows file l row e c chained false differs = other file (other-number file f differs)
+      knows file l row e c chained false differs = other file (is-other file f differs)
 
       bounds : (file : ℕ) → is_clean_in file v.dirty push ≡ false → (b : Bool) → (file == f) ≡ b → rev_at (put_revision f rev v.revisions) file ≡ due (done_at s.kept v.who v.ticket file) (rev_at v.revisions file)
       bounds file u true same =
           let one : file ≡ f = same-number file f same in
           subst (λ n. rev_at (put_revision f rev v.revisions) n ≡ due (done_at s.kept v.who v.ticket n) (rev_at v.revisions n)) (sym one)
           (known-put f rev v.revisions ∙ k.unclean (subst (λ n. is_clean_in n v.dirty push ≡ false) one u))
-      bounds file u false differs = other file (other-number file f differs)
+      bounds file u false differs = other file (is-other file f differs)

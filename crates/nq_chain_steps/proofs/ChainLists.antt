@@ -7,14 +7,15 @@ use Rattle.nq_base.specs.declared.Request.{Request}
 use Rattle.nq_chain_steps.proofs.ChainFacts.{rev_at}
 use Rattle.nq_chain_steps.specs.Chained.{is_done, has_done}
 use Rattle.nq_client_steps.proofs.ClientFacts.{is_clean_in}
-use Rattle.nq_client_steps.proofs.ClientLists.{other-number, number-other, marked-before, marked-tag, marked-mode, marked-expiry, lease-before-drop, other-lease-dropped, used-lease-found, marked-blocks, any-overwritten}
+use Rattle.nq_client_steps.proofs.ClientLists.{marked-before, marked-tag, marked-mode, marked-expiry, lease-before-drop, other-lease-dropped, used-lease-found, marked-blocks, any-overwritten, other-revision-put}
 use Rattle.nq_client_steps.proofs.ClientMoves.{some-same, none-some}
 use Rattle.nq_client_steps.proofs.ClientWrites.{has-writes, writes-in-list, writes-under-way}
 use Rattle.nq_model.specs.Client.{Lease, Revision, lease_on, drop_lease, used_lease, marked_used, is_push_of, is_push_at, first_dirty, push_passes, drop_dirty, other_dirty, revision_of, revision_or_zero, put_revision}
 use Rattle.nq_model.specs.Hear.{other_push}
 use Rattle.nq_model.specs.Message.{sequence_of}
 use Rattle.nq_model.specs.Settle.{with_write}
-use Rattle.nq_server_steps.proofs.Rows.{find-filter, same-number, number-same, false-not}
+use Rattle.nq_server_steps.proofs.Rows.{same-number, number-same}
+use Rattle.nq_server_steps.proofs.Tests.{is-other}
 
 -- ---- leases
 
@@ -60,16 +61,11 @@ still-dropped f leases file l apart e = record { after = l; found = other-lease-
 pub rev-put : (f rev : ℕ) (revisions : List Revision) → revision_of f (put_revision f rev revisions) ≡ Some (record { file = f; rev = rev })
 rev-put f rev revisions = let same : (f == f) ≡ true = number-same f f refl in rw same refl
 
-pub rev-put-other : (f rev g : ℕ) (revisions : List Revision) → g ≢ f → revision_of g (put_revision f rev revisions) ≡ revision_of g revisions
-rev-put-other f rev g revisions apart =
-    let differs : (f == g) ≡ false = number-other f g (λ e. apart (sym e)) in
-    rw differs (find-filter (λ r. r.file == g) (λ r. not (r.file == f)) revisions (λ r e. let same : r.file ≡ g = same-number r.file g e in false-not (r.file == f) (number-other r.file f (λ h. apart (sym same ∙ h)))))
-
 pub known-put : (f rev : ℕ) (revisions : List Revision) → rev_at (put_revision f rev revisions) f ≡ rev
 known-put f rev revisions = ap revision_or_zero (rev-put f rev revisions)
 
 pub known-put-other : (f rev g : ℕ) (revisions : List Revision) → g ≢ f → rev_at (put_revision f rev revisions) g ≡ rev_at revisions g
-known-put-other f rev g revisions apart = ap revision_or_zero (rev-put-other f rev g revisions apart)
+known-put-other f rev g revisions apart = ap revision_or_zero (other-revision-put f rev g revisions apart)
 
 -- a file that has a revision has one still
 pub some-put : (f rev g : ℕ) (revisions : List Revision) → is_some (revision_of g revisions) ≡ true → is_some (revision_of g (put_revision f rev revisions)) ≡ true
@@ -77,7 +73,7 @@ some-put f rev g revisions some = step (g == f) refl
   where
     step : (b : Bool) → (g == f) ≡ b → is_some (revision_of g (put_revision f rev revisions)) ≡ true
     step true e = subst (λ n. is_some (revision_of n (put_revision f rev revisions)) ≡ true) (sym (same-number g f e)) (ap is_some (rev-put f rev revisions))
-    step false e = ap is_some (rev-put-other f rev g revisions (other-number g f e)) ∙ some
+    step false e = ap is_some (other-revision-put f rev g revisions (is-other g f e)) ∙ some
 
 -- ---- delayed writes
 

@@ -1,5 +1,6 @@
 -- What is known of chained leases is kept where a client hears the reply to its request, or a notice.
 use Rattle.std.proofs.Common.{◌≡◌, ◌≢◌, ℕ, ◌+◌, Bool, true, false, not, ◌&&◌, ◌==◌, List, Option, Some, None, refl, sym, subst, ap, ◌∙◌, arith}
+use Rattle.std.proofs.lemmas.Bool.{and_from}
 use Rattle.nq_base.specs.declared.Answer.{Answer}
 use Rattle.nq_base.specs.declared.Grant.{Grant}
 use Rattle.nq_base.specs.declared.HostRow.{HostRow}
@@ -31,7 +32,7 @@ use Rattle.nq_model.specs.Message.{Packet, sequence_of}
 use Rattle.nq_model.specs.Server.{Server}
 use Rattle.nq_model.specs.Settle.{answers, names_losses, ticket_is_for_call}
 use Rattle.nq_model.specs.Table.{tag_below}
-use Rattle.nq_server_steps.proofs.Rows.{true-both, number-same}
+use Rattle.nq_server_steps.proofs.Rows.{number-same}
 
 module _ (s : Server) (ps : List Packet) where
   free-idle : (t : ClientStep) → t.client.ticket ≡ None → ticket_is_for_call t.client.ticket ≡ false
@@ -266,7 +267,7 @@ undone-file line inc file other e = refl
 
 -- what was done to one file was done to no other
 done-here : (line : HostRow) (inc seq file block first last : ℕ) (w : Who) (push : Option PushBase) (body : List ℕ) → line.inc ≡ inc → line.seq ≡ seq → is_done line.verdict ≡ true → has_done line inc file (Request.Write w seq file block first last push body) ≡ true
-done-here line inc seq file block first last w push body same kept done = true-both _ _ (true-both _ _ (true-both _ _ (number-same file file refl) (number-same line.inc inc same)) (number-same line.seq seq kept)) done
+done-here line inc seq file block first last w push body same kept done = and_from _ _ (and_from _ _ (and_from _ _ (number-same file file refl) (number-same line.inc inc same)) (number-same line.seq seq kept)) done
 
 done-there : (line : HostRow) (inc seq file g block first last : ℕ) (w : Who) (push : Option PushBase) (body : List ℕ) → g ≢ file → has_done line inc g (Request.Write w seq file block first last push body) ≡ false
 done-there line inc seq file g block first last w push body apart = let differs : (file == g) ≡ false = number-other file g (λ e. apart (sym e)) in rw differs refl

@@ -1,7 +1,8 @@
 -- What is known of chained leases is kept where a client settles its call and sends its next request.
-use Rattle.std.proofs.Common.{◌≡◌, ◌<◌, ◌⊎◌, ℕ, ◌+◌, Bool, true, false, not, ◌||◌, ◌&&◌, ◌==◌, List, [], ◌∷◌, Option, Some, None, nat_le, nat_lt, map, if◌then◌else◌, refl, sym, subst, ap, ◌∙◌, arith}
+use Rattle.std.proofs.Common.{◌≡◌, ◌<◌, ℕ, ◌+◌, Bool, true, false, not, ◌||◌, ◌&&◌, ◌==◌, List, [], ◌∷◌, Option, Some, None, nat_le, nat_lt, map, if◌then◌else◌, refl, sym, subst, ap, ◌∙◌, arith}
 use Rattle.std.proofs.lemmas.Bool.Decides.{nat_tests}
 use Rattle.std.specs.List.{filter, list_any}
+use Rattle.std.proofs.lemmas.Bool.{and_parts, not-true}
 use Rattle.nq_base.specs.declared.Answer.{Answer}
 use Rattle.nq_base.specs.declared.Call.{Call}
 use Rattle.nq_base.specs.declared.Mode.{Mode}
@@ -29,7 +30,7 @@ use Rattle.nq_model.specs.Send.{boot_of, sends_request, after_seq, after_number,
 use Rattle.nq_model.specs.Server.{Server}
 use Rattle.nq_model.specs.Settle.{answers, reads_cached, after_read, after_write, delays, marks_written, settle, ticket_is_for_call}
 use Rattle.nq_model.specs.Table.{caches, is_writing}
-use Rattle.nq_server_steps.proofs.Rows.{both-true, not-true, find-passes, same-number}
+use Rattle.nq_server_steps.proofs.Rows.{find-passes, same-number}
 use Rattle.nq_server_steps.proofs.ServerOutcomes.{base_in, file_changed_by}
 
 -- the view of a client in the middle of a step
@@ -66,7 +67,7 @@ module _ (s : Server) (ps : List Packet) where
   mid-writes : (t : ClientStep) (u : UnderWay) (file block : ℕ) (body : List ℕ) (lease : Lease) → IsSettling t u → CanWrite t.client u file lease → MidOf s ps t → MidOf s ps (delays t file block body)
   unfolding after_write
   mid-writes t u file block body lease is can h =
-      let lets = both-true _ _ can.lets in
+      let lets = and_parts _ _ can.lets in
       mid-delays s ps (view_of t) file block t.client.number body _ lease is.idle can.held lets.0 (runs lets.1)
       (λ v e on. let one : u ≡ v = some-same u v (sym is.called ∙ e) in let off : v.through ≡ false = subst (λ z. z.through ≡ false) one can.delayed in absurd (cc)) h
     where
@@ -149,8 +150,8 @@ module _ (t : ClientStep) (noticed : (file : ℕ) (n : Notice) → notice_on fil
       step None is = passing (is_to_push t.client) t.client.leases l (subst (λ n. lease_on n t.client.leases ≡ Some l) (sym of-file) e) due is
       step (Some g) is =
           let m = least-passes (is_to_push t.client) t.client.leases g is in
-          let k = both-true _ _ m.2 in
-          let j = both-true _ _ k.0 in
+          let k = and_parts _ _ m.2 in
+          let j = and_parts _ _ k.0 in
           has-first g (subst (λ n. is_clean t.client n ≡ false) m.1 (not-true _ j.1)) (nothing.ending g is)
 
   -- a settled write that is not to go through is to a clean file

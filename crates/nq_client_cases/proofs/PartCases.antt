@@ -1,5 +1,6 @@
 -- The smaller choices of a client's step, each with what led to it.
 use Rattle.std.proofs.Common.{◌≡◌, ℕ, true, false, ◌&&◌, not, List, Option, Some, None, is_some, refl}
+use Rattle.std.proofs.lemmas.Bool.{and_parts, not-true}
 use Rattle.nq_base.specs.declared.Answer.{Answer}
 use Rattle.nq_base.specs.declared.Grant.{Grant}
 use Rattle.nq_base.specs.declared.Push.{Push}
@@ -7,7 +8,7 @@ use Rattle.nq_model.specs.Client.{ClientStep, Lease, Notice, UnderWay, lease_on,
 use Rattle.nq_model.specs.Hear.{vacates_lease, vacates_noticed, waits_for, reports_to, reports, breaks, breaks_chain, if_broken, takes_grant, takes_optional, answers_call_of, answers_call, grant_caches, caches_block, then_caches, marks_through, lease_done, holds_caching, purges, caches_write, caches_push, vacates_if_clean}
 use Rattle.nq_model.specs.Settle.{answers, names_losses}
 use Rattle.nq_model.specs.Table.{tag_below}
-use Rattle.nq_server_steps.proofs.Rows.{choice, both-true, not-true}
+use Rattle.nq_server_steps.proofs.Rows.{choice}
 
 -- the call under way is answered, if there is one
 pub answers-call-cases : (t : ClientStep) (answer : Answer) (by : Option ℕ) (Q : ClientStep → Type 0) → (t.client.call ≡ None → Q t) → ((u : UnderWay) → t.client.call ≡ Some u → Q (answers t u.q answer by)) → Q (answers_call t answer by)
@@ -34,7 +35,7 @@ reports-cases t file Q none other told = case t.client.call refl
 pub if-broken-cases : (t : ClientStep) (file : ℕ) (g : Grant) (Q : ClientStep → Type 0) → ((breaks g (lease_on file t.client.leases) && not (is_clean t.client file)) ≡ false → Q t) → ((lease : Lease) → lease_on file t.client.leases ≡ Some lease → tag_below lease.tag g.since ≡ true → is_clean t.client file ≡ false → Q (breaks_chain t file)) → Q (if_broken t file g)
 if-broken-cases t file g Q whole broken =
     choice Q (breaks g (lease_on file t.client.leases) && not (is_clean t.client file)) (breaks_chain t file) t
-    (λ e. let a = both-true _ _ e in case (lease_on file t.client.leases) refl a.0 (not-true _ a.1))
+    (λ e. let a = and_parts _ _ e in case (lease_on file t.client.leases) refl a.0 (not-true _ a.1))
     whole
   where
     case : (o : Option Lease) → lease_on file t.client.leases ≡ o → breaks g o ≡ true → is_clean t.client file ≡ false → Q (breaks_chain t file)
@@ -58,7 +59,7 @@ then-caches-cases t file block body o Q caching other = choice Q (grant_caches o
 pub caches-write-cases : (t : ClientStep) (file block : ℕ) (body : List ℕ) (rev : ℕ) (Q : ClientStep → Type 0) → (holds_caching (lease_on file t.client.leases) ≡ true → is_revision_before rev (revision_of file t.client.revisions) ≡ true → Q (caches_block t file block body)) → Q (purges t file) → Q (caches_write t file block body rev)
 caches-write-cases t file block body rev Q caching other =
     choice Q (holds_caching (lease_on file t.client.leases) && is_revision_before rev (revision_of file t.client.revisions)) (caches_block t file block body) (purges t file)
-    (λ e. let a = both-true _ _ e in caching a.0 a.1)
+    (λ e. let a = and_parts _ _ e in caching a.0 a.1)
     (λ e. other)
 
 -- the block of a stored push is cached, unless it is dirty again

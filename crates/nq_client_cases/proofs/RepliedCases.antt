@@ -1,5 +1,6 @@
 -- What a client makes of the reply to its request, walked once: each outcome with what led to it.
 use Rattle.std.proofs.Common.{◌≡◌, ◌⊎◌, ℕ, true, false, List, Option, Some, None, refl, inl, inr}
+use Rattle.std.proofs.lemmas.Bool.{not-true}
 use Rattle.nq_base.specs.declared.Answer.{Answer}
 use Rattle.nq_base.specs.declared.Grant.{Grant}
 use Rattle.nq_base.specs.declared.PushBase.{PushBase}
@@ -12,7 +13,7 @@ use Rattle.nq_base.specs.declared.Who.{Who}
 use Rattle.nq_client_steps.proofs.ClientFacts.{fits_job, fits_call}
 use Rattle.nq_model.specs.Client.{Client, ClientStep, Job, for_call, pushing, Ticket, begun}
 use Rattle.nq_model.specs.Hear.{spends, attached, pauses, answers_call, answer_of, puts_off, counts_for_call, read_done, lease_done, write_done, knows_revision, takes_optional, push_done, push_refused, done, done_for_call, done_renewal, done_push, refused, refused_push, replied, reply_counts, refusal_counts, is_of_procedure}
-use Rattle.nq_server_steps.proofs.Rows.{choice, not-true}
+use Rattle.nq_server_steps.proofs.Rows.{choice}
 
 -- the request under way is of the call
 pub record OfCall (ticket : Ticket) (request : Request) : Type 0 where

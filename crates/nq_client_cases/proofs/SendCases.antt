@@ -1,6 +1,7 @@
 -- The next request, walked once: each outcome with what led to it.
-use Rattle.std.proofs.Common.{◌≡◌, ◌≤◌, ◌⊎◌, ℕ, Bool, true, false, ◌||◌, ◌==◌, List, [], ◌∷◌, Option, Some, None, is_some, map, nat_le, if◌then◌else◌, refl, sym, subst, ap, ◌∙◌, inl, inr}
+use Rattle.std.proofs.Common.{◌≡◌, ◌≤◌, ◌⊎◌, ℕ, Bool, true, false, ◌||◌, List, [], ◌∷◌, Option, Some, None, is_some, map, nat_le, if◌then◌else◌, refl, sym, subst, ap, ◌∙◌, inl, inr}
 use Rattle.std.specs.List.{filter}
+use Rattle.std.proofs.lemmas.Bool.{and_parts, not-true, or_parts}
 use Rattle.nq_base.specs.declared.Call.{Call}
 use Rattle.nq_base.specs.declared.Mode.{Mode}
 use Rattle.nq_base.specs.declared.Push.{Push}
@@ -10,8 +11,8 @@ use Rattle.nq_client_steps.proofs.ClientMoves.{some-same, none-some}
 use Rattle.nq_client_steps.proofs.SendWalk.{least-with-one}
 use Rattle.nq_model.specs.Client.{Client, ClientStep, Job, for_call, renewing, pushing, Lease, Ticket, UnderWay, lease_on, notice_on, is_clean, first_dirty}
 use Rattle.nq_model.specs.Send.{sends_request, after_seq, base_of, takes_push, pushes_these, pushes, noticed_file, ending_file, read_want, want_of, sends_write, next_write, next_put, gives_up, next_change, asks, next_of_call, next_of_under_way, renews_lease, renews, renewed_file, is_to_renew, is_asking, then_renews, then_calls, pushes_due, then_pushes, then_ending, send_next, shares_live, least, file_of_lease}
-use Rattle.nq_server_steps.proofs.Rows.{choice, both-true, not-true}
-use Rattle.nq_server_steps.proofs.Tests.{is-at-most, either-false, none-there}
+use Rattle.nq_server_steps.proofs.Rows.{choice}
+use Rattle.nq_server_steps.proofs.Tests.{is-at-most, none-there}
 
 -- neither the file of the first notice nor the first file whose lease is about to end has delayed writes to be pushed
 pub record NothingToPush (c : Client) : Type 0 where
@@ -101,8 +102,8 @@ least-passes p (l ∷ leases) file h = step (p l) refl h (least-passes p leases 
 renewed-facts : (c : Client) (file : ℕ) → renewed_file c ≡ Some file → (is_clean c file ≡ true) × (notice_on file c.notices ≡ None)
 renewed-facts c file h =
     let m = least-passes (is_to_renew c) c.leases file h in
-    let a = both-true _ _ m.2 in
-    (subst (λ f. is_clean c f ≡ true) m.1 (both-true _ _ a.0).1, subst (λ f. notice_on f c.notices ≡ None) m.1 (none-there _ (not-true _ a.1)))
+    let a = and_parts _ _ m.2 in
+    (subst (λ f. is_clean c f ≡ true) m.1 (and_parts _ _ a.0).1, subst (λ f. notice_on f c.notices ≡ None) m.1 (none-there _ (not-true _ a.1)))
 
 -- ---- the walk
 
@@ -197,7 +198,7 @@ module _ (in_tick : Bool) (t : ClientStep) (Q : ClientStep → Type 0) (cases : 
           (sends_write t file block body)
           (sends_request t for_call (Request.GetLease t.client.who file (want_of t.client Mode.Writing)))
           (λ through. sent _ _ _ (cases.writing u file block body (goes e) is through))
-          (λ wants. let a = either-false _ _ wants in sent _ _ _ (cases.leasing u file block body (goes e) is a.0 a.1))
+          (λ wants. let a = or_parts _ _ wants in sent _ _ _ (cases.leasing u file block body (goes e) is a.0 a.1))
 
       puts : (file block : ℕ) (body : List ℕ) → u.call ≡ Call.WriteSync file block body → (written may_ask : Bool) → u.written ≡ written → b ≡ may_ask → R (next_put t written may_ask file block body)
       puts file block body is true may_ask w e = pushes-or nothing file

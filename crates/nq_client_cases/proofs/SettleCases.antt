@@ -1,6 +1,7 @@
 -- What a call under way needs no packet for, walked once: each outcome with what led to it.
 use Rattle.std.proofs.Common.{◌≡◌, ◌<◌, ◌≤◌, ◌⊎◌, ℕ, Bool, true, false, ◌&&◌, ◌||◌, ◌==◌, not, List, [], ◌∷◌, ◌++◌, Option, Some, None, is_some, nat_le, if◌then◌else◌, refl, sym, subst, ap, ◌∙◌, inl, inr}
 use Rattle.std.specs.List.{list_any}
+use Rattle.std.proofs.lemmas.Bool.{and_parts, not-true}
 use Rattle.nq_base.specs.declared.Answer.{Answer}
 use Rattle.nq_base.specs.declared.Call.{Call}
 use Rattle.nq_base.specs.declared.Push.{Push}
@@ -9,7 +10,7 @@ use Rattle.nq_client_steps.proofs.ClientLists.{any-written}
 use Rattle.nq_client_steps.proofs.ClientMoves.{some-same, none-some}
 use Rattle.nq_model.specs.Client.{Client, ClientStep, Lease, UnderWay, lease_on, lets_read, lets_write, notice_on, is_clean, is_push_of, is_push_at, dirty_at}
 use Rattle.nq_model.specs.Settle.{answers, reads_cached, settle_body, cached_body, settle_read, after_write, delays, marks_written, after_delay, settle_write_in, settle_write, settle_sync, settle_put, settle_call, ticket_is_for_call, settle_under_way, settle, is_full, with_write}
-use Rattle.nq_server_steps.proofs.Rows.{choice, both-true, not-true, number-same}
+use Rattle.nq_server_steps.proofs.Rows.{choice, number-same}
 use Rattle.nq_server_steps.proofs.Tests.{is-at-most, is-not-at-most, none-there}
 
 -- a call is under way, and its own request is not
@@ -140,7 +141,7 @@ settle-cases t Q cases = under-way t.client.call refl
         (lets_write t.client.now lease && not (is_some (notice_on file t.client.notices)) && not u.through)
         (settle_write_in t u sync file block body lease)
         t
-        (λ lets. within (let a = both-true _ _ lets in let b = both-true _ _ a.0 in record { held = e; lets = b.0; unnoticed = none-there _ (not-true _ b.1); delayed = not-true _ a.1 }))
+        (λ lets. within (let a = and_parts _ _ lets in let b = and_parts _ _ a.0 in record { held = e; lets = b.0; unnoticed = none-there _ (not-true _ b.1); delayed = not-true _ a.1 }))
         (λ refuses. cases.write_waits u sync file block body is write (λ other can. refused other can refuses))
       where
         refused : (other : Lease) → CanWrite t.client u file other → (lets_write t.client.now lease && not (is_some (notice_on file t.client.notices)) && not u.through) ≡ false → ⊥
@@ -320,7 +321,7 @@ needs-reply t u is needs = record {
 
 -- a file with a delayed write is not clean
 found-any-step : (file block : ℕ) (p x : Push) (xs : List Push) (b : Bool) → is_push_at file block x ≡ b → (dirty_at file block xs ≡ Some p → list_any (is_push_of file) xs ≡ true) → (if b then Some x else dirty_at file block xs) ≡ Some p → (is_push_of file x || list_any (is_push_of file) xs) ≡ true
-found-any-step file block p x xs true e rest found = let a = both-true _ _ e in let of : is_push_of file x ≡ true = a.0 in rw of refl
+found-any-step file block p x xs true e rest found = let a = and_parts _ _ e in let of : is_push_of file x ≡ true = a.0 in rw of refl
 found-any-step file block p x xs false e rest found = either (is_push_of file x) (list_any (is_push_of file) xs) (rest found)
   where
     either : (a b : Bool) → b ≡ true → (a || b) ≡ true

@@ -1,5 +1,6 @@
 -- A client's step, walked once: a call, a tick, a datagram. Each outcome with what led to it.
 use Rattle.std.proofs.Common.{◌≡◌, ◌<◌, ◌≤◌, ◌⊎◌, ℕ, ◌+◌, Bool, true, false, ◌||◌, ◌&&◌, not, List, [], ◌∷◌, Option, Some, None, is_some, nat_le, if◌then◌else◌, refl, subst, ap, ◌∙◌, inl, inr}
+use Rattle.std.proofs.lemmas.Bool.{and_parts, not-true}
 use Rattle.nq_base.specs.declared.Call.{Call}
 use Rattle.nq_base.specs.declared.Loss.{Loss}
 use Rattle.nq_base.specs.declared.Reply.{Reply}
@@ -15,7 +16,8 @@ use Rattle.nq_model.specs.Profile.{patience}
 use Rattle.nq_model.specs.Send.{send_next}
 use Rattle.nq_model.specs.Settle.{names_losses, settle}
 use Rattle.nq_model.specs.Table.{same_who}
-use Rattle.nq_server_steps.proofs.Rows.{choice, both-true, not-true, same-number}
+use Rattle.nq_server_steps.proofs.Incarnations.{who-same}
+use Rattle.nq_server_steps.proofs.Rows.{choice, same-number}
 use Rattle.nq_server_steps.proofs.Tests.{is-at-most, is-not-at-most}
 
 -- ---- a call
@@ -98,16 +100,6 @@ evicted-cases t file tag Q cases = choice Q (is_clean t.client file) (vacates_le
 
 -- ---- a datagram that counts
 
-who-same : (w v : Who) → same_who w v ≡ true → w ≡ v
-who-same w v h =
-    let a = both-true _ _ h in
-    let host : w.host ≡ v.host = same-number _ _ a.0 in
-    let inc : w.inc ≡ v.inc = same-number _ _ a.1 in
-    ap (λ n. who_of n w.inc) host ∙ ap (λ n. who_of v.host n) inc
-  where
-    who_of : ℕ → ℕ → Who
-    who_of host inc = record { host = host; inc = inc }
-
 pub record HeardCases (c : Client) (k : ℕ) (m : Message) (Q : ClientStep → Type 0) : Type 0 where
   -- the reply to the request under way
   pub answered : (xid : ℕ) (r : Reply) (ticket : Ticket) → m ≡ reply xid r → c.ticket ≡ Some ticket → xid ≡ ticket.xid → inc_of r ≡ c.who.inc → reply_counts r ticket ≡ true → Q (goes_on (replied (begun c) k ticket r))
@@ -124,15 +116,15 @@ heard-cases c k m t Q hears cases = case m refl hears
         counts : (b : Bool) → is_reply_to c xid r ticket ≡ b → (if b then Some (goes_on (replied (begun c) k ticket r)) else None) ≡ Some t → Q t
         counts false g e = absurd (cc)
         counts true g e =
-            let a = both-true _ _ g in
-            let b = both-true _ _ a.0 in
+            let a = and_parts _ _ g in
+            let b = and_parts _ _ a.0 in
             let same : goes_on (replied (begun c) k ticket r) ≡ t = some-same _ _ e in
             subst Q same (cases.answered xid r ticket is f (same-number _ _ b.0) (same-number _ _ b.1) a.1)
 
     notices : (xid : ℕ) (who : Who) (file : ℕ) (tag : Tag) → m ≡ call xid (Request.Evicted who file tag) → (b : Bool) → (same_who who c.who && not (holds_later tag (lease_on file c.leases))) ≡ b → (if b then Some (goes_on (evicted (cancels (begun c) file) file tag)) else None) ≡ Some t → Q t
     notices xid who file tag is false g e = absurd (cc)
     notices xid who file tag is true g e =
-        let a = both-true _ _ g in
+        let a = and_parts _ _ g in
         let one : who ≡ c.who = who-same who c.who a.0 in
         let same : goes_on (evicted (cancels (begun c) file) file tag) ≡ t = some-same _ _ e in
         subst Q same (cases.noticed xid file tag (is ∙ ap (λ w. call xid (Request.Evicted w file tag)) one) (not-true _ a.1))

@@ -3,14 +3,12 @@ use Rattle.std.proofs.Common.{◌≡◌, ◌≢◌, ◌⊎◌, ℕ, Bool, true, 
 use Rattle.std.specs.List.{filter, list_any}
 use Rattle.std.specs.Option.{option_map}
 use Rattle.std.proofs.lemmas.Bool.Decides.{nat_tests}
+use Rattle.std.proofs.lemmas.Bool.{and_parts, not_from_false}
 use Rattle.nq_base.specs.declared.Push.{Push}
-use Rattle.nq_server_steps.proofs.Rows.{find-passes, find-filter, find-dropped, find-map, same-number, number-same, both-true, false-not}
-use Rattle.nq_model.specs.Client.{Lease, Notice, lease_on, drop_lease, put_lease, notice_on, drop_notice, is_push_of, is_push_at, first_dirty, dirty_at, drop_dirty, other_dirty, marked_used, used_lease}
+use Rattle.nq_server_steps.proofs.Rows.{find-passes, find-filter, find-dropped, find-map, same-number, number-same}
+use Rattle.nq_model.specs.Client.{Lease, Notice, lease_on, drop_lease, put_lease, notice_on, drop_notice, is_push_of, is_push_at, first_dirty, dirty_at, drop_dirty, other_dirty, marked_used, used_lease, Revision, revision_of, put_revision}
 use Rattle.nq_model.specs.Settle.{overwritten_at, with_write}
-
--- two different numbers
-pub other-number : (m n : ℕ) → (m == n) ≡ false → m ≢ n
-other-number m n h = λ e. let same : (m == n) ≡ true = number-same m n e in cc
+use Rattle.nq_server_steps.proofs.Tests.{is-other}
 
 pub number-other : (m n : ℕ) → m ≢ n → (m == n) ≡ false
 number-other m n h = grind (arith, nat_tests)
@@ -21,7 +19,7 @@ dropped-lease file leases = find-dropped (λ l. l.file == file) (λ l. not (l.fi
 
 pub other-lease-dropped : (file other : ℕ) (leases : List Lease) → other ≢ file → lease_on other (drop_lease file leases) ≡ lease_on other leases
 other-lease-dropped file other leases h =
-    find-filter (λ l. l.file == other) (λ l. not (l.file == file)) leases (λ l e. let same : l.file ≡ other = same-number l.file other e in false-not (l.file == file) (number-other l.file file (λ f. h (sym same ∙ f))))
+    find-filter (λ l. l.file == other) (λ l. not (l.file == file)) leases (λ l e. let same : l.file ≡ other = same-number l.file other e in not_from_false (l.file == file) (number-other l.file file (λ f. h (sym same ∙ f))))
 
 -- what is found after a drop was found before
 pub lease-before-drop : (file other : ℕ) (leases : List Lease) (l : Lease) → lease_on other (drop_lease file leases) ≡ Some l → (other ≢ file) × (lease_on other leases ≡ Some l)
@@ -29,7 +27,7 @@ lease-before-drop file other leases l h = step (other == file) refl
   where
     step : (b : Bool) → (other == file) ≡ b → (other ≢ file) × (lease_on other leases ≡ Some l)
     step true e = let same : other ≡ file = same-number other file e in let gone : lease_on other (drop_lease file leases) ≡ None = rw same (dropped-lease file leases) in cc
-    step false e = let apart : other ≢ file = other-number other file e in (apart, sym (other-lease-dropped file other leases apart) ∙ h)
+    step false e = let apart : other ≢ file = is-other other file e in (apart, sym (other-lease-dropped file other leases apart) ∙ h)
 
 pub put-lease-found : (lease : Lease) (file : ℕ) (leases : List Lease) → file ≡ lease.file → lease_on file (put_lease lease leases) ≡ Some lease
 put-lease-found lease file leases e = let same : (lease.file == file) ≡ true = number-same lease.file file (sym e) in rw same refl
@@ -49,7 +47,7 @@ lease-after-put lease other leases l h = step (other == lease.file) refl
         let found : lease_on other (put_lease lease leases) ≡ Some lease = put-lease-found lease other leases same in
         let one : l ≡ lease = cc in
         inl (same, one)
-    step false e = let apart : other ≢ lease.file = other-number other lease.file e in inr (apart, sym (other-lease-put lease other leases apart) ∙ h)
+    step false e = let apart : other ≢ lease.file = is-other other lease.file e in inr (apart, sym (other-lease-put lease other leases apart) ∙ h)
 
 -- a lease that was marked as used is found under its file, marked
 marked-key : (file f : ℕ) (l : Lease) → ((marked_used f l).file == file) ≡ (l.file == file)
@@ -110,14 +108,14 @@ dropped-notice file notices = find-dropped (λ n. n.file == file) (λ n. not (n.
 
 pub other-notice-dropped : (file other : ℕ) (notices : List Notice) → other ≢ file → notice_on other (drop_notice file notices) ≡ notice_on other notices
 other-notice-dropped file other notices h =
-    find-filter (λ n. n.file == other) (λ n. not (n.file == file)) notices (λ n e. let same : n.file ≡ other = same-number n.file other e in false-not (n.file == file) (number-other n.file file (λ f. h (sym same ∙ f))))
+    find-filter (λ n. n.file == other) (λ n. not (n.file == file)) notices (λ n e. let same : n.file ≡ other = same-number n.file other e in not_from_false (n.file == file) (number-other n.file file (λ f. h (sym same ∙ f))))
 
 pub notice-before-drop : (file other : ℕ) (notices : List Notice) (n : Notice) → notice_on other (drop_notice file notices) ≡ Some n → (other ≢ file) × (notice_on other notices ≡ Some n)
 notice-before-drop file other notices n h = step (other == file) refl
   where
     step : (b : Bool) → (other == file) ≡ b → (other ≢ file) × (notice_on other notices ≡ Some n)
     step true e = let same : other ≡ file = same-number other file e in let gone : notice_on other (drop_notice file notices) ≡ None = rw same (dropped-notice file notices) in cc
-    step false e = let apart : other ≢ file = other-number other file e in (apart, sym (other-notice-dropped file other notices apart) ∙ h)
+    step false e = let apart : other ≢ file = is-other other file e in (apart, sym (other-notice-dropped file other notices apart) ∙ h)
 
 -- what is found after a notice was put in front is that notice or was found before
 pub notice-after-put : (notice : Notice) (other : ℕ) (notices : List Notice) (n : Notice) → notice_on other (notice ∷ drop_notice notice.file notices) ≡ Some n → ((other ≡ notice.file) × (n ≡ notice)) ⊎ ((other ≢ notice.file) × (notice_on other notices ≡ Some n))
@@ -145,7 +143,7 @@ first-is-of file dirty p h = same-number p.file file (find-passes (is_push_of fi
 
 -- the delayed writes of a block are of its file
 pub dirty-is-of : (file block : ℕ) (dirty : List Push) (p : Push) → dirty_at file block dirty ≡ Some p → p.file ≡ file
-dirty-is-of file block dirty p h = same-number p.file file (both-true _ _ (find-passes (is_push_at file block) p dirty h)).0
+dirty-is-of file block dirty p h = same-number p.file file (and_parts _ _ (find-passes (is_push_at file block) p dirty h)).0
 
 -- where the writes of another file's block are taken away, a file has as many as before
 pub any-dropped : (file other block : ℕ) (dirty : List Push) → other ≢ file → list_any (is_push_of file) (drop_dirty other block dirty) ≡ list_any (is_push_of file) dirty
@@ -190,3 +188,10 @@ marked-blocks f l = step (l.file == f)
     step : (b : Bool) → (if b then record l { used = true } else l).blocks ≡ l.blocks
     step true = refl
     step false = refl
+
+-- ---- revisions
+
+pub other-revision-put : (file rev other : ℕ) (revisions : List Revision) → other ≢ file → revision_of other (put_revision file rev revisions) ≡ revision_of other revisions
+other-revision-put file rev other revisions apart =
+    let differs : (file == other) ≡ false = number-other file other (λ e. apart (sym e)) in
+    rw differs (find-filter (λ r. r.file == other) (λ r. not (r.file == file)) revisions (λ r e. let same : r.file ≡ other = same-number r.file other e in not_from_false (r.file == file) (number-other r.file file (λ h. apart (sym same ∙ h)))))

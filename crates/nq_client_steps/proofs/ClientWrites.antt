@@ -3,12 +3,13 @@ use Rattle.std.proofs.Common.{◌≡◌, ◌≢◌, ◌⊎◌, ℕ, Bool, true, 
 use Rattle.std.specs.List.{list_any}
 use Rattle.nq_base.specs.declared.Push.{Push}
 use Rattle.nq_client_steps.proofs.ClientFacts.{push_in, is_clean_in, Delaying}
-use Rattle.nq_client_steps.proofs.ClientLists.{any-dropped, any-others, any-written, notice-before-drop, notice-after-put, other-number}
+use Rattle.nq_client_steps.proofs.ClientLists.{any-dropped, any-others, any-written, notice-before-drop, notice-after-put}
 use Rattle.nq_client_steps.proofs.ClientMoves.{none-some}
 use Rattle.nq_server_steps.proofs.Rows.{same-number}
 use Rattle.nq_model.specs.Client.{pushing, Notice, Ticket, is_push_of, notice_on, drop_notice, push_passes, drop_dirty, other_dirty}
 use Rattle.nq_model.specs.Hear.{other_push}
 use Rattle.nq_model.specs.Settle.{with_write}
+use Rattle.nq_server_steps.proofs.Tests.{is-other}
 
 -- a file is not clean where the list has writes of it, or those under way are of it
 not-clean-list : (a b : Bool) → a ≡ true → (not a && b) ≡ false
@@ -55,7 +56,7 @@ pushes {dirty = dirty} ticket p job is h = record {
 } where
   case : (f : ℕ) (b : Bool) → (p.file == f) ≡ b → (list_any (is_push_of f) dirty ≡ true) ⊎ (false ≡ true) → is_clean_in f (drop_dirty p.file p.block dirty) (Some p) ≡ false
   case f true e some = writes-under-way f (drop_dirty p.file p.block dirty) (Some p) e
-  case f false e (inl some) = writes-in-list f _ (Some p) (any-dropped f p.file p.block dirty (other-number p.file f e) ∙ some)
+  case f false e (inl some) = writes-in-list f _ (Some p) (any-dropped f p.file p.block dirty (is-other p.file f e) ∙ some)
   case f false e (inr bad) = absurd (cc)
 
 -- a request that is no push is under way from now on, or none

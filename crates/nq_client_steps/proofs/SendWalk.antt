@@ -1,6 +1,7 @@
 -- What each small change of a client keeps is kept where the next request is sent.
 use Rattle.std.proofs.Common.{◌≡◌, ◌<◌, ◌⊎◌, ℕ, ◌+◌, Bool, true, false, ◌||◌, ◌==◌, List, [], ◌∷◌, Option, Some, None, is_some, map, nat_le, nat_lt, if◌then◌else◌, refl, sym, subst, ap, ◌∙◌, arith, inl, inr}
 use Rattle.std.specs.List.{find, filter, list_any}
+use Rattle.std.proofs.lemmas.Bool.{and_parts, not-true}
 use Rattle.nq_base.specs.declared.Call.{Call}
 use Rattle.nq_base.specs.declared.Grant.{Grant}
 use Rattle.nq_base.specs.declared.Mode.{Mode}
@@ -13,7 +14,7 @@ use Rattle.nq_client_steps.proofs.ClientFacts.{Asking, Delaying, AskingOf, Delay
 use Rattle.nq_client_steps.proofs.ClientLists.{dropped-lease, number-other}
 use Rattle.nq_client_steps.proofs.ClientMoves.{some-same, none-some, attached-with-call, IsNext, draws, sends, drops}
 use Rattle.nq_client_steps.proofs.ClientWrites.{has-writes, pushes as pushes_write, asks as asks_delaying, no-push}
-use Rattle.nq_server_steps.proofs.Rows.{choice, both-true, not-true, number-same, same-number, find-passes}
+use Rattle.nq_server_steps.proofs.Rows.{choice, number-same, same-number, find-passes}
 use Rattle.nq_model.specs.Client.{Client, ClientStep, Job, attaching, for_call, renewing, pushing, Lease, Notice, Ticket, UnderWay, lease_on, notice_on, is_clean, is_push_of, first_dirty, drop_dirty, drop_lease, push_passes}
 use Rattle.nq_model.specs.Hear.{wants_of}
 use Rattle.nq_model.specs.Message.{asker, sequence_of}
@@ -358,7 +359,7 @@ renewed-one c (l ∷ leases) file h = step (is_to_renew c l) refl h (renewed-one
     step true e g rest = which (least-with-one l.file (least (map file_of_lease (filter (is_to_renew c) leases))) file g)
       where
         which : (l.file ≡ file) ⊎ (least (map file_of_lease (filter (is_to_renew c) leases)) ≡ Some file) → notice_on file c.notices ≡ None
-        which (inl same) = subst (λ f. notice_on f c.notices ≡ None) same (none-there (notice_on l.file c.notices) (not-true _ (both-true _ _ e).1))
+        which (inl same) = subst (λ f. notice_on f c.notices ≡ None) same (none-there (notice_on l.file c.notices) (not-true _ (and_parts _ _ e).1))
         which (inr less) = rest less
     step false e g rest = rest g
 

@@ -1,13 +1,13 @@
 -- The laws of contents.
 use Rattle.std.proofs.Common.{◌≡◌, ℕ, Option, Some, None, sym, subst, ap, ◌∙◌, inl, inr}
 use Rattle.std.specs.Prelude.{slice_get}
+use Rattle.std.proofs.lemmas.Bool.{and_parts}
 use Rattle.nq_base.specs.Block.{value_of}
 use Rattle.nq_base.specs.declared.Grant.{Grant}
 use Rattle.nq_base.specs.declared.HostRow.{HostRow}
 use Rattle.nq_base.specs.declared.Reply.{Reply}
 use Rattle.nq_base.specs.declared.Request.{Request}
 use Rattle.nq_base.specs.declared.Verdict.{Verdict}
-use Rattle.nq_content_steps.proofs.ClientLookups.{in-found}
 use Rattle.nq_content_steps.proofs.ClientParts.{IsOverKnown}
 use Rattle.nq_content_steps.proofs.Facts.{History, SetsBlock, Changed, GrantTells, Tells, LineTells}
 use Rattle.nq_content_laws.proofs.RunContents.{run-fits}
@@ -21,10 +21,11 @@ use Rattle.nq_model.specs.Message.{call, reply, sequence_of}
 use Rattle.nq_model.specs.Server.{to_host}
 use Rattle.nq_model.specs.World.{World, from_host, run}
 use Rattle.nq_request_laws.proofs.WorldSequences.{Draws, run-draws}
+use Rattle.nq_run_steps.proofs.Members.{find-in}
 use Rattle.nq_run_steps.proofs.Packets.{Asked, Told, in-get}
 use Rattle.nq_run_steps.proofs.Worlds.{Holds, run-holds}
 use Rattle.nq_server_steps.proofs.Incarnations.{one-who}
-use Rattle.nq_server_steps.proofs.Rows.{both-true, same-number, find-passes}
+use Rattle.nq_server_steps.proofs.Rows.{same-number, find-passes}
 
 pub files-in-every-run : FilesAreTheirHistoryInEveryRun
 files-in-every-run most head events bounds within =
@@ -96,9 +97,9 @@ pushes-in-every-run most head events bounds within =
     let h : Fits (first_length head events) w = run-fits most head events bounds within in
     record {
       waiting = λ host c file block p is e.
-          let at = both-true _ _ (find-passes (is_push_at file block) p c.dirty e) in
+          let at = and_parts _ _ (find-passes (is_push_at file block) p c.dirty e) in
           subst (λ n. delayed_value w.journal c.who n block p.last ≡ Some (value_of p.body)) (same-number _ _ at.0)
           (subst (λ n. delayed_value w.journal c.who p.file n p.last ≡ Some (value_of p.body)) (same-number _ _ at.1)
-          ((h.clients host c is).dirty p (in-found (is_push_at file block) c.dirty p e)));
+          ((h.clients host c is).dirty p (find-in (is_push_at file block) c.dirty p e)));
       sent = λ place host xid who seq file block f l push body e. (h.fair host xid (Request.Write who seq file block f l (Some push) body) (in-get w.packets place (from_host host (call xid (Request.Write who seq file block f l (Some push) body))) e)).0;
     }

@@ -1,6 +1,6 @@
 -- In every run a revision of a file has one content.
 use Rattle.std.proofs.Common.{◌≡◌, ◌<◌, ◌⊎◌, ℕ, zero, suc, ◌+◌, ◌==◌, Bool, true, false, List, [], ◌∷◌, ◌++◌, Option, Some, None, if◌then◌else◌, nat_lt, map, replicate, length, refl, sym, subst, ap, ◌∙◌, arith, inl, inr}
-use Rattle.std.specs.Prelude.{slice_get, slice_set, unwrap_or, ◌-◌}
+use Rattle.std.specs.Prelude.{slice_get, unwrap_or, ◌-◌}
 use Rattle.std.proofs.lemmas.Bool.Decides.{nat_tests}
 use Rattle.std.proofs.lemmas.List.{length-replicate}
 use Rattle.nq_base.specs.Block.{value_of, zeros}
@@ -34,7 +34,7 @@ use Rattle.nq_model.specs.World.{Head, World, after_server, after_client, at_cli
 use Rattle.nq_request_laws.proofs.WorldSequences.{Draws, run-draws}
 use Rattle.nq_run_steps.proofs.Clocks.{within-before}
 use Rattle.nq_run_steps.proofs.Packets.{In, in-get, Asked, Told, call-same, Mail}
-use Rattle.nq_run_steps.proofs.Worlds.{Holds, first-client, to-server, to-told, received-said, tick-said, crash-said, run-holds}
+use Rattle.nq_run_steps.proofs.Worlds.{Holds, first-client, to-server, to-told, received-said, tick-said, crash-said, run-holds, set-there}
 use Rattle.nq_server_steps.proofs.Rows.{same-number}
 
 -- ---- first lengths
@@ -95,14 +95,9 @@ restart-mid journal first next c ps m h = record {
 
 -- ---- a step of a client
 
-pub set-found : {A : Type 0} (xs : List A) (i : ℕ) (x y : A) → slice_get xs i ≡ Some y → slice_get (slice_set xs i x) i ≡ Some x
-set-found [] i x y h = none-some y h
-set-found (z ∷ xs) zero x y h = refl
-set-found (z ∷ xs) (suc i) x y h = set-found xs i x y h
-
 client-here : (w : World) (host : ℕ) (c : Client) (t : ClientStep) → slice_get w.clients host ≡ Some c → Holds (after_client w host t) → t.client.who.host ≡ host
 unfolding after_client
-client-here w host c t is held = (held.clients host t.client (set-found w.clients host t.client c is)).here
+client-here w host c t is held = (held.clients host t.client (set-there w.clients host t.client c is)).here
 
 client-step : (first after : ℕ → ℕ) (w : World) (host : ℕ) (c : Client) (t : ClientStep) → ((id : ℕ) → id < w.server.kept.next → after id ≡ first id) → slice_get w.clients host ≡ Some c → Holds w → Holds (after_client w host t) → Mid w.journal first w.server.kept.next w.packets (part_of t) → Fits first w → Fits after (after_client w host t)
 client-step first after w host c t same is before held m h = client-fits first after w host t same (client-here w host c t is held) (λ other d there. (before.clients other d there).here) m h

@@ -21,8 +21,8 @@ use Rattle.nq_model.specs.Message.{Message, Packet, call, reply}
 use Rattle.nq_model.specs.Server.{ServerStep, to_host}
 use Rattle.nq_model.specs.World.{World, from_host, after_server, after_client}
 use Rattle.nq_run_cases.proofs.RunCases.{clients-after}
-use Rattle.nq_run_steps.proofs.Mail.{packets_with}
-use Rattle.nq_run_steps.proofs.Packets.{In, in-left, in-append, Asked, Told, message-same, not-both, Mail}
+use Rattle.nq_run_steps.proofs.Mail.{packets_with, old-told}
+use Rattle.nq_run_steps.proofs.Packets.{In, in-left, in-append, Asked, Told, message-same, Mail}
 use Rattle.nq_run_steps.proofs.ServerSays.{AllSaid}
 use Rattle.nq_request_laws.proofs.WorldSequences.{asked-before-server}
 
@@ -58,19 +58,6 @@ begun-mid journal first next c ps m h = record {
   pushes = λ x r bad. absurd bad;
 }
 
--- the reply was there before the client's step
-old-told : (ps : List Packet) (host other : ℕ) (sends : List Message) (xid : ℕ) (a : Reply) → Told (packets_with ps host sends) other (reply xid a) → Told ps other (reply xid a)
-old-told ps host other sends xid a i = case (in-append ps (map (from_host host) sends) (to_host other (reply xid a)) i)
-  where
-    none : (ms : List Message) → In (map (from_host host) ms) (to_host other (reply xid a)) → ⊥
-    none [] bad = bad
-    none (m ∷ ms) (inl e) = not-both host other m (reply xid a) e
-    none (m ∷ ms) (inr h) = none ms h
-
-    case : In ps (to_host other (reply xid a)) ⊎ In (map (from_host host) sends) (to_host other (reply xid a)) → In ps (to_host other (reply xid a))
-    case (inl old) = old
-    case (inr new) = absurd (none sends new)
-
 -- after it
 pub after-mid : (journal : List Entry) (first : ℕ → ℕ) (next : ℕ) (ps : List Packet) (host : ℕ) (t : ClientStep) → Mid journal first next ps (part_of t) → ClientFits (record { journal = t.entries ++ journal; first = first; next = next }) t.client (packets_with ps host t.sends)
 after-mid journal first next ps host t h = record {
@@ -79,7 +66,7 @@ after-mid journal first next ps host t h = record {
   base = h.base;
   again = h.again;
   changing = h.changing;
-  told = λ u a is sent inc. h.told u a is (old-told ps host t.client.who.host t.sends u.xid a sent) inc;
+  told = λ u a is sent inc. h.told u a is (old-told ps host t.client.who.host t.sends (reply u.xid a) sent) inc;
   dirty = h.dirty;
   fresh = h.fresh;
   later = h.later;
@@ -143,7 +130,7 @@ client-fits first after w host t same here home m h = record {
   others other c apart is =
       fits-follows c w.packets (packets_with w.packets host t.sends) follow
       (λ v file block n e. only-delayed t.client.who v t.entries w.journal file block n m.own (λ one. apart (sym (home other c is) ∙ sym e ∙ ap (λ z. z.host) one ∙ here)))
-      (λ u a has sent inc. inl (old-told w.packets host c.who.host t.sends u.xid a sent)) (h.clients other c is)
+      (λ u a has sent inc. inl (old-told w.packets host c.who.host t.sends (reply u.xid a) sent)) (h.clients other c is)
 
   fair : (other x : ℕ) (r : Request) → In w.packets (from_host other (call x r)) ⊎ In (map (from_host host) t.sends) (from_host other (call x r)) → IsFair (t.entries ++ w.journal) r
   fair other x r (inl old) = fair-all t.entries w.journal r (h.fair other x r old)

@@ -19,7 +19,7 @@ use Rattle.nq_client_cases.proofs.SettleCases.{settle-cases}
 use Rattle.nq_client_cases.proofs.StepCases.{call-cases, unless-cached-cases, tick-cases, evicted-cases}
 use Rattle.nq_client_steps.proofs.ClientFacts.{changes_file, push_in}
 use Rattle.nq_client_steps.proofs.ClientMoves.{some-same, none-some, keeps-or-cancels}
-use Rattle.nq_content_steps.proofs.ClientLookups.{IsBlock, clean-purged, found-purged, found-put, found-touched, revision-put, in-found, in-filter, dirty-dropped}
+use Rattle.nq_content_steps.proofs.ClientLookups.{IsBlock, clean-purged, found-purged, found-put, found-touched, revision-put, dirty-dropped}
 use Rattle.nq_content_steps.proofs.ClientParts.{Part, part_of, history_in, IsKnown, IsOverKnown, IsFair, Mid, notes-entry, clean-fewer, dirty-fewer, ticket-fewer, sends-more, CanSend, sends-ticket, delays-write, forgets, confirms, sets, caches}
 use Rattle.nq_content_steps.proofs.Facts.{Follows, follows, HadValue, value-follows, HadLength, SetsBlock, sets-follows, GrantTells}
 use Rattle.nq_content_steps.specs.Contents.{changes, delayed_by}
@@ -30,6 +30,7 @@ use Rattle.nq_model.specs.Hear.{vacates_lease, vacates_noticed, loss_entry, all_
 use Rattle.nq_model.specs.Message.{Packet, call}
 use Rattle.nq_model.specs.Send.{sends_request, after_seq, after_number, takes_push, sends_write, gives_up, send_next}
 use Rattle.nq_model.specs.Settle.{answers, names_losses, said, reads_clean, touched, after_read, reads_cached, after_write, delays, marks_written, settle}
+use Rattle.nq_run_steps.proofs.Members.{find-in, in-filtered}
 use Rattle.nq_run_steps.proofs.Packets.{call-same}
 use Rattle.nq_server_steps.proofs.Rows.{choice, same-number}
 
@@ -172,8 +173,8 @@ module _ (journal : List Entry) (first : ℕ → ℕ) (next : ℕ) (ps : List Pa
         base = refl;
         again = λ q e. undirty q (some-same _ q e);
         changing = λ f block e. none-some f e;
-        pushed = (h.dirty p (in-found (is_push_of file) t.client.dirty p found), not-zero t.client.seq h.counted);
-      }) (numbers-more _ t.client.number (omega arith) (dirty-fewer journal first next ps (part_of t) (drop_dirty p.file p.block t.client.dirty) free (λ q i. in-filter _ t.client.dirty q i) h))
+        pushed = (h.dirty p (find-in (is_push_of file) t.client.dirty p found), not-zero t.client.seq h.counted);
+      }) (numbers-more _ t.client.number (omega arith) (dirty-fewer journal first next ps (part_of t) (drop_dirty p.file p.block t.client.dirty) free (λ q i. in-filtered _ t.client.dirty q i) h))
     where
       undirty : (q : Push) → record { file = p.file; block = p.block; first = p.first; last = p.last; body = p.body } ≡ q → dirty_at q.file q.block (drop_dirty p.file p.block t.client.dirty) ≡ None
       undirty q e = subst (λ z. dirty_at z.file z.block (drop_dirty p.file p.block t.client.dirty) ≡ None) e (dirty-dropped p.file p.block t.client.dirty)
@@ -299,7 +300,7 @@ module _ (journal : List Entry) (first : ℕ → ℕ) (next : ℕ) (ps : List Pa
   loses-spent : (t : ClientStep) (file : ℕ) → Spent t → Spent (loses t file)
   unfolding loses
   loses-spent t file h = record {
-    mid = notes-all (record (part_of t) { dirty = other_dirty file t.client.dirty }) _ (losses-quiet t.client.who (all_dirty t.client file)) (dirty-fewer journal first next ps (part_of t) (other_dirty file t.client.dirty) h.free (λ q i. in-filter _ t.client.dirty q i) h.mid);
+    mid = notes-all (record (part_of t) { dirty = other_dirty file t.client.dirty }) _ (losses-quiet t.client.who (all_dirty t.client file)) (dirty-fewer journal first next ps (part_of t) (other_dirty file t.client.dirty) h.free (λ q i. in-filtered _ t.client.dirty q i) h.mid);
     free = h.free;
   }
 

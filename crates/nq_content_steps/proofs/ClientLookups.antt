@@ -1,21 +1,23 @@
 -- Look-ups in a client's clean blocks, revisions and delayed writes after each change of them.
-use Rattle.std.proofs.Common.{◌≡◌, ◌≢◌, ◌⊎◌, ℕ, ◌-◌, ◌==◌, Bool, true, false, not, List, [], ◌∷◌, Option, Some, None, is_some, if◌then◌else◌, map, refl, sym, subst, ap, ◌∙◌, inl, inr}
+use Rattle.std.proofs.Common.{◌≡◌, ◌≢◌, ◌⊎◌, ℕ, ◌-◌, ◌==◌, Bool, true, false, not, List, [], ◌∷◌, Option, Some, None, is_some, if◌then◌else◌, refl, sym, subst, ap, ◌∙◌, inl, inr}
 use Rattle.std.specs.List.{find, filter}
 use Rattle.std.specs.Option.{option_map, option_or}
 use Rattle.std.proofs.lemmas.List.Folds.{find-append}
+use Rattle.std.proofs.lemmas.Bool.{and_parts, and_from, false_from_ne_true, not_from_false, not_from_true}
 use Rattle.nq_base.specs.declared.Push.{Push}
-use Rattle.nq_client_steps.proofs.ClientLists.{other-number, number-other}
 use Rattle.nq_client_steps.proofs.ClientMoves.{some-same, none-some}
 use Rattle.nq_model.specs.Client.{Clean, Revision, clean_at, is_clean_at, drop_clean, purge, put_clean, revision_of, put_revision, is_push_at, dirty_at, drop_dirty}
 use Rattle.nq_model.specs.Profile.{most_clean, at_most}
 use Rattle.nq_model.specs.Settle.{touched, overwritten, overwritten_at, with_write}
+use Rattle.nq_run_steps.proofs.Members.{in-map}
 use Rattle.nq_run_steps.proofs.Packets.{In, in-append}
-use Rattle.nq_server_steps.proofs.Rows.{both-true, true-both, same-number, number-same, find-passes, find-filter, find-dropped, find-map}
+use Rattle.nq_server_steps.proofs.Rows.{same-number, number-same, find-passes, find-filter, find-dropped, find-map}
+use Rattle.nq_server_steps.proofs.Tests.{is-other}
 
 -- ---- clean blocks
 
 pub clean-is-at : (file block : ℕ) (clean : List Clean) (k : Clean) → clean_at file block clean ≡ Some k → (k.file ≡ file) × (k.block ≡ block)
-clean-is-at file block clean k e = let a = both-true _ _ (find-passes (is_clean_at file block) k clean e) in (same-number _ _ a.0, same-number _ _ a.1)
+clean-is-at file block clean k e = let a = and_parts _ _ (find-passes (is_clean_at file block) k clean e) in (same-number _ _ a.0, same-number _ _ a.1)
 
 -- whether a block is this one
 pub record IsBlock (f b file block : ℕ) : Type 0 where
@@ -27,39 +29,27 @@ this-or-other f b file block = case (f == file) (b == block) refl refl
   where
     case : (x y : Bool) → (f == file) ≡ x → (b == block) ≡ y → IsBlock f b file block ⊎ (IsBlock f b file block → ⊥)
     case true true d e = inl (record { file_same = same-number _ _ d; block_same = same-number _ _ e })
-    case false y d e = inr (λ k. other-number f file d k.file_same)
-    case true false d e = inr (λ k. other-number b block e k.block_same)
+    case false y d e = inr (λ k. is-other f file d k.file_same)
+    case true false d e = inr (λ k. is-other b block e k.block_same)
 
 -- a block is of two places
 at-two : (f b file block : ℕ) (k : Clean) → is_clean_at f b k ≡ true → is_clean_at file block k ≡ true → IsBlock f b file block
 at-two f b file block k x y =
-    let m = both-true _ _ x in
-    let n = both-true _ _ y in
+    let m = and_parts _ _ x in
+    let n = and_parts _ _ y in
     record { file_same = sym (same-number _ _ m.0) ∙ same-number _ _ n.0; block_same = sym (same-number _ _ m.1) ∙ same-number _ _ n.1 }
 
-false-of : (b : Bool) → (b ≡ true → ⊥) → b ≡ false
-false-of true h = absurd (h refl)
-false-of false h = refl
-
-not-of : (b : Bool) → b ≡ false → not b ≡ true
-not-of true h = cc
-not-of false h = refl
-
-not-true-of : (b : Bool) → b ≡ true → not b ≡ false
-not-true-of true h = refl
-not-true-of false h = cc
-
 pub clean-dropped : (file block : ℕ) (clean : List Clean) → clean_at file block (drop_clean file block clean) ≡ None
-clean-dropped file block clean = find-dropped (is_clean_at file block) (λ k. not (is_clean_at file block k)) clean (λ k e. not-true-of _ e)
+clean-dropped file block clean = find-dropped (is_clean_at file block) (λ k. not (is_clean_at file block k)) clean (λ k e. not_from_true _ e)
 
 pub other-clean-dropped : (f b file block : ℕ) (clean : List Clean) → (IsBlock f b file block → ⊥) → clean_at f b (drop_clean file block clean) ≡ clean_at f b clean
-other-clean-dropped f b file block clean other = find-filter (is_clean_at f b) (λ k. not (is_clean_at file block k)) clean (λ k e. not-of _ (false-of _ (λ same. other (at-two f b file block k e same))))
+other-clean-dropped f b file block clean other = find-filter (is_clean_at f b) (λ k. not (is_clean_at file block k)) clean (λ k e. not_from_false _ (false_from_ne_true _ (λ same. other (at-two f b file block k e same))))
 
 pub clean-purged : (file block : ℕ) (clean : List Clean) → clean_at file block (purge file clean) ≡ None
-clean-purged file block clean = find-dropped (is_clean_at file block) (λ k. not (k.file == file)) clean (λ k e. not-true-of _ (both-true _ _ e).0)
+clean-purged file block clean = find-dropped (is_clean_at file block) (λ k. not (k.file == file)) clean (λ k e. not_from_true _ (and_parts _ _ e).0)
 
 pub other-clean-purged : (f b file : ℕ) (clean : List Clean) → f ≢ file → clean_at f b (purge file clean) ≡ clean_at f b clean
-other-clean-purged f b file clean other = find-filter (is_clean_at f b) (λ k. not (k.file == file)) clean (λ k e. not-of _ (false-of _ (λ same. other (sym (same-number _ _ (both-true _ _ e).0) ∙ same-number _ _ same))))
+other-clean-purged f b file clean other = find-filter (is_clean_at f b) (λ k. not (k.file == file)) clean (λ k e. not_from_false _ (false_from_ne_true _ (λ same. other (sym (same-number _ _ (and_parts _ _ e).0) ∙ same-number _ _ same))))
 
 -- what is found in a cache from which blocks went was there before
 pub found-dropped : (f b file block : ℕ) (clean : List Clean) (k : Clean) → clean_at f b (drop_clean file block clean) ≡ Some k → clean_at f b clean ≡ Some k
@@ -74,14 +64,14 @@ found-purged f b file clean k e = case (f == file) refl
   where
     case : (x : Bool) → (f == file) ≡ x → (f ≢ file) × (clean_at f b clean ≡ Some k)
     case true same = none-some k (sym (clean-purged file b clean) ∙ subst (λ n. clean_at n b (purge file clean) ≡ Some k) (same-number _ _ same) e)
-    case false differs = let apart : f ≢ file = other-number f file differs in (apart, sym (other-clean-purged f b file clean apart) ∙ e)
+    case false differs = let apart : f ≢ file = is-other f file differs in (apart, sym (other-clean-purged f b file clean apart) ∙ e)
 
 -- a block in front
 front-step : (f b : ℕ) (n k : Clean) (clean : List Clean) (x : Bool) → is_clean_at f b n ≡ x → (if x then Some n else clean_at f b clean) ≡ Some k → (IsBlock f b n.file n.block × (k ≡ n)) ⊎ ((IsBlock f b n.file n.block → ⊥) × (clean_at f b clean ≡ Some k))
 front-step f b n k clean true is e =
-    let a = both-true _ _ is in
+    let a = and_parts _ _ is in
     inl (record { file_same = sym (same-number _ _ a.0); block_same = sym (same-number _ _ a.1) }, some-same k n (sym e))
-front-step f b n k clean false is e = inr ((λ one. not-it (true-both _ _ (number-same n.file f (sym one.file_same)) (number-same n.block b (sym one.block_same)))), e)
+front-step f b n k clean false is e = inr ((λ one. not-it (and_from _ _ (number-same n.file f (sym one.file_same)) (number-same n.block b (sym one.block_same)))), e)
   where
     not-it : is_clean_at f b n ≡ true → ⊥
     not-it there = absurd (cc)
@@ -124,8 +114,8 @@ found-touched f b file block (Some n) clean k is e = case (found-front f b n k (
 revision-step : (f file rev : ℕ) (r : Revision) (revisions : List Revision) (x : Bool) → (file == f) ≡ x → (if x then Some (record { file = file; rev = rev }) else revision_of f (filter (λ r. not (r.file == file)) revisions)) ≡ Some r → ((f ≡ file) × (r.rev ≡ rev)) ⊎ ((f ≢ file) × (revision_of f revisions ≡ Some r))
 revision-step f file rev r revisions true is e = inl (sym (same-number _ _ is), ap (λ z. z.rev) (some-same r (record { file = file; rev = rev }) (sym e)))
 revision-step f file rev r revisions false is e =
-    let apart : f ≢ file = λ same. other-number file f is (sym same) in
-    inr (apart, sym (find-filter (λ r. r.file == f) (λ r. not (r.file == file)) revisions (λ k e. not-of _ (false-of _ (λ same. apart (sym (same-number _ _ e) ∙ same-number _ _ same))))) ∙ e)
+    let apart : f ≢ file = λ same. is-other file f is (sym same) in
+    inr (apart, sym (find-filter (λ r. r.file == f) (λ r. not (r.file == file)) revisions (λ k e. not_from_false _ (false_from_ne_true _ (λ same. apart (sym (same-number _ _ e) ∙ same-number _ _ same))))) ∙ e)
 
 pub revision-after : (f file rev : ℕ) (r : Revision) (revisions : List Revision) → revision_of f (put_revision file rev revisions) ≡ Some r → ((f ≡ file) × (r.rev ≡ rev)) ⊎ ((f ≢ file) × (revision_of f revisions ≡ Some r))
 revision-after f file rev r revisions e = revision-step f file rev r revisions (file == f) refl e
@@ -133,34 +123,7 @@ revision-after f file rev r revisions e = revision-step f file rev r revisions (
 pub revision-put : (file rev : ℕ) (revisions : List Revision) → revision_of file (put_revision file rev revisions) ≡ Some (record { file = file; rev = rev })
 revision-put file rev revisions = rw (number-same file file refl) refl
 
-pub other-revision-put : (f file rev : ℕ) (revisions : List Revision) → f ≢ file → revision_of f (put_revision file rev revisions) ≡ revision_of f revisions
-other-revision-put f file rev revisions apart =
-    let other : (file == f) ≡ false = number-other file f (λ same. apart (sym same)) in
-    rw other (find-filter (λ r. r.file == f) (λ r. not (r.file == file)) revisions (λ k e. not-of _ (false-of _ (λ same. apart (sym (same-number _ _ e) ∙ same-number _ _ same)))))
-
 -- ---- delayed writes
-
-pub in-found : {A : Type 0} (p : A → Bool) (xs : List A) (x : A) → find p xs ≡ Some x → In xs x
-in-found p [] x e = none-some x e
-in-found p (y ∷ xs) x e = step (p y) (in-found p xs x) e
-  where
-    step : (b : Bool) → (find p xs ≡ Some x → In xs x) → (if b then Some y else find p xs) ≡ Some x → (y ≡ x) ⊎ In xs x
-    step true rest f = inl (some-same y x f)
-    step false rest f = inr (rest f)
-
-pub in-filter : {A : Type 0} (q : A → Bool) (xs : List A) (x : A) → In (filter q xs) x → In xs x
-in-filter q [] x h = h
-in-filter q (y ∷ xs) x h = step (q y) (in-filter q xs x) h
-  where
-    step : (b : Bool) → (In (filter q xs) x → In xs x) → In (if b then y ∷ filter q xs else filter q xs) x → (y ≡ x) ⊎ In xs x
-    step true rest (inl e) = inl e
-    step true rest (inr i) = inr (rest i)
-    step false rest i = inr (rest i)
-
-pub in-map : {A B : Type 0} (f : A → B) (xs : List A) (y : B) → In (map f xs) y → (x : A) × In xs x × (f x ≡ y)
-in-map f [] y h = absurd h
-in-map f (x ∷ xs) y (inl e) = (x, inl refl, e)
-in-map f (x ∷ xs) y (inr h) = let k = in-map f xs y h in (k.0, inr k.1, k.2)
 
 -- a delayed write after one more was delayed: it was there, or it is that
 pub data IsWritten (file block number : ℕ) (body : List ℕ) (dirty : List Push) (p : Push) : Type 0 where
@@ -179,12 +142,12 @@ in-written file block number body dirty (Some q) p h =
     case k.0 k.1 (is_push_at file block k.0) refl k.2
   where
     case : (x : Push) → In dirty x → (b : Bool) → is_push_at file block x ≡ b → (if b then overwritten number body x else x) ≡ p → IsWritten file block number body dirty p
-    case x i true at e = let a = both-true _ _ at in is_new (ap (λ z. z.file) (sym e) ∙ same-number _ _ a.0) (ap (λ z. z.block) (sym e) ∙ same-number _ _ a.1) (ap (λ z. z.last) (sym e)) (ap (λ z. z.body) (sym e))
+    case x i true at e = let a = and_parts _ _ at in is_new (ap (λ z. z.file) (sym e) ∙ same-number _ _ a.0) (ap (λ z. z.block) (sym e) ∙ same-number _ _ a.1) (ap (λ z. z.last) (sym e)) (ap (λ z. z.body) (sym e))
     case x i false at e = was_there (subst (λ z. In dirty z) e i)
 
 -- whether a block has delayed writes
 pub dirty-dropped : (file block : ℕ) (dirty : List Push) → dirty_at file block (drop_dirty file block dirty) ≡ None
-dirty-dropped file block dirty = find-dropped (is_push_at file block) (λ p. not (is_push_at file block p)) dirty (λ p e. not-true-of _ e)
+dirty-dropped file block dirty = find-dropped (is_push_at file block) (λ p. not (is_push_at file block p)) dirty (λ p e. not_from_true _ e)
 
 push-at-same : (f b file block number : ℕ) (body : List ℕ) (p : Push) → is_push_at f b (overwritten_at file block number body p) ≡ is_push_at f b p
 push-at-same f b file block number body p = step (is_push_at file block p)
@@ -208,7 +171,7 @@ written-elsewhere f b file block number body dirty None other e =
     new = record { file = file; block = block; first = number; last = number; body = body }
 
     not-new : (x : Bool) → is_push_at f b new ≡ x → is_some (if x then Some new else None) ≡ true → is_some (dirty_at f b dirty) ≡ true
-    not-new true is g = let a = both-true _ _ is in absurd (other (record { file_same = sym (same-number _ _ a.0); block_same = sym (same-number _ _ a.1) }))
+    not-new true is g = let a = and_parts _ _ is in absurd (other (record { file_same = sym (same-number _ _ a.0); block_same = sym (same-number _ _ a.1) }))
     not-new false is g = absurd (cc)
 
     case : (o : Option Push) → dirty_at f b dirty ≡ o → is_some (option_or o (dirty_at f b (new ∷ []))) ≡ true → is_some (dirty_at f b dirty) ≡ true

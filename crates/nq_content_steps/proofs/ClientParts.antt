@@ -2,6 +2,7 @@
 use Rattle.std.proofs.Common.{◌≡◌, ◌≢◌, ◌<◌, ◌≤◌, ◌⊎◌, ℕ, ◌+◌, ◌==◌, Bool, true, false, ◌&&◌, List, [], ◌∷◌, ◌++◌, Option, Some, None, is_some, if◌then◌else◌, refl, sym, subst, ap, ◌∙◌, arith, inl, inr}
 use Rattle.std.specs.Option.{option_or}
 use Rattle.std.proofs.lemmas.Bool.Decides.{nat_tests}
+use Rattle.std.proofs.lemmas.Bool.{both_ways}
 use Rattle.nq_base.specs.Block.{value_of}
 use Rattle.nq_base.specs.declared.Entry.{Entry}
 use Rattle.nq_base.specs.declared.Push.{Push}
@@ -9,8 +10,9 @@ use Rattle.nq_base.specs.declared.Reply.{Reply}
 use Rattle.nq_base.specs.declared.Request.{Request}
 use Rattle.nq_base.specs.declared.Who.{Who}
 use Rattle.nq_client_steps.proofs.ClientFacts.{changes_file, push_in}
+use Rattle.nq_client_steps.proofs.ClientLists.{other-revision-put}
 use Rattle.nq_client_steps.proofs.ClientMoves.{some-same, none-some}
-use Rattle.nq_content_steps.proofs.ClientLookups.{IsBlock, this-or-other, found-dropped, clean-dropped, in-written, IsWritten, was_there, is_new, written-elsewhere, revision-after, revision-put, other-revision-put}
+use Rattle.nq_content_steps.proofs.ClientLookups.{IsBlock, this-or-other, found-dropped, clean-dropped, in-written, IsWritten, was_there, is_new, written-elsewhere, revision-after, revision-put}
 use Rattle.nq_content_steps.proofs.Facts.{History, Follows, follows, HadValue, value-follows, SetsBlock, Tells, tells-follows}
 use Rattle.nq_content_steps.proofs.Histories.{NoChanges, delayed-more}
 use Rattle.nq_content_steps.specs.Contents.{changes, changes_of, delayed_by, delayed_value}
@@ -141,9 +143,6 @@ who-differs by w apart = case (by.host == w.host) (by.inc == w.inc) refl refl
     case true true d e = absurd (apart (one-who w by (sym (same-number _ _ d)) (sym (same-number _ _ e))))
     case true false d e = refl
     case false b d e = refl
-
-both-ways : {x : Bool} → x ≡ true → x ≡ false → ⊥
-both-ways y n = absurd (cc)
 
 -- a write that was delayed has its value under its number, and others have theirs
 delayed-step : (who : Who) (file block number v : ℕ) → delayed_by (Entry.W who file block number v false) who file block number ≡ Some v
@@ -377,7 +376,7 @@ module _ (journal : List Entry) (first : ℕ → ℕ) (next : ℕ) (ps : List Pa
   other-stays : (p : Part) (file rev f b : ℕ) (k : Clean) → f ≢ file → clean_at f b p.clean ≡ Some k → MidOf p → IsClean (history_in journal first next p.entries) (put_revision file rev p.revisions) f b k
   other-stays p file rev f b k apart is h =
       let c = h.clean f b k is in
-      record { revision = c.revision; known = other-revision-put f file rev p.revisions apart ∙ c.known; had = c.had }
+      record { revision = c.revision; known = other-revision-put file rev f p.revisions apart ∙ c.known; had = c.had }
 
   -- none of the file's clean blocks is left
   pub forgets : (p : Part) (file rev : ℕ) (clean : List Clean) → p.ticket ≡ None → IsKnown (history_in journal first next p.entries) file rev → ((f b : ℕ) (k : Clean) → clean_at f b clean ≡ Some k → (f ≢ file) × (clean_at f b p.clean ≡ Some k)) → MidOf p → MidOf (record p { clean = clean; revisions = put_revision file rev p.revisions })
@@ -398,7 +397,7 @@ module _ (journal : List Entry) (first : ℕ → ℕ) (next : ℕ) (ps : List Pa
             known = ap (λ n. revision_of n (put_revision file rev p.revisions)) one ∙ revision-put file rev p.revisions;
             had = subst (λ n. HadValue (history_in journal first next p.entries) f n b (value_of k.body)) (ap (λ z. z.rev) mine ∙ same) c.had;
           }
-      stays f b k is false e = other-stays p file rev f b k (λ one. absurd (let yes : (f == file) ≡ true = number-same f file one in both-ways yes e)) is h
+      stays f b k is false e = other-stays p file rev f b k (λ one. absurd (let yes : (f == file) ≡ true = number-same f file one in both_ways _ e yes)) is h
 
   -- the next revision sets one block
   pub sets : (p : Part) (file rev block v : ℕ) (clean : List Clean) → p.ticket ≡ None → SetsBlock (history_in journal first next p.entries) file rev block v → ((r : Revision) → revision_of file p.revisions ≡ Some r → rev ≡ r.rev + 1) → ((f b : ℕ) (k : Clean) → clean_at f b clean ≡ Some k → (IsBlock f b file block × (value_of k.body ≡ v)) ⊎ ((IsBlock f b file block → ⊥) × (clean_at f b p.clean ≡ Some k))) → MidOf p → MidOf (record p { clean = clean; revisions = put_revision file rev p.revisions })
@@ -420,7 +419,7 @@ module _ (journal : List Entry) (first : ℕ → ℕ) (next : ℕ) (ps : List Pa
           let one : f ≡ file = same-number _ _ e in
           let c = h.clean f b k is in
           same-file f b k one (set.others c.revision.rev b (value_of k.body) (before c.revision (ap (λ n. revision_of n p.revisions) (sym one) ∙ c.known)) (λ same. other (record { file_same = one; block_same = same })) (subst (λ n. HadValue g n c.revision.rev b (value_of k.body)) one c.had))
-      kept f b k other is false e = other-stays p file rev f b k (λ one. absurd (let yes : (f == file) ≡ true = number-same f file one in both-ways yes e)) is h
+      kept f b k other is false e = other-stays p file rev f b k (λ one. absurd (let yes : (f == file) ≡ true = number-same f file one in both_ways _ e yes)) is h
 
       cleans : (f b : ℕ) (k : Clean) → (IsBlock f b file block × (value_of k.body ≡ v)) ⊎ ((IsBlock f b file block → ⊥) × (clean_at f b p.clean ≡ Some k)) → IsClean g (put_revision file rev p.revisions) f b k
       cleans f b k (inl one) = same-file f b k one.0.file_same (subst (λ n. HadValue g file rev n (value_of k.body)) (sym one.0.block_same) (subst (HadValue g file rev block) (sym one.1) set.value))

@@ -1,5 +1,5 @@
 -- Each step of the server keeps kept files to their history, and what it replies of them is true.
-use Rattle.std.proofs.Common.{◌≡◌, ◌≤◌, ◌<◌, ◌⊎◌, ℕ, ◌+◌, ◌%◌, true, List, [], ◌∷◌, ◌++◌, Option, Some, None, map, refl, sym, subst, ap, ◌∙◌, arith, inl, inr}
+use Rattle.std.proofs.Common.{◌≡◌, ◌≤◌, ◌<◌, ◌⊎◌, ℕ, ◌+◌, true, List, [], ◌∷◌, ◌++◌, Option, Some, None, map, refl, sym, subst, ap, ◌∙◌, arith, inl, inr}
 use Rattle.std.specs.Prelude.{slice_get, slice_set, unwrap_or}
 use Rattle.std.proofs.lemmas.Bool.Decides.{nat_tests}
 use Rattle.std.proofs.lemmas.List.{length-replicate}
@@ -25,37 +25,19 @@ use Rattle.nq_model.specs.Ask.{grant_of}
 use Rattle.nq_model.specs.Decide.{Decision, decides, creates, writes_through, stores, wrote, stores_recovering, resizes, removes, puts_off, verdict_reply, row_after, commits}
 use Rattle.nq_model.specs.Hear.{inc_of}
 use Rattle.nq_model.specs.Kept.{File, blocks_of, find_file, host_row, with_row, with_files, with_new_file, written_file, resized_file, new_file, replace_file}
-use Rattle.nq_model.specs.Message.{Message, call, reply, Packet, Datagram, Reason, request, too_long, no_message, no_call, other_rpc, other_program, other_version, unknown_procedure, garbage_vacated, garbage, asker, sequence_of}
-use Rattle.nq_model.specs.Profile.{xid_end}
+use Rattle.nq_model.specs.Message.{Message, reply, Packet, Datagram, Reason, request, asker, sequence_of}
 use Rattle.nq_model.specs.Server.{Server, ServerStep, to_host, says, quiet, drops, notices, keeping, keeping_with, with_table, after_notices}
 use Rattle.nq_model.specs.ServerStep.{attaches, vacates, tells_later, serves, leases, grants, to_read, receive}
 use Rattle.nq_model.specs.Table.{Table}
 use Rattle.nq_run_steps.proofs.Packets.{In, in-append, Asked, told-same, reply-same}
-use Rattle.nq_run_steps.proofs.ServerSays.{verdict-inc, plain-inc}
+use Rattle.nq_run_steps.proofs.ServerSays.{verdict-inc, plain-inc, notices-no-reply}
 use Rattle.nq_server_steps.proofs.Incarnations.{one-who}
 use Rattle.nq_server_steps.proofs.KeptChanges.{find-new-added, line-as}
 use Rattle.nq_server_steps.proofs.Rows.{number-same}
 use Rattle.nq_server_steps.proofs.ServerCases.{server-hears}
-use Rattle.nq_server_steps.proofs.ServerOutcomes.{error_for, IsFrom, IsDeclined, bad_length, name_taken, no_room, not_kept, outside, no_row, not_under, not_over, not_while_recovering, bad_size, no_room_to_grow, IsPlain, unattached, attached_again, not_yet, no_entry, entry, no_attributes, attributes, no_file, no_block, decided_again, is_old}
+use Rattle.nq_server_steps.proofs.ServerOutcomes.{error_for, IsFrom, IsDeclined, bad_length, name_taken, no_room, not_kept, outside, no_row, not_under, not_over, not_while_recovering, bad_size, no_room_to_grow, IsPlain, unattached, attached_again, not_yet, no_entry, entry, no_attributes, attributes, no_file, no_block, decided_again, is_old, error-no-reply}
 
 -- ---- what a message says
-
-no-reply-notice : (host xid : ℕ) (a : Reply) (n : ℕ) (rows : List Row) → In (notices n rows) (to_host host (reply xid a)) → ⊥
-no-reply-notice host xid a n [] h = h
-no-reply-notice host xid a n (row ∷ rows) (inl e) = let t = told-same row.who.host host (call n (Request.Evicted row.who row.file row.tag)) (reply xid a) e in absurd (cc)
-no-reply-notice host xid a n (row ∷ rows) (inr h) = no-reply-notice host xid a ((n + 1) % xid_end) rows h
-
-no-reply-error : (d : Datagram) (m : Message) (xid : ℕ) (a : Reply) → error_for d ≡ Some m → m ≡ reply xid a → ⊥
-no-reply-error too_long m xid a e f = none-some m e
-no-reply-error no_message m xid a e f = none-some m e
-no-reply-error no_call m xid a e f = none-some m e
-no-reply-error (other_rpc x) m xid a e f = absurd (cc)
-no-reply-error (other_program x) m xid a e f = absurd (cc)
-no-reply-error (other_version x) m xid a e f = absurd (cc)
-no-reply-error (unknown_procedure x) m xid a e f = absurd (cc)
-no-reply-error garbage_vacated m xid a e f = none-some m e
-no-reply-error (garbage x) m xid a e f = absurd (cc)
-no-reply-error (request x r) m xid a e f = none-some m e
 
 -- ---- what is known before
 
@@ -130,7 +112,7 @@ module _ (journal : List Entry) (first after : ℕ → ℕ) (ps : List Packet) (
   erring m e = idle (says s sender m) refl tt (λ is host xid a i. absurd (none host xid a i))
     where
       none : (host xid : ℕ) (a : Reply) → In (to_host sender m ∷ []) (to_host host (reply xid a)) → ⊥
-      none host xid a (inl f) = no-reply-error d m xid a e (told-same sender host m (reply xid a) f).1
+      none host xid a (inl f) = error-no-reply d m xid a e (told-same sender host m (reply xid a) f).1
       none host xid a (inr bad) = bad
 
   -- the reply that was given before
@@ -197,7 +179,7 @@ module _ (journal : List Entry) (first after : ℕ → ℕ) (ps : List Packet) (
   unfolding tells_later after_notices
   later xid who r table rows e by from =
       idle (tells_later s who xid table rows) refl tt (λ is.
-      last-true _ (notices s.notice rows) (λ other y b. no-reply-notice other y b s.notice rows) who.host xid (Reply.Refused who.inc Refusal.TryLater) (is-true _ xid who r (Reply.Refused who.inc Refusal.TryLater) e by from refl (refused-tells _ r who.inc Refusal.TryLater)))
+      last-true _ (notices s.notice rows) (λ other y b. notices-no-reply s.notice rows other y b) who.host xid (Reply.Refused who.inc Refusal.TryLater) (is-true _ xid who r (Reply.Refused who.inc Refusal.TryLater) e by from refl (refused-tells _ r who.inc Refusal.TryLater)))
 
   attaching : (xid : ℕ) (who : Who) → d ≡ request xid (Request.Attach who) → who.host ≡ sender → ShowsIf (attaches s who xid)
   unfolding attaches keeping_with with_row
@@ -281,7 +263,7 @@ module _ (journal : List Entry) (first after : ℕ → ℕ) (ps : List Packet) (
 
   putting-off : (xid : ℕ) (who : Who) (seq file : ℕ) (r : Request) (table : Table) → d ≡ request xid r → asker r ≡ Some who → sequence_of r ≡ Some seq → who.host ≡ sender → ShowsIf (commits who seq xid r (puts_off s who file table))
   unfolding puts_off after_notices
-  putting-off xid who seq file r table e by sq from = committed xid who seq r (puts_off s who file table) e by sq from (no-effect (puts_off s who file table) refl refl (λ other y b. no-reply-notice other y b s.notice _)) (λ is done. absurd (cc))
+  putting-off xid who seq file r table e by sq from = committed xid who seq r (puts_off s who file table) e by sq from (no-effect (puts_off s who file table) refl refl (λ other y b. notices-no-reply s.notice _ other y b)) (λ is done. absurd (cc))
 
   creating : (xid : ℕ) (who : Who) (seq : ℕ) (name : List ℕ) (blocks : ℕ) → d ≡ request xid (Request.Create who seq name blocks) → who.host ≡ sender → ShowsIf (commits who seq xid (Request.Create who seq name blocks) (creates s name blocks))
   unfolding creates keeping with_new_file new_file

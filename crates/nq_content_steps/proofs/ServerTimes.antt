@@ -1,11 +1,10 @@
 -- Ticks and crashes of the server keep kept files to their history.
-use Rattle.std.proofs.Common.{◌≡◌, ℕ, ◌==◌, Bool, true, false, not, List, [], ◌∷◌, ◌++◌, Option, Some, None, if◌then◌else◌, refl, sym, subst, ap, ◌∙◌, arith}
+use Rattle.std.proofs.Common.{◌≡◌, ℕ, ◌==◌, Bool, true, false, not, List, [], ◌∷◌, ◌++◌, Option, Some, None, refl, sym, subst, ap, ◌∙◌, arith}
 use Rattle.std.specs.List.{find}
 use Rattle.std.specs.Prelude.{is_some}
 use Rattle.std.proofs.lemmas.Bool.Decides.{nat_tests}
 use Rattle.nq_base.specs.declared.Entry.{Entry}
 use Rattle.nq_base.specs.declared.Row.{Row}
-use Rattle.nq_client_steps.proofs.ClientMoves.{some-same, none-some}
 use Rattle.nq_content_steps.proofs.Facts.{History, Follows, follows, LineTells, line-follows, FilesFit, UnusedFit}
 use Rattle.nq_content_steps.proofs.FileMoves.{ChangesOnly, files-idle, unused-idle, files-changed, unused-changed}
 use Rattle.nq_content_steps.proofs.Histories.{NoChanges}
@@ -15,29 +14,13 @@ use Rattle.nq_model.specs.Kept.{File, find_file, host_row, replace_file, fenced_
 use Rattle.nq_model.specs.Message.{Packet, reply}
 use Rattle.nq_model.specs.Server.{serving, Server, ServerStep, to_host, quiet, keeping_with, with_table}
 use Rattle.nq_model.specs.ServerStep.{at_time, opens, is_over, is_due, end_reading, fence, ends_writing, tick, booted, boot, crash}
-use Rattle.nq_model.specs.Table.{is_row_of, find_row, with_rows}
+use Rattle.nq_model.specs.Table.{find_row, with_rows}
 use Rattle.nq_run_steps.proofs.Packets.{In}
 use Rattle.nq_server_laws.proofs.ServerTables.{StandingFits, StandingFitsOf}
-use Rattle.nq_server_steps.proofs.Rows.{number-same, true-both}
-use Rattle.nq_server_steps.proofs.RowChanges.{HasUniqueKeys, of-key, found-kept, unique-filtered}
+use Rattle.nq_server_steps.proofs.Rows.{number-same}
+use Rattle.nq_server_steps.proofs.RowChanges.{found-kept, unique-filtered, found-any}
 use Rattle.nq_server_steps.proofs.TableFits.{TableFits}
 use Rattle.nq_server_steps.proofs.ServerCases.{found-file, server-ticks}
-
--- a row that a search finds is that of its file and host
-found-step : (p : Row → Bool) (r x : Row) (rows : List Row) (b : Bool) → p r ≡ b → find_row r.file r.who.host rows ≡ None → (find p rows ≡ Some x → find_row x.file x.who.host rows ≡ Some x) → (if b then Some r else find p rows) ≡ Some x → find_row x.file x.who.host (r ∷ rows) ≡ Some x
-found-step p r x rows true e none rest f = subst (λ z. find_row z.file z.who.host (r ∷ rows) ≡ Some z) (some-same r x f) (own r)
-  where
-    own : (z : Row) → find_row z.file z.who.host (z ∷ rows) ≡ Some z
-    own z = let is : is_row_of z.file z.who.host z ≡ true = true-both _ _ (number-same z.file z.file refl) (number-same z.who.host z.who.host refl) in rw is refl
-found-step p r x rows false e none rest f = case (is_row_of x.file x.who.host r) refl
-  where
-    case : (c : Bool) → is_row_of x.file x.who.host r ≡ c → (if c then Some r else find_row x.file x.who.host rows) ≡ Some x
-    case true is = let k = of-key x.file x.who.host r is in none-some x (sym (subst (λ n. find_row n x.who.host rows ≡ None) k.0 (subst (λ n. find_row r.file n rows ≡ None) k.1 none)) ∙ rest f)
-    case false is = rest f
-
-found-by : (p : Row → Bool) (x : Row) (rows : List Row) → HasUniqueKeys rows → find p rows ≡ Some x → find_row x.file x.who.host rows ≡ Some x
-found-by p x [] unique h = none-some x h
-found-by p x (r ∷ rows) unique h = found-step p r x rows (p r) refl unique.0 (found-by p x rows unique.1) h
 
 -- what is known before
 pub record Standing (journal : List Entry) (first : ℕ → ℕ) (ps : List Packet) (s : Server) : Type 0 where
@@ -103,7 +86,7 @@ module _ (journal : List Entry) (first after : ℕ → ℕ) (ps : List Packet) (
   row-kept : (now : ℕ) (row : Row) → s.phase ≡ serving → StandingFitsOf s → find (is_due now) (end_reading now s.table.rows) ≡ Some row → is_some (find_file row.file s.kept.files) ≡ true
   row-kept now row p stands due =
       let own : TableFits s.kept.files s.table.boot s.table.drawn s.table.rows = subst (λ p. StandingFits s.kept.files p s.table) p stands in
-      let there : find_row row.file row.who.host (end_reading now s.table.rows) ≡ Some row = found-by (is_due now) row (end_reading now s.table.rows) (unique-filtered (λ r. not (is_over now r)) s.table.rows own.unique) due in
+      let there : find_row row.file row.who.host (end_reading now s.table.rows) ≡ Some row = found-any (is_due now) (end_reading now s.table.rows) row (unique-filtered (λ r. not (is_over now r)) s.table.rows own.unique) due in
       (own.fits row.file row.who.host row (found-kept (λ r. not (is_over now r)) row.file row.who.host s.table.rows row own.unique there).0).kept
 
   pub ticks : (now : ℕ) → StandingFitsOf s → ShowsIf (tick s now)

@@ -1,6 +1,7 @@
 -- In every run the ends of writing leases come late enough.
 use Rattle.std.proofs.Common.{◌≡◌, ◌≤◌, ℕ, ◌+◌, ◌==◌, ◌&&◌, Bool, true, false, not, List, [], ◌∷◌, ◌++◌, Option, Some, if◌then◌else◌, length, max, nat_le, refl, sym, subst, ap, ◌∙◌, arith}
 use Rattle.std.specs.List.{find}
+use Rattle.std.proofs.lemmas.Bool.{and_parts}
 use Rattle.nq_base.specs.declared.Entry.{Entry}
 use Rattle.nq_base.specs.declared.Event.{Event}
 use Rattle.nq_base.specs.declared.Row.{Row}
@@ -15,7 +16,7 @@ use Rattle.nq_lease_laws.specs.LeaseIntervalInRuns.{KeepsBounds}
 use Rattle.nq_model.specs.Client.{ClientStep}
 use Rattle.nq_model.specs.ClientStep.{client_call, client_tick, restart}
 use Rattle.nq_model.specs.CutOff.{Given, last_grant, IsLateEnd, IsLongWait, IsLateOpening}
-use Rattle.nq_model.specs.Journal.{Throughout, Exists, same_who}
+use Rattle.nq_model.specs.Journal.{Throughout, Exists, same_who, Each}
 use Rattle.nq_model.specs.Decide.{decides, creates, writes_through, stores, wrote, stores_recovering, resizes, removes, puts_off, commits}
 use Rattle.nq_model.specs.Kept.{find_file, with_files, with_new_file, with_row}
 use Rattle.nq_model.specs.Message.{Datagram, datagram_of}
@@ -31,12 +32,12 @@ use Rattle.nq_server_laws.proofs.LogFits.{timed-append}
 use Rattle.nq_server_laws.proofs.LogGrants.{fence-opened}
 use Rattle.nq_server_laws.proofs.LogMoves.{timed}
 use Rattle.nq_server_laws.proofs.LogRows.{RowsGranted, RowsHear}
-use Rattle.nq_server_laws.proofs.LogTimes.{EachEntry, HeardAll, IsHeard, ToldBoot, is_boot}
+use Rattle.nq_server_laws.proofs.LogTimes.{HeardAll, IsHeard, ToldBoot, is_boot}
 use Rattle.nq_server_laws.proofs.ServerNumbers.{Waits, PhaseWaits}
 use Rattle.nq_server_laws.proofs.ServerTables.{StandingFits}
 use Rattle.nq_server_steps.proofs.Modes.{writing-caches}
 use Rattle.nq_server_steps.proofs.RowChanges.{HasUniqueKeys, found-any, found-kept, unique-filtered}
-use Rattle.nq_server_steps.proofs.Rows.{both-true, find-passes, same-number}
+use Rattle.nq_server_steps.proofs.Rows.{find-passes, same-number}
 use Rattle.nq_server_steps.proofs.ServerCases.{server-hears, server-ticks}
 use Rattle.nq_server_steps.proofs.ServerOutcomes.{ServerCases}
 use Rattle.nq_server_steps.proofs.TableFits.{TableFits}
@@ -55,11 +56,11 @@ caching-step true cached rest term longest now more e short later = (record { ti
 caching-step false cached rest term longest now more e short later = later e
 
 -- a caching grant of the boot that served last was for the longest term at most
-short-caching : (journal : List Entry) (who : Who) (file opened longest : ℕ) → was_caching opened journal who file ≡ true → EachEntry (IsShortGrant opened longest) (timed journal) → (g : Given) × (last_grant journal who file ≡ Some g) × (g.term ≤ longest)
+short-caching : (journal : List Entry) (who : Who) (file opened longest : ℕ) → was_caching opened journal who file ≡ true → Each (IsShortGrant opened longest) (timed journal) → (g : Given) × (last_grant journal who file ≡ Some g) × (g.term ≤ longest)
 short-caching [] who file opened longest was each = absurd (cc)
 short-caching (Entry.G by f mode tag term now ∷ journal) who file opened longest was each =
     caching-step (same_who by who && f == file) (caches mode && tag.boot == opened) (was_caching opened journal who file) term longest now (last_grant journal who file) was
-    (λ cached. let both = both-true (caches mode) (tag.boot == opened) cached in each.0.1 both.0 (same-number tag.boot opened both.1))
+    (λ cached. let both = and_parts (caches mode) (tag.boot == opened) cached in each.0.1 both.0 (same-number tag.boot opened both.1))
     (λ more. short-caching journal who file opened longest more each.1)
 short-caching (Entry.S by f block first last now ∷ journal) who file opened longest was each = short-caching journal who file opened longest was each.1
 short-caching (Entry.F by f until heard now ∷ journal) who file opened longest was each = short-caching journal who file opened longest was each.1
@@ -148,7 +149,7 @@ module _ (most booted : ℕ) (s : Server) (journal : List Entry) (fits : ServerA
       told : find is_boot (timed journal) ≡ Some (Entry.X s.kept.boot booted s.kept.longest)
       told = subst (λ q. ToldBoot booted s.kept.boot s.kept.longest q (timed journal)) p log.told
 
-      all : EachEntry (IsHeard heard) (timed journal)
+      all : Each (IsHeard heard) (timed journal)
       all = subst (λ q. HeardAll q (timed journal)) p log.heard
 
       wait : Waits booted s.now s.kept.longest until heard
@@ -182,10 +183,10 @@ module _ (most booted : ℕ) (s : Server) (journal : List Entry) (fits : ServerA
       is-due = find-passes (is_due now) due (end_reading now s.table.rows) ends
 
       writing : is_writing due.mode ≡ true
-      writing = (both-true (is_writing due.mode) (nat_le (max due.until due.heard + write_slack) now) is-due).0
+      writing = (and_parts (is_writing due.mode) (nat_le (max due.until due.heard + write_slack) now) is-due).0
 
       late : IsLateEnd journal due.who due.file due.until due.heard now
-      late = late-end journal due now ((subst (λ q. RowsGranted q s.table (timed journal)) p log.granted) due.file due.who.host due there (writing-caches due.mode writing)) ((subst (λ q. RowsHear q s.table (timed journal)) p log.hear) due.file due.who.host due there writing) (both-true (is_writing due.mode) (nat_le (max due.until due.heard + write_slack) now) is-due).1
+      late = late-end journal due now ((subst (λ q. RowsGranted q s.table (timed journal)) p log.granted) due.file due.who.host due there (writing-caches due.mode writing)) ((subst (λ q. RowsHear q s.table (timed journal)) p log.hear) due.file due.who.host due there writing) (and_parts (is_writing due.mode) (nat_le (max due.until due.heard + write_slack) now) is-due).1
 
   ticked-shows : Shows s journal (tick s now)
   ticked-shows = server-ticks s now (Shows s journal) (record {

@@ -9,11 +9,10 @@ use Rattle.nq_excuse_steps.proofs.HoldingSteps.{Between}
 use Rattle.nq_excuse_steps.proofs.Holdings.{IsHeldBound, IsPastLoss, RefusedUnbound}
 use Rattle.nq_excuse_steps.proofs.Waiting.{IsWaiting}
 use Rattle.nq_model.specs.Client.{Client, ClientStep, Lease, begun, lease_on, lets_write}
-use Rattle.nq_model.specs.Journal.{IsWithin}
+use Rattle.nq_model.specs.Journal.{IsWithin, Each}
 use Rattle.nq_model.specs.Kept.{host_row}
 use Rattle.nq_model.specs.Server.{Server}
 use Rattle.nq_run_steps.proofs.Packets.{In}
-use Rattle.nq_server_laws.proofs.LogTimes.{EachEntry}
 
 pub record ClientExcused (s : Server) (c : Client) (journal : List Entry) : Type 0 where
   -- the file of delayed writes is bound, or they are excused
@@ -56,16 +55,16 @@ past-other : (who other : Who) (number : ℕ) (e : Entry) → other.host ≢ who
 past-other who other number (Entry.L w file block first last) apart own = λ host. absurd (apart (sym host ∙ ap (λ z. z.host) own))
 past-other who other number e apart own = tt
 
-excused-other : (who other : Who) (p : Push) (entries journal : List Entry) → other.host ≢ who.host → EachEntry (IsOf who) entries → IsExcusedIn journal other p → IsExcusedIn (entries ++ journal) other p
+excused-other : (who other : Who) (p : Push) (entries journal : List Entry) → other.host ≢ who.host → Each (IsOf who) entries → IsExcusedIn journal other p → IsExcusedIn (entries ++ journal) other p
 excused-other who other p [] journal apart own h = h
 excused-other who other p (e ∷ entries) journal apart own h = excused-past other p e (entries ++ journal) (of-other who other p.file p.block p.first p.last e apart own.0) (excused-other who other p entries journal apart own.1 h)
 
-all-past-other : (who other : Who) (number : ℕ) (entries journal : List Entry) → other.host ≢ who.host → EachEntry (IsOf who) entries → ((e : Entry) → In journal e → IsPastLoss other number e) → (e : Entry) → In (entries ++ journal) e → IsPastLoss other number e
+all-past-other : (who other : Who) (number : ℕ) (entries journal : List Entry) → other.host ≢ who.host → Each (IsOf who) entries → ((e : Entry) → In journal e → IsPastLoss other number e) → (e : Entry) → In (entries ++ journal) e → IsPastLoss other number e
 all-past-other who other number [] journal apart own past e there = past e there
 all-past-other who other number (x ∷ entries) journal apart own past e (inl same) = subst (IsPastLoss other number) same (past-other who other number x apart own.0)
 all-past-other who other number (x ∷ entries) journal apart own past e (inr there) = all-past-other who other number entries journal apart own.1 past e there
 
-pub other-excused : (s : Server) (who : Who) (c : Client) (entries journal : List Entry) → c.who.host ≢ who.host → EachEntry (IsOf who) entries → ClientExcused s c journal → ClientExcused s c (entries ++ journal)
+pub other-excused : (s : Server) (who : Who) (c : Client) (entries journal : List Entry) → c.who.host ≢ who.host → Each (IsOf who) entries → ClientExcused s c journal → ClientExcused s c (entries ++ journal)
 other-excused s who c entries journal apart own h = record {
   waiting = λ p waits. case p (h.waiting p waits);
   blocks = h.blocks;

@@ -2,7 +2,6 @@
 use Rattle.std.proofs.Common.{◌≡◌, ◌⊎◌, ℕ, ◌==◌, Bool, true, false, List, [], ◌∷◌, Option, Some, None, refl, sym, subst, ap, ◌∙◌, inl, inr}
 use Rattle.nq_base.specs.declared.Mode.TheVariants.{Writing}
 use Rattle.nq_base.specs.declared.Push.{Push}
-use Rattle.nq_client_steps.proofs.ClientLists.{other-number}
 use Rattle.nq_client_steps.proofs.ClientMoves.{some-same, none-some}
 use Rattle.nq_excuse_laws.proofs.ExcuseWorlds.{ChainsInEveryRun, run-excused}
 use Rattle.nq_excuse_laws.specs.ExcusesInRuns.{LossesAreExcused, IsUnsaved, listed, under_way, IsBoundAt, IsExcusedLoss, UnsavedFilesAreBoundOrExcused}
@@ -16,6 +15,7 @@ use Rattle.nq_model.specs.Server.{standing}
 use Rattle.nq_model.specs.World.{World, run}
 use Rattle.nq_run_steps.proofs.Packets.{In, in-get}
 use Rattle.nq_server_steps.proofs.Rows.{same-number}
+use Rattle.nq_server_steps.proofs.Tests.{is-other}
 
 pub losses-excused : ChainsInEveryRun → LossesAreExcused
 losses-excused chains most head events bounds within = cut-excused (run head events).journal (run-excused chains most head events bounds within).cut
@@ -42,7 +42,7 @@ all-or-one w c file (q ∷ ps) each = step (q.file == file) refl (all-or-one w c
     step : (b : Bool) → (q.file == file) ≡ b → IsHeldBound w.server c.who c.leases file ⊎ ((p : Push) → In ps p → p.file ≡ file → IsExcusedIn w.journal c.who p) → IsHeldBound w.server c.who c.leases file ⊎ ((p : Push) → In (q ∷ ps) p → p.file ≡ file → IsExcusedIn w.journal c.who p)
     step b e (inl bound) = inl bound
     step true e (inr rest) = both (each q (inl refl) (same-number q.file file e)) rest
-    step false e (inr rest) = inr (more (inr (other-number q.file file e)) rest)
+    step false e (inr rest) = inr (more (inr (is-other q.file file e)) rest)
 
 pub bound-or-excused : ChainsInEveryRun → UnsavedFilesAreBoundOrExcused
 bound-or-excused chains most head events host c file bounds within is dirty = finish (all-or-one w c file c.dirty (λ p there on. at p (inl there) on)) (of-push c.push refl)
@@ -70,7 +70,7 @@ bound-or-excused chains most head events host c file bounds within is dirty = fi
 
         step : (b : Bool) → (q.file == file) ≡ b → IsHeldBound (run head events).server c.who c.leases file ⊎ ((p : Push) → c.push ≡ Some p → p.file ≡ file → IsExcusedIn (run head events).journal c.who p)
         step true is_on = one (at q (inr e) (same-number q.file file is_on))
-        step false off = inr (λ p f on. absurd (other-number q.file file off (ap (λ z. z.file) (some-same q p (sym e ∙ f)) ∙ on)))
+        step false off = inr (λ p f on. absurd (is-other q.file file off (ap (λ z. z.file) (some-same q p (sym e ∙ f)) ∙ on)))
 
     finish : IsHeldBound (run head events).server c.who c.leases file ⊎ ((p : Push) → In c.dirty p → p.file ≡ file → IsExcusedIn (run head events).journal c.who p) → IsHeldBound (run head events).server c.who c.leases file ⊎ ((p : Push) → c.push ≡ Some p → p.file ≡ file → IsExcusedIn (run head events).journal c.who p) → IsBoundAt (run head events) c file ⊎ ((p : Push) → IsUnsaved c p → p.file ≡ file → IsExcusedLoss (run head events).journal c.who p)
     finish (inl b) pushed = inl (bound-at (run head events) c file b)

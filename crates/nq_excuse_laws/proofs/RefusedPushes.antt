@@ -1,5 +1,6 @@
 -- A push is declined only of a file that is not bound, and the file stays unbound while the push is under way.
 use Rattle.std.proofs.Common.{◌≡◌, ◌<◌, ℕ, ◌==◌, ◌&&◌, Bool, true, false, List, Some, None, refl, sym, subst, ap, ◌∙◌, arith, inr}
+use Rattle.std.proofs.lemmas.Bool.{and_from}
 use Rattle.nq_base.specs.declared.Push.{Push}
 use Rattle.nq_base.specs.declared.PushBase.{PushBase}
 use Rattle.nq_base.specs.declared.Request.{Request}
@@ -21,7 +22,7 @@ use Rattle.nq_model.specs.Message.{Packet}
 use Rattle.nq_model.specs.Server.{serving, Server, standing, standing_in}
 use Rattle.nq_model.specs.Table.{is_writing, find_row}
 use Rattle.nq_server_laws.proofs.ServerTables.{BootsFit, BootsFitOf, ServesBoot, StandingFitsOf}
-use Rattle.nq_server_steps.proofs.Rows.{true-both, number-same}
+use Rattle.nq_server_steps.proofs.Rows.{number-same}
 use Rattle.nq_server_steps.proofs.ServerCases.{found-file}
 use Rattle.nq_server_steps.proofs.ServerOutcomes.{IsDeclined, bad_length, name_taken, no_room, not_kept, outside, no_row, not_under, not_over, not_while_recovering, bad_size, no_room_to_grow, file_changed_by, base_in}
 
@@ -108,7 +109,7 @@ module _ (s : Server) (c : Client) (ps : List Packet) (k : ChainFits s c ps) (bo
       let inc : (row'.who.inc == w.inc) ≡ true = number-same row'.who.inc w.inc (ap (λ z. z.who.inc) one ∙ ap (λ z. z.inc) own.holder ∙ ap (λ z. z.inc) (sym who_is)) in
       let boot : (base.boot == s.kept.boot) ≡ true = number-same base.boot s.kept.boot (ap (λ z. z.boot) base_is ∙ serving-boot q) in
       let rev : (base.base == f.rev) ≡ true = number-same base.base f.rev (ap (λ z. z.base) base_is ∙ at-base ∙ ap (λ z. z.rev) (sym f_is)) in
-      true-both _ _ (true-both _ _ (true-both _ _ writes inc) boot) rev
+      and_from _ _ (and_from _ _ (and_from _ _ writes inc) boot) rev
 
   -- the push of a bound file is not declined
   pub bound-stored : (w : Who) (verdict : Verdict) → w ≡ c.who → IsDeclined s w t.request verdict → ⊥
@@ -148,7 +149,7 @@ module _ (s : Server) (c : Client) (ps : List Packet) (k : ChainFits s c ps) (bo
       let one : f ≡ knows.f = same-file f (subst (λ n. find_file n s.kept.files ≡ Some f) (sym at) found) in
       let boot : (base.boot == s.kept.opened) ≡ true = number-same base.boot s.kept.opened (ap (λ z. z.boot) base_is ∙ of-boot) in
       let rev : (base.base == f.rev) ≡ true = number-same base.base f.rev (ap (λ z. z.base) base_is ∙ at-base ∙ ap (λ z. z.rev) (sym one)) in
-      let fine : (base.boot == s.kept.opened && base.base == f.rev) ≡ true = true-both _ _ boot rev in
+      let fine : (base.boot == s.kept.opened && base.base == f.rev) ≡ true = and_from _ _ boot rev in
       absurd (cc)
   bound-stored w verdict who_is (not_while_recovering rec none v) = none-some sh.base (sym none ∙ ap base_in sh.is)
   bound-stored w verdict who_is (bad_size seq q file blocks f ph on found bad v) = not-push (Request.Resize w seq q file blocks) on refl

@@ -1,6 +1,6 @@
 -- What is known of a client before a step, as its delayed writes need it.
 use Rattle.std.proofs.Common.{◌≡◌, ◌<◌, ℕ, ◌+◌, ◌-◌, true, false, nat_lt, List, Some, refl, sym, subst, ap, ◌∙◌, arith}
-use Rattle.std.proofs.lemmas.Bool.Decides.{nat_tests}
+use Rattle.std.proofs.lemmas.Bool.{and_parts}
 use Rattle.nq_base.specs.declared.Entry.{Entry}
 use Rattle.nq_base.specs.declared.Event.{Event}
 use Rattle.nq_base.specs.declared.Grant.{Grant}
@@ -33,23 +33,20 @@ use Rattle.nq_run_steps.proofs.Packets.{Told}
 use Rattle.nq_run_steps.proofs.Worlds.{IsAt}
 use Rattle.nq_server_laws.proofs.ServerTables.{BootsFitOf, StandingFitsOf}
 use Rattle.nq_server_steps.proofs.Modes.{writing-caches}
-use Rattle.nq_server_steps.proofs.Rows.{both-true}
+use Rattle.nq_server_steps.proofs.Tests.{is-below}
 
 is-writing : (mode : Mode) → is_writing mode ≡ true → mode ≡ Writing
 is-writing Writing e = refl
 is-writing Reading e = absurd (cc)
 is-writing NonCaching e = absurd (cc)
 
-runs-below : (now expiry : ℕ) → nat_lt now expiry ≡ true → now < expiry
-runs-below now expiry e = grind (arith, nat_tests)
-
 module _ (s : Server) (events : List Event) (host : ℕ) (c : Client) (ps : List Packet) (a : IsAt host c ps) (knows : KnowsOf (host_row s.kept host) s events c ps) where
   -- a writing lease that runs is bound
   pub live-bound : (file : ℕ) (l : Lease) → lease_on file c.leases ≡ Some l → lets_write c.now l ≡ true → IsBound s s.phase c.who file l.tag
   live-bound file l held lets =
-      let both = both-true (is_writing l.mode) (nat_lt c.now l.expiry) lets in
+      let both = and_parts (is_writing l.mode) (nat_lt c.now l.expiry) lets in
       let term = (a.alone.asking.leased file l held).term in
-      let below : c.now < l.expiry = runs-below c.now l.expiry both.1 in
+      let below : c.now < l.expiry = is-below c.now l.expiry both.1 in
       let until : ℕ = cover_end c.who.host (l.expiry - l.term) l.term events in
       covered-bound s s.phase c.who file l.tag until
       (subst (λ m. IsCovered s s.phase c.who file m l.tag until) (is-writing l.mode both.0) (knows.covered.held file l held (writing-caches l.mode both.0) (omega arith)))
@@ -61,8 +58,8 @@ module _ (s : Server) (events : List Event) (host : ℕ) (c : Client) (ps : List
     given-bound : (file : ℕ) (g : Grant) → IsTakeable ps c.who c.ticket file g ticket → lets_write c.now (granted_lease file g ticket.first) ≡ true → IsBound s s.phase c.who file g.tag
     unfolding granted_lease
     given-bound file g takes lets =
-        let both = both-true (is_writing g.mode) (nat_lt c.now (ticket.first + g.term)) lets in
-        let below : c.now < ticket.first + g.term = runs-below c.now (ticket.first + g.term) both.1 in
+        let both = and_parts (is_writing g.mode) (nat_lt c.now (ticket.first + g.term)) lets in
+        let below : c.now < ticket.first + g.term = is-below c.now (ticket.first + g.term) both.1 in
         let until : ℕ = cover_end c.who.host ticket.first g.term events in
         covered-bound s s.phase c.who file g.tag until
         (subst (λ m. IsCovered s s.phase c.who file m g.tag until) (is-writing g.mode both.0) (knows.covered.given file g ticket takes (writing-caches g.mode both.0) below))

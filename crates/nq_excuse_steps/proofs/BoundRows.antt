@@ -1,9 +1,9 @@
 -- A file is bound while the row of its holder stands, lets him write, and began its chain no later than the tag that he
 -- holds. A tick of the server's clock keeps it bound, or ends it late enough; a crash keeps it bound.
-use Rattle.std.proofs.Common.{◌≡◌, ◌≢◌, ◌<◌, ◌≤◌, ◌⊎◌, ℕ, ◌+◌, ◌==◌, ◌&&◌, Bool, true, false, not, List, [], ◌∷◌, Some, None, if◌then◌else◌, max, nat_le, refl, sym, subst, ap, ◌∙◌, arith, inl, inr}
+use Rattle.std.proofs.Common.{◌≡◌, ◌≢◌, ◌≤◌, ◌⊎◌, ℕ, ◌+◌, ◌==◌, ◌&&◌, Bool, true, false, not, List, [], ◌∷◌, Some, None, if◌then◌else◌, max, nat_le, refl, sym, subst, ap, ◌∙◌, arith, inl, inr}
 use Rattle.std.specs.List.{find}
+use Rattle.std.proofs.lemmas.Bool.{and_parts, and_from}
 use Rattle.nq_base.specs.declared.Entry.{Entry}
-use Rattle.nq_base.specs.declared.Mode.{Mode}
 use Rattle.nq_base.specs.declared.Mode.TheVariants.{Writing}
 use Rattle.nq_base.specs.declared.Row.{Row}
 use Rattle.nq_base.specs.declared.Tag.{Tag}
@@ -13,21 +13,22 @@ use Rattle.nq_excuse_steps.proofs.LateEndings.{late-end, late-opening}
 use Rattle.nq_lease_laws.proofs.ServerChanges.{same-cover-table}
 use Rattle.nq_lease_laws.proofs.ServerLives.{HasServed, booted-kept, booted-phase, between}
 use Rattle.nq_model.specs.CutOff.{Ends, IsLateEnd, IsLateOpening}
+use Rattle.nq_model.specs.Journal.{Each}
 use Rattle.nq_model.specs.Kept.{host_row}
 use Rattle.nq_model.specs.LeaseInterval.{is_at_least, HasFitting, OutlivedBy, IsCovered}
 use Rattle.nq_model.specs.Profile.{skew, write_slack}
 use Rattle.nq_model.specs.Server.{Phase, serving, recovering, Server, ServerStep, standing, standing_in, quiet, with_table, keeping_with}
-use Rattle.nq_model.specs.ServerStep.{is_over, is_due, end_reading, at_time, opens, ends_writing, tick, crash, boot, booted}
+use Rattle.nq_model.specs.ServerStep.{is_over, is_due, end_reading, at_time, opens, ends_writing, tick, crash, boot}
 use Rattle.nq_model.specs.Table.{Table, is_writing, find_row, with_rows}
 use Rattle.nq_excuse_steps.proofs.LogRuns.{Alone, LogRuns}
 use Rattle.nq_server_laws.proofs.LogMoves.{timed}
 use Rattle.nq_server_laws.proofs.LogRows.{WasGranted, IsHeardOf, RowsHear, RowsGranted}
-use Rattle.nq_server_laws.proofs.LogTimes.{EachEntry, HeardAll, IsHeard, ToldBoot}
+use Rattle.nq_server_laws.proofs.LogTimes.{HeardAll, IsHeard, ToldBoot}
 use Rattle.nq_server_laws.proofs.ServerNumbers.{Waits, PhaseWaits}
 use Rattle.nq_server_laws.proofs.ServerTables.{BootsFit, BootsFitOf, RecoversBoot, StandingFits, StandingFitsOf}
 use Rattle.nq_server_steps.proofs.Modes.{writing-caches}
 use Rattle.nq_server_steps.proofs.RowChanges.{HasUniqueKeys, kept_if, find-kept, found-any, unique-filtered, find-other-dropped}
-use Rattle.nq_server_steps.proofs.Rows.{both-true, true-both, number-same, same-number, find-passes}
+use Rattle.nq_server_steps.proofs.Rows.{number-same, same-number, find-passes}
 use Rattle.nq_server_steps.proofs.ServerCases.{server-ticks}
 use Rattle.nq_server_steps.proofs.TableFits.{TableFits}
 
@@ -67,7 +68,7 @@ module _ (most booted : ℕ) (s : Server) (journal : List Entry) (fits : Alone m
   was-granted : (file host : ℕ) (row : Row) → s.phase ≡ serving → find_row file host s.table.rows ≡ Some row → is_writing row.mode ≡ true → WasGranted (timed journal) row
   was-granted file host row p found writing = (subst (λ q. RowsGranted q s.table (timed journal)) p log.granted) file host row found (writing-caches row.mode writing)
 
-  hears : (file host : ℕ) (row : Row) → s.phase ≡ serving → find_row file host s.table.rows ≡ Some row → is_writing row.mode ≡ true → EachEntry (IsHeardOf row.who row.file row.heard) (timed journal)
+  hears : (file host : ℕ) (row : Row) → s.phase ≡ serving → find_row file host s.table.rows ≡ Some row → is_writing row.mode ≡ true → Each (IsHeardOf row.who row.file row.heard) (timed journal)
   hears file host row p found writing = (subst (λ q. RowsHear q s.table (timed journal)) p log.hear) file host row found writing
 
   -- the recovery goes on
@@ -86,7 +87,7 @@ module _ (most booted : ℕ) (s : Server) (journal : List Entry) (fits : Alone m
       let k = stood.fits file who.host row o.fitting.stands in
       let granted : WasGranted (timed journal) row = (subst (λ q. RowsGranted q s.table (timed journal)) p log.granted) file who.host row o.fitting.stands (writing-caches row.mode o.fitting.fits.kind) in
       let told : find _ (timed journal) ≡ Some (Entry.X s.kept.boot booted s.kept.longest) = subst (λ q. ToldBoot booted s.kept.boot s.kept.longest q (timed journal)) p log.told in
-      let all : EachEntry (IsHeard heard) (timed journal) = subst (λ q. HeardAll q (timed journal)) p log.heard in
+      let all : Each (IsHeard heard) (timed journal) = subst (λ q. HeardAll q (timed journal)) p log.heard in
       let wait : Waits booted s.now s.kept.longest until heard = subst (λ q. PhaseWaits booted s.now s.kept.longest q) p log.waits in
       let opened : IsLateOpening journal row.who row.file s.kept.boot now = late-opening journal row s.kept.boot booted s.kept.longest s.kept.opened until heard now granted (k.tag_boot ∙ r.last_boot) (writing-caches row.mode o.fitting.fits.kind) log.short told all wait.after_leases wait.after_writes late in
       inr (record {
@@ -134,20 +135,20 @@ module _ (most booted : ℕ) (s : Server) (journal : List Entry) (fits : Alone m
 
       by : (e : Bool) → (due.file == file && due.who.host == who.host) ≡ e → StaysOrEnds (ends_writing (at_time s now) (end_reading now s.table.rows) due)
       by true same =
-          let key = both-true (due.file == file) (due.who.host == who.host) same in
+          let key = and_parts (due.file == file) (due.who.host == who.host) same in
           let at : due.file ≡ file = same-number due.file file key.0 in
           let host : due.who.host ≡ who.host = same-number due.who.host who.host key.1 in
           let stands : find_row file who.host (end_reading now s.table.rows) ≡ Some due = subst (λ n. find_row file n (end_reading now s.table.rows) ≡ Some due) host (subst (λ n. find_row n due.who.host (end_reading now s.table.rows) ≡ Some due) at found) in
           let one : k.row ≡ due = some-same k.row due (sym own ∙ stands) in
           let due_now : is_due now k.row ≡ true = subst (λ r. is_due now r ≡ true) (sym one) (find-passes (is_due now) due (end_reading now s.table.rows) ends) in
-          let late : IsLateEnd journal k.row.who k.row.file k.row.until k.row.heard now = late-end journal k.row now (was-granted file who.host k.row p k.stands k.fits.kind) (hears file who.host k.row p k.stands k.fits.kind) (both-true (is_writing k.row.mode) (nat_le (max k.row.until k.row.heard + write_slack) now) due_now).1 in
+          let late : IsLateEnd journal k.row.who k.row.file k.row.until k.row.heard now = late-end journal k.row now (was-granted file who.host k.row p k.stands k.fits.kind) (hears file who.host k.row p k.stands k.fits.kind) (and_parts (is_writing k.row.mode) (nat_le (max k.row.until k.row.heard + write_slack) now) due_now).1 in
           inr (record {
             entry = Entry.F due.who due.file due.until due.heard now;
             made = refl;
             ends = subst (λ r. Ends who file (Entry.F r.who r.file r.until r.heard now) journal) one (k.fits.holder, k.fits.of_file, subst (λ w. IsLateEnd journal w file k.row.until k.row.heard now) k.fits.holder (subst (λ f. IsLateEnd journal k.row.who f k.row.until k.row.heard now) k.fits.of_file late));
           })
       by false differs =
-          let apart : file ≡ due.file → who.host ≢ due.who.host = λ at host. let both : (due.file == file && due.who.host == who.host) ≡ true = true-both _ _ (number-same due.file file (sym at)) (number-same due.who.host who.host (sym host)) in absurd (cc) in
+          let apart : file ≡ due.file → who.host ≢ due.who.host = λ at host. let both : (due.file == file && due.who.host == who.host) ≡ true = and_from _ _ (number-same due.file file (sym at)) (number-same due.who.host who.host (sym host)) in absurd (cc) in
           inl (subst (λ q. IsBound t q who file tag) (sym p) (record { row = k.row; stands = find-other-dropped due.file due.who.host file who.host (end_reading now s.table.rows) apart ∙ own; fits = k.fits }))
 
   -- a tick keeps the file bound, or ends it late enough

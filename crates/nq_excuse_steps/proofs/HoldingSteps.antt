@@ -12,12 +12,13 @@ use Rattle.nq_client_cases.proofs.SettleCases.{SettleCases, settle-cases}
 use Rattle.nq_client_steps.proofs.ClientMoves.{some-same, none-some}
 use Rattle.nq_excuse_steps.proofs.Holdings.{view_of, Holding, uses, drops, fewer, notes}
 use Rattle.nq_excuse_steps.proofs.HoldingWrites.{writes}
-use Rattle.nq_excuse_steps.proofs.Waiting.{IsWaiting, in-left-of, in-found, none-waiting}
+use Rattle.nq_excuse_steps.proofs.Waiting.{IsWaiting, none-waiting}
 use Rattle.nq_model.specs.Client.{ClientStep, Job, for_call, Lease, UnderWay, is_push_at, is_push_of, drop_dirty, first_dirty, is_clean, lease_on, lets_write}
 use Rattle.nq_model.specs.Kept.{host_row}
 use Rattle.nq_model.specs.Message.{sequence_of}
 use Rattle.nq_model.specs.Send.{sends_request, after_seq, after_number, takes_push, sends_write, gives_up, read_want, want_of, send_next}
 use Rattle.nq_model.specs.Server.{Server}
+use Rattle.nq_run_steps.proofs.Members.{in-filter, find-in}
 use Rattle.nq_run_steps.proofs.Packets.{In}
 use Rattle.nq_model.specs.Settle.{answers, reads_cached, after_read, after_write, delays, marks_written, names_losses, settle}
 
@@ -102,8 +103,8 @@ module _ (s : Server) (journal : List Entry) where
       (λ u n is seq. inl (λ inc. let below = h.drawn inc in let same : t.client.seq ≡ n = some-same t.client.seq n (ap (λ k. sequence_of k.request) (some-same _ u is) ∙ seq) in omega arith)) h
     where
       less : (q : Push) → IsWaiting (drop_dirty p.file p.block t.client.dirty) (Some p) q → IsWaiting t.client.dirty t.client.push q
-      less q (inl there) = inl (in-left-of (λ x. not (is_push_at p.file p.block x)) t.client.dirty q there).0
-      less q (inr is) = inl (subst (In t.client.dirty) (some-same p q is) (in-found (is_push_of file) t.client.dirty p found))
+      less q (inl there) = inl (in-filter (λ x. not (is_push_at p.file p.block x)) t.client.dirty q there).0
+      less q (inr is) = inl (subst (In t.client.dirty) (some-same p q is) (find-in (is_push_of file) t.client.dirty p found))
 
   given-up : (t : ClientStep) (file : ℕ) → is_clean t.client file ≡ true → Between t → Between (gives_up t file)
   unfolding gives_up

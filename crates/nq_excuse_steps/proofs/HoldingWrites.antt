@@ -2,23 +2,24 @@
 use Rattle.std.proofs.Common.{◌≡◌, ◌≢◌, ◌<◌, ◌≤◌, ◌⊎◌, ℕ, ◌+◌, ◌==◌, Bool, true, false, List, [], ◌∷◌, ◌++◌, Some, if◌then◌else◌, refl, sym, subst, ap, ◌∙◌, arith, inl, inr, append_assoc}
 use Rattle.std.specs.List.{filter}
 use Rattle.std.specs.Prelude.{reverse, map}
+use Rattle.std.proofs.lemmas.Bool.{and_parts}
 use Rattle.nq_base.specs.declared.Entry.{Entry}
 use Rattle.nq_base.specs.declared.Push.{Push}
 use Rattle.nq_base.specs.declared.Who.{Who}
-use Rattle.nq_client_steps.proofs.ClientLists.{other-number, marked-before}
+use Rattle.nq_client_steps.proofs.ClientLists.{marked-before}
 use Rattle.nq_client_steps.proofs.ClientMoves.{some-same}
 use Rattle.nq_excuse_steps.proofs.Cuts.{IsOf, IsExcusedIn, excused-past, AreCut, NoneLoses, cut-loss}
 use Rattle.nq_excuse_steps.proofs.Holdings.{View, IsHeldBound, IsPastLoss, Holding, uses, held-used}
 use Rattle.nq_excuse_steps.proofs.Waiting.{IsWaiting, in-written, IsWritten, lost-waited, left-waiting, fold-losses}
 use Rattle.nq_model.specs.Client.{Lease, is_push_of, lease_on, marked_used, used_lease, dirty_at, other_dirty, lets_write}
 use Rattle.nq_model.specs.Hear.{push_of, other_push, loss_entry}
-use Rattle.nq_model.specs.Journal.{Loses}
+use Rattle.nq_model.specs.Journal.{Loses, Each}
 use Rattle.nq_model.specs.Server.{Server}
 use Rattle.nq_model.specs.Settle.{with_write}
 use Rattle.nq_run_steps.proofs.Packets.{In}
 use Rattle.nq_server_laws.proofs.LogMoves.{timed}
-use Rattle.nq_server_laws.proofs.LogTimes.{EachEntry}
-use Rattle.nq_server_steps.proofs.Rows.{same-number, both-true}
+use Rattle.nq_server_steps.proofs.Rows.{same-number}
+use Rattle.nq_server_steps.proofs.Tests.{is-other}
 
 module _ (s : Server) (who : Who) (now : ℕ) (journal : List Entry) where
   -- the view after a write was delayed
@@ -48,7 +49,7 @@ module _ (s : Server) (who : Who) (now : ℕ) (journal : List Entry) where
     u = uses s who now journal file v h
 
     bound : IsHeldBound s who (used_lease file v.leases) file
-    bound = held-used file file v.leases (record { lease = lease; held = held; writes = (both-true _ _ lets).0; bound = h.live file lease held lets })
+    bound = held-used file file v.leases (record { lease = lease; held = held; writes = (and_parts _ _ lets).0; bound = h.live file lease held lets })
 
     old : (p : Push) → IsWaiting (with_write file block v.number body v.dirty (dirty_at file block v.dirty)) v.push p → ((p.file ≡ file) × (p.block ≡ block) × (p.last ≡ v.number)) ⊎ IsWaiting v.dirty v.push p
     old p (inr under) = inr (inr under)
@@ -71,7 +72,7 @@ module _ (s : Server) (who : Who) (now : ℕ) (journal : List Entry) where
 
     by : (p : Push) → ((p.file ≡ file) × (p.block ≡ block) × (p.last ≡ v.number)) ⊎ IsWaiting v.dirty v.push p → (b : Bool) → (p.file == file) ≡ b → IsHeldBound s who (used_lease file v.leases) p.file ⊎ IsExcusedIn (write ∷ v.entries ++ journal) who p
     by p was true e = inl (subst (IsHeldBound s who (used_lease file v.leases)) (sym (same-number p.file file e)) bound)
-    by p was false e = other p (other-number p.file file e) was
+    by p was false e = other p (is-other p.file file e) was
 
     below : (p : Push) (l : Lease) → ((p.file ≡ file) × (p.block ≡ block) × (p.last ≡ v.number)) ⊎ IsWaiting v.dirty v.push p → lease_on p.file (used_lease file v.leases) ≡ Some l → p.block < l.blocks
     below p l (inr before) is = u.blocks p l before is
@@ -149,8 +150,8 @@ module _ (s : Server) (who : Who) (now : ℕ) (journal : List Entry) where
   timed-losses : (ps : List Push) (entries : List Entry) → timed entries ≡ [] → timed (reverse (map (loss_entry who) ps) ++ entries) ≡ []
   timed-losses ps entries none = fold-losses (λ j. timed j ≡ []) who ps entries (λ p more there h. h) none
 
-  own-losses : (ps : List Push) (entries : List Entry) → EachEntry (IsOf who) entries → EachEntry (IsOf who) (reverse (map (loss_entry who) ps) ++ entries)
-  own-losses ps entries own = fold-losses (EachEntry (IsOf who)) who ps entries (λ p more there h. (refl, h)) own
+  own-losses : (ps : List Push) (entries : List Entry) → Each (IsOf who) entries → Each (IsOf who) (reverse (map (loss_entry who) ps) ++ entries)
+  own-losses ps entries own = fold-losses (Each (IsOf who)) who ps entries (λ p more there h. (refl, h)) own
 
   -- a file's delayed writes are lost, each of which is excused
   pub loses : (file : ℕ) (v : View) → ((p : Push) → IsWaiting v.dirty v.push p → p.file ≡ file → IsExcusedIn (v.entries ++ journal) who p) → Holding s who now journal v → Holding s who now journal (lost v file)

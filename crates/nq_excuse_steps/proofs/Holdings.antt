@@ -7,13 +7,14 @@ use Rattle.nq_base.specs.declared.Push.{Push}
 use Rattle.nq_base.specs.declared.Verdict.{Verdict}
 use Rattle.nq_base.specs.declared.Who.{Who}
 use Rattle.nq_client_steps.proofs.ClientFacts.{push_in}
-use Rattle.nq_client_steps.proofs.ClientLists.{other-number, marked-before, marked-tag, marked-mode, marked-expiry, used-lease-found, lease-before-drop, other-lease-dropped, lease-after-put, put-lease-found, other-lease-put, marked-blocks}
+use Rattle.nq_client_steps.proofs.ClientLists.{marked-before, marked-tag, marked-mode, marked-expiry, used-lease-found, lease-before-drop, other-lease-dropped, lease-after-put, put-lease-found, other-lease-put, marked-blocks}
 use Rattle.nq_client_steps.proofs.ClientMoves.{none-some}
 use Rattle.nq_excuse_steps.proofs.BoundRows.{IsBound}
 use Rattle.nq_excuse_steps.proofs.Waiting.{IsWaiting}
 use Rattle.nq_excuse_steps.proofs.Cuts.{IsPlain, IsOf, plain-of, IsExcusedIn, excused-more, AreCut, cut-more}
 use Rattle.nq_model.specs.Client.{ClientStep, Lease, Ticket, lease_on, drop_lease, put_lease, used_lease, marked_used, lets_write}
 use Rattle.nq_model.specs.Hear.{granted_lease}
+use Rattle.nq_model.specs.Journal.{Each}
 use Rattle.nq_model.specs.Kept.{host_row}
 use Rattle.nq_model.specs.Message.{sequence_of}
 use Rattle.nq_model.specs.Server.{Server}
@@ -21,7 +22,7 @@ use Rattle.nq_model.specs.Table.{is_writing}
 use Rattle.nq_run_steps.proofs.Packets.{In}
 use Rattle.nq_server_steps.proofs.Rows.{same-number}
 use Rattle.nq_server_laws.proofs.LogMoves.{is_timed, timed}
-use Rattle.nq_server_laws.proofs.LogTimes.{EachEntry}
+use Rattle.nq_server_steps.proofs.Tests.{is-other}
 
 -- what of a client's step its delayed writes rest on
 pub record View : Type 0 where
@@ -80,7 +81,7 @@ pub record Holding (s : Server) (who : Who) (now : ℕ) (journal : List Entry) (
   pub cut : AreCut (v.entries ++ journal)
   pub untimed : timed v.entries ≡ []
   -- delayed writes and losses are its own
-  pub own : EachEntry (IsOf who) v.entries
+  pub own : Each (IsOf who) v.entries
   -- the kept sequence was drawn
   pub drawn : (host_row s.kept who.host).inc ≡ who.inc → (host_row s.kept who.host).seq < v.seq
   pub refused : RefusedUnbound s who v.ticket v.leases
@@ -189,7 +190,7 @@ module _ (s : Server) (who : Who) (now : ℕ) (journal : List Entry) where
     by : (p : Push) → IsWaiting v.dirty v.push p → (b : Bool) → (p.file == file) ≡ b → IsHeldBound s who v.leases p.file ⊎ IsExcusedIn (v.entries ++ journal) who p → IsHeldBound s who (put_lease lease v.leases) p.file ⊎ IsExcusedIn (v.entries ++ journal) who p
     by p waits b e (inr excused) = inr excused
     by p waits true e (inl bound) = inl (bound-after p waits (same-number p.file file e) bound)
-    by p waits false e (inl bound) = inl (other-after p (other-number p.file file e) bound)
+    by p waits false e (inl bound) = inl (other-after p (is-other p.file file e) bound)
 
     below : (p : Push) (l : Lease) → IsWaiting v.dirty v.push p → ((p.file ≡ file) × (l ≡ lease)) ⊎ ((p.file ≢ file) × (lease_on p.file v.leases ≡ Some l)) → p.block < l.blocks
     below p l waits (inl k) = let small = (fits p waits k.0).0 in let same : l.blocks ≡ g.blocks = ap (λ z. z.blocks) k.1 in omega arith

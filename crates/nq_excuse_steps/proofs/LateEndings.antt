@@ -16,7 +16,7 @@ use Rattle.nq_model.specs.Table.{same_who, caches}
 use Rattle.nq_excuse_steps.proofs.LogRuns.{IsShortGrant}
 use Rattle.nq_server_laws.proofs.LogMoves.{timed}
 use Rattle.nq_server_laws.proofs.LogRows.{is_grant_to, WasGranted, IsHeardOf}
-use Rattle.nq_server_laws.proofs.LogTimes.{EachEntry, IsHeard, is_boot}
+use Rattle.nq_server_laws.proofs.LogTimes.{IsHeard, is_boot}
 
 -- ---- the last grant
 
@@ -50,7 +50,7 @@ last-given (other ∷ journal) who w file f mode tag term at found = last-given 
 -- ---- stores
 
 -- after the write slack since a writing row was heard, each store for its holder is over
-pub stores-over : (journal : List Entry) (who : Who) (file heard now : ℕ) → EachEntry (IsHeardOf who file heard) (timed journal) → heard + write_slack ≤ now → Each (IsStoreOver who file now) journal
+pub stores-over : (journal : List Entry) (who : Who) (file heard now : ℕ) → Each (IsHeardOf who file heard) (timed journal) → heard + write_slack ≤ now → Each (IsStoreOver who file now) journal
 stores-over [] who file heard now each late = tt
 stores-over (Entry.S by f block first last time ∷ journal) who file heard now each late = (λ same on. let h = each.0 same on in omega arith, stores-over journal who file heard now each.1 late)
 stores-over (Entry.G by f mode tag term time ∷ journal) who file heard now each late = (tt, stores-over journal who file heard now each.1 late)
@@ -60,7 +60,7 @@ stores-over (Entry.X boot time longest ∷ journal) who file heard now each late
 stores-over (other ∷ journal) who file heard now each late = (tt, stores-over journal who file heard now each late)
 
 -- and so it is after the write slack since a recovery heard any write
-pub all-over : (journal : List Entry) (who : Who) (file heard now : ℕ) → EachEntry (IsHeard heard) (timed journal) → heard + write_slack ≤ now → Each (IsStoreOver who file now) journal
+pub all-over : (journal : List Entry) (who : Who) (file heard now : ℕ) → Each (IsHeard heard) (timed journal) → heard + write_slack ≤ now → Each (IsStoreOver who file now) journal
 all-over [] who file heard now each late = tt
 all-over (Entry.S by f block first last time ∷ journal) who file heard now each late = (λ same on. let h = each.0 in omega arith, all-over journal who file heard now each.1 late)
 all-over (Entry.G by f mode tag term time ∷ journal) who file heard now each late = (tt, all-over journal who file heard now each.1 late)
@@ -91,7 +91,7 @@ found-step : (P : Entry → Type 0) (p : Entry → Bool) (x e : Entry) (rest : O
 found-step P p x e rest true now later h = subst P (some-same x e h) now
 found-step P p x e rest false now later h = later h
 
-pub of-found : (P : Entry → Type 0) (p : Entry → Bool) (log : List Entry) (e : Entry) → EachEntry P log → find p log ≡ Some e → P e
+pub of-found : (P : Entry → Type 0) (p : Entry → Bool) (log : List Entry) (e : Entry) → Each P log → find p log ≡ Some e → P e
 of-found P p [] e each found = none-some e found
 of-found P p (x ∷ log) e each found = found-step P p x e (find p log) (p x) each.0 (of-found P p log e each.1) found
 
@@ -105,7 +105,7 @@ late-grant : (journal : List Entry) (who : Who) (file now time term : ℕ) → l
 late-grant journal who file now time term found late = subst (λ o. IsSomeAnd o (λ grant. grant.time + grant.term + skew + write_slack ≤ now)) (sym found) late
 
 -- a writing row that is due ends late enough
-pub late-end : (journal : List Entry) (row : Row) (now : ℕ) → WasGranted (timed journal) row → EachEntry (IsHeardOf row.who row.file row.heard) (timed journal) → nat_le (max row.until row.heard + write_slack) now ≡ true → IsLateEnd journal row.who row.file row.until row.heard now
+pub late-end : (journal : List Entry) (row : Row) (now : ℕ) → WasGranted (timed journal) row → Each (IsHeardOf row.who row.file row.heard) (timed journal) → nat_le (max row.until row.heard + write_slack) now ≡ true → IsLateEnd journal row.who row.file row.until row.heard now
 late-end journal row now granted heard due =
     let late = due-late row.until row.heard now due in
     let until : row.until + write_slack ≤ now = late.0 in
@@ -119,7 +119,7 @@ late-end journal row now granted heard due =
     }
 
 -- a recovery ends late enough for the holder of a row of the last boot that served
-pub late-opening : (journal : List Entry) (row : Row) (boot booted longest opened until heard now : ℕ) → WasGranted (timed journal) row → row.tag.boot ≡ opened → caches row.mode ≡ true → EachEntry (IsShortGrant opened longest) (timed journal) → find is_boot (timed journal) ≡ Some (Entry.X boot booted longest) → EachEntry (IsHeard heard) (timed journal) → booted + longest + (skew + write_slack) ≤ until → heard + write_slack ≤ until → until ≤ now → IsLateOpening journal row.who row.file boot now
+pub late-opening : (journal : List Entry) (row : Row) (boot booted longest opened until heard now : ℕ) → WasGranted (timed journal) row → row.tag.boot ≡ opened → caches row.mode ≡ true → Each (IsShortGrant opened longest) (timed journal) → find is_boot (timed journal) ≡ Some (Entry.X boot booted longest) → Each (IsHeard heard) (timed journal) → booted + longest + (skew + write_slack) ≤ until → heard + write_slack ≤ until → until ≤ now → IsLateOpening journal row.who row.file boot now
 late-opening journal row boot booted longest opened until heard now granted last caching grants told all waits hears late =
     let given : last_grant journal row.who row.file ≡ Some (record { time = granted.at; term = granted.term }) = last-given journal row.who row.who row.file row.file row.mode row.tag granted.term granted.at granted.last in
     let fits = of-found (IsShortGrant opened longest) (is_grant_to row.who row.file) (timed journal) (Entry.G row.who row.file row.mode row.tag granted.term granted.at) grants granted.last in

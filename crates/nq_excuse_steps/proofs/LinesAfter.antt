@@ -4,7 +4,6 @@ use Rattle.nq_base.specs.declared.HostRow.{HostRow}
 use Rattle.nq_base.specs.declared.Request.{Request}
 use Rattle.nq_base.specs.declared.Verdict.{Verdict}
 use Rattle.nq_base.specs.declared.Who.{Who}
-use Rattle.nq_client_steps.proofs.ClientLists.{other-number}
 use Rattle.nq_model.specs.Decide.{Decision, decides, creates, writes_through, stores, wrote, stores_recovering, resizes, removes, puts_off, commits, row_after}
 use Rattle.nq_model.specs.Kept.{Kept, host_row, with_row, with_files, with_new_file}
 use Rattle.nq_model.specs.Message.{Datagram, asker, request, sequence_of}
@@ -16,6 +15,7 @@ use Rattle.nq_server_steps.proofs.KeptChanges.{other-line, own-line}
 use Rattle.nq_server_steps.proofs.Rows.{same-number}
 use Rattle.nq_server_steps.proofs.ServerCases.{server-hears}
 use Rattle.nq_server_steps.proofs.ServerOutcomes.{ServerCases, IsFresh, IsFrom, IsDeclined, base_in, line_of}
+use Rattle.nq_server_steps.proofs.Tests.{is-other}
 
 -- a fresh request of the host was decided
 pub record IsDecided (s : Server) (sender : ℕ) (d : Datagram) (host : ℕ) (after : HostRow) (x seq : ℕ) (w : Who) (r : Request) : Type 0 where
@@ -46,7 +46,7 @@ module _ (s : Server) (sender next : ℕ) (d : Datagram) (host : ℕ) (lines : L
           let at : w.host ≡ host = same-number w.host host e in
           own (host_row (with_row kept w.host line) host) at (ap (λ n. host_row (with_row kept w.host line) n) (sym at) ∙ own-line kept w.host line (let all : length kept.hosts ≡ most_hosts = ap length same ∙ lines in omega arith))
       case false e =
-          let apart : w.host ≢ host = other-number w.host host e in
+          let apart : w.host ≢ host = is-other w.host host e in
           line_same (other-line kept w.host host line (λ at. apart (sym at)) ∙ ap (λ hosts. host_row (record kept { hosts = hosts }) host) same)
 
   committed : (xid : ℕ) (w : Who) (seq : ℕ) (r : Request) (k : Decision) → IsFresh s sender w seq → k.server.kept.hosts ≡ s.kept.hosts → ((after : HostRow) → w.host ≡ host → after ≡ row_after w seq k → LineAfter s sender d host after) → After (commits w seq xid r k)

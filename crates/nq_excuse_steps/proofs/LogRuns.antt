@@ -3,7 +3,9 @@ use Rattle.std.proofs.Common.{◌≡◌, ◌<◌, ◌≤◌, ℕ, ◌+◌, ◌==
 use Rattle.nq_base.specs.declared.Entry.{Entry}
 use Rattle.nq_base.specs.declared.Row.{Row}
 use Rattle.nq_base.specs.declared.Want.{Want}
+use Rattle.nq_model.proofs.Lists.{each-map}
 use Rattle.nq_model.specs.Ask.{Question, sharing_row, caching_row, shared_again, renewed_row}
+use Rattle.nq_model.specs.Journal.{Each}
 use Rattle.nq_model.specs.Kept.{File, Kept, find_file, with_files, with_new_file, with_row}
 use Rattle.nq_model.specs.Message.{Datagram}
 use Rattle.nq_model.specs.Profile.{shortest_term}
@@ -15,7 +17,7 @@ use Rattle.nq_server_laws.proofs.LogFits.{crash-now}
 use Rattle.nq_server_laws.proofs.LogGrants.{granted-tag}
 use Rattle.nq_server_laws.proofs.LogMoves.{timed, LogMoves, log-moves, tick-log-moves}
 use Rattle.nq_server_laws.proofs.LogRows.{RowsGranted, granted-receive, granted-tick, granted-crash, RowsHear, hear-receive, hear-tick, hear-crash}
-use Rattle.nq_server_laws.proofs.LogTimes.{EachEntry, each-entry, LogBy, by-receive, by-tick, by-crash, HeardAll, heard-receive, heard-tick, heard-crash, ToldBoot, told-receive, told-tick, told-crash}
+use Rattle.nq_server_laws.proofs.LogTimes.{LogBy, by-receive, by-tick, by-crash, HeardAll, heard-receive, heard-tick, heard-crash, ToldBoot, told-receive, told-tick, told-crash}
 use Rattle.nq_server_laws.proofs.RowTimes.{term-bounds}
 use Rattle.nq_server_laws.proofs.ServerFacts.{IncsFitOf}
 use Rattle.nq_server_laws.proofs.ServerNumbers.{TermsFitOf, PhaseWaitsOf, waits-receive, waits-tick, waits-crash}
@@ -30,7 +32,7 @@ IsShortGrant opened longest (Entry.G who file mode tag term now) = (tag.boot ≤
 IsShortGrant opened longest other = Unit {0}
 
 abbrev pub GrantsShort : Kept → List Entry → Type 0
-GrantsShort kept log = EachEntry (IsShortGrant kept.opened kept.longest) log
+GrantsShort kept log = Each (IsShortGrant kept.opened kept.longest) log
 
 later-opened : (opened longest boot longest' : ℕ) → opened < boot → (e : Entry) → IsShortGrant opened longest e → IsShortGrant boot longest' e
 later-opened opened longest boot longest' h (Entry.G who file mode tag term now) g = (omega (arith, g.0), λ c same. absurd (omega (arith, g.0)))
@@ -80,10 +82,10 @@ unfolding with_files
 short-fenced kept None log g = g
 short-fenced kept (Some f) log g = g
 
-short-opened : (s : Server) (until heard : ℕ) (last : Table) (log : List Entry) → s.phase ≡ recovering until heard last → BootsFitOf s → GrantsShort s.kept log → EachEntry (IsShortGrant s.kept.boot s.longest) log
+short-opened : (s : Server) (until heard : ℕ) (last : Table) (log : List Entry) → s.phase ≡ recovering until heard last → BootsFitOf s → GrantsShort s.kept log → Each (IsShortGrant s.kept.boot s.longest) log
 short-opened s until heard last log p b g =
     let r : RecoversBoot s.kept.boot s.kept.opened s.table last = subst (λ p. BootsFit s.kept.boot s.kept.opened p s.table) p b in
-    each-entry (IsShortGrant s.kept.opened s.kept.longest) (IsShortGrant s.kept.boot s.longest) log (later-opened s.kept.opened s.kept.longest s.kept.boot s.longest r.opened_before) g
+    each-map (IsShortGrant s.kept.opened s.kept.longest) (IsShortGrant s.kept.boot s.longest) log (later-opened s.kept.opened s.kept.longest s.kept.boot s.longest r.opened_before) g
 
 -- and after a tick
 short-tick : (s : Server) (now : ℕ) (log : List Entry) → BootsFitOf s → GrantsShort s.kept log → GrantsShort (tick s now).server.kept (timed (tick s now).entries ++ log)
@@ -104,7 +106,7 @@ short-crash s longest log b g = (tt, in-phase (s.kept.opened == 0))
     opened-before (recovering until heard last) b = omega (arith, b.opened_before)
 
     in-phase : (z : Bool) → GrantsShort (if z then record s.kept { boot = s.kept.boot + 1; opened = s.kept.boot + 1; longest = longest } else record s.kept { boot = s.kept.boot + 1 }) log
-    in-phase true = each-entry (IsShortGrant s.kept.opened s.kept.longest) (IsShortGrant (s.kept.boot + 1) longest) log (later-opened s.kept.opened s.kept.longest (s.kept.boot + 1) longest (opened-before s.phase b)) g
+    in-phase true = each-map (IsShortGrant s.kept.opened s.kept.longest) (IsShortGrant (s.kept.boot + 1) longest) log (later-opened s.kept.opened s.kept.longest (s.kept.boot + 1) longest (opened-before s.phase b)) g
     in-phase false = g
 
 -- ---- all of it

@@ -1,6 +1,7 @@
 -- In every run: the last sequence of a client is that of its request under way, and a reply that it can take tells what the
 -- kept line of its host tells.
 use Rattle.std.proofs.Common.{◌≡◌, ◌<◌, ◌≤◌, ◌⊎◌, ℕ, ◌+◌, Bool, true, false, not, ◌&&◌, ◌==◌, List, [], ◌∷◌, ◌++◌, Option, Some, None, refl, sym, subst, ap, ◌∙◌, arith, inl, inr, append-nil, map}
+use Rattle.std.proofs.lemmas.Bool.{and_parts}
 use Rattle.nq_base.specs.declared.Call.{Call}
 use Rattle.nq_base.specs.declared.Grant.{Grant}
 use Rattle.nq_base.specs.declared.HostRow.{HostRow}
@@ -27,7 +28,7 @@ use Rattle.nq_run_steps.proofs.Packets.{In, in-append, Asked, Told, not-both, Ma
 use Rattle.nq_run_steps.proofs.ServerKnows.{NoneHeard, NoneGiven}
 use Rattle.nq_run_steps.proofs.TagFacts.{told-before}
 use Rattle.nq_run_steps.proofs.Worlds.{Going, going-closed, IsAt, begun-going, timed-going, given-by}
-use Rattle.nq_server_steps.proofs.Rows.{choice, both-true, same-number, number-same}
+use Rattle.nq_server_steps.proofs.Rows.{choice, same-number, number-same}
 
 pub record Answered (line : HostRow) (who : Who) (seq : ℕ) (ticket : Option Ticket) (ps : List Packet) : Type 0 where
   -- some sequence was drawn, or the first one is next
@@ -152,7 +153,7 @@ reply-answers : (line : HostRow) (host : ℕ) (c : Client) (ps : List Packet) (n
 reply-answers line host c ps number xid r None is sent a h = tt
 reply-answers line host c ps number xid r (Some t) is sent a h =
     choice (AnsweredIf line host ps) (is_reply_to c xid r t) (Some (goes_on (replied (begun c) number t r))) None
-    (λ e. let k = both-true _ _ e in let l = both-true _ _ k.0 in ends line host c.who ps (goes_on (replied (begun c) number t r)) a.here (reply-keeps (hearing-closed line c.who ps NoneHeard (given-by t)) c number t r (replying k.1 (same-number _ _ l.0) (same-number _ _ l.1))))
+    (λ e. let k = and_parts _ _ e in let l = and_parts _ _ k.0 in ends line host c.who ps (goes_on (replied (begun c) number t r)) a.here (reply-keeps (hearing-closed line c.who ps NoneHeard (given-by t)) c number t r (replying k.1 (same-number _ _ l.0) (same-number _ _ l.1))))
     (λ e. tt)
   where
     before : Hearing line c.who ps (core_of (begun c))

@@ -1,15 +1,15 @@
 -- The laws: in every run the journal accounts for its delayed writes, and those that wait are unsaved at their client.
-use Rattle.std.proofs.Common.{◌⊎◌, ℕ, false, List, [], ◌∷◌, refl, sym, subst, inl, inr}
+use Rattle.std.proofs.Common.{◌⊎◌, ℕ, false, sym, subst, inl, inr}
 use Rattle.nq_base.specs.declared.Entry.{Entry}
 use Rattle.nq_base.specs.declared.Entry.TheVariants.{W}
-use Rattle.nq_base.specs.declared.Push.{Push}
 use Rattle.nq_fate_steps.proofs.JournalMoves.{accounts, covers-write}
 use Rattle.nq_fate_laws.proofs.WorldWrites.{WritesAt, writes-fit}
 use Rattle.nq_fate_steps.proofs.WritesFit.{CoversNumber, LiesWithin, in_list, under_way}
 use Rattle.nq_fate_laws.specs.FatesInRuns.{AccountedInEveryRun, Encloses, UnderWayEncloses, IsUnsaved, IsDelayedBy, WaitingAreUnsavedInEveryRun}
 use Rattle.nq_model.specs.Client.{Client}
-use Rattle.nq_model.specs.Journal.{Each, Exists, Covers}
+use Rattle.nq_model.specs.Journal.{Exists, Covers}
 use Rattle.nq_model.specs.World.{World, run}
+use Rattle.nq_run_steps.proofs.Members.{in-exists, each-in}
 use Rattle.nq_run_steps.proofs.Packets.{In}
 
 pub accounted : AccountedInEveryRun
@@ -17,18 +17,9 @@ accounted most head events b within = accounts (run head events).journal (writes
 
 -- ---- writes that wait
 
-exists-in : (P : Push → Type 0) (ps : List Push) (p : Push) → In ps p → P p → Exists P ps
-exists-in P [] p i h = absurd i
-exists-in P (q ∷ qs) p (inl same) h = inl (subst P (sym same) h)
-exists-in P (q ∷ qs) p (inr i) h = inr (exists-in P qs p i h)
-
-each-in : (P : Entry → Type 0) (j : List Entry) → ((e : Entry) → In j e → P e) → Each P j
-each-in P [] all = tt
-each-in P (e ∷ j) all = (all e (inl refl), each-in P j (λ x i. all x (inr i)))
-
 module _ (host : ℕ) (c : Client) (w : World) (h : WritesAt host c w) where
   lies : (file block n value : ℕ) → LiesWithin c.dirty c.push file block n → IsUnsaved c (W c.who file block n value false)
-  lies file block n value (in_list p i f b above below) = inl (exists-in (λ q. Encloses q (W c.who file block n value false)) c.dirty p i (f, b, above, below))
+  lies file block n value (in_list p i f b above below) = inl (in-exists (λ q. Encloses q (W c.who file block n value false)) c.dirty p i (f, b, above, below))
   lies file block n value (under_way p is f b above below) = inr (subst (λ o. UnderWayEncloses o (W c.who file block n value false)) (sym is) (f, b, above, below))
 
   waits : (file block n value : ℕ) → (Exists (λ e. Covers e (W c.who file block n value false)) w.journal → ⊥) → CoversNumber w.journal c.who file block n ⊎ LiesWithin c.dirty c.push file block n → IsUnsaved c (W c.who file block n value false)

@@ -34,10 +34,9 @@ use Rattle.nq_model.specs.World.{Head, World, from_host, after_server, after_cli
 use Rattle.nq_request_laws.proofs.OpenRequests.{OneOpenAt, run-opens}
 use Rattle.nq_request_laws.proofs.WorldSequences.{run-draws, asked-before-server}
 use Rattle.nq_run_cases.proofs.RunCases.{client_at, Keeps, run-keeps, OfClients, clients-after}
-use Rattle.nq_run_steps.proofs.ClientRestarts.{asked-old}
 use Rattle.nq_run_steps.proofs.HostLine.{IsSettled}
 use Rattle.nq_run_steps.proofs.KnownWorlds.{Known, first-there, first-line}
-use Rattle.nq_run_steps.proofs.Mail.{packets_with}
+use Rattle.nq_run_steps.proofs.Mail.{packets_with, other-asked}
 use Rattle.nq_run_steps.proofs.Packets.{In, in-get, Asked, Told, Mail}
 use Rattle.nq_run_steps.proofs.ServerSays.{AllSaid}
 use Rattle.nq_run_steps.proofs.WorldClocks.{StillIf, call-still, tick-still, hear-still}
@@ -81,7 +80,7 @@ client-writes w host t held s h = record {
   clients = clients-after WritesAt w host t s.facts (λ other c apart is.
       let a = held.clients other c is in
       let differs : c.who.host ≡ host → ⊥ = λ same. apart (sym a.here ∙ same) in
-      facts-packets (packets_with w.packets host t.sends) (λ x r asked. asked-old c.who host w.packets t.sends differs x r asked)
+      facts-packets (packets_with w.packets host t.sends) (λ x r asked. other-asked w.packets host c.who.host t.sends x r differs asked)
       (facts-others t.entries w.journal (λ e i. own-other t.client.who c.who.host e (λ same. differs (sym same ∙ s.here)) (s.own e i)) (h.clients other c is)));
   journal = s.journal;
 }

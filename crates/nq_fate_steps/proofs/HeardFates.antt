@@ -1,6 +1,6 @@
 -- What the journal has of a client's delayed writes is kept where the client hears a datagram.
 use Rattle.std.specs.Prelude.{reverse}
-use Rattle.std.proofs.Common.{◌≡◌, ◌<◌, ◌⊎◌, ℕ, Bool, true, false, List, [], ◌∷◌, ◌++◌, Option, Some, None, if◌then◌else◌, map, refl, sym, subst, ap, ◌∙◌, inl, inr, append_assoc}
+use Rattle.std.proofs.Common.{◌≡◌, ◌<◌, ◌⊎◌, ℕ, Bool, true, false, List, [], ◌∷◌, ◌++◌, Option, Some, None, if◌then◌else◌, map, refl, sym, subst, ◌∙◌, inl, inr, append_assoc}
 use Rattle.std.specs.List.{filter}
 use Rattle.nq_base.specs.declared.Answer.{Answer}
 use Rattle.nq_base.specs.declared.Entry.{Entry}
@@ -16,12 +16,13 @@ use Rattle.nq_client_steps.proofs.ClientMoves.{none-some}
 use Rattle.nq_fate_steps.proofs.ClientFates.{IsOwn, MidAt, Mid, mid-answers, mid-names}
 use Rattle.nq_fate_steps.proofs.FactMoves.{facts-sends}
 use Rattle.nq_fate_steps.proofs.FactPushes.{dirty-clear, facts-loses, lost, lost-is, lost-fits, AllLosable, IsLosable}
-use Rattle.nq_fate_steps.proofs.PushLists.{in-filter, filter-in, apart-filter}
+use Rattle.nq_fate_steps.proofs.PushLists.{apart-filter}
 use Rattle.nq_fate_steps.proofs.WritesFit.{IsDirty, AreApart, IsOpenPush, JournalFits, Facts}
 use Rattle.nq_model.specs.Client.{ClientStep, Notice, Ticket, is_push_of, notice_on, other_dirty}
 use Rattle.nq_model.specs.Hear.{vacates_lease, vacates_noticed, push_of, loss_entry, other_push, loses, reports, without_lease, push_refused, breaks_chain, if_broken, holds, takes_optional, answers_call, caches_block, purges, knows_revision, then_caches, read_done, marks_through, lease_done, caches_write, write_done, ends_push, caches_push, push_done, attached, pauses, notes_notice}
 use Rattle.nq_model.specs.Message.{Message, Packet, call}
 use Rattle.nq_run_steps.proofs.Mail.{packets_with, packets-last}
+use Rattle.nq_run_steps.proofs.Members.{in-filter, filter-in, in-push-of}
 use Rattle.nq_run_steps.proofs.Packets.{In, in-append, in-left, in-right}
 use Rattle.nq_server_steps.proofs.Rows.{same-number, number-same}
 
@@ -37,28 +38,19 @@ dirty-losable who number j (p ∷ ps) all apart =
 abbrev of_file : (file : ℕ) → List Push → Option Push → List Push
 of_file file dirty push = push_of file push ++ filter (is_push_of file) dirty
 
-push-of-in : (file : ℕ) (push : Option Push) (p : Push) → In (push_of file push) p → (push ≡ Some p) × (p.file ≡ file)
-push-of-in file None p i = absurd i
-push-of-in file (Some q) p i = step (is_push_of file q) refl i
-  where
-    step : (b : Bool) → is_push_of file q ≡ b → In (if b then q ∷ [] else []) p → (Some q ≡ Some p) × (p.file ≡ file)
-    step true e (inl same) = (ap Some same, ap (λ z. z.file) (sym same) ∙ same-number q.file file e)
-    step true e (inr bad) = absurd bad
-    step false e i = absurd i
-
-in-push-of : (file : ℕ) (push : Option Push) (p : Push) → push ≡ Some p → p.file ≡ file → In (push_of file push) p
-in-push-of file push p is same = subst (λ o. In (push_of file o) p) (sym is) (subst (λ b. In (if b then p ∷ [] else []) p) (sym (number-same p.file file same)) (inl refl))
+push-of-in : (file : ℕ) (push : Option Push) (p : Push) → push ≡ Some p → p.file ≡ file → In (push_of file push) p
+push-of-in file push p is same = subst (λ o. In (push_of file o) p) (sym is) (subst (λ b. In (if b then p ∷ [] else []) p) (sym (number-same p.file file same)) (inl refl))
 
 of-file-in : (file : ℕ) (dirty : List Push) (push : Option Push) (p : Push) → In (of_file file dirty push) p → (p.file ≡ file) × (In dirty p ⊎ (push ≡ Some p))
 of-file-in file dirty push p i = case (in-append (push_of file push) (filter (is_push_of file) dirty) p i)
   where
     case : In (push_of file push) p ⊎ In (filter (is_push_of file) dirty) p → (p.file ≡ file) × (In dirty p ⊎ (push ≡ Some p))
-    case (inl k) = let h = push-of-in file push p k in (h.1, inr h.0)
+    case (inl k) = let h = in-push-of file push p k in (h.1, inr h.0)
     case (inr k) = let h = in-filter (is_push_of file) dirty p k in (same-number p.file file h.1, inl h.0)
 
 in-of-file : (file : ℕ) (dirty : List Push) (push : Option Push) (p : Push) → In dirty p ⊎ (push ≡ Some p) → p.file ≡ file → In (of_file file dirty push) p
 in-of-file file dirty push p (inl i) same = in-right (push_of file push) (filter (is_push_of file) dirty) p (filter-in (is_push_of file) dirty p (number-same p.file file same) i)
-in-of-file file dirty push p (inr is) same = in-left (push_of file push) (filter (is_push_of file) dirty) p (in-push-of file push p is same)
+in-of-file file dirty push p (inr is) same = in-left (push_of file push) (filter (is_push_of file) dirty) p (push-of-in file push p is same)
 
 -- all of them can be lost, where the push under way can be
 file-losable : {line : HostRow} {who : Who} {number seq : ℕ} {ticket : Option Ticket} {dirty : List Push} {push : Option Push} {packets : List Packet} {j : List Entry} (file : ℕ) → ((p : Push) → push ≡ Some p → IsLosable who number j p) → Facts line who number seq ticket dirty push packets j → AllLosable who number j (of_file file dirty push)

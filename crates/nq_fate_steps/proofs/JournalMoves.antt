@@ -1,12 +1,14 @@
 -- What one more entry does to the numbers that a journal covers, and what a journal whose entries are apart accounts for.
-use Rattle.std.proofs.Common.{◌≤◌, ℕ, false, List, [], ◌∷◌, refl, sym, subst, arith, inl, inr}
+use Rattle.std.proofs.Common.{◌≤◌, ℕ, false, List, [], ◌∷◌, refl, sym, subst, arith, inl, inr, ◌++◌}
 use Rattle.nq_base.specs.declared.Entry.{Entry}
 use Rattle.nq_base.specs.declared.Entry.TheVariants.{C, W, R, S, L, G, F, O, B, X, Z, A}
 use Rattle.nq_base.specs.declared.Who.{Who}
 use Rattle.nq_fate_steps.proofs.ServerTells.{IsQuiet}
 use Rattle.nq_fate_steps.proofs.WritesFit.{CoversNumber, IsClear, IsApart, JournalFits}
+use Rattle.nq_model.proofs.Lists.{each-of, exists-right}
 use Rattle.nq_model.specs.Fate.{IsFirstToCover, IsAccountedAt, IsAccounted}
-use Rattle.nq_model.specs.Journal.{Each, Exists, Covers, Throughout}
+use Rattle.nq_model.specs.Journal.{Exists, Covers, Throughout}
+use Rattle.nq_run_steps.proofs.Members.{in-exists}
 use Rattle.nq_run_steps.proofs.Packets.{In}
 
 -- the entry covers nothing
@@ -74,12 +76,11 @@ store-covers [] who file block first last now n h above below = h
 store-covers (e ∷ j) who file block first last now n (inl same) above below = inl (subst (λ x. Covers x (W who file block n 0 false)) (sym same) (refl, refl, refl, above, below))
 store-covers (e ∷ j) who file block first last now n (inr h) above below = inr (store-covers j who file block first last now n h above below)
 
--- ---- the law
+-- more entries cover no less
+pub covers-more : (more j : List Entry) (who : Who) (file block n : ℕ) → CoversNumber j who file block n → CoversNumber (more ++ j) who file block n
+covers-more more j who file block n c = exists-right (λ e. Covers e (W who file block n 0 false)) more j c
 
-in-exists : (P : Entry → Type 0) (j : List Entry) (e : Entry) → In j e → P e → Exists P j
-in-exists P [] e h p = h
-in-exists P (x ∷ j) e (inl same) p = inl (subst P (sym same) p)
-in-exists P (x ∷ j) e (inr h) p = inr (in-exists P j e h p)
+-- ---- the law
 
 -- no number that is covered here is covered before
 first-cover : (who : Who) (file block first last : ℕ) (entry : Entry) (before : List Entry) → ((w : Entry) → Covers entry w → Covers (L who file block first last) w) → IsClear before who file block first last → (w : Entry) → IsFirstToCover before entry w
@@ -88,10 +89,6 @@ first-cover who file block first last entry before alike clear (W by f b n v fal
     clear n k.3 k.4
     (subst (λ z. CoversNumber before z file block n) k.0 (subst (λ z. CoversNumber before by z block n) k.1 (subst (λ z. CoversNumber before by f z n) k.2 (covers-write before by f b n v 0 h))))
 first-cover who file block first last entry before alike clear other c h = alike other c
-
-each-of : (P : Entry → Type 0) (j : List Entry) → ((e : Entry) → P e) → Each P j
-each-of P [] all = tt
-each-of P (e ∷ j) all = (all e, each-of P j all)
 
 accounts-at : (whole : List Entry) (e : Entry) (before : List Entry) → ((x : Entry) → In before x → In whole x) → IsApart e before → IsAccountedAt whole e before
 accounts-at whole (S who file block first last now) before more clear = each-of _ whole (first-cover who file block first last (S who file block first last now) before (λ w c. c) clear)

@@ -1,71 +1,27 @@
 -- What is in a list of delayed writes after each change of it.
 use Rattle.std.proofs.Common.{◌≡◌, ◌⊎◌, ℕ, Bool, true, false, not, List, [], ◌∷◌, ◌++◌, Option, Some, None, if◌then◌else◌, map, refl, sym, subst, ap, ◌∙◌, inl, inr}
-use Rattle.std.specs.List.{find, filter}
+use Rattle.std.specs.List.{filter}
+use Rattle.std.proofs.lemmas.Bool.{and_parts, and_from, not-true}
 use Rattle.nq_base.specs.declared.Push.{Push}
 use Rattle.nq_client_steps.proofs.ClientMoves.{some-same, none-some}
 use Rattle.nq_fate_steps.proofs.WritesFit.{AreApart}
 use Rattle.nq_model.specs.Client.{is_push_of, is_push_at, first_dirty, dirty_at, drop_dirty, other_dirty}
 use Rattle.nq_model.specs.Hear.{other_push}
 use Rattle.nq_model.specs.Settle.{overwritten, overwritten_at, with_write}
+use Rattle.nq_run_steps.proofs.Members.{in-filter, filter-in, in-map, map-in, find-in, find-absent}
 use Rattle.nq_run_steps.proofs.Packets.{In, in-left, in-right, in-append}
-use Rattle.nq_server_steps.proofs.Rows.{both-true, true-both, not-true, same-number, number-same, find-passes}
+use Rattle.nq_server_steps.proofs.Rows.{same-number, number-same, find-passes}
 
 -- ---- lists
-
-filter-step : {X : Type 0} (test : X → Bool) (y x : X) (xs : List X) (b : Bool) → test y ≡ b → (In (filter test xs) x → In xs x × (test x ≡ true)) → In (if b then y ∷ filter test xs else filter test xs) x → ((y ≡ x) ⊎ In xs x) × (test x ≡ true)
-filter-step test y x xs true e rest (inl same) = (inl same, subst (λ z. test z ≡ true) same e)
-filter-step test y x xs true e rest (inr i) = let k = rest i in (inr k.0, k.1)
-filter-step test y x xs false e rest i = let k = rest i in (inr k.0, k.1)
-
-pub in-filter : {X : Type 0} (test : X → Bool) (xs : List X) (x : X) → In (filter test xs) x → In xs x × (test x ≡ true)
-in-filter test [] x h = absurd h
-in-filter test (y ∷ xs) x h = filter-step test y x xs (test y) refl (in-filter test xs x) h
-
-stays-step : {X : Type 0} (test : X → Bool) (y x : X) (xs : List X) (b : Bool) → test y ≡ b → test x ≡ true → (In xs x → In (filter test xs) x) → (y ≡ x) ⊎ In xs x → In (if b then y ∷ filter test xs else filter test xs) x
-stays-step test y x xs true e passes rest (inl same) = inl same
-stays-step test y x xs true e passes rest (inr i) = inr (rest i)
-stays-step test y x xs false e passes rest (inl same) = let yes : test y ≡ true = subst (λ z. test z ≡ true) (sym same) passes in absurd (cc)
-stays-step test y x xs false e passes rest (inr i) = rest i
-
-pub filter-in : {X : Type 0} (test : X → Bool) (xs : List X) (x : X) → test x ≡ true → In xs x → In (filter test xs) x
-filter-in test [] x passes h = absurd h
-filter-in test (y ∷ xs) x passes h = stays-step test y x xs (test y) refl passes (filter-in test xs x passes) h
-
-pub in-map : {X : Type 0} (f : X → X) (xs : List X) (y : X) → In (map f xs) y → (x : X) × In xs x × (f x ≡ y)
-in-map f [] y h = absurd h
-in-map f (x ∷ xs) y (inl e) = (x, inl refl, e)
-in-map f (x ∷ xs) y (inr h) = let k = in-map f xs y h in (k.0, inr k.1, k.2)
-
-pub map-in : {X : Type 0} (f : X → X) (xs : List X) (x : X) → In xs x → In (map f xs) (f x)
-map-in f [] x h = absurd h
-map-in f (y ∷ xs) x (inl e) = inl (ap f e)
-map-in f (y ∷ xs) x (inr h) = inr (map-in f xs x h)
-
-find-step : {X : Type 0} (test : X → Bool) (y x : X) (xs : List X) (b : Bool) → (find test xs ≡ Some x → In xs x) → (if b then Some y else find test xs) ≡ Some x → (y ≡ x) ⊎ In xs x
-find-step test y x xs true rest e = inl (some-same y x e)
-find-step test y x xs false rest e = inr (rest e)
-
-pub find-in : {X : Type 0} (test : X → Bool) (xs : List X) (x : X) → find test xs ≡ Some x → In xs x
-find-in test [] x e = none-some x e
-find-in test (y ∷ xs) x e = find-step test y x xs (test y) (find-in test xs x) e
-
-absent-step : {X : Type 0} (test : X → Bool) (y x : X) (xs : List X) (b : Bool) → test y ≡ b → (find test xs ≡ None → In xs x → test x ≡ false) → (if b then Some y else find test xs) ≡ None → (y ≡ x) ⊎ In xs x → test x ≡ false
-absent-step test y x xs true e rest none i = none-some y (sym none)
-absent-step test y x xs false e rest none (inl same) = subst (λ z. test z ≡ false) same e
-absent-step test y x xs false e rest none (inr i) = rest none i
-
-pub find-absent : {X : Type 0} (test : X → Bool) (xs : List X) (x : X) → find test xs ≡ None → In xs x → test x ≡ false
-find-absent test [] x none h = absurd h
-find-absent test (y ∷ xs) x none h = absent-step test y x xs (test y) refl (find-absent test xs x) none h
 
 -- ---- blocks
 
 -- delayed writes are of a block, or not
 pub is-at : (file block : ℕ) (p : Push) → is_push_at file block p ≡ true → (p.file ≡ file) × (p.block ≡ block)
-is-at file block p e = let a = both-true _ _ e in (same-number _ _ a.0, same-number _ _ a.1)
+is-at file block p e = let a = and_parts _ _ e in (same-number _ _ a.0, same-number _ _ a.1)
 
 pub at-is : (file block : ℕ) (p : Push) → p.file ≡ file → p.block ≡ block → is_push_at file block p ≡ true
-at-is file block p f b = true-both _ _ (number-same p.file file f) (number-same p.block block b)
+at-is file block p f b = and_from _ _ (number-same p.file file f) (number-same p.block block b)
 
 pub not-at : (file block : ℕ) (p : Push) → is_push_at file block p ≡ false → p.file ≡ file → p.block ≡ block → ⊥
 not-at file block p e f b = let yes = at-is file block p f b in absurd (cc)

@@ -1,5 +1,5 @@
 -- What the server's step for a datagram does to the journal and to the kept lines of hosts, and what its replies tell.
-use Rattle.std.proofs.Common.{◌≡◌, ◌<◌, ◌⊎◌, ℕ, ◌+◌, ◌%◌, true, List, [], ◌∷◌, Option, Some, None, length, refl, sym, subst, ap, ◌∙◌, arith, inl, inr}
+use Rattle.std.proofs.Common.{◌≡◌, ◌<◌, ◌⊎◌, ℕ, true, List, [], ◌∷◌, Option, Some, None, length, refl, sym, subst, ap, ◌∙◌, arith, inl, inr}
 use Rattle.nq_base.specs.Block.{value_of}
 use Rattle.nq_base.specs.declared.Entry.{Entry}
 use Rattle.nq_base.specs.declared.Entry.TheVariants.{W, S, L}
@@ -19,13 +19,13 @@ use Rattle.nq_lease_laws.proofs.ServerEffects.{reads-no-seq, asks-no-seq}
 use Rattle.nq_model.specs.Decide.{Decision, decides, creates, writes_through, stores, wrote, stores_recovering, resizes, removes, puts_off as puts_off_change, verdict_reply, commits, row_after}
 use Rattle.nq_model.specs.Hear.{inc_of, puts_off}
 use Rattle.nq_model.specs.Kept.{File, Kept, host_row, with_row, with_files, with_new_file}
-use Rattle.nq_model.specs.Message.{Message, Packet, call, reply, asker, Reason, Datagram, request, too_long, no_message, no_call, other_rpc, other_program, other_version, unknown_procedure, garbage_vacated, garbage, sequence_of}
-use Rattle.nq_model.specs.Profile.{xid_end, most_hosts}
+use Rattle.nq_model.specs.Message.{Message, Packet, reply, asker, Reason, Datagram, request, too_long, no_message, no_call, other_rpc, other_program, other_version, unknown_procedure, garbage_vacated, garbage, sequence_of}
+use Rattle.nq_model.specs.Profile.{most_hosts}
 use Rattle.nq_model.specs.Server.{Server, ServerStep, to_host, quiet, drops, says, notices, after_notices, keeping, keeping_with, with_table}
 use Rattle.nq_model.specs.ServerStep.{attaches, vacates, tells_later, serves, leases, grants, receive}
 use Rattle.nq_model.specs.Table.{Table, with_rows}
 use Rattle.nq_run_steps.proofs.Packets.{In, in-append, Asked, told-same, reply-same}
-use Rattle.nq_run_steps.proofs.ServerSays.{verdict-inc, plain-inc}
+use Rattle.nq_run_steps.proofs.ServerSays.{verdict-inc, plain-inc, notices-no-reply}
 use Rattle.nq_server_laws.proofs.ServerNumbers.{LinesFitOf}
 use Rattle.nq_server_steps.proofs.KeptChanges.{other-line, own-line, same-lines}
 use Rattle.nq_server_steps.proofs.ServerCases.{server-hears}
@@ -135,12 +135,6 @@ plain-tells s w r a (is_old seq same sq below e) n q = later Refusal.Old e refl
 none-say : (ps : List Packet) (kept : Kept) (host x : ℕ) (a : Reply) → In [] (to_host host (reply x a)) → SaysOf ps kept host x a
 none-say ps kept host x a bad = absurd bad
 
--- notices are no replies
-notices-none : (xid : ℕ) (rows : List Row) (host x : ℕ) (a : Reply) → In (notices xid rows) (to_host host (reply x a)) → ⊥
-notices-none xid [] host x a h = h
-notices-none xid (row ∷ rows) host x a (inl e) = let t = told-same row.who.host host (call xid (Request.Evicted row.who row.file row.tag)) (reply x a) e in absurd (cc)
-notices-none xid (row ∷ rows) host x a (inr h) = notices-none ((xid + 1) % xid_end) rows host x a h
-
 -- one reply, of these requests
 one-says : (ps : List Packet) (kept : Kept) (host y : ℕ) (b : Reply) → SaysOf ps kept host y b → (other x : ℕ) (a : Reply) → In (to_host host (reply y b) ∷ []) (to_host other (reply x a)) → SaysOf ps kept other x a
 one-says ps kept host y b k other x a (inl e) =
@@ -217,7 +211,7 @@ module _ (ps : List Packet) (s : Server) (sender next : ℕ) (d : Datagram) (was
     says = λ host x a i. case host x a (in-append (notices s.notice rows) (to_host w.host (reply xid (Reply.Refused w.inc Refusal.TryLater)) ∷ []) (to_host host (reply x a)) i);
   } where
     case : (host x : ℕ) (a : Reply) → In (notices s.notice rows) (to_host host (reply x a)) ⊎ In (to_host w.host (reply xid (Reply.Refused w.inc Refusal.TryLater)) ∷ []) (to_host host (reply x a)) → SaysOf ps s.kept host x a
-    case host x a (inl bad) = absurd (notices-none s.notice rows host x a bad)
+    case host x a (inl bad) = absurd (notices-no-reply s.notice rows host x a bad)
     case host x a (inr i) = one-says ps s.kept w.host xid (Reply.Refused w.inc Refusal.TryLater) (answered s.kept xid w r (Reply.Refused w.inc Refusal.TryLater) e by from refl (λ n q. later Refusal.TryLater refl refl)) host x a i
 
   granted-quiet : (w : Who) (file : ℕ) (grant : Option Grant) → AllQuiet (grants s w file grant)
@@ -298,7 +292,7 @@ module _ (ps : List Packet) (s : Server) (sender next : ℕ) (d : Datagram) (was
 
   putting-off-change : (xid : ℕ) (w : Who) (seq : ℕ) (r : Request) (file : ℕ) (table : Table) → d ≡ request xid r → asker r ≡ Some w → sequence_of r ≡ Some seq → base_in r ≡ None → IsFresh s sender w seq → ServerTells ps s (commits w seq xid r (puts_off_change s w file table))
   unfolding puts_off_change after_notices
-  putting-off-change xid w seq r file table e by sq base fresh = committed xid w seq r (puts_off_change s w file table) e by sq fresh refl (λ host x a i. notices-none s.notice _ host x a i) (without none-quiet (inl (no-base r base)))
+  putting-off-change xid w seq r file table e by sq base fresh = committed xid w seq r (puts_off_change s w file table) e by sq fresh refl (λ host x a i. notices-no-reply s.notice _ host x a i) (without none-quiet (inl (no-base r base)))
 
   creating : (xid : ℕ) (w : Who) (seq blocks : ℕ) (name : List ℕ) → d ≡ request xid (Request.Create w seq name blocks) → IsFresh s sender w seq → ServerTells ps s (commits w seq xid (Request.Create w seq name blocks) (creates s name blocks))
   unfolding creates keeping with_new_file

@@ -10,10 +10,10 @@ use Rattle.nq_base.specs.declared.Request.{Request}
 use Rattle.nq_base.specs.declared.Who.{Who}
 use Rattle.nq_client_steps.proofs.ClientFacts.{push_in}
 use Rattle.nq_client_steps.proofs.ClientMoves.{some-same}
+use Rattle.nq_fate_steps.proofs.JournalMoves.{covers-more}
 use Rattle.nq_fate_steps.proofs.ServerTells.{IsQuiet, AllQuiet, Effects, without, goes_through, pushes, Decides, Attaches, Moves, same_lines, attaches_one, decides_one}
 use Rattle.nq_fate_steps.proofs.WritesFit.{IsClear, IsOpenPush, WritesFit}
 use Rattle.nq_held_laws.proofs.EarlierStores.{Earlier, push-behind}
-use Rattle.nq_held_laws.proofs.Entries.{covered-more}
 use Rattle.nq_model.specs.Client.{Client}
 use Rattle.nq_model.specs.Journal.{Stores, IsStored}
 use Rattle.nq_model.specs.Kept.{host_row}
@@ -60,14 +60,14 @@ module _ (s : Server) (t : ServerStep) (c : Client) (ps : List Packet) (j : List
   stays : (es : List Entry) → after ≡ line → ((e : Entry) → In es e → (v : Who) (file block n : ℕ) → v.host ≡ c.who.host → Stores e (W v file block n 0 false) → ⊥) → Result es
   stays es same none = record {
     sent = λ v p o n st. h.sent v p (was-open same v p o) n (stored-old es j (W v p.file p.block n 0 false) (λ e i. none e i v p.file p.block n o.home) st);
-    under_way = λ p is clear n st. h.under_way p is (λ m x y covered. clear m x y (covered-more es j c.who p.file p.block m covered)) n (stored-old es j (W c.who p.file p.block n 0 false) (λ e i. none e i c.who p.file p.block n refl) st);
+    under_way = λ p is clear n st. h.under_way p is (λ m x y covered. clear m x y (covers-more es j c.who p.file p.block m covered)) n (stored-old es j (W c.who p.file p.block n 0 false) (λ e i. none e i c.who p.file p.block n refl) st);
   }
 
   -- no push is open, and nothing but the push under way is stored
   closed : (es : List Entry) → ((v : Who) (p : Push) → IsOpenPush after (ps ++ t.sends) c.who.host v p → ⊥) → ((p : Push) → c.push ≡ Some p → IsClear (es ++ j) c.who p.file p.block p.first p.last → (e : Entry) → In es e → (n : ℕ) → Stores e (W c.who p.file p.block n 0 false) → ⊥) → Result es
   closed es none_open none = record {
     sent = λ v p o. absurd (none_open v p o);
-    under_way = λ p is clear n st. h.under_way p is (λ m x y covered. clear m x y (covered-more es j c.who p.file p.block m covered)) n (stored-old es j (W c.who p.file p.block n 0 false) (λ e i. none p is clear e i n) st);
+    under_way = λ p is clear n st. h.under_way p is (λ m x y covered. clear m x y (covers-more es j c.who p.file p.block m covered)) n (stored-old es j (W c.who p.file p.block n 0 false) (λ e i. none p is clear e i n) st);
   }
 
   -- ---- a later incarnation begins

@@ -1,5 +1,5 @@
 -- What was stored of a block are earlier writes than those that a client or its host can still store.
-use Rattle.std.proofs.Common.{◌≡◌, ◌≢◌, ◌<◌, ◌≤◌, ◌⊎◌, ℕ, false, List, [], ◌∷◌, ◌++◌, Some, None, map, refl, sym, subst, ◌∙◌, arith, inl, inr}
+use Rattle.std.proofs.Common.{◌≡◌, ◌≢◌, ◌<◌, ◌≤◌, ◌⊎◌, ℕ, false, List, ◌++◌, Some, None, map, sym, subst, ◌∙◌, arith, inl, inr}
 use Rattle.nq_base.specs.Block.{value_of}
 use Rattle.nq_base.specs.declared.Entry.{Entry}
 use Rattle.nq_base.specs.declared.Entry.TheVariants.{W}
@@ -9,17 +9,18 @@ use Rattle.nq_base.specs.declared.Request.{Request}
 use Rattle.nq_base.specs.declared.Who.{Who}
 use Rattle.nq_client_steps.proofs.ClientFacts.{push_in}
 use Rattle.nq_client_steps.proofs.ClientMoves.{none-some, some-same}
-use Rattle.nq_fate_steps.proofs.JournalMoves.{store-covers}
+use Rattle.nq_fate_steps.proofs.JournalMoves.{store-covers, covers-more}
 use Rattle.nq_fate_steps.proofs.WritesFit.{CoversNumber, IsClear, IsRising, IsBehind, PushStands, waits, stored, LiesWithin, in_list, under_way, IsOpenPush, WritesFit}
-use Rattle.nq_held_laws.proofs.Entries.{IsIdle, stored-skip, stored-covered, covered-more, rising-split}
+use Rattle.nq_held_laws.proofs.Entries.{IsIdle, stored-skip, stored-covered, rising-split}
 use Rattle.nq_legal_steps.proofs.Held.{stored-drawn}
 use Rattle.nq_legal_steps.proofs.Stores.{StoresNumber, Rests}
 use Rattle.nq_model.specs.Client.{Client, ClientStep}
-use Rattle.nq_model.specs.Journal.{Throughout}
-use Rattle.nq_model.specs.Message.{Message, Packet, call, asker, sequence_of}
+use Rattle.nq_model.specs.Journal.{Throughout, Each}
+use Rattle.nq_model.specs.Message.{Message, Packet, call, asker}
 use Rattle.nq_model.specs.World.{from_host}
-use Rattle.nq_run_steps.proofs.Packets.{In, in-append, Asked, message-same}
-use Rattle.nq_undisturbed_laws.proofs.Journals.{AllEntries}
+use Rattle.nq_run_steps.proofs.Mail.{sent-calls, sent-host}
+use Rattle.nq_run_steps.proofs.Packets.{In, in-append, Asked}
+use Rattle.nq_undisturbed_laws.proofs.StillFits.{push-sequence}
 
 -- what was stored of the block are earlier writes
 abbrev pub IsAfterStores : (journal : List Entry) (who : Who) (file block first : ℕ) → Type 0
@@ -33,26 +34,22 @@ pub record Earlier (line : HostRow) (c : Client) (ps : List Packet) (journal : L
 below-or-not : (m n : ℕ) → (m < n) ⊎ (n ≤ m)
 below-or-not m n = grind arith
 
-push-seq : (r : Request) (p : Push) → push_in r ≡ Some p → (n : ℕ) × (sequence_of r ≡ Some n)
-push-seq (Request.Write w n file block first last (Some base) body) p e = (n, refl)
-push-seq r p e = none-some p e
-
 module _ (line : HostRow) (c : Client) (ps : List Packet) (j : List Entry) (facts : WritesFit line c ps j) where
   -- the writes of the push under way wait, or were stored
   pub push-stands : (p : Push) → c.push ≡ Some p → (n : ℕ) × PushStands line c.who n j p
   push-stands p is =
       let k = facts.under_way p is in
-      let n = push-seq k.request.request p k.pushes in
+      let n = push-sequence k.request.request p k.pushes in
       (n.0, (facts.pushed p k.request n.0 is k.asks n.1).stands)
 
   pub push-behind : (p : Push) → c.push ≡ Some p → IsBehind c.who j p
   push-behind p is =
       let k = facts.under_way p is in
-      let n = push-seq k.request.request p k.pushes in
+      let n = push-sequence k.request.request p k.pushes in
       (facts.pushed p k.request n.0 is k.asks n.1).behind
 
 module _ (line : HostRow) (c : Client) (ps : List Packet) (j : List Entry) (facts : WritesFit line c ps j) (rests : Throughout Rests j) where
-  module _ (es : List Entry) (rising : Throughout IsRising (es ++ j)) (idle : AllEntries IsIdle es) (earlier : Earlier line c ps j) where
+  module _ (es : List Entry) (rising : Throughout IsRising (es ++ j)) (idle : Each IsIdle es) (earlier : Earlier line c ps j) where
     -- an uncovered write that stood before, and a stored one of the block above it
     none-above : (file block last v m : ℕ) → In j (W c.who file block last v false) → (CoversNumber (es ++ j) c.who file block last → ⊥) → StoresNumber j c.who file block m → last < m → ⊥
     none-above file block last v m there free stores above = case (facts.list.unsaved file block last v there)
@@ -64,13 +61,13 @@ module _ (line : HostRow) (c : Client) (ps : List Packet) (j : List Entry) (fact
         within (under_way q is f b low high) = stands (push-stands line c ps j facts q is).1
           where
             stands : {n : ℕ} → PushStands line c.who n j q → ⊥
-            stands (stored now d i) = free (covered-more es j c.who file block last (subst (λ z. CoversNumber j c.who z block last) f (subst (λ z. CoversNumber j c.who q.file z last) b (store-covers j c.who q.file q.block q.first q.last now last i low high))))
+            stands (stored now d i) = free (covers-more es j c.who file block last (subst (λ z. CoversNumber j c.who z block last) f (subst (λ z. CoversNumber j c.who q.file z last) b (store-covers j c.who q.file q.block q.first q.last now last i low high))))
             stands (waits undone clear) =
                 let past : m < q.first = earlier.under_way q is clear m (subst (λ z. StoresNumber j c.who z q.block m) (sym f) (subst (λ z. StoresNumber j c.who file z m) (sym b) stores)) in
                 omega arith
 
         case : CoversNumber j c.who file block last ⊎ LiesWithin c.dirty c.push file block last → ⊥
-        case (inl covered) = free (covered-more es j c.who file block last covered)
+        case (inl covered) = free (covers-more es j c.who file block last covered)
         case (inr w) = within w
 
     -- after a step of the client: where its writes wait, what was stored of their block are earlier ones
@@ -99,17 +96,7 @@ pub data Goes (c : Client) (t : ClientStep) : Type 0 where
   goes_on : t.client.who ≡ c.who → ((x : ℕ) (r : Request) → In t.sends (call x r) → asker r ≡ Some c.who) → Goes c t
   begins : t.client.push ≡ None → ((x : ℕ) (r : Request) → In t.sends (call x r) → push_in r ≡ None) → Goes c t
 
-sent-of : (host : ℕ) (ms : List Message) (x : ℕ) (r : Request) → In (map (from_host host) ms) (from_host host (call x r)) → In ms (call x r)
-sent-of host [] x r bad = bad
-sent-of host (n ∷ ms) x r (inl e) = inl (message-same host host n (call x r) e).1
-sent-of host (n ∷ ms) x r (inr i) = inr (sent-of host ms x r i)
-
-sent-other : (host other : ℕ) (ms : List Message) (x : ℕ) (r : Request) → host ≢ other → In (map (from_host host) ms) (from_host other (call x r)) → ⊥
-sent-other host other [] x r apart bad = bad
-sent-other host other (n ∷ ms) x r apart (inl e) = apart (message-same host other n (call x r) e).0
-sent-other host other (n ∷ ms) x r apart (inr i) = sent-other host other ms x r apart i
-
-module _ (line : HostRow) (c : Client) (t : ClientStep) (ps : List Packet) (j : List Entry) (facts : WritesFit line c ps j) (rests : Throughout Rests j) (rising : Throughout IsRising (t.entries ++ j)) (idle : AllEntries IsIdle t.entries) (earlier : Earlier line c ps j) (goes : Goes c t) (home : t.client.who.host ≡ c.who.host) (after : WritesFit line t.client (ps ++ map (from_host c.who.host) t.sends) (t.entries ++ j)) where
+module _ (line : HostRow) (c : Client) (t : ClientStep) (ps : List Packet) (j : List Entry) (facts : WritesFit line c ps j) (rests : Throughout Rests j) (rising : Throughout IsRising (t.entries ++ j)) (idle : Each IsIdle t.entries) (earlier : Earlier line c ps j) (goes : Goes c t) (home : t.client.who.host ≡ c.who.host) (after : WritesFit line t.client (ps ++ map (from_host c.who.host) t.sends) (t.entries ++ j)) where
   abbrev Packets : List Packet
   Packets = ps ++ map (from_host c.who.host) t.sends
 
@@ -131,8 +118,8 @@ module _ (line : HostRow) (c : Client) (t : ClientStep) (ps : List Packet) (j : 
 
       case : Asked ps c.who.host o.xid asks ⊎ In (map (from_host c.who.host) t.sends) (from_host c.who.host (call o.xid asks)) → Goes c t → IsAfterStores (t.entries ++ j) v p.file p.block p.first
       case (inl old) g = λ n s. earlier.sent v p (record { xid = o.xid; seq = o.seq; base = o.base; home = o.home; asked = old; kept = o.kept; above = o.above }) n (stored-skip t.entries j (W v p.file p.block n 0 false) idle s)
-      case (inr new) (goes_on same own) = new-sent v p o (some-same v c.who (own o.xid asks (sent-of c.who.host t.sends o.xid asks new)))
-      case (inr new) (begins none no_push) = none-some p (sym (no_push o.xid asks (sent-of c.who.host t.sends o.xid asks new)))
+      case (inr new) (goes_on same own) = new-sent v p o (some-same v c.who (own o.xid asks (sent-calls c.who.host c.who.host t.sends o.xid asks new)))
+      case (inr new) (begins none no_push) = none-some p (sym (no_push o.xid asks (sent-calls c.who.host c.who.host t.sends o.xid asks new)))
 
   pushed-after : (p : Push) → t.client.push ≡ Some p → IsClear (t.entries ++ j) t.client.who p.file p.block p.first p.last → IsAfterStores (t.entries ++ j) t.client.who p.file p.block p.first
   pushed-after p is clear = case goes
@@ -155,11 +142,11 @@ module _ (line : HostRow) (c : Client) (t : ClientStep) (ps : List Packet) (j : 
   }
 
 -- another client's step
-pub earlier-other : (line : HostRow) (c : Client) (host : ℕ) (sends : List Message) (es : List Entry) (ps : List Packet) (j : List Entry) → host ≢ c.who.host → AllEntries IsIdle es → Earlier line c ps j → Earlier line c (ps ++ map (from_host host) sends) (es ++ j)
+pub earlier-other : (line : HostRow) (c : Client) (host : ℕ) (sends : List Message) (es : List Entry) (ps : List Packet) (j : List Entry) → host ≢ c.who.host → Each IsIdle es → Earlier line c ps j → Earlier line c (ps ++ map (from_host host) sends) (es ++ j)
 earlier-other line c host sends es ps j apart idle h = record {
   sent = λ v p o n s. h.sent v p (was v p o (in-append ps (map (from_host host) sends) (from_host c.who.host (call o.xid (Request.Write v o.seq p.file p.block p.first p.last (Some o.base) p.body))) o.asked)) n (stored-skip es j (W v p.file p.block n 0 false) idle s);
-  under_way = λ p is clear n s. h.under_way p is (λ m a b covered. clear m a b (covered-more es j c.who p.file p.block m covered)) n (stored-skip es j (W c.who p.file p.block n 0 false) idle s);
+  under_way = λ p is clear n s. h.under_way p is (λ m a b covered. clear m a b (covers-more es j c.who p.file p.block m covered)) n (stored-skip es j (W c.who p.file p.block n 0 false) idle s);
 } where
   was : (v : Who) (p : Push) (o : IsOpenPush line (ps ++ map (from_host host) sends) c.who.host v p) → Asked ps c.who.host o.xid (Request.Write v o.seq p.file p.block p.first p.last (Some o.base) p.body) ⊎ In (map (from_host host) sends) (from_host c.who.host (call o.xid (Request.Write v o.seq p.file p.block p.first p.last (Some o.base) p.body))) → IsOpenPush line ps c.who.host v p
   was v p o (inl old) = record { xid = o.xid; seq = o.seq; base = o.base; home = o.home; asked = old; kept = o.kept; above = o.above }
-  was v p o (inr new) = absurd (sent-other host c.who.host sends o.xid (Request.Write v o.seq p.file p.block p.first p.last (Some o.base) p.body) apart new)
+  was v p o (inr new) = absurd (apart (sent-host host c.who.host sends (call o.xid (Request.Write v o.seq p.file p.block p.first p.last (Some o.base) p.body)) new))

@@ -6,12 +6,12 @@ use Rattle.nq_base.specs.declared.Who.{Who}
 use Rattle.nq_fate_steps.proofs.WritesFit.{CoversNumber, IsRising}
 use Rattle.nq_legal_steps.proofs.HeldContents.{IsInside, content}
 use Rattle.nq_legal_steps.proofs.Stores.{Rests}
+use Rattle.nq_model.proofs.Lists.{each-append, each-map}
 use Rattle.nq_model.specs.Client.{ClientStep}
-use Rattle.nq_model.specs.Journal.{Throughout, Covers, Stores, IsStored}
+use Rattle.nq_model.specs.Journal.{Throughout, Covers, Stores, IsStored, Each}
 use Rattle.nq_run_steps.proofs.Packets.{In, in-right}
 use Rattle.nq_undisturbed_laws.proofs.Accesses.{Accesses, neither, read, wrote}
 use Rattle.nq_undisturbed_laws.proofs.PlainParts.{IsPlain}
-use Rattle.nq_undisturbed_laws.proofs.Journals.{AllEntries, all-append, all-weaker}
 
 abbrev pub IsIdle : Entry → Type 0
 IsIdle (S who file block first last now) = ⊥
@@ -25,13 +25,13 @@ plain-idle (L who file block first last) p = tt
 plain-idle (B who) p = tt
 plain-idle other p = absurd p
 
-all-plain : (es : List Entry) → AllEntries IsPlain es → AllEntries IsIdle es
-all-plain es a = all-weaker IsPlain IsIdle plain-idle es a
+all-plain : (es : List Entry) → Each IsPlain es → Each IsIdle es
+all-plain es a = each-map IsPlain IsIdle es plain-idle a
 
-pub accesses-idle : (who : Who) (t : ClientStep) → Accesses who t → AllEntries IsIdle t.entries
+pub accesses-idle : (who : Who) (t : ClientStep) → Accesses who t → Each IsIdle t.entries
 accesses-idle who t (neither plain) = all-plain t.entries plain
-accesses-idle who t (read q file block lease body rest is plain held lets has idle) = subst (AllEntries IsIdle) (sym is) (tt, (tt, all-plain rest plain))
-accesses-idle who t (wrote file block number value lease more rest is plain others held lets calm) = subst (AllEntries IsIdle) (sym is) (all-append IsIdle more (W who file block number value false ∷ rest) (all-plain more plain) (tt, all-plain rest others))
+accesses-idle who t (read q file block lease body rest is plain held lets has idle) = subst (Each IsIdle) (sym is) (tt, (tt, all-plain rest plain))
+accesses-idle who t (wrote file block number value lease more rest is plain others held lets calm) = subst (Each IsIdle) (sym is) (each-append IsIdle more (W who file block number value false ∷ rest) (all-plain more plain) (tt, all-plain rest others))
 
 -- ---- what idle entries keep
 
@@ -39,7 +39,7 @@ idle-stores : (e w : Entry) → IsIdle e → Stores e w → ⊥
 idle-stores (S who file block first last now) w idle c = idle
 idle-stores other w idle c = c
 
-pub stored-skip : (es j : List Entry) (w : Entry) → AllEntries IsIdle es → IsStored (es ++ j) w → IsStored j w
+pub stored-skip : (es j : List Entry) (w : Entry) → Each IsIdle es → IsStored (es ++ j) w → IsStored j w
 stored-skip [] j w idle s = s
 stored-skip (e ∷ es) j w idle (inl c) = absurd (idle-stores e w idle.0 c)
 stored-skip (e ∷ es) j w idle (inr s) = stored-skip es j w idle.1 s
@@ -73,7 +73,7 @@ pub throughout-weaker : (Fact Other : Entry → List Entry → Type 0) → ((e :
 throughout-weaker Fact Other weaker [] t = tt
 throughout-weaker Fact Other weaker (e ∷ j) t = (weaker e j t.0, throughout-weaker Fact Other weaker j t.1)
 
-pub throughout-idle : (Fact : Entry → List Entry → Type 0) → ((e : Entry) (before : List Entry) → IsIdle e → Fact e before) → (es j : List Entry) → AllEntries IsIdle es → Throughout Fact j → Throughout Fact (es ++ j)
+pub throughout-idle : (Fact : Entry → List Entry → Type 0) → ((e : Entry) (before : List Entry) → IsIdle e → Fact e before) → (es j : List Entry) → Each IsIdle es → Throughout Fact j → Throughout Fact (es ++ j)
 throughout-idle Fact holds [] j idle t = t
 throughout-idle Fact holds (e ∷ es) j idle t = (holds e (es ++ j) idle.0, throughout-idle Fact holds es j idle.1 t)
 
@@ -87,10 +87,6 @@ pub stored-covered : (j : List Entry) (who : Who) (file block n v : ℕ) → IsS
 stored-covered [] who file block n v h = h
 stored-covered (e ∷ j) who file block n v (inl c) = inl (stores-covers e who file block n v c)
 stored-covered (e ∷ j) who file block n v (inr h) = inr (stored-covered j who file block n v h)
-
-pub covered-more : (es j : List Entry) (who : Who) (file block n : ℕ) → CoversNumber j who file block n → CoversNumber (es ++ j) who file block n
-covered-more [] j who file block n c = c
-covered-more (e ∷ es) j who file block n c = inr (covered-more es j who file block n c)
 
 -- later writes have greater numbers
 pub rising-split : (es j : List Entry) (who : Who) (f b n v g k m u : ℕ) → Throughout IsRising (es ++ j) → In es (W who f b n v false) → In j (W who g k m u false) → m < n

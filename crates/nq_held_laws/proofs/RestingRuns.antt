@@ -26,10 +26,10 @@ use Rattle.nq_held_laws.proofs.Steps.{ClientActs, called, ticked, restarted, hea
 use Rattle.nq_legal_steps.proofs.HeldContents.{content}
 use Rattle.nq_legal_steps.proofs.HeldFiles.{RestsOn}
 use Rattle.nq_legal_steps.proofs.Stores.{StoreFits, Rests}
-use Rattle.nq_model.specs.Client.{Client, ClientStep, pushing, attaching}
+use Rattle.nq_model.specs.Client.{Client, ClientStep}
 use Rattle.nq_model.specs.ClientStep.{client_call, client_tick, restart, starts, fresh_client}
 use Rattle.nq_model.specs.Decide.{decides, creates, writes_through, stores, stores_recovering, wrote, resizes, removes, puts_off, commits}
-use Rattle.nq_model.specs.Journal.{Throughout}
+use Rattle.nq_model.specs.Journal.{Throughout, Each}
 use Rattle.nq_model.specs.Kept.{File, blocks_of, find_file, host_row, with_files, with_new_file, with_row}
 use Rattle.nq_model.specs.Message.{Datagram, call, datagram_of, asker}
 use Rattle.nq_model.specs.Server.{Server, ServerStep, quiet, drops, says, keeping, keeping_with, with_table, after_notices, to_host}
@@ -42,13 +42,11 @@ use Rattle.nq_run_cases.proofs.RunCases.{During, clients-after}
 use Rattle.nq_run_steps.proofs.Packets.{In, in-get, Asked, call-same}
 use Rattle.nq_run_steps.proofs.ServerSays.{AllSaid}
 use Rattle.nq_run_steps.proofs.HostLine.{LineFits}
-use Rattle.nq_run_steps.proofs.Worlds.{IsAt, Holds, to-server, to-told, received-said, tick-said, crash-said}
+use Rattle.nq_run_steps.proofs.Worlds.{IsAt, Holds, to-server, to-told, received-said, tick-said, crash-said, set-there}
 use Rattle.nq_server_steps.proofs.ServerCases.{server-hears, server-ticks}
 use Rattle.nq_undisturbed_laws.proofs.Accesses.{call-accesses, tick-accesses, hear-accesses, restart-accesses}
 use Rattle.nq_undisturbed_laws.proofs.Holders.{KnownOf}
-use Rattle.nq_undisturbed_laws.proofs.Journals.{AllEntries}
 use Rattle.nq_undisturbed_laws.proofs.OwnSends.{OwnSends, call-own, tick-own, hear-own}
-use Rattle.nq_undisturbed_laws.proofs.StillClients.{set-there}
 use Rattle.nq_undisturbed_laws.proofs.UndisturbedRuns.{run-still}
 
 -- ---- the next id does not fall
@@ -135,10 +133,10 @@ own-goes : (c : Client) (t : ClientStep) → OwnSends c.who (core_of t) → Goes
 own-goes c t own = goes_on own.same (λ x r i. let b = own.sends (call x r) i in ap asker (call-same x b.xid r b.asks b.is).1 ∙ b.by)
 
 module _ (w : World) (held : Holds w) (host : ℕ) (c : Client) (t : ClientStep) (there : slice_get w.clients host ≡ Some c) where
-  acts-idle : ClientActs w host c t → AllEntries IsIdle t.entries
-  acts-idle (called op is) = subst (λ z. AllEntries IsIdle z.entries) (sym is) (accesses-idle c.who (client_call c op) (call-accesses c op (held.clients host c there).alone))
-  acts-idle (ticked is) = subst (λ z. AllEntries IsIdle z.entries) (sym is) (accesses-idle c.who (client_tick c (c.now + 1)) (tick-accesses c (c.now + 1) (held.clients host c there).alone))
-  acts-idle (restarted is) = subst (λ z. AllEntries IsIdle z.entries) (sym is) (accesses-idle c.who (restart c) (restart-accesses c c.who))
+  acts-idle : ClientActs w host c t → Each IsIdle t.entries
+  acts-idle (called op is) = subst (λ z. Each IsIdle z.entries) (sym is) (accesses-idle c.who (client_call c op) (call-accesses c op (held.clients host c there).alone))
+  acts-idle (ticked is) = subst (λ z. Each IsIdle z.entries) (sym is) (accesses-idle c.who (client_tick c (c.now + 1)) (tick-accesses c (c.now + 1) (held.clients host c there).alone))
+  acts-idle (restarted is) = subst (λ z. Each IsIdle z.entries) (sym is) (accesses-idle c.who (restart c) (restart-accesses c c.who))
   acts-idle (heard k p sent to hears) = accesses-idle c.who t (hear-accesses c k p.message t (held.clients host c there).alone hears)
 
   acts-goes : ClientActs w host c t → Goes c t
@@ -158,7 +156,7 @@ client-rests first after w held host c t same there acts facts facts_after home 
       (throughout-weaker (IsInsideAt first w.server.kept.next) (IsInsideAt after w.server.kept.next) (inside-later first after w.server.kept.next w.server.kept.next (omega arith) same) w.journal h.inside);
   earlier = clients-after (λ n d v. Earlier (host_row v.server.kept d.who.host) d v.packets v.journal) w host t own others;
 } where
-  quiet : AllEntries IsIdle t.entries
+  quiet : Each IsIdle t.entries
   quiet = acts-idle w held host c t there acts
 
   here : c.who.host ≡ host

@@ -11,6 +11,7 @@ use Rattle.nq_chain_steps.proofs.ChainFacts.{IsFenced, gone, ahead, earlier}
 use Rattle.nq_client_steps.proofs.ClientMoves.{none-some, some-same}
 use Rattle.nq_held_laws.proofs.Entries.{IsIdle}
 use Rattle.nq_model.specs.Decide.{decides, creates, writes_through, stores, stores_recovering, wrote, resizes, removes, puts_off, commits}
+use Rattle.nq_model.specs.Journal.{Each}
 use Rattle.nq_model.specs.Kept.{File, Kept, blocks_of, find_file, host_row}
 use Rattle.nq_model.specs.Message.{Packet, Datagram, request}
 use Rattle.nq_model.specs.Server.{serving, Server, ServerStep, quiet, drops, says}
@@ -18,7 +19,6 @@ use Rattle.nq_model.specs.ServerStep.{attaches, vacates, tells_later, serves, le
 use Rattle.nq_run_steps.proofs.Packets.{Asked}
 use Rattle.nq_server_laws.proofs.ServerTables.{BootsFit, BootsFitOf}
 use Rattle.nq_server_steps.proofs.ServerCases.{server-hears, server-ticks}
-use Rattle.nq_undisturbed_laws.proofs.Journals.{AllEntries}
 
 -- delayed writes are stored: of a kept file's block, as an open push asks that is not fenced
 pub record MakesStore (ps : List Packet) (s : Server) (f : File) (who : Who) (block first last : ℕ) : Type 0 where
@@ -34,7 +34,7 @@ pub record MakesStore (ps : List Packet) (s : Server) (f : File) (who : Who) (bl
   pub free : IsFenced s.kept f.id base.boot base.base → ⊥
 
 pub data Makes (ps : List Packet) (s : Server) (entries : List Entry) : Type 0 where
-  idle : AllEntries IsIdle entries → Makes ps s entries
+  idle : Each IsIdle entries → Makes ps s entries
   writes : (f : File) (who : Who) (block n v : ℕ) → find_file f.id s.kept.files ≡ Some f → block < blocks_of f → entries ≡ W who f.id block n v true ∷ [] → Makes ps s entries
   stored : (f : File) (who : Who) (block first last now : ℕ) → MakesStore ps s f who block first last → entries ≡ S who f.id block first last now ∷ [] → Makes ps s entries
 
@@ -47,7 +47,7 @@ not-fenced kept f base found boot rev (earlier below) = omega arith
 served-boot : (s : Server) → s.phase ≡ serving → BootsFitOf s → s.kept.opened ≡ s.kept.boot
 served-boot s p boots = (subst (λ q. BootsFit s.kept.boot s.kept.opened q s.table) p boots).opened_now
 
-grants-idle : (s : Server) (who : Who) (file : ℕ) (o : Option Grant) → AllEntries IsIdle (grants s who file o)
+grants-idle : (s : Server) (who : Who) (file : ℕ) (o : Option Grant) → Each IsIdle (grants s who file o)
 grants-idle s who file None = tt
 grants-idle s who file (Some g) = (tt, tt)
 

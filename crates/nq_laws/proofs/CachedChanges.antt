@@ -1,14 +1,14 @@
 -- In every run a cached read changes its client's count of calls, the mark of its lease and the order of its clean blocks,
 -- and nothing else.
-use Rattle.std.proofs.Common.{◌≡◌, ◌≢◌, ℕ, ◌+◌, ◌==◌, not, Bool, true, false, List, [], ◌∷◌, ◌++◌, Option, Some, None, if◌then◌else◌, refl, sym, subst, ap, ◌∙◌, inl, inr, append-nil}
+use Rattle.std.proofs.Common.{◌≡◌, ◌≢◌, ℕ, ◌+◌, ◌==◌, not, Bool, true, false, List, ◌∷◌, ◌++◌, Option, Some, None, if◌then◌else◌, refl, sym, subst, ap, ◌∙◌, inl, inr, append-nil}
 use Rattle.std.specs.Option.{option_map}
 use Rattle.std.specs.Prelude.{slice_get}
+use Rattle.std.proofs.lemmas.Bool.{and_parts, not_from_false}
 use Rattle.nq_base.specs.declared.Call.{Call}
-use Rattle.nq_content_laws.proofs.RunContents.{set-found}
 use Rattle.nq_laws.proofs.CachedReads.{cached-in-every-run}
 use Rattle.nq_client_steps.proofs.ClientLists.{used-lease-found, number-other, lease-file}
-use Rattle.nq_server_steps.proofs.Rows.{find-passes, find-filter, same-number, number-same, both-true, false-not, choice}
-use Rattle.nq_run_steps.proofs.Worlds.{get-set-other}
+use Rattle.nq_server_steps.proofs.Rows.{find-passes, find-filter, same-number, number-same, choice}
+use Rattle.nq_run_steps.proofs.Worlds.{get-set-other, set-there}
 use Rattle.nq_laws.specs.CachedChanges.{ReadsBlock, IsAsItWas, ChangesNothingElse, CachedReadsChangeNothingElse}
 use Rattle.nq_laws.specs.CachedInRuns.{IsReady}
 use Rattle.nq_model.specs.CachedAtOnce.{AnswersAtOnce, after_cached}
@@ -28,19 +28,19 @@ front other b file block k clean found = case (is_clean_at other b k) refl
 
     both : (is_clean_at other b k ≡ true) → (other ≡ file) × (b ≡ block)
     both e =
-        let x = both-true _ _ e in
-        let y = both-true _ _ at in
+        let x = and_parts _ _ e in
+        let y = and_parts _ _ at in
         (sym (same-number k.file other x.0) ∙ same-number k.file file y.0, sym (same-number k.block b x.1) ∙ same-number k.block block y.1)
 
     -- one that is neither is not dropped
     spared : is_clean_at other b k ≡ false → (z : Clean) → is_clean_at other b z ≡ true → not (is_clean_at file block z) ≡ true
-    spared other_key z e = false-not (is_clean_at file block z) (apart (is_clean_at file block z) refl)
+    spared other_key z e = not_from_false (is_clean_at file block z) (apart (is_clean_at file block z) refl)
       where
         apart : (t : Bool) → is_clean_at file block z ≡ t → is_clean_at file block z ≡ false
         apart false is = is
         apart true is =
-            let x = both-true _ _ e in
-            let y = both-true _ _ is in
+            let x = and_parts _ _ e in
+            let y = and_parts _ _ is in
             let f : other ≡ file = sym (same-number z.file other x.0) ∙ same-number z.file file y.0 in
             let g : b ≡ block = sym (same-number z.block b x.1) ∙ same-number z.block block y.1 in
             let yes : is_clean_at other b k ≡ true = subst (λ n. is_clean_at n b k ≡ true) (sym f) (subst (λ n. is_clean_at file n k ≡ true) (sym g) at) in
@@ -85,7 +85,7 @@ changes : (w : World) (host : ℕ) (c : Client) (op : Call) (file block : ℕ) (
 unfolding after_client
 changes w host c op file block lease body is ready a = record {
   client = (client_call c op).client;
-  there = set-found w.clients host (client_call c op).client c is;
+  there = set-there w.clients host (client_call c op).client c is;
   as_it_was = subst (λ d. IsAsItWas c d file lease) (sym a.client) (as-it-was c file block lease ready.free ready.held);
   others = λ other apart. get-set-other w.clients host other (client_call c op).client apart;
   server = refl;

@@ -1,5 +1,5 @@
 -- What a step of the server does to the cover of a lease.
-use Rattle.std.proofs.Common.{◌≡◌, ◌≤◌, ℕ, ◌+◌, Bool, true, false, List, Some, None, option_map, if◌then◌else◌, refl, sym, subst, ap, ◌∙◌, arith}
+use Rattle.std.proofs.Common.{◌≡◌, ◌≤◌, ℕ, ◌+◌, Bool, true, false, List, Some, None, option_map, refl, sym, subst, ap, ◌∙◌, arith}
 use Rattle.std.proofs.lemmas.Bool.Decides.{nat_tests}
 use Rattle.nq_base.specs.declared.Access.{Access}
 use Rattle.nq_base.specs.declared.Mode.{Mode}
@@ -10,7 +10,7 @@ use Rattle.nq_base.specs.declared.Want.{Want}
 use Rattle.nq_base.specs.declared.Who.{Who}
 use Rattle.nq_server_steps.proofs.AskCases.{own_in, with_marked, with_waiter, IsGranted, shares_again, begins_sharing, begins_caching, renews_row}
 use Rattle.nq_client_steps.proofs.ClientMoves.{some-same, none-some}
-use Rattle.nq_server_steps.proofs.Modes.{caching-at-least, at-least-more}
+use Rattle.nq_server_steps.proofs.Modes.{at-least-more, at-least-caching}
 use Rattle.nq_server_steps.proofs.RowChanges.{of-key, find-put, find-marked, mark, mark-is}
 use Rattle.nq_server_steps.proofs.Rows.{found-row}
 use Rattle.nq_model.specs.Ask.{Question, marked, sharing_row, caching_row, shared_again, renewed_row, term_of}
@@ -52,7 +52,7 @@ GoesOnAt file host before after =
 pub fitting-goes-on : (who : Who) (file : ℕ) (mode : Mode) (tag : Tag) (until : ℕ) (before after : Table) → caches mode ≡ true → GoesOnAt file who.host before.rows after.rows → HasFitting who file mode tag until before → HasFitting who file mode tag until after
 fitting-goes-on who file mode tag until before after c goes h =
     let f = h.fits in
-    let n = goes h.row h.stands (caching-at-least h.row.mode mode c f.kind) in
+    let n = goes h.row h.stands (at-least-caching h.row.mode mode c f.kind) in
     record {
       row = n.0;
       stands = n.1;

@@ -11,7 +11,7 @@ use Rattle.nq_client_steps.proofs.ClientMoves.{some-same, none-some}
 use Rattle.nq_run_steps.proofs.ClientSteps.{KnowsOf}
 use Rattle.nq_run_steps.proofs.Clocks.{within-before}
 use Rattle.nq_lease_laws.proofs.Hearing.{Hearing}
-use Rattle.nq_run_steps.proofs.KnownWorlds.{Known, at-clock, timely, to-client-known, call-known, tick-known, restart-known, lost-known, server-known, known-covers, start-known, first-there}
+use Rattle.nq_run_steps.proofs.KnownWorlds.{Known, at-clock, timely, to-client-known, call-known, tick-known, restart-known, server-known, known-covers, start-known, first-there, ignored-known}
 use Rattle.nq_server_laws.proofs.LogFits.{fits-start}
 use Rattle.nq_run_steps.proofs.Packets.{In, in-get, Told}
 use Rattle.nq_server_steps.proofs.Rows.{same-number, number-same}
@@ -266,7 +266,7 @@ delivered-runs hosts most w events k p (Party.Client host) to i held clocked h =
     to-client-runs hosts most w events k host p.message (slice_get w.clients host) refl told held (to-client-known w (Event.Deliver k) events k host p.message (slice_get w.clients host) refl told held clocked h.known) h
 
 deliver-runs : (hosts most : ℕ) (w : World) (events : List Event) (k : ℕ) (o : Option Packet) → slice_get w.packets k ≡ o → Holds w → Clocked w events → Runs hosts most w events → Runs hosts most (deliver w k o) (Event.Deliver k ∷ events)
-deliver-runs hosts most w events k None is held clocked h = idle-runs hosts most w events (Event.Deliver k) (lost-known w (Event.Deliver k) events held clocked h.known) h
+deliver-runs hosts most w events k None is held clocked h = idle-runs hosts most w events (Event.Deliver k) (ignored-known w (Event.Deliver k) events held clocked h.known) h
 deliver-runs hosts most w events k (Some p) is held clocked h = delivered-runs hosts most w events k p p.to refl (in-get w.packets k p is) held clocked h
 
 -- ---- ticks of the server's clock, and crashes

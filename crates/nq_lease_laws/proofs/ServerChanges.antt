@@ -1,6 +1,7 @@
 -- What a decision, ATTACH and VACATED do to the server, as one client sees it.
 use Rattle.std.proofs.Common.{◌≡◌, ◌≢◌, ◌<◌, ◌≤◌, ℕ, ◌+◌, Bool, true, false, ◌==◌, ◌&&◌, List, [], ◌∷◌, Option, Some, None, if◌then◌else◌, length, max, refl, sym, subst, ap, ◌∙◌, arith, inl, inr}
 use Rattle.std.proofs.lemmas.Bool.Decides.{nat_tests}
+use Rattle.std.proofs.lemmas.Bool.{and_parts}
 use Rattle.nq_base.specs.declared.Access.{Access}
 use Rattle.nq_base.specs.declared.Event.{Event}
 use Rattle.nq_base.specs.declared.Mode.{Mode}
@@ -19,7 +20,7 @@ use Rattle.nq_run_steps.proofs.HostLine.{IsSettled}
 use Rattle.nq_server_steps.proofs.KeptChanges.{own-line, same-lines}
 use Rattle.nq_run_steps.proofs.Packets.{In, Asked}
 use Rattle.nq_server_steps.proofs.RowChanges.{no-clash, find-other-dropped, find-other-host-dropped, find-other-file-dropped}
-use Rattle.nq_server_steps.proofs.Rows.{both-true, same-number, number-same, found-row}
+use Rattle.nq_server_steps.proofs.Rows.{same-number, number-same, found-row}
 use Rattle.nq_lease_laws.proofs.ServerEffects.{verdict-no-attach, line-after, drawn-more, claimed-kept, one-new, both-new, rows-new, reply-new, goes-effect, all-go-on, way-rows}
 use Rattle.nq_run_steps.proofs.ServerKnows.{IsNew, LineMoves, line_stays, line_decides, line_attaches, IsClaimed, Effect}
 use Rattle.nq_server_steps.proofs.ServerMoves.{first_line}
@@ -316,7 +317,7 @@ module _ (ps : List Packet) (s : Server) (most sender next : ℕ) (d : Datagram)
     where
       mine : (row.who.inc == w.inc && same_tag row.tag given) ≡ true → file ≡ f → who.host ≡ w.host → ⊥
       mine match on own =
-          let b = both-true _ _ match in
+          let b = and_parts _ _ match in
           let stands : find_row f w.host s.table.rows ≡ Some k.row = ap (λ n. find_row n w.host s.table.rows) (sym on) ∙ ap (λ n. find_row file n s.table.rows) (sym own) ∙ k.stands in
           let one : row ≡ k.row = some-same row k.row (sym found ∙ stands) in
           let inc : w.inc ≡ who.inc = sym (same-number row.who.inc w.inc b.0) ∙ ap (λ r. r.who.inc) one ∙ ap (λ z. z.inc) k.fits.holder in

@@ -1,6 +1,5 @@
 -- What each outcome of a datagram does to the server, as one client sees it.
 use Rattle.std.proofs.Common.{◌≡◌, ◌<◌, ◌≤◌, ◌⊎◌, ℕ, ◌+◌, ◌%◌, max, Bool, true, false, ◌==◌, List, [], ◌∷◌, ◌++◌, Option, Some, None, if◌then◌else◌, refl, sym, subst, ap, ◌∙◌, arith, inl, inr}
-use Rattle.std.specs.List.{filter}
 use Rattle.std.proofs.lemmas.Bool.Decides.{nat_tests}
 use Rattle.nq_base.specs.declared.Access.{Access}
 use Rattle.nq_base.specs.declared.Event.{Event}
@@ -13,6 +12,7 @@ use Rattle.nq_base.specs.declared.Tag.{Tag}
 use Rattle.nq_base.specs.declared.Verdict.{Verdict}
 use Rattle.nq_base.specs.declared.Want.{Want}
 use Rattle.nq_base.specs.declared.Who.{Who}
+use Rattle.nq_run_steps.proofs.Members.{in-filtered}
 use Rattle.nq_server_steps.proofs.AskCases.{with_marked, with_waiter, IsGranted, shares_again, begins_sharing, begins_caching, renews_row}
 use Rattle.nq_client_steps.proofs.ClientMoves.{some-same, none-some}
 use Rattle.nq_lease_laws.proofs.Covers.{GoesOnAt, same-goes-on, covered-goes-on, marked-goes-on, granted-goes-on, granted-key, AreOfBoot}
@@ -52,15 +52,6 @@ unique-in (y ∷ rows) r unique (inr h) = step (is_row_of r.file r.who.host y) r
         let k = of-key r.file r.who.host y e in
         let none : find_row r.file r.who.host rows ≡ None = subst (λ n. find_row n r.who.host rows ≡ None) k.0 (subst (λ g. find_row y.file g rows ≡ None) k.1 unique.0) in
         none-some r (sym none ∙ f)
-
-in-filter-step : (y r : Row) (rows less : List Row) (b : Bool) → (In less r → In rows r) → In (if b then y ∷ less else less) r → (y ≡ r) ⊎ In rows r
-in-filter-step y r rows less true rest (inl e) = inl e
-in-filter-step y r rows less true rest (inr i) = inr (rest i)
-in-filter-step y r rows less false rest i = inr (rest i)
-
-pub in-filter : (q : Row → Bool) (rows : List Row) (r : Row) → In (filter q rows) r → In rows r
-in-filter q [] r h = h
-in-filter q (y ∷ rows) r h = in-filter-step y r rows (filter q rows) (q y) (in-filter q rows r) h
 
 -- a tag that was drawn before is drawn after, where the standing table is of the same boot and has drawn no fewer
 pub drawn-more : (boot drawn boot' drawn' : ℕ) → boot' ≡ boot → drawn ≤ drawn' → (tag : Tag) → IsDrawn boot drawn tag → IsDrawn boot' drawn' tag
@@ -290,7 +281,7 @@ module _ (ps : List Packet) (s : Server) (most sender next : ℕ) (d : Datagram)
   waiter-drawn q want = omega arith
 
   pub way-rows : (file host : ℕ) (access : Access) (k : Row) → In (in_the_way s file host access) k → In s.table.rows k
-  way-rows file host access k i = in-filter (conflicts file host access) s.table.rows k i
+  way-rows file host access k i = in-filtered (conflicts file host access) s.table.rows k i
 
   -- ---- a block is read, or a lease is asked for, without a grant
 

@@ -1,11 +1,10 @@
 -- What a datagram does to the server, as one client sees it: all outcomes.
-use Rattle.std.proofs.Common.{◌≡◌, ◌⊎◌, ℕ, Bool, true, false, List, [], ◌∷◌, Option, Some, None, if◌then◌else◌, refl, subst, arith, inl, inr}
-use Rattle.std.specs.List.{find}
+use Rattle.std.proofs.Common.{ℕ, Bool, List, [], ◌∷◌, Option, Some, None, refl, subst, arith, inl, inr}
 use Rattle.nq_base.specs.declared.Event.{Event}
 use Rattle.nq_base.specs.declared.Row.{Row}
 use Rattle.nq_base.specs.declared.Who.{Who}
+use Rattle.nq_run_steps.proofs.Members.{find-in}
 use Rattle.nq_server_steps.proofs.AskCases.{with_marked, with_waiter}
-use Rattle.nq_client_steps.proofs.ClientMoves.{some-same, none-some}
 use Rattle.nq_lease_laws.proofs.Covers.{waiting-goes-on}
 use Rattle.nq_lease_laws.proofs.Hearing.{Hearing}
 use Rattle.nq_run_steps.proofs.Packets.{In}
@@ -21,15 +20,6 @@ use Rattle.nq_model.specs.Message.{Packet, Datagram}
 use Rattle.nq_model.specs.Server.{Server}
 use Rattle.nq_model.specs.ServerStep.{to_read, access_of, receive}
 use Rattle.nq_model.specs.Table.{is_row_of}
-
--- what a search finds is in the list
-find-in-step : (p : Row → Bool) (y r : Row) (rows : List Row) (b : Bool) → (find p rows ≡ Some r → In rows r) → (if b then Some y else find p rows) ≡ Some r → (y ≡ r) ⊎ In rows r
-find-in-step p y r rows true rest e = inl (some-same y r e)
-find-in-step p y r rows false rest e = inr (rest e)
-
-pub find-in : (p : Row → Bool) (rows : List Row) (r : Row) → find p rows ≡ Some r → In rows r
-find-in p [] r e = none-some r e
-find-in p (y ∷ rows) r e = find-in-step p y r rows (p y) (find-in p rows r) e
 
 module _ (ps : List Packet) (s : Server) (most sender next : ℕ) (d : Datagram) (events : List Event) (who : Who) (now xid : ℕ) (attached : Bool) (ticket : Option Ticket) (leased : List Lease) (noticed : List Notice) (c : Hearing ps s most sender d events who now xid attached ticket leased noticed) where
   hears-cases : ServerCases s sender next d (λ t. Effect ps s t who ticket leased)

@@ -3,6 +3,7 @@
 use Rattle.std.proofs.Common.{◌≡◌, ◌≢◌, ◌<◌, ◌≤◌, ℕ, ◌+◌, ◌-◌, ◌==◌, ◌&&◌, Bool, true, false, not, nat_le, List, ◌∷◌, Option, Some, None, if◌then◌else◌, max, refl, sym, subst, ap, ◌∙◌, arith, inl, inr}
 use Rattle.std.specs.List.{find}
 use Rattle.std.proofs.lemmas.Bool.Decides.{nat_tests}
+use Rattle.std.proofs.lemmas.Bool.{and_parts}
 use Rattle.nq_base.specs.declared.Event.{Event}
 use Rattle.nq_base.specs.declared.Mode.{Mode}
 use Rattle.nq_base.specs.declared.Row.{Row}
@@ -14,7 +15,7 @@ use Rattle.nq_run_steps.proofs.Clocks.{runs-below, same-cover, moment-past}
 use Rattle.nq_run_steps.proofs.CoverFacts.{IsShort}
 use Rattle.nq_run_steps.proofs.HostLine.{LineFits}
 use Rattle.nq_server_steps.proofs.RowChanges.{kept_if, find-kept, found-any, unique-filtered, find-other-dropped}
-use Rattle.nq_server_steps.proofs.Rows.{both-true, same-number, find-passes}
+use Rattle.nq_server_steps.proofs.Rows.{same-number, find-passes}
 use Rattle.nq_server_steps.proofs.ServerCases.{server-ticks}
 use Rattle.nq_lease_laws.proofs.ServerChanges.{same-cover-table}
 use Rattle.nq_lease_laws.proofs.ServerEffects.{drawn-more}
@@ -110,7 +111,7 @@ module _ (s : Server) (hosts most : ℕ) (events : List Event) (who : Who) (now 
       not-both false = grind (arith, nat_tests)
 
   not-due : (row : Row) → s.now + 1 < row.until → is_due (s.now + 1) row ≡ true → ⊥
-  not-due row later due = past row.until row.heard (s.now + 1) later (both-true _ _ due).1
+  not-due row later due = past row.until row.heard (s.now + 1) later (and_parts _ _ due).1
     where
       past : (until heard time : ℕ) → time < until → nat_le (max until heard + write_slack) time ≡ true → ⊥
       past until heard time a b = absurd (grind (arith, nat_tests))

@@ -3,6 +3,7 @@ use Rattle.std.proofs.Common.{◌≡◌, ◌≢◌, ◌<◌, ◌⊎◌, ℕ, ◌
 use Rattle.std.proofs.lemmas.Bool.Decides.{nat_tests}
 use Rattle.std.specs.List.{find}
 use Rattle.std.specs.Prelude.{slice_get, ◌-◌}
+use Rattle.std.proofs.lemmas.Bool.{and_parts}
 use Rattle.nq_base.specs.Block.{value_of}
 use Rattle.nq_base.specs.declared.Entry.{Entry}
 use Rattle.nq_base.specs.declared.Entry.TheVariants.{W, S}
@@ -47,8 +48,9 @@ use Rattle.nq_model.specs.Skew.{IsWithinSkew}
 use Rattle.nq_model.specs.Stands.{IsStandingValue}
 use Rattle.nq_model.specs.Table.{caches}
 use Rattle.nq_model.specs.World.{Head, World, run}
+use Rattle.nq_run_steps.proofs.Members.{find-in}
 use Rattle.nq_run_steps.proofs.Packets.{In}
-use Rattle.nq_server_steps.proofs.Rows.{both-true, same-number, number-same, find-passes}
+use Rattle.nq_server_steps.proofs.Rows.{same-number, number-same, find-passes}
 use Rattle.nq_undisturbed_laws.proofs.Holders.{KnownOf}
 use Rattle.nq_undisturbed_laws.proofs.UndisturbedRuns.{run-still}
 use Rattle.nq_undisturbed_laws.specs.Undisturbed.{IsUndisturbed}
@@ -82,9 +84,9 @@ verdict-done v e = absurd (cc)
 
 done-of : (line : HostRow) (inc file : ℕ) (t : Ticket) (r : Request) → t.request ≡ r → has_done line inc file r ≡ true → IsDoneWrite line inc file (Some t)
 done-of line inc file t (Request.Write who seq f block first last push body) asks is =
-    let a = both-true _ _ is in
-    let b = both-true _ _ a.0 in
-    let c = both-true _ _ b.0 in
+    let a = and_parts _ _ is in
+    let b = and_parts _ _ a.0 in
+    let c = and_parts _ _ b.0 in
     record {
       t = t;
       who = who;
@@ -134,14 +136,6 @@ through-job job r who seq file block first last body asks fits = go job (subst (
     go j f = absurd (cc)
 
 -- ---- blocks that a client has
-
-find-in : (test : Push → Bool) (ps : List Push) (p : Push) → find test ps ≡ Some p → In ps p
-find-in test [] p e = none-some p e
-find-in test (q ∷ ps) p e = case (test q) e (find-in test ps p)
-  where
-    case : (b : Bool) → (if b then Some q else find test ps) ≡ Some p → (find test ps ≡ Some p → In ps p) → (q ≡ p) ⊎ In ps p
-    case true f rest = inl (some-same q p f)
-    case false f rest = inr (rest f)
 
 pub find-none : (test : Push → Bool) (ps : List Push) (p : Push) → find test ps ≡ None → In ps p → test p ≡ true → ⊥
 find-none test [] p e i is = i
@@ -212,7 +206,7 @@ module _ (most : ℕ) (head : Head) (known : (events : List Event) → KeepsBoun
   earlier = (run-rests most head known events b within).earlier host c is
 
   caching : (caches lease.mode ≡ true) × (nat_lt c.now lease.expiry ≡ true)
-  caching = both-true _ _ lets
+  caching = and_parts _ _ lets
 
   chain : (row : Row) × IsChained (standing w.server) c.who file lease.tag row
   chain =

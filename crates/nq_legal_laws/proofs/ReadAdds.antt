@@ -1,5 +1,5 @@
 -- What a call, a tick or a datagram adds to the reads of a client and their answers.
-use Rattle.std.proofs.Common.{◌≡◌, ◌⊎◌, ℕ, true, false, List, [], ◌∷◌, ◌++◌, Option, Some, None, map, refl, sym, subst, ap, ◌∙◌, inl, inr}
+use Rattle.std.proofs.Common.{◌≡◌, ◌⊎◌, ℕ, true, false, List, ◌∷◌, ◌++◌, Option, Some, None, map, refl, sym, subst, ap, ◌∙◌, inl, inr}
 use Rattle.std.specs.Prelude.{slice_get}
 use Rattle.nq_base.specs.Block.{value_of}
 use Rattle.nq_base.specs.declared.Entry.{Entry}
@@ -12,15 +12,16 @@ use Rattle.nq_base.specs.declared.Said.TheVariants.{OkValue, OkBy}
 use Rattle.nq_base.specs.declared.Want.{Want}
 use Rattle.nq_base.specs.declared.Who.{Who}
 use Rattle.nq_call_facts.proofs.Entries.{IsOpenAsTold}
-use Rattle.nq_call_facts.proofs.Placed.{Placed, IsServedInOrder, exists-right, reads-on}
+use Rattle.nq_call_facts.proofs.Placed.{Placed, IsServedInOrder, reads-on, call-later, reads-called}
 use Rattle.nq_call_steps.proofs.CallWorlds.{CallsKnown}
 use Rattle.nq_fate_steps.proofs.WritesFit.{IsRising}
 use Rattle.nq_legal_laws.proofs.ReadClient.{Adds, accesses-writes, put-reads-nothing, told-reads-nothing, plain-reads}
-use Rattle.nq_legal_laws.proofs.ReadFacts.{IsServed, IsBacked, reads_nothing, counted_read, IsGood, ReadsOf, ReadsFit, placed-append, exists-entry, reads-called, told-more, served-once, waits-more, standing-before}
-use Rattle.nq_legal_steps.proofs.Places.{IsPlaced, placed-in, throughout-at, in-exists, before-exists}
+use Rattle.nq_legal_laws.proofs.ReadFacts.{IsServed, IsBacked, reads_nothing, counted_read, IsGood, ReadsOf, ReadsFit, placed-append, served-once, waits-more, standing-before}
+use Rattle.nq_legal_steps.proofs.Places.{IsPlaced, placed-in, throughout-at, before-exists}
 use Rattle.nq_legal_steps.proofs.ReaderValues.{NoneWaits}
 use Rattle.nq_legal_steps.proofs.ReadSteps.{Done, NewRead, OldRead, ValuedBy, IsServedAnswer, IsNamedAnswer}
 use Rattle.nq_legal_steps.proofs.Stores.{Rests, standing-more}
+use Rattle.nq_model.proofs.Lists.{exists-right}
 use Rattle.nq_model.specs.Client.{Client, ClientStep, Lease, UnderWay, lets_read}
 use Rattle.nq_model.specs.ClientStep.{told}
 use Rattle.nq_model.specs.Journal.{Exists, Throughout, IsCall, IsAnswer, IsAnswerBy, call_of}
@@ -31,15 +32,12 @@ use Rattle.nq_model.specs.Server.{to_host}
 use Rattle.nq_model.specs.Settle.{cached_body}
 use Rattle.nq_model.specs.Stands.{IsStandingValue}
 use Rattle.nq_model.specs.World.{World, from_host}
-use Rattle.nq_run_steps.proofs.Packets.{In, in-append, in-left, Asked, message-same, in-right}
+use Rattle.nq_run_steps.proofs.Mail.{sent-calls}
+use Rattle.nq_run_steps.proofs.Members.{in-exists, exists-in}
+use Rattle.nq_run_steps.proofs.Packets.{In, in-append, in-left, Asked, in-right}
 use Rattle.nq_run_steps.proofs.Worlds.{IsAt, Holds}
 use Rattle.nq_server_steps.proofs.Incarnations.{one-who}
 use Rattle.nq_undisturbed_laws.proofs.Accesses.{Accesses, neither, read, wrote, IsHeld, IsCalm}
-
-sent-in : (host other : ℕ) (ms : List Message) (x : ℕ) (r : Request) → In (map (from_host host) ms) (from_host other (call x r)) → In ms (call x r)
-sent-in host other [] x r bad = bad
-sent-in host other (n ∷ ms) x r (inl e) = inl (message-same host other n (call x r) e).1
-sent-in host other (n ∷ ms) x r (inr i) = inr (sent-in host other ms x r i)
 
 -- what an entry that is a read has
 abbrev GoodFor : List Entry → List Entry → Entry → Type 0
@@ -99,7 +97,7 @@ module _ (w : World) (host : ℕ) (c : Client) (t : ClientStep) (k : ℕ) (m : M
 
       case : Asked w.packets c.who.host x (Request.Read c.who u.q file block want) ⊎ In (map (from_host host) t.sends) (from_host c.who.host (call x (Request.Read c.who u.q file block want))) → NoneWaits Now c.who file block
       case (inl old) = own-old u is x file block want old
-      case (inr new) = either (done.reads x c.who u.q file block want (sent-in host c.who.host t.sends x _ new))
+      case (inr new) = either (done.reads x c.who u.q file block want (sent-calls host c.who.host t.sends x _ new))
 
   unserved : (who : Who) (q file block v n : ℕ) → In t.entries (R who q file block v (Some n)) → ⊥
   unserved who q file block v n i = none (done.tells.fine (R who q file block v (Some n)) i)
@@ -165,7 +163,7 @@ module _ (w : World) (host : ℕ) (c : Client) (t : ClientStep) (k : ℕ) (m : M
   was-served who q v n sv = h.served k host sv.ticket.xid sv.inc sv.rev sv.body sv.grant (heard sv.ticket.xid sv.inc sv.rev sv.body sv.grant sv.is)
 
   served-good : (who : Who) (q file block v n : ℕ) (before : List Entry) → IsPlaced (R who q file block v (Some n)) before w.journal → Exists (IsAnswerBy who q n) t.entries → IsGood Now before who q file block v
-  served-good who q file block v n before p ans = let x = exists-entry (IsAnswerBy who q n) t.entries ans in case x.0 x.1 x.2
+  served-good who q file block v n before p ans = let x = exists-in (IsAnswerBy who q n) t.entries ans in case x.0 x.1 x.2
     where
       by-answer : (who2 : Who) (q2 v2 n2 : ℕ) → In t.entries (A who2 q2 (OkBy v2 n2)) → who2 ≡ who → q2 ≡ q → n2 ≡ n → ⊥ ⊎ IsServedAnswer c k m who2 q2 v2 n2 ⊎ ⊥ → IsGood Now before who q file block v
       by-answer who2 q2 v2 n2 i e f g (inl bad) = absurd bad
@@ -193,7 +191,7 @@ module _ (w : World) (host : ℕ) (c : Client) (t : ClientStep) (k : ℕ) (m : M
   named-backed who q v nm =
       let tells : call_of w.journal c.who nm.u.q ≡ Some (told nm.u.call) = ((calls.clients host c there).calls_fit.under_way nm.u nm.called).tells in
       let here : call_of w.journal who q ≡ Some (told nm.u.call) = subst (λ z. call_of w.journal z q ≡ Some (told nm.u.call)) (sym nm.who_is) (subst (λ z. call_of w.journal c.who z ≡ Some (told nm.u.call)) nm.number tells) in
-      reads_nothing (told nm.u.call) (told-more t.entries w.journal who q (told nm.u.call) here) (told-reads-nothing nm.u.call nm.nothing)
+      reads_nothing (told nm.u.call) (call-later t.entries w.journal who q (told nm.u.call) here) (told-reads-nothing nm.u.call nm.nothing)
 
   served-backed : (who : Who) (q u v n : ℕ) → In t.entries (A who q (OkBy u n)) → u ≡ v → IsServedAnswer c k m who q u n → IsBacked Now who q v
   served-backed who q u v n i gives sv =

@@ -10,15 +10,15 @@ use Rattle.nq_base.specs.declared.Reply.{Reply}
 use Rattle.nq_base.specs.declared.Request.{Request}
 use Rattle.nq_base.specs.declared.Said.{Said}
 use Rattle.nq_base.specs.declared.Who.{Who}
-use Rattle.nq_call_facts.proofs.Placed.{exists-right, exists-either}
 use Rattle.nq_fate_steps.proofs.WritesFit.{IsRising}
-use Rattle.nq_legal_laws.proofs.ReadFacts.{IsServed, IsBacked, IsGood, ReadsOf, ReadsFit, placed-append, get-append, no-reply-sent, served-more, backed-more, waits-more}
+use Rattle.nq_legal_laws.proofs.ReadFacts.{IsServed, IsBacked, IsGood, ReadsOf, ReadsFit, placed-append, get-append, served-more, backed-more, waits-more}
 use Rattle.nq_legal_steps.proofs.Places.{IsPlaced}
 use Rattle.nq_legal_steps.proofs.ReadParts.{ReadsNothing}
 use Rattle.nq_legal_steps.proofs.Stores.{Rests, standing-more}
+use Rattle.nq_model.proofs.Lists.{exists-right, exists-append}
 use Rattle.nq_model.specs.Client.{Client, ClientStep, UnderWay}
 use Rattle.nq_model.specs.ClientStep.{told}
-use Rattle.nq_model.specs.Journal.{Exists, Throughout, IsAnswerBy, IsCounted}
+use Rattle.nq_model.specs.Journal.{Exists, Throughout, IsAnswerBy, IsCounted, Each}
 use Rattle.nq_model.specs.Legal.{IsReading, GivesValue, IsAnswerWith}
 use Rattle.nq_model.specs.Message.{Message, Packet, call, reply}
 use Rattle.nq_model.specs.OfTheirCall.{Reads}
@@ -26,10 +26,11 @@ use Rattle.nq_model.specs.Server.{to_host}
 use Rattle.nq_model.specs.Stands.{IsStandingValue}
 use Rattle.nq_model.specs.World.{World, from_host, after_client}
 use Rattle.nq_run_cases.proofs.RunCases.{clients-after}
+use Rattle.nq_run_steps.proofs.Mail.{none-to-host}
 use Rattle.nq_run_steps.proofs.Packets.{In, in-append, in-get, Asked, message-same}
 use Rattle.nq_run_steps.proofs.Worlds.{Holds}
 use Rattle.nq_undisturbed_laws.proofs.Accesses.{Accesses, neither, read, wrote, IsCalm}
-use Rattle.nq_undisturbed_laws.proofs.Journals.{AllEntries}
+use Rattle.nq_undisturbed_laws.proofs.Marks.{plain-no-write}
 use Rattle.nq_undisturbed_laws.proofs.PlainParts.{IsPlain}
 
 -- ---- what a step adds
@@ -70,7 +71,7 @@ reads-after w host t held rising rests adds h = record {
 } where
   served : (k other x inc rev : ℕ) (body : List ℕ) (grant : Option Grant) → slice_get (w.packets ++ map (from_host host) t.sends) k ≡ Some (to_host other (reply x (Reply.Read inc rev body grant))) → (slice_get w.packets k ≡ Some (to_host other (reply x (Reply.Read inc rev body grant)))) ⊎ ((n : ℕ) × (k ≡ length w.packets + n) × (slice_get (map (from_host host) t.sends) n ≡ Some (to_host other (reply x (Reply.Read inc rev body grant))))) → IsServed (w.packets ++ map (from_host host) t.sends) (t.entries ++ w.journal) k other x inc body
   served k other x inc rev body grant at (inl old) = served-more w.packets (map (from_host host) t.sends) t.entries w.journal k other x inc body (h.served k other x inc rev body grant old)
-  served k other x inc rev body grant at (inr new) = absurd (no-reply-sent host other t.sends (reply x (Reply.Read inc rev body grant)) (in-get (map (from_host host) t.sends) new.0 _ new.2))
+  served k other x inc rev body grant at (inr new) = absurd (none-to-host host other t.sends (reply x (Reply.Read inc rev body grant)) (in-get (map (from_host host) t.sends) new.0 _ new.2))
 
   others : (other : ℕ) (d : Client) → other ≢ host → slice_get w.clients other ≡ Some d → ReadsOf (w.packets ++ map (from_host host) t.sends) (t.entries ++ w.journal) d
   others other d apart is =
@@ -99,7 +100,7 @@ reads-after w host t held rising rests adds h = record {
       case : In t.entries (R who q file block v None) ⊎ IsPlaced (R who q file block v None) before w.journal → IsGood (t.entries ++ w.journal) before who q file block v
       case (inl new) = either (adds.cached who q file block v before p new)
       case (inr old) = good-old who q file block v None before old tt
-  good who q file block v (Some k) before p counted = case (placed-append _ before t.entries w.journal p) (exists-either (IsAnswerBy who q k) t.entries w.journal counted)
+  good who q file block v (Some k) before p counted = case (placed-append _ before t.entries w.journal p) (exists-append (IsAnswerBy who q k) t.entries w.journal counted)
     where
       case : In t.entries (R who q file block v (Some k)) ⊎ IsPlaced (R who q file block v (Some k)) before w.journal → Exists (IsAnswerBy who q k) t.entries ⊎ Exists (IsAnswerBy who q k) w.journal → IsGood (t.entries ++ w.journal) before who q file block v
       case (inl new) other = absurd (adds.unserved who q file block v k new)
@@ -112,15 +113,10 @@ reads-after w host t held rising rests adds h = record {
 
 -- ---- what a call, a tick or a datagram adds
 
-pub plain-reads : (es : List Entry) → AllEntries IsPlain es → (who : Who) (q file block v : ℕ) (by : Option ℕ) → In es (R who q file block v by) → ⊥
+pub plain-reads : (es : List Entry) → Each IsPlain es → (who : Who) (q file block v : ℕ) (by : Option ℕ) → In es (R who q file block v by) → ⊥
 plain-reads [] plain who q file block v by i = i
 plain-reads (e ∷ es) plain who q file block v by (inl same) = subst IsPlain same plain.0
 plain-reads (e ∷ es) plain who q file block v by (inr i) = plain-reads es plain.1 who q file block v by i
-
-plain-writes : (es : List Entry) → AllEntries IsPlain es → (who : Who) (file block n v : ℕ) → In es (W who file block n v false) → ⊥
-plain-writes [] plain who file block n v i = i
-plain-writes (e ∷ es) plain who file block n v (inl same) = subst IsPlain same plain.0
-plain-writes (e ∷ es) plain who file block n v (inr i) = plain-writes es plain.1 who file block n v i
 
 -- a write that a step delays is by its incarnation, and then no call goes on but a put
 pub record IsDelaying (who by : Who) (t : ClientStep) : Type 0 where
@@ -128,19 +124,19 @@ pub record IsDelaying (who by : Who) (t : ClientStep) : Type 0 where
   pub calm : IsCalm t.client.call
 
 pub accesses-writes : (by : Who) (t : ClientStep) → Accesses by t → (who : Who) (file block n v : ℕ) → In t.entries (W who file block n v false) → IsDelaying who by t
-accesses-writes by t (neither plain) who file block n v i = absurd (plain-writes t.entries plain who file block n v i)
+accesses-writes by t (neither plain) who file block n v i = absurd (plain-no-write t.entries who file block n v plain i)
 accesses-writes by t (read q f b lease body rest es plain held lets has idle) who file block n v i = absurd (none (subst (λ zs. In zs (W who file block n v false)) es i))
   where
     none : In (A by q (Said.OkValue (value_of body)) ∷ R by q f b (value_of body) None ∷ rest) (W who file block n v false) → ⊥
     none (inl e) = cc
     none (inr (inl e)) = cc
-    none (inr (inr j)) = plain-writes rest plain who file block n v j
+    none (inr (inr j)) = plain-no-write rest who file block n v plain j
 accesses-writes by t (wrote f b m u lease more rest es plain others held lets calm) who file block n v i = record { mine = mine (in-append more (W by f b m u false ∷ rest) (W who file block n v false) (subst (λ zs. In zs (W who file block n v false)) es i)); calm = calm }
   where
     mine : In more (W who file block n v false) ⊎ In (W by f b m u false ∷ rest) (W who file block n v false) → who ≡ by
-    mine (inl j) = absurd (plain-writes more plain who file block n v j)
+    mine (inl j) = absurd (plain-no-write more who file block n v plain j)
     mine (inr (inl e)) = cc
-    mine (inr (inr j)) = absurd (plain-writes rest others who file block n v j)
+    mine (inr (inr j)) = absurd (plain-no-write rest who file block n v others j)
 
 pub put-reads-nothing : (file block : ℕ) (u : UnderWay) → IsCalm (Some u) → Reads file block (Some (told u.call)) → ⊥
 put-reads-nothing file block u calm reads = subst (λ o. Reads file block (Some (told o))) calm.3 reads

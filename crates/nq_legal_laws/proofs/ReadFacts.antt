@@ -1,10 +1,9 @@
 -- What a world's reads and their answers keep.
-use Rattle.std.proofs.Common.{◌≡◌, ◌⊎◌, ℕ, zero, suc, ◌+◌, ◌==◌, Bool, true, false, List, [], ◌∷◌, ◌++◌, Option, Some, None, map, length, ◌&&◌, if◌then◌else◌, refl, sym, subst, ap, ◌∙◌, arith, inl, inr}
-use Rattle.std.specs.Option.{option_or}
+use Rattle.std.proofs.Common.{◌≡◌, ◌⊎◌, ℕ, zero, suc, ◌+◌, Bool, true, false, List, [], ◌∷◌, ◌++◌, Option, Some, None, length, if◌then◌else◌, refl, sym, subst, ap, ◌∙◌, arith, inl, inr}
 use Rattle.std.specs.Prelude.{slice_get}
 use Rattle.nq_base.specs.Block.{value_of}
 use Rattle.nq_base.specs.declared.Entry.{Entry}
-use Rattle.nq_base.specs.declared.Entry.TheVariants.{C, A, W, R, L, Z}
+use Rattle.nq_base.specs.declared.Entry.TheVariants.{A, W, R, L, Z}
 use Rattle.nq_base.specs.declared.Grant.{Grant}
 use Rattle.nq_base.specs.declared.Party.{Party}
 use Rattle.nq_base.specs.declared.Reply.{Reply}
@@ -13,24 +12,22 @@ use Rattle.nq_base.specs.declared.Said.{Said}
 use Rattle.nq_base.specs.declared.Told.{Told}
 use Rattle.nq_base.specs.declared.Want.{Want}
 use Rattle.nq_base.specs.declared.Who.{Who}
-use Rattle.nq_call_facts.proofs.Placed.{Placed, IsServedIn, IsServedInOrder, exists-right, call-told}
-use Rattle.nq_client_steps.proofs.ClientMoves.{none-some}
+use Rattle.nq_call_facts.proofs.Placed.{Placed, IsServedIn, IsServedInOrder, call-later}
+use Rattle.nq_fate_steps.proofs.JournalMoves.{covers-more}
 use Rattle.nq_fate_steps.proofs.WritesFit.{CoversNumber}
-use Rattle.nq_held_laws.proofs.Entries.{covered-more}
-use Rattle.nq_legal_steps.proofs.Places.{IsPlaced, in-exists, last-same}
+use Rattle.nq_legal_steps.proofs.Places.{IsPlaced, last-same}
 use Rattle.nq_legal_steps.proofs.ReaderValues.{NoneWaits}
 use Rattle.nq_legal_steps.proofs.ReadParts.{TicketOfCall}
-use Rattle.nq_model.proofs.JournalTests.{tells_who}
-use Rattle.nq_model.proofs.Telling.{tells_and, tells_same}
+use Rattle.nq_model.proofs.Lists.{exists-right, exists-map}
 use Rattle.nq_model.specs.Client.{Client, UnderWay}
-use Rattle.nq_model.specs.Journal.{Exists, Throughout, IsCall, IsAnswerBy, IsCounted, IsWriteOn, IsLost, cuts, since_cut, IsLastValue, call_of, told_by, same_who, Loses}
+use Rattle.nq_model.specs.Journal.{Exists, Throughout, IsAnswerBy, IsCounted, IsWriteOn, IsLost, cuts, since_cut, IsLastValue, call_of, Loses}
 use Rattle.nq_model.specs.Legal.{IsReading, GivesValue, IsAnswerWith, IsCountedWith}
-use Rattle.nq_model.specs.Message.{Message, Packet, reply}
-use Rattle.nq_model.specs.OfTheirCall.{Reads}
+use Rattle.nq_model.specs.Message.{Packet, reply}
 use Rattle.nq_model.specs.Server.{to_host}
 use Rattle.nq_model.specs.Stands.{Stands, IsStandingValue}
-use Rattle.nq_model.specs.World.{World, from_host}
-use Rattle.nq_run_steps.proofs.Packets.{In, in-append, in-left, in-right, Asked, not-both}
+use Rattle.nq_model.specs.World.{World}
+use Rattle.nq_run_steps.proofs.Members.{in-exists}
+use Rattle.nq_run_steps.proofs.Packets.{In, in-append, in-left, in-right, Asked}
 use Rattle.nq_run_steps.proofs.Worlds.{IsSent, by_host, by_server}
 
 -- the block that a reply in packet k tells was read for a request that was sent
@@ -81,39 +78,7 @@ placed-append e before (x ∷ es) j (inr p) = step (placed-append e before es j 
     step (inl i) = inl (inr i)
     step (inr q) = inr q
 
-pub exists-entry : (Fact : Entry → Type 0) (es : List Entry) → Exists Fact es → (e : Entry) × In es e × Fact e
-exists-entry Fact [] h = absurd h
-exists-entry Fact (x ∷ es) (inl h) = (x, inl refl, h)
-exists-entry Fact (x ∷ es) (inr h) = let r = exists-entry Fact es h in (r.0, inr r.1, r.2)
-
 -- ---- calls that go on
-
-reads-some : (file block : ℕ) (o : Option Told) → Reads file block o → (t : Told) × (o ≡ Some t)
-reads-some file block None h = absurd h
-reads-some file block (Some t) h = (t, refl)
-
-told-call : (e : Entry) (who : Who) (q : ℕ) (t : Told) → told_by e who q ≡ Some t → IsCall who q e
-told-call (C by n told) who q t h = case (same_who by who && (n == q)) refl h
-  where
-    case : (b : Bool) → (same_who by who && (n == q)) ≡ b → (if b then Some told else None) ≡ Some t → (by ≡ who) × (n ≡ q)
-    case true is e = let k = (tells_and tells_who tells_same).sound is in k
-    case false is e = none-some t e
-told-call other who q t h = none-some t h
-
-pub called-there : (j : List Entry) (who : Who) (q : ℕ) (t : Told) → call_of j who q ≡ Some t → Exists (IsCall who q) j
-called-there [] who q t h = none-some t h
-called-there (e ∷ j) who q t h = case (call_of j who q) refl h (called-there j who q)
-  where
-    case : (o : Option Told) → call_of j who q ≡ o → option_or o (told_by e who q) ≡ Some t → ((t : Told) → call_of j who q ≡ Some t → Exists (IsCall who q) j) → IsCall who q e ⊎ Exists (IsCall who q) j
-    case None is e_is rest = inl (told-call e who q t e_is)
-    case (Some s) is e_is rest = inr (rest s is)
-
-pub reads-called : (j : List Entry) (who : Who) (q file block : ℕ) → Reads file block (call_of j who q) → Exists (IsCall who q) j
-reads-called j who q file block h = let s = reads-some file block (call_of j who q) h in called-there j who q s.0 s.1
-
-pub told-more : (es j : List Entry) (who : Who) (q : ℕ) (t : Told) → call_of j who q ≡ Some t → call_of (es ++ j) who q ≡ Some t
-told-more [] j who q t h = h
-told-more (e ∷ es) j who q t h = call-told e (es ++ j) who q t (told-more es j who q t h)
 
 -- ---- packets
 
@@ -125,11 +90,6 @@ get-append (y ∷ xs) ys (suc k) x h = step (get-append xs ys k x h)
     step : (slice_get xs k ≡ Some x) ⊎ ((n : ℕ) × (k ≡ length xs + n) × (slice_get ys n ≡ Some x)) → (slice_get xs k ≡ Some x) ⊎ ((n : ℕ) × (suc k ≡ suc (length xs) + n) × (slice_get ys n ≡ Some x))
     step (inl a) = inl a
     step (inr b) = inr (b.0, (let e = b.1 in omega arith), b.2)
-
-pub no-reply-sent : (host other : ℕ) (ms : List Message) (m : Message) → In (map (from_host host) ms) (to_host other m) → ⊥
-no-reply-sent host other [] m i = i
-no-reply-sent host other (n ∷ ms) m (inl e) = not-both host other n m e
-no-reply-sent host other (n ∷ ms) m (inr i) = no-reply-sent host other ms m i
 
 pub told-packet : (p : Packet) (host : ℕ) → IsSent p → p.to ≡ Party.Client host → p ≡ to_host host p.message
 told-packet p host (by_host h x r w e a) to = let bad : Party.Server ≡ Party.Client host = sym (ap (λ z. z.to) e) ∙ to in absurd (cc)
@@ -166,21 +126,16 @@ counted-with-more es j who q v (R by n file block u None) h = h
 counted-with-more es j who q v (R by n file block u (Some k)) h = (h.0, (h.1.0, exists-right (IsAnswerBy by n k) es j h.1.1))
 counted-with-more es j who q v other h = absurd h
 
-exists-weaker : (Fact Other : Entry → Type 0) (j : List Entry) → ((e : Entry) → Fact e → Other e) → Exists Fact j → Exists Other j
-exists-weaker Fact Other [] weaker h = h
-exists-weaker Fact Other (e ∷ j) weaker (inl h) = inl (weaker e h)
-exists-weaker Fact Other (e ∷ j) weaker (inr h) = inr (exists-weaker Fact Other j weaker h)
-
 pub backed-more : (es j : List Entry) (who : Who) (q v : ℕ) → IsBacked j who q v → IsBacked (es ++ j) who q v
-backed-more es j who q v (reads_nothing t told none) = reads_nothing t (told-more es j who q t told) none
-backed-more es j who q v (counted_read h) = counted_read (exists-right (IsCountedWith (es ++ j) who q v) es j (exists-weaker (IsCountedWith j who q v) (IsCountedWith (es ++ j) who q v) j (counted-with-more es j who q v) h))
+backed-more es j who q v (reads_nothing t told none) = reads_nothing t (call-later es j who q t told) none
+backed-more es j who q v (counted_read h) = counted_read (exists-right (IsCountedWith (es ++ j) who q v) es j (exists-map (IsCountedWith j who q v) (IsCountedWith (es ++ j) who q v) j (counted-with-more es j who q v) h))
 
 pub waits-more : (es j : List Entry) (who : Who) (file block : ℕ) → ((n v : ℕ) → In es (W who file block n v false) → ⊥) → NoneWaits j who file block → NoneWaits (es ++ j) who file block
 waits-more es j who file block none h n v i = case (in-append es j (W who file block n v false) i)
   where
     case : In es (W who file block n v false) ⊎ In j (W who file block n v false) → CoversNumber (es ++ j) who file block n
     case (inl new) = absurd (none n v new)
-    case (inr old) = covered-more es j who file block n (h n v old)
+    case (inr old) = covers-more es j who file block n (h n v old)
 
 -- an entry that is no write, cuts nothing and loses nothing does not change what stands before it
 abbrev pub IsStill : Entry → Type 0

@@ -50,14 +50,14 @@ use Rattle.nq_model.specs.World.{Head, World, after_server, after_client, sendin
 use Rattle.nq_run_cases.proofs.RunCases.{During}
 use Rattle.nq_run_steps.proofs.Packets.{In, in-get}
 use Rattle.nq_run_steps.proofs.ServerSays.{AllSaid}
-use Rattle.nq_run_steps.proofs.Worlds.{IsAt, to-server, received-said, tick-said, crash-said, first-client}
+use Rattle.nq_run_steps.proofs.Worlds.{IsAt, to-server, received-said, tick-said, crash-said, first-client, set-there}
 use Rattle.nq_server_steps.proofs.Modes.{writing-caches}
 use Rattle.nq_undisturbed_laws.proofs.Accesses.{Accesses, IsHeld, call-accesses, tick-accesses, hear-accesses}
 use Rattle.nq_undisturbed_laws.proofs.Holders.{KnownOf}
 use Rattle.nq_undisturbed_laws.proofs.Tags.{unclean-entry}
-use Rattle.nq_server_steps.proofs.Rows.{both-true, not-true, same-number, find-passes}
+use Rattle.nq_server_steps.proofs.Rows.{same-number, find-passes}
 use Rattle.std.proofs.lemmas.Bool.Decides.{nat_tests}
-use Rattle.nq_undisturbed_laws.proofs.StillClients.{set-there}
+use Rattle.std.proofs.lemmas.Bool.{and_parts, not-true}
 
 -- a step with no answer of a reply is one that could have some
 weaker : (c : Client) (k : ℕ) (m : Message) (t : ClientStep) → Done c NoneValued t → Done c (ValuedBy c k m) t
@@ -131,7 +131,7 @@ has-dirty c file block p i f g none = case (dirty_at file block c.dirty) refl no
     case (Some q) e h = none-some q.body (sym h)
 
 to-push-unclean : (c : Client) (l : Lease) → is_to_push c l ≡ true → is_clean c l.file ≡ false
-to-push-unclean c l is = not-true _ (both-true _ _ (both-true _ _ is).0).1
+to-push-unclean c l is = not-true _ (and_parts _ _ (and_parts _ _ is).0).1
 
 none-to-push : (c : Client) (file : ℕ) (l : Lease) → l.file ≡ file → is_to_push c l ≡ true → c.push ≡ None → first_dirty file c.dirty ≡ None → ⊥
 none-to-push c file l of due unpushed none = any-first file c.dirty (any-dirty c file unpushed (subst (λ n. is_clean c n ≡ false) of (to-push-unclean c l due))) none

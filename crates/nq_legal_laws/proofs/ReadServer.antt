@@ -11,20 +11,20 @@ use Rattle.nq_base.specs.declared.Said.{Said}
 use Rattle.nq_base.specs.declared.Want.{Want}
 use Rattle.nq_base.specs.declared.Who.{Who}
 use Rattle.nq_call_facts.proofs.ClientMoves.{IsBelow}
-use Rattle.nq_call_facts.proofs.Placed.{exists-either}
 use Rattle.nq_call_steps.proofs.CallWorlds.{CallsKnown}
 use Rattle.nq_client_steps.proofs.ClientMoves.{none-some, some-same}
 use Rattle.nq_content_steps.proofs.ServerDelays.{Never}
 use Rattle.nq_content_steps.specs.Contents.{delayed_by}
 use Rattle.nq_fate_steps.proofs.WritesFit.{IsRising}
 use Rattle.nq_legal_laws.proofs.ReadClient.{good-more}
-use Rattle.nq_legal_laws.proofs.ReadFacts.{IsServed, IsBacked, IsGood, ReadsFit, placed-append, exists-entry, get-append, served-more, backed-more, waits-more, standing-after}
+use Rattle.nq_legal_laws.proofs.ReadFacts.{IsServed, IsBacked, IsGood, ReadsFit, placed-append, get-append, served-more, backed-more, waits-more, standing-after}
 use Rattle.nq_legal_laws.proofs.ServerReads.{IsUnread, TellsNone, ServesRead, reads_none, reads_one}
 use Rattle.nq_legal_steps.proofs.Held.{HasHeld}
 use Rattle.nq_legal_steps.proofs.Places.{IsPlaced}
 use Rattle.nq_legal_steps.proofs.ReaderValues.{NoneWaits, held-stands}
 use Rattle.nq_legal_steps.proofs.Stores.{Rests, standing-other, standing-more, StoresNone}
 use Rattle.nq_model.proofs.JournalTests.{tells_who}
+use Rattle.nq_model.proofs.Lists.{exists-append}
 use Rattle.nq_model.proofs.Telling.{tells_4, tells_same}
 use Rattle.nq_model.specs.Client.{Client, UnderWay}
 use Rattle.nq_model.specs.Journal.{Each, Exists, Throughout, IsAnswerBy, IsCounted, same_who}
@@ -38,9 +38,9 @@ use Rattle.nq_model.specs.Table.{Table}
 use Rattle.nq_model.specs.Tests.{Tells}
 use Rattle.nq_model.specs.World.{World, after_server}
 use Rattle.nq_request_laws.proofs.WorldSequences.{asked-before-server}
+use Rattle.nq_run_steps.proofs.Members.{exists-in}
 use Rattle.nq_run_steps.proofs.Packets.{In, in-append, in-left, in-get, Asked, told-same, reply-same}
 use Rattle.nq_run_steps.proofs.ServerSays.{AllSaid}
-use Rattle.nq_undisturbed_laws.proofs.Journals.{AllEntries}
 
 -- ---- entries of the server
 
@@ -55,13 +55,13 @@ never-in [] never who file block n v i = i
 never-in (e ∷ es) never who file block n v (inl same) = none-some v (sym (subst (λ x. delayed_by x who file block n ≡ None) same (never.0 who file block n)) ∙ delayed-this who file block n v)
 never-in (e ∷ es) never who file block n v (inr i) = never-in es never.1 who file block n v i
 
-unread-in : (es : List Entry) (e : Entry) → AllEntries IsUnread es → In es e → IsUnread e
+unread-in : (es : List Entry) (e : Entry) → Each IsUnread es → In es e → IsUnread e
 unread-in [] e all i = absurd i
 unread-in (x ∷ es) e all (inl same) = subst IsUnread same all.0
 unread-in (x ∷ es) e all (inr i) = unread-in es e all.1 i
 
-unanswered : (es : List Entry) → AllEntries IsUnread es → (who : Who) (q k : ℕ) → Exists (IsAnswerBy who q k) es → ⊥
-unanswered es all who q k h = let x = exists-entry (IsAnswerBy who q k) es h in case x.0 (unread-in es x.0 all x.1) x.2
+unanswered : (es : List Entry) → Each IsUnread es → (who : Who) (q k : ℕ) → Exists (IsAnswerBy who q k) es → ⊥
+unanswered es all who q k h = let x = exists-in (IsAnswerBy who q k) es h in case x.0 (unread-in es x.0 all x.1) x.2
   where
     case : (e : Entry) → IsUnread e → IsAnswerBy who q k e → ⊥
     case (A by n said) unread fact = unread
@@ -108,7 +108,7 @@ module _ (w : World) (t : ServerStep) (said : AllSaid w.packets t.sends) (never 
 
     was-counted : (who : Who) (q file block v : ℕ) (by : Option ℕ) → IsCounted (t.entries ++ w.journal) (R who q file block v by) → IsCounted w.journal (R who q file block v by)
     was-counted who q file block v None counted = tt
-    was-counted who q file block v (Some k) counted = case (exists-either (IsAnswerBy who q k) t.entries w.journal counted)
+    was-counted who q file block v (Some k) counted = case (exists-append (IsAnswerBy who q k) t.entries w.journal counted)
       where
         case : Exists (IsAnswerBy who q k) t.entries ⊎ Exists (IsAnswerBy who q k) w.journal → Exists (IsAnswerBy who q k) w.journal
         case (inl now) = absurd (adds.unsaid who q k now)
@@ -126,7 +126,7 @@ module _ (w : World) (t : ServerStep) (said : AllSaid w.packets t.sends) (never 
     backed who q v said gives (inr old) = backed-more t.entries w.journal who q v (h.answered who q v said old gives)
 
   -- nothing is read
-  none-adds : TellsNone t.sends → AllEntries IsUnread t.entries → Adds w t
+  none-adds : TellsNone t.sends → Each IsUnread t.entries → Adds w t
   none-adds none unread = record {
     served = λ n host x inc rev body grant at. absurd (none host x inc rev body grant (in-get t.sends n _ at));
     standing = λ host c u is called file block v k before p. stands host c u is called file block v k before (placed-append (R c.who u.q file block v (Some k)) before t.entries w.journal p);
@@ -154,7 +154,7 @@ granted-stands s by file_of (Some g) first j reader file block v none h =
     standing-other first (G by file_of g.mode g.tag g.term s.now ∷ j) (G by file_of g.mode g.tag g.term s.now ∷ j) reader file block v none
     (standing-after (G by file_of g.mode g.tag g.term s.now ∷ j) (G by file_of g.mode g.tag g.term s.now) j reader file block v tt (standing-other (G by file_of g.mode g.tag g.term s.now) j j reader file block v tt h))
 
-granted-unread : (s : Server) (who : Who) (file : ℕ) (o : Option Grant) → AllEntries IsUnread (grants s who file o)
+granted-unread : (s : Server) (who : Who) (file : ℕ) (o : Option Grant) → Each IsUnread (grants s who file o)
 granted-unread s who file None = tt
 granted-unread s who file (Some g) = (tt, tt)
 
@@ -230,7 +230,7 @@ module _ (w : World) (who : Who) (xid q block : ℕ) (f : File) (body : List ℕ
     unanswered_now by n said (inr i) = unread-in Granted (A by n said) (granted-unread w.server who f.id g) i
 
     past : (by : Who) (n k : ℕ) → k ≡ length w.packets → Exists (IsAnswerBy by n k) (Read ∷ Granted ++ w.journal) → ⊥
-    past by n k same counted = either (exists-either (IsAnswerBy by n k) (Read ∷ Granted) w.journal counted)
+    past by n k same counted = either (exists-append (IsAnswerBy by n k) (Read ∷ Granted) w.journal counted)
       where
         either : Exists (IsAnswerBy by n k) (Read ∷ Granted) ⊎ Exists (IsAnswerBy by n k) w.journal → ⊥
         either (inl now) = unsaid by n k now

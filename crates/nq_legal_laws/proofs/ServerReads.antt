@@ -11,16 +11,16 @@ use Rattle.nq_base.specs.declared.Verdict.{Verdict}
 use Rattle.nq_base.specs.declared.Want.{Want}
 use Rattle.nq_base.specs.declared.Who.{Who}
 use Rattle.nq_model.specs.Decide.{Decision, decides, creates, writes_through, stores, stores_recovering, wrote, resizes, removes, puts_off, verdict_reply, done_reply, commits}
+use Rattle.nq_model.specs.Journal.{Each}
 use Rattle.nq_model.specs.Kept.{File, find_file}
-use Rattle.nq_model.specs.Message.{Message, Packet, Datagram, call, reply, request, other_rpc, other_program, other_version, unknown_procedure, garbage}
+use Rattle.nq_model.specs.Message.{Message, Packet, Datagram, call, reply, request}
 use Rattle.nq_model.specs.Profile.{xid_end}
 use Rattle.nq_model.specs.Server.{Server, ServerStep, to_host, quiet, drops, says, notices}
 use Rattle.nq_model.specs.ServerStep.{attaches, vacates, tells_later, serves, leases, grants, receive, tick, opens, ends_writing, crash}
 use Rattle.nq_model.specs.Table.{Table}
 use Rattle.nq_run_steps.proofs.Packets.{In, in-append, Asked, told-same, reply-same}
 use Rattle.nq_server_steps.proofs.ServerCases.{server-hears, server-ticks}
-use Rattle.nq_server_steps.proofs.ServerOutcomes.{error_for, IsPlain, unattached, attached_again, not_yet, no_entry, entry, no_attributes, attributes, no_file, no_block, decided_again, is_old}
-use Rattle.nq_undisturbed_laws.proofs.Journals.{AllEntries}
+use Rattle.nq_server_steps.proofs.ServerOutcomes.{error_for, IsPlain, unattached, attached_again, not_yet, no_entry, entry, no_attributes, attributes, no_file, no_block, decided_again, is_old, error-no-reply}
 
 -- an entry that is no read and no answer
 abbrev pub IsUnread : Entry → Type 0
@@ -37,7 +37,7 @@ abbrev pub TellsNone : List Packet → Type 0
 TellsNone sends = (host x inc rev : ℕ) (body : List ℕ) (grant : Option Grant) → In sends (to_host host (reply x (Reply.Read inc rev body grant))) → ⊥
 
 pub data ServesRead (ps : List Packet) (s : Server) (next : ℕ) (t : ServerStep) : Type 0 where
-  reads_none : TellsNone t.sends → AllEntries IsUnread t.entries → ServesRead ps s next t
+  reads_none : TellsNone t.sends → Each IsUnread t.entries → ServesRead ps s next t
   reads_one : (who : Who) (xid q block : ℕ) (f : File) (body : List ℕ) (want : Option Want) (table : Table) (g : Option Grant) → t ≡ serves s who xid next q f block body table g → Asked ps who.host xid (Request.Read who q f.id block want) → find_file f.id s.kept.files ≡ Some f → slice_get f.bodies block ≡ Some body → ServesRead ps s next t
 
 -- ---- replies
@@ -68,16 +68,8 @@ notices-told n (row ∷ rows) h y inc rev body grant (inl e) = apart (told-same 
     apart f = cc
 notices-told n (row ∷ rows) h y inc rev body grant (inr i) = notices-told ((n + 1) % xid_end) rows h y inc rev body grant i
 
-no-reply-error : (d : Datagram) (m : Message) (xid : ℕ) (a : Reply) → error_for d ≡ Some m → m ≡ reply xid a → ⊥
-no-reply-error (other_rpc n) m xid a e f = cc
-no-reply-error (other_program n) m xid a e f = cc
-no-reply-error (other_version n) m xid a e f = cc
-no-reply-error (unknown_procedure n) m xid a e f = cc
-no-reply-error (garbage n) m xid a e f = cc
-no-reply-error other m xid a e f = cc
-
 error-told : (d : Datagram) (m : Message) (host : ℕ) → error_for d ≡ Some m → TellsNone (to_host host m ∷ [])
-error-told d m host is h y inc rev body grant (inl e) = no-reply-error d m y (Reply.Read inc rev body grant) is (told-same host h m (reply y (Reply.Read inc rev body grant)) e).1
+error-told d m host is h y inc rev body grant (inl e) = error-no-reply d m y (Reply.Read inc rev body grant) is (told-same host h m (reply y (Reply.Read inc rev body grant)) e).1
 error-told d m host is h y inc rev body grant (inr bad) = bad
 
 done-unread : (inc value : ℕ) (r : Request) → is_read_reply (done_reply inc value r) ≡ false
@@ -113,7 +105,7 @@ module _ (ps : List Packet) (s : Server) (sender next : ℕ) (d : Datagram) (sen
   abbrev Q : ServerStep → Type 0
   Q t = ServesRead ps s next t
 
-  grants-unread : (who : Who) (file : ℕ) (o : Option Grant) → AllEntries IsUnread (grants s who file o)
+  grants-unread : (who : Who) (file : ℕ) (o : Option Grant) → Each IsUnread (grants s who file o)
   grants-unread who file None = tt
   grants-unread who file (Some g) = (tt, tt)
 
@@ -136,7 +128,7 @@ module _ (ps : List Packet) (s : Server) (sender next : ℕ) (d : Datagram) (sen
   unfolding leases
   leases-none who xid file table g = reads_none (one-told who.host xid (Reply.GetLease who.inc g) refl) (grants-unread who file g)
 
-  committed : (who : Who) (seq xid : ℕ) (r : Request) (c : Decision) → TellsNone c.sends → AllEntries IsUnread c.entries → Q (commits who seq xid r c)
+  committed : (who : Who) (seq xid : ℕ) (r : Request) (c : Decision) → TellsNone c.sends → Each IsUnread c.entries → Q (commits who seq xid r c)
   unfolding commits
   committed who seq xid r c none unread = reads_none (last-told c.sends who.host xid (verdict_reply who.inc c.verdict c.value r) none (verdict-unread who.inc c.verdict c.value r)) unread
 

@@ -39,11 +39,6 @@ pub throughout-of : (Fact : Entry → List Entry → Type 0) (j : List Entry) �
 throughout-of Fact [] all = tt
 throughout-of Fact (e ∷ j) all = (all e j (inl (refl, refl)), throughout-of Fact j (λ x before p. all x before (inr p)))
 
-pub in-exists : (Fact : Entry → Type 0) (j : List Entry) (e : Entry) → In j e → Fact e → Exists Fact j
-in-exists Fact [] e i h = absurd i
-in-exists Fact (x ∷ j) e (inl same) h = inl (subst Fact (sym same) h)
-in-exists Fact (x ∷ j) e (inr i) h = inr (in-exists Fact j e i h)
-
 -- ---- last values
 
 -- two facts that hold of the same entries have the same last value

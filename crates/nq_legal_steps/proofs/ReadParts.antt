@@ -1,6 +1,5 @@
 -- What a client's step answers with a value, and which READ it sends: the parts of a step.
 use Rattle.std.proofs.Common.{◌≡◌, ◌⊎◌, ℕ, Bool, true, false, List, [], ◌∷◌, Option, Some, None, map, reverse, refl, sym, subst, ap, ◌∙◌, inl, inr}
-use Rattle.std.proofs.lemmas.Grind.{reverse_onto}
 use Rattle.nq_base.specs.declared.Answer.{Answer}
 use Rattle.nq_base.specs.declared.Call.{Call}
 use Rattle.nq_base.specs.declared.Entry.{Entry}
@@ -20,6 +19,7 @@ use Rattle.nq_model.specs.Client.{Client, ClientStep, for_call, Ticket, UnderWay
 use Rattle.nq_model.specs.Hear.{vacates_lease, spends, attached, pauses, marks_through, loses, all_dirty, loss_entry, reports, without_lease, push_refused, breaks_chain, if_broken, holds, takes_grant, takes_optional, answers_call, answer_of, caches_block, purges, knows_revision, then_caches, read_done, lease_done, write_done, ends_push, caches_push, vacates_noticed, push_done, with_through}
 use Rattle.nq_model.specs.Message.{Message, call}
 use Rattle.nq_model.specs.Settle.{answers, names_losses, said}
+use Rattle.nq_run_steps.proofs.Members.{in-reverse}
 use Rattle.nq_run_steps.proofs.Packets.{In, in-append, in-last, call-same}
 
 -- an entry that neither reads nor answers with a value
@@ -92,14 +92,6 @@ dull-losses who [] e i = absurd i
 dull-losses who (p ∷ ps) e (inl same) = subst IsDull same tt
 dull-losses who (p ∷ ps) e (inr i) = dull-losses who ps e i
 
-in-reversed : {Y : Type 0} (xs : List Y) (x : Y) → In (reverse xs) x → In xs x
-in-reversed [] x i = i
-in-reversed (y ∷ xs) x i = case (in-last (reverse xs) y x (subst (λ zs. In zs x) (reverse_onto xs y []) i)) (in-reversed xs x)
-  where
-    case : In (reverse xs) x ⊎ (y ≡ x) → (In (reverse xs) x → In xs x) → (y ≡ x) ⊎ In xs x
-    case (inl j) rest = inr (rest j)
-    case (inr same) rest = inl same
-
 module _ (c : Client) (Valued : Entry → Type 0) where
   abbrev P : ClientStep → Type 0
   P = MadeOf c Valued
@@ -117,7 +109,7 @@ module _ (c : Client) (Valued : Entry → Type 0) where
   made-loses t file h = record { who_is = h.who_is; fine = λ e i. case e (in-append (reverse (map (loss_entry t.client.who) (all_dirty t.client file))) t.entries e i); called = h.called; free = h.free; quiet = h.quiet }
     where
       case : (e : Entry) → In (reverse (map (loss_entry t.client.who) (all_dirty t.client file))) e ⊎ In t.entries e → IsDull e ⊎ Valued e
-      case e (inl new) = inl (dull-losses t.client.who (all_dirty t.client file) e (in-reversed (map (loss_entry t.client.who) (all_dirty t.client file)) e new))
+      case e (inl new) = inl (dull-losses t.client.who (all_dirty t.client file) e (in-reverse (map (loss_entry t.client.who) (all_dirty t.client file)) e new))
       case e (inr old) = h.fine e old
 
   made-without : (t : ClientStep) (file : ℕ) → P t → P (without_lease t file)

@@ -3,33 +3,24 @@ use Rattle.std.proofs.Common.{List, [], ◌∷◌}
 use mathlib.Core.Logic.{inl, inr}
 use Rattle.nq_base.specs.declared.Entry.{Entry}
 use Rattle.nq_base.specs.declared.Entry.TheVariants.{S, L}
-use Rattle.nq_model.specs.Journal.{Each, Exists, AtMostOne, Throughout, Covers, Stores, Loses, IsStored, IsLost}
+use Rattle.nq_model.proofs.Lists.{each-of, each-map, exists-map}
+use Rattle.nq_model.specs.Journal.{Each, AtMostOne, Throughout, Covers, Stores, Loses, IsStored, IsLost}
 use Rattle.nq_model.specs.Fate.{IsFirstToCover, IsAccountedAt, CoversOnce, StoredOrLost}
-
--- a fact of each element, of each of which another follows
-each_follows : {X : Type 0} {P Q : X → Type 0} → ((x : X) → P x → Q x) → (xs : List X) → Each P xs → Each Q xs
-each_follows step [] h = tt
-each_follows step (x ∷ xs) h = (step x h.0, each_follows step xs h.1)
 
 -- two facts of each element together
 both_of_each : {X : Type 0} (P Q : X → Type 0) (xs : List X) → Each P xs → Each Q xs → Each (λ x. P x × Q x) xs
 both_of_each P Q [] p q = tt
 both_of_each P Q (x ∷ xs) p q = ((p.0, q.0), both_of_each P Q xs p.1 q.1)
 
--- what holds of each element of any list holds of each of this one
-each_of_all : {X : Type 0} {P : X → Type 0} → ((x : X) → P x) → (xs : List X) → Each P xs
-each_of_all all [] = tt
-each_of_all all (x ∷ xs) = (all x, each_of_all all xs)
-
 -- an entry of a journal that accounts for its writes is the first to cover each write of the journal
 first_to_cover : (whole : List Entry) (entry : Entry) (before : List Entry) → IsAccountedAt whole entry before → Each (IsFirstToCover before entry) whole
 first_to_cover whole (S who file block first last now) before h = h
 first_to_cover whole (L who file block first last) before h = h.0
-first_to_cover whole other before h = each_of_all (λ write covers. absurd covers) whole
+first_to_cover whole other before h = each-of _ whole (λ write covers. absurd covers)
 
 -- each write of the whole journal is covered by one entry at most of what stands before a place
 covered_once : (whole journal : List Entry) → Throughout (IsAccountedAt whole) journal → Each (λ write. AtMostOne (λ entry. Covers entry write) journal) whole
-covered_once whole [] h = each_of_all (λ write. tt) whole
+covered_once whole [] h = each-of _ whole (λ write. tt)
 covered_once whole (entry ∷ before) h =
     both_of_each
     (IsFirstToCover before entry)
@@ -53,17 +44,12 @@ stores_or_loses : (entry write : Entry) → Stores entry write → Loses entry w
 stores_or_loses (S who file block first last now) write s l = l
 stores_or_loses entry write s l = s
 
-exists_follows : {X : Type 0} {P Q : X → Type 0} → ((x : X) → P x → Q x) → (xs : List X) → Exists P xs → Exists Q xs
-exists_follows step [] h = h
-exists_follows step (x ∷ xs) (inl h) = inl (step x h)
-exists_follows step (x ∷ xs) (inr h) = inr (exists_follows step xs h)
-
 not_both : (write : Entry) (journal : List Entry) → AtMostOne (λ entry. Covers entry write) journal → IsStored journal write → ¬ IsLost journal write
 not_both write [] one stored lost = lost
 not_both write (entry ∷ before) one (inl stores) (inl loses) = stores_or_loses entry write stores loses
-not_both write (entry ∷ before) one (inl stores) (inr lost) = one.0 (stores_covers entry write stores) (exists_follows (λ other. loses_covers other write) before lost)
-not_both write (entry ∷ before) one (inr stored) (inl loses) = one.0 (loses_covers entry write loses) (exists_follows (λ other. stores_covers other write) before stored)
+not_both write (entry ∷ before) one (inl stores) (inr lost) = one.0 (stores_covers entry write stores) (exists-map _ _ before (λ other. loses_covers other write) lost)
+not_both write (entry ∷ before) one (inr stored) (inl loses) = one.0 (loses_covers entry write loses) (exists-map _ _ before (λ other. stores_covers other write) stored)
 not_both write (entry ∷ before) one (inr stored) (inr lost) = not_both write before one.1 stored lost
 
 pub stored_or_lost : StoredOrLost
-stored_or_lost journal h = each_follows (λ write. not_both write journal) journal (covers_once journal h)
+stored_or_lost journal h = each-map _ _ journal (λ write. not_both write journal) (covers_once journal h)

@@ -2,6 +2,7 @@ pub mod Accounts
 pub mod CachedReads
 pub mod JournalTests
 pub mod LegalTest
+pub mod Lists
 pub mod LossTests
 pub mod OrderedTest
 pub mod SkewTest

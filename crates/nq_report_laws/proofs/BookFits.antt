@@ -1,5 +1,6 @@
 -- A client's calls, losses and delayed writes fit the journal in the middle of each step.
 use Rattle.std.proofs.Common.{◌≡◌, ◌≤◌, ℕ, ◌+◌, Bool, true, false, ◌==◌, List, [], ◌∷◌, ◌++◌, Option, Some, None, map, filter, reverse, is_some, if◌then◌else◌, refl, subst, ap, ◌∙◌, arith}
+use Rattle.std.proofs.lemmas.Bool.{and_from}
 use Rattle.nq_base.specs.declared.Answer.{Answer}
 use Rattle.nq_base.specs.declared.Entry.{Entry}
 use Rattle.nq_base.specs.declared.Loss.{Loss}
@@ -9,7 +10,7 @@ use Rattle.nq_base.specs.declared.Told.{Told}
 use Rattle.nq_base.specs.declared.Value.{Value}
 use Rattle.nq_base.specs.declared.Who.{Who}
 use Rattle.nq_client_steps.proofs.ClientMoves.{some-same, none-some}
-use Rattle.nq_server_steps.proofs.Rows.{choice, true-both, same-number, number-same}
+use Rattle.nq_server_steps.proofs.Rows.{choice, same-number, number-same}
 use Rattle.nq_report_laws.proofs.Books.{Book, unsaved_on, after_loss, after_names, after_report, tells_losses, Closed}
 use Rattle.nq_report_laws.proofs.Tallies.{IsOne, tally, tally-nil, tally-cons, tally-append, tally-reverse, tally-map, tally-split, tally-one, tally-taken, one-found}
 use Rattle.nq_report_laws.proofs.Told.{Grows, grows}
@@ -66,7 +67,7 @@ counted-takes {dirty = dirty} p there h = record {
   waiting = h.waiting;
 } where
   taken : (n : ℕ) → tally (push_at n) (drop_dirty p.file p.block dirty) + push_at n p ≤ tally (push_at n) dirty
-  taken n = tally-taken (push_at n) (is_push_at p.file p.block) p dirty there (true-both _ _ (number-same p.file p.file refl) (number-same p.block p.block refl))
+  taken n = tally-taken (push_at n) (is_push_at p.file p.block) p dirty there (and_from _ _ (number-same p.file p.file refl) (number-same p.block p.block refl))
 
   one : (n : ℕ) → tally (push_at n) (p ∷ []) ≡ push_at n p
   one n = let split = tally-cons (push_at n) p [] in let none = tally-nil (push_at n) in omega arith

@@ -9,10 +9,11 @@ use Rattle.nq_base.specs.declared.Push.{Push}
 use Rattle.nq_base.specs.declared.Said.{Said}
 use Rattle.nq_base.specs.declared.Who.{Who}
 use Rattle.nq_client_steps.proofs.ClientMoves.{some-same, none-some}
+use Rattle.nq_model.proofs.Lists.{exists-append, each-append}
 use Rattle.nq_server_steps.proofs.Rows.{choice, same-number}
 use Rattle.nq_report_laws.specs.LossesInRuns.{cleans}
 use Rattle.nq_report_laws.proofs.Books.{Book, unsaved_on, after_loss, after_names, after_report, after_call, Closed}
-use Rattle.nq_report_laws.proofs.Tallies.{IsOne, exists-append, one-passed, one-mapped, each-mapped, each-reverse, each-append}
+use Rattle.nq_report_laws.proofs.Tallies.{IsOne, one-passed, one-mapped, each-mapped, each-reverse}
 use Rattle.nq_model.specs.Client.{UnderWay, losses_of, is_push_of, span_list}
 use Rattle.nq_model.specs.ClientStep.{told, changed_file, losses_for}
 use Rattle.nq_model.specs.Hear.{loss_of, loss_entry, push_of, waits_for}

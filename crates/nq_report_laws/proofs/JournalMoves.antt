@@ -1,5 +1,6 @@
 -- Each entry of a client keeps what is so of the journal and of its calls and losses.
 use Rattle.std.proofs.Common.{◌≡◌, ◌≤◌, ◌⊎◌, ℕ, ◌+◌, Bool, true, false, not, ◌==◌, List, [], ◌∷◌, Option, Some, None, map, is_some, if◌then◌else◌, refl, sym, subst, ap, ◌∙◌, arith, inl, inr}
+use Rattle.std.proofs.lemmas.Bool.{and_parts, not-true, not_from_false}
 use Rattle.nq_base.specs.declared.Call.{Call}
 use Rattle.nq_base.specs.declared.Call.TheVariants.{Write, WriteSync, Sync, Resize, Remove}
 use Rattle.nq_base.specs.declared.Entry.{Entry}
@@ -10,10 +11,11 @@ use Rattle.nq_base.specs.declared.Said.TheVariants.{Lost}
 use Rattle.nq_base.specs.declared.Span.{Span}
 use Rattle.nq_base.specs.declared.Told.{Told}
 use Rattle.nq_base.specs.declared.Who.{Who}
+use Rattle.nq_model.proofs.Lists.{exists-map}
 use Rattle.nq_server_steps.proofs.Incarnations.{who-same}
-use Rattle.nq_server_steps.proofs.Rows.{both-true, same-number, number-same, false-not, not-true}
+use Rattle.nq_server_steps.proofs.Rows.{same-number, number-same}
 use Rattle.nq_report_laws.specs.LossesInRuns.{IsLossOf}
-use Rattle.nq_report_laws.proofs.Tallies.{IsOne, exists-map, one-passed, one-passes, tally, tally-cons, tally-split}
+use Rattle.nq_report_laws.proofs.Tallies.{IsOne, one-passed, one-passes, tally, tally-cons, tally-split}
 use Rattle.nq_report_laws.proofs.Told.{IsExcused, IsNamedIn, IsToldAt, IsCalled, Grows, grows, some-names-back}
 use Rattle.nq_report_laws.proofs.Journals.{same-who, IsPast, Journals, journals-add, told-none, call-numbered, call-begun}
 use Rattle.nq_model.specs.Client.{losses_of, other_losses, span_of, span_list}
@@ -140,7 +142,7 @@ changed-speaks (Remove f) file h = cc
 changed-speaks other file h = absurd (cc)
 
 pub waits-speaks : (op : Call) (file : ℕ) (written : Bool) → waits_for file written op ≡ true → SpeaksOf file (Some (told op))
-waits-speaks (WriteSync f block body) file written h = same-number f file (both-true _ _ h).0
+waits-speaks (WriteSync f block body) file written h = same-number f file (and_parts _ _ h).0
 waits-speaks (Sync f) file written h = same-number f file h
 waits-speaks (Resize f blocks) file written h = same-number f file h
 waits-speaks (Remove f) file written h = same-number f file h
@@ -260,7 +262,7 @@ names-or-not whole who q file losses op is speaks by loss one = step (same_who b
           subst (λ o. SpeaksOf loss.file o) (sym is) (subst (λ g. SpeaksOf g op) (sym on) speaks),
           name-in (losses_of file losses) loss (one-passes (λ l. l.file == file) loss losses f (one same)),
         )
-    step true false e f = inr (λ same on. let yes : (loss.file == file) ≡ true = number-same loss.file file on in absurd (cc), λ same. one-passes (λ l. not (l.file == file)) loss losses (false-not (loss.file == file) f) (one same))
+    step true false e f = inr (λ same on. let yes : (loss.file == file) ≡ true = number-same loss.file file on in absurd (cc), λ same. one-passes (λ l. not (l.file == file)) loss losses (not_from_false (loss.file == file) f) (one same))
     step false b e f = inr (λ same on. let yes : same_who by who ≡ true = same-who by who same in absurd (cc), λ same. let yes : same_who by who ≡ true = same-who by who same in absurd (cc))
 
 -- what is left is not named by it

@@ -1,14 +1,16 @@
 -- What is so of a journal and an incarnation's calls and losses, and that further entries keep it.
-use Rattle.std.proofs.Common.{◌≡◌, ◌<◌, ◌≤◌, ◌⊎◌, ℕ, ◌+◌, Bool, true, false, ◌&&◌, ◌==◌, List, [], ◌∷◌, ◌++◌, Some, None, if◌then◌else◌, refl, ap, ◌∙◌, arith, inl, inr}
+use Rattle.std.proofs.Common.{◌≡◌, ◌<◌, ◌≤◌, ◌⊎◌, ℕ, ◌+◌, Bool, true, false, ◌&&◌, ◌==◌, List, [], ◌∷◌, ◌++◌, Some, None, if◌then◌else◌, refl, ap, arith, inl, inr}
+use Rattle.std.proofs.lemmas.Bool.{and_parts, and_from}
 use Rattle.nq_base.specs.declared.Entry.{Entry}
 use Rattle.nq_base.specs.declared.Entry.TheVariants.{C, L, A}
 use Rattle.nq_base.specs.declared.Loss.{Loss}
 use Rattle.nq_base.specs.declared.Told.{Told}
 use Rattle.nq_base.specs.declared.Who.{Who}
+use Rattle.nq_model.proofs.Lists.{exists-left, exists-right, exists-append, each-map, each-append}
 use Rattle.nq_server_steps.proofs.Incarnations.{who-same}
-use Rattle.nq_server_steps.proofs.Rows.{both-true, true-both, same-number, number-same}
+use Rattle.nq_server_steps.proofs.Rows.{same-number, number-same}
 use Rattle.nq_report_laws.specs.LossesInRuns.{IsLossOf}
-use Rattle.nq_report_laws.proofs.Tallies.{IsOne, exists-left, exists-right, exists-append, each-append, each-map}
+use Rattle.nq_report_laws.proofs.Tallies.{IsOne}
 use Rattle.nq_report_laws.proofs.Told.{IsToldAt, IsCalled, Grows, grows, called-more, some-names-back, GoesOn, told-more}
 use Rattle.nq_model.specs.Journal.{Each, Exists, AtEachPlace, same_who, call_of, told_by}
 use Rattle.nq_model.specs.Reported.{Names}
@@ -16,7 +18,7 @@ use Rattle.nq_model.specs.Reported.{Names}
 -- ---- incarnations
 
 pub same-who : (a b : Who) → a ≡ b → same_who a b ≡ true
-same-who a b e = true-both _ _ (number-same a.host b.host (ap (λ w. w.host) e)) (number-same a.inc b.inc (ap (λ w. w.inc) e))
+same-who a b e = and_from _ _ (number-same a.host b.host (ap (λ w. w.host) e)) (number-same a.inc b.inc (ap (λ w. w.inc) e))
 
 pub other-who : (a b : Who) → (a ≡ b → ⊥) → same_who a b ≡ false
 other-who a b apart = step (same_who a b) refl
@@ -87,11 +89,11 @@ call-numbered old who calls q told numbered above =
     told-none (Entry.C who (calls + 1) told) old who q (step (same_who who who && (calls + 1 == q)) refl) (numbered q (omega arith))
   where
     step : (b : Bool) → (same_who who who && (calls + 1 == q)) ≡ b → (if b then Some told else None) ≡ None
-    step true e = let same : calls + 1 ≡ q = same-number (calls + 1) q (both-true (same_who who who) (calls + 1 == q) e).1 in let bad : ⊥ = omega arith in absurd bad
+    step true e = let same : calls + 1 ≡ q = same-number (calls + 1) q (and_parts (same_who who who) (calls + 1 == q) e).1 in let bad : ⊥ = omega arith in absurd bad
     step false e = refl
 
 pub call-begun : (old : List Entry) (who : Who) (calls : ℕ) (told : Told) → ((n : ℕ) → calls < n → call_of old who n ≡ None) → call_of (Entry.C who (calls + 1) told ∷ old) who (calls + 1) ≡ Some told
 call-begun old who calls told numbered =
     let none : call_of old who (calls + 1) ≡ None = numbered (calls + 1) (omega arith) in
-    let same : (same_who who who && (calls + 1 == calls + 1)) ≡ true = true-both _ _ (same-who who who refl) (number-same (calls + 1) (calls + 1) refl) in
+    let same : (same_who who who && (calls + 1 == calls + 1)) ≡ true = and_from _ _ (same-who who who refl) (number-same (calls + 1) (calls + 1) refl) in
     rw (none, same) refl

@@ -1,6 +1,7 @@
 -- Delayed writes that are lost keep what is so of the journal; what is named was lost; and first numbers are used once.
 use Rattle.std.proofs.Common.{◌≡◌, ◌≤◌, ◌⊎◌, ℕ, true, ◌&&◌, ◌==◌, List, [], ◌∷◌, ◌++◌, Option, map, reverse, if◌then◌else◌, refl, sym, subst, ap, ◌∙◌, append_assoc, append-nil, arith, inl, inr}
 use Rattle.std.proofs.lemmas.Grind.{reverse_onto}
+use Rattle.std.proofs.lemmas.Bool.{and_from}
 use Rattle.nq_base.specs.declared.Entry.{Entry}
 use Rattle.nq_base.specs.declared.Entry.TheVariants.{L, A}
 use Rattle.nq_base.specs.declared.Loss.{Loss}
@@ -9,9 +10,10 @@ use Rattle.nq_base.specs.declared.Said.TheVariants.{Lost}
 use Rattle.nq_base.specs.declared.Span.{Span}
 use Rattle.nq_base.specs.declared.Told.{Told}
 use Rattle.nq_base.specs.declared.Who.{Who}
-use Rattle.nq_server_steps.proofs.Rows.{true-both, number-same}
+use Rattle.nq_model.proofs.Lists.{exists-left, exists-right, exists-append}
+use Rattle.nq_server_steps.proofs.Rows.{number-same}
 use Rattle.nq_report_laws.specs.LossesInRuns.{IsLossOf}
-use Rattle.nq_report_laws.proofs.Tallies.{IsOne, exists-left, exists-right, exists-append, tally, tally-cons}
+use Rattle.nq_report_laws.proofs.Tallies.{IsOne, tally, tally-cons}
 use Rattle.nq_report_laws.proofs.Told.{IsToldAt, Grows, grows, some-names-back}
 use Rattle.nq_report_laws.proofs.Journals.{same-who, Journals, journals-add, told-none}
 use Rattle.nq_report_laws.proofs.JournalMoves.{loss_at}
@@ -84,7 +86,7 @@ loss-of-counts n p = refl
 
 unnamed-counts : (whole before : List Entry) (who : Who) (call : Option Told) (span : Span) (e : Entry) → IsUnnamed whole before who call span e → lost_at who span.first e ≡ 1
 unnamed-counts whole before who call span (L by file block first last) h =
-    let yes : (same_who by who && (first == span.first)) ≡ true = true-both _ _ (same-who by who h.0) (number-same first span.first (sym h.2.1)) in
+    let yes : (same_who by who && (first == span.first)) ≡ true = and_from _ _ (same-who by who h.0) (number-same first span.first (sym h.2.1)) in
     rw yes refl
 unnamed-counts whole before who call span other h = absurd h
 

@@ -6,6 +6,7 @@ use Rattle.nq_base.specs.declared.Loss.{Loss}
 use Rattle.nq_base.specs.declared.Push.{Push}
 use Rattle.nq_base.specs.declared.Said.TheVariants.{Lost}
 use Rattle.nq_base.specs.declared.Who.{Who}
+use Rattle.nq_model.proofs.Lists.{exists-right, exists-append, each-map, each-append}
 use Rattle.nq_report_laws.specs.LossesInRuns.{IsLossOf}
 use Rattle.nq_report_laws.proofs.Books.{Book}
 use Rattle.nq_report_laws.proofs.BookFits.{Counted, Fits, counted-entry, still-called}
@@ -13,7 +14,7 @@ use Rattle.nq_report_laws.proofs.BookNone.{IsBy}
 use Rattle.nq_report_laws.proofs.JournalMoves.{IsQuiet, quiet-excused, quiet-placed, quiet-called, journals-quiet, loss_at}
 use Rattle.nq_report_laws.proofs.Journals.{IsPast, Journals, other-who, told-none}
 use Rattle.nq_report_laws.proofs.LossMoves.{lost_at, push_at}
-use Rattle.nq_report_laws.proofs.Tallies.{IsOne, tally, tally-nil, tally-cons, each-append, each-map, exists-right, exists-append}
+use Rattle.nq_report_laws.proofs.Tallies.{IsOne, tally, tally-nil, tally-cons}
 use Rattle.nq_report_laws.proofs.Told.{IsToldAt, IsCalled, Grows, grows, called-more, named-more, some-names-back, told-more}
 use Rattle.nq_model.specs.Journal.{Each, Exists, AtEachPlace, same_who, call_of, told_by}
 use Rattle.nq_model.specs.Reported.{loss_told, Names}

@@ -1,6 +1,7 @@
 -- Sums over lists, and what is in a list after each change of it.
 use Rattle.std.proofs.Common.{◌≡◌, ◌≤◌, ◌⊎◌, ℕ, ◌+◌, Bool, true, false, not, List, [], ◌∷◌, ◌++◌, Some, map, reverse, filter, find, if◌then◌else◌, refl, sym, subst, ap, arith, inl, inr}
 use Rattle.std.proofs.lemmas.Grind.{reverse_onto}
+use Rattle.nq_model.proofs.Lists.{exists-left, exists-right, each-append}
 use Rattle.nq_model.specs.Journal.{Each, Exists}
 
 -- ---- sums
@@ -59,29 +60,6 @@ tally-one f x [] h = absurd h
 tally-one f x (y ∷ xs) (inl e) = let same : f y ≡ f x = ap f e in omega arith
 tally-one f x (y ∷ xs) (inr h) = let rest = tally-one f x xs h in omega arith
 
-pub exists-map : {X : Type 0} (F G : X → Type 0) (xs : List X) → ((x : X) → F x → G x) → Exists F xs → Exists G xs
-exists-map F G [] f h = h
-exists-map F G (x ∷ xs) f (inl h) = inl (f x h)
-exists-map F G (x ∷ xs) f (inr h) = inr (exists-map F G xs f h)
-
-pub exists-left : {X : Type 0} (F : X → Type 0) (xs ys : List X) → Exists F xs → Exists F (xs ++ ys)
-exists-left F [] ys h = absurd h
-exists-left F (x ∷ xs) ys (inl h) = inl h
-exists-left F (x ∷ xs) ys (inr h) = inr (exists-left F xs ys h)
-
-pub exists-right : {X : Type 0} (F : X → Type 0) (xs ys : List X) → Exists F ys → Exists F (xs ++ ys)
-exists-right F [] ys h = h
-exists-right F (x ∷ xs) ys h = inr (exists-right F xs ys h)
-
-pub exists-append : {X : Type 0} (F : X → Type 0) (xs ys : List X) → Exists F (xs ++ ys) → Exists F xs ⊎ Exists F ys
-exists-append F [] ys h = inr h
-exists-append F (x ∷ xs) ys (inl h) = inl (inl h)
-exists-append F (x ∷ xs) ys (inr h) = step (exists-append F xs ys h)
-  where
-    step : Exists F xs ⊎ Exists F ys → (F x ⊎ Exists F xs) ⊎ Exists F ys
-    step (inl a) = inl (inr a)
-    step (inr b) = inr b
-
 pub exists-reverse : {X : Type 0} (F : X → Type 0) (xs : List X) → Exists F xs → Exists F (reverse xs)
 exists-reverse F [] h = absurd h
 exists-reverse F (x ∷ xs) (inl h) = subst (Exists F) (sym (reverse_onto xs x [])) (exists-right F (reverse xs) (x ∷ []) (inl h))
@@ -92,14 +70,6 @@ pub each-one : {X : Type 0} (F : X → Type 0) (xs : List X) (x : X) → Each F 
 each-one F [] x all h = absurd h
 each-one F (y ∷ xs) x all (inl e) = subst F e all.0
 each-one F (y ∷ xs) x all (inr h) = each-one F xs x all.1 h
-
-pub each-map : {X : Type 0} (F G : X → Type 0) (xs : List X) → ((x : X) → F x → G x) → Each F xs → Each G xs
-each-map F G [] f h = tt
-each-map F G (x ∷ xs) f h = (f x h.0, each-map F G xs f h.1)
-
-pub each-append : {X : Type 0} (F : X → Type 0) (xs ys : List X) → Each F xs → Each F ys → Each F (xs ++ ys)
-each-append F [] ys h k = k
-each-append F (x ∷ xs) ys h k = (h.0, each-append F xs ys h.1 k)
 
 pub each-reverse : {X : Type 0} (F : X → Type 0) (xs : List X) → Each F xs → Each F (reverse xs)
 each-reverse F [] h = tt

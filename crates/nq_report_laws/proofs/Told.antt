@@ -7,7 +7,8 @@ use Rattle.nq_base.specs.declared.Said.TheVariants.{Lost}
 use Rattle.nq_base.specs.declared.Span.{Span}
 use Rattle.nq_base.specs.declared.Told.{Told}
 use Rattle.nq_base.specs.declared.Who.{Who}
-use Rattle.nq_report_laws.proofs.Tallies.{IsOne, exists-map, each-append, each-map}
+use Rattle.nq_model.proofs.Lists.{exists-map, each-map, each-append}
+use Rattle.nq_report_laws.proofs.Tallies.{IsOne}
 use Rattle.nq_model.specs.Journal.{Each, Exists, AtEachPlace, call_of, SpeaksOf}
 use Rattle.nq_model.specs.Reported.{loss_told, Names, IsReporting, IsBusyAnswer, MustReport, IsNamedNext, IsReportedIn, IsUnnamed, NameLosses, IsReportedAt, IsReported}
 

@@ -8,12 +8,11 @@ use Rattle.nq_base.specs.declared.Request.{Request}
 use Rattle.nq_base.specs.declared.Row.{Row}
 use Rattle.nq_base.specs.declared.Who.{Who}
 use Rattle.nq_client_steps.proofs.ClientMoves.{some-same, none-some}
-use Rattle.nq_run_steps.proofs.ClientRestarts.{asked-old}
 use Rattle.nq_run_steps.proofs.Clocks.{within-before}
 use Rattle.nq_run_steps.proofs.HostLine.{IsSettled}
 use Rattle.nq_run_steps.proofs.KnownWorlds.{Known}
 use Rattle.nq_lease_laws.proofs.LeaseIntervals.{Runs, run-runs, hearing, bounds-before}
-use Rattle.nq_run_steps.proofs.Mail.{packets_with}
+use Rattle.nq_run_steps.proofs.Mail.{packets_with, other-asked}
 use Rattle.nq_run_steps.proofs.Packets.{In, in-get, Asked, Told}
 use Rattle.nq_server_steps.proofs.KeptChanges.{booted-line}
 use Rattle.nq_server_steps.proofs.Rows.{same-number, number-same}
@@ -106,7 +105,7 @@ client-opens w events host c t is new held known h = opens-from (after_client w 
         (open-fewer (λ x r o. let k = o.kept in record { who = o.who; seq = o.seq; asked = new.own x r o.who o.asked o.by (omega arith); by = o.by; kept = o.kept; draws = o.draws; above = o.above }) (h.one host c is))
     case other d false differs there below =
         let apart : other ≢ host = λ same. let yes : (other == host) ≡ true = number-same other host same in absurd (cc) in
-        open-fewer (λ x r o. record { who = o.who; seq = o.seq; asked = asked-old (record { host = other; inc = 0 }) host w.packets t.sends apart x r o.asked; by = o.by; kept = o.kept; draws = o.draws; above = o.above })
+        open-fewer (λ x r o. record { who = o.who; seq = o.seq; asked = other-asked w.packets host other t.sends x r apart o.asked; by = o.by; kept = o.kept; draws = o.draws; above = o.above })
         (h.one other d (sym (get-set-other w.clients host other t.client apart) ∙ there))
 
 at-client-opens : (w : World) (events : List Event) (host : ℕ) (f : Client → ClientStep) (o : Option Client) → slice_get w.clients host ≡ o → ((c : Client) → IsAt host c w.packets → Seqs c.who c.seq w.packets → Drew host w.packets (f c)) → Holds w → Draws w → Holds (at_client w host f o) → Known (at_client w host f o) events → Opens w → Opens (at_client w host f o)

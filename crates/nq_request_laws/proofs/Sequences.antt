@@ -1,5 +1,6 @@
 -- A client draws each sequence for one request, and sends copies of it; kept by each of its steps.
 use Rattle.std.proofs.Common.{◌≡◌, ◌<◌, ◌⊎◌, ℕ, ◌+◌, true, not, ◌&&◌, List, [], ◌∷◌, ◌++◌, Option, Some, None, refl, sym, subst, ap, ◌∙◌, arith, inl, inr, append-nil}
+use Rattle.std.proofs.lemmas.Bool.{and_parts}
 use Rattle.nq_base.specs.declared.Call.{Call}
 use Rattle.nq_base.specs.declared.Grant.{Grant}
 use Rattle.nq_base.specs.declared.Reply.{Reply}
@@ -11,7 +12,7 @@ use Rattle.nq_client_steps.proofs.ClientMoves.{some-same, none-some}
 use Rattle.nq_client_steps.proofs.ClientWalk.{Replying, reply-keeps, notice-keeps, call-keeps, tick-keeps}
 use Rattle.nq_run_steps.proofs.Mail.{packets_with, packets-last, spent-mail}
 use Rattle.nq_run_steps.proofs.Packets.{In, in-last, Asked, Told, Mail}
-use Rattle.nq_server_steps.proofs.Rows.{choice, both-true, same-number}
+use Rattle.nq_server_steps.proofs.Rows.{choice, same-number}
 use Rattle.nq_run_steps.proofs.ServerKnows.{NoneHeard, NoneGiven}
 use Rattle.nq_run_steps.proofs.TagFacts.{asked-before}
 use Rattle.nq_run_steps.proofs.Worlds.{Going, going-closed, IsAt, begun-going, timed-going, given-by}
@@ -191,7 +192,7 @@ reply-draws : (host : ℕ) (c : Client) (ps : List Packet) (number xid : ℕ) (r
 reply-draws host c ps number xid r None is sent a h = tt
 reply-draws host c ps number xid r (Some t) is sent a h =
     choice (DrewIf host ps) (is_reply_to c xid r t) (Some (goes_on (replied (begun c) number t r))) None
-    (λ e. let k = both-true _ _ e in let l = both-true _ _ k.0 in drew host c.who ps (goes_on (replied (begun c) number t r)) a.here (reply-keeps (drawing-closed c.who ps NoneHeard (given-by t)) c number t r (replying k.1 (same-number _ _ l.0) (same-number _ _ l.1))))
+    (λ e. let k = and_parts _ _ e in let l = and_parts _ _ k.0 in drew host c.who ps (goes_on (replied (begun c) number t r)) a.here (reply-keeps (drawing-closed c.who ps NoneHeard (given-by t)) c number t r (replying k.1 (same-number _ _ l.0) (same-number _ _ l.1))))
     (λ e. tt)
   where
     before : Drawing c.who ps (core_of (begun c))

@@ -1,19 +1,18 @@
 -- In every run: the sequences that each client drew, who asks, and the places of replies.
-use Rattle.std.proofs.Common.{◌≡◌, ◌≢◌, ◌⊎◌, ℕ, zero, suc, ◌+◌, Bool, true, false, ◌==◌, List, [], ◌∷◌, ◌++◌, Option, Some, None, map, refl, sym, subst, ◌∙◌, inl, inr, length}
+use Rattle.std.proofs.Common.{◌≡◌, ◌≢◌, ◌⊎◌, ℕ, ◌+◌, Bool, true, false, ◌==◌, List, [], ◌∷◌, ◌++◌, Option, Some, None, map, refl, sym, subst, ◌∙◌, inl, inr, length}
 use Rattle.std.specs.Prelude.{slice_get, slice_set}
 use Rattle.nq_base.specs.declared.Event.{Event}
 use Rattle.nq_base.specs.declared.Party.{Party}
 use Rattle.nq_base.specs.declared.Reply.{Reply}
 use Rattle.nq_base.specs.declared.Request.{Request}
 use Rattle.nq_client_steps.proofs.ClientMoves.{none-some}
-use Rattle.nq_run_steps.proofs.ClientRestarts.{asked-old}
-use Rattle.nq_run_steps.proofs.Mail.{packets_with}
+use Rattle.nq_run_steps.proofs.Mail.{packets_with, none-to-host, other-asked}
 use Rattle.nq_run_steps.proofs.Packets.{In, in-append, in-get, Asked, Told, told-same, not-both, reply-same}
 use Rattle.nq_request_laws.proofs.Places.{Answers, answers-more}
 use Rattle.nq_server_steps.proofs.Rows.{same-number, number-same}
 use Rattle.nq_request_laws.proofs.Sequences.{Seqs, seqs-more, Drew, DrewIf, call-draws, tick-draws, restart-draws, hear-draws}
 use Rattle.nq_run_steps.proofs.ServerSays.{IsReplyTo, IsSaid, said_reply, said_error, said_notice, AllSaid}
-use Rattle.nq_run_steps.proofs.Worlds.{IsAt, Holds, get-set-same, get-set-other, to-told, received-said, tick-said, crash-said, run-holds}
+use Rattle.nq_run_steps.proofs.Worlds.{IsAt, Holds, get-set-same, get-set-other, to-told, received-said, tick-said, crash-said, run-holds, set-there}
 use Rattle.nq_model.specs.Client.{Client, ClientStep}
 use Rattle.nq_model.specs.ClientStep.{client_call, client_tick, restart}
 use Rattle.nq_model.specs.Hear.{hear}
@@ -32,23 +31,12 @@ pub record Draws (w : World) : Type 0 where
 
 -- ---- a step of a client
 
--- it sends no reply
-no-reply : (host other : ℕ) (sends : List Message) (xid : ℕ) (a : Reply) → In (map (from_host host) sends) (to_host other (reply xid a)) → ⊥
-no-reply host other [] xid a h = h
-no-reply host other (m ∷ ms) xid a (inl e) = not-both host other m (reply xid a) e
-no-reply host other (m ∷ ms) xid a (inr h) = no-reply host other ms xid a h
-
-set-there : {A : Type 0} (xs : List A) (i : ℕ) (x y : A) → slice_get xs i ≡ Some y → slice_get (slice_set xs i x) i ≡ None → ⊥
-set-there [] i x y h e = none-some y h
-set-there (z ∷ xs) zero x y h e = none-some x (sym e)
-set-there (z ∷ xs) (suc i) x y h e = set-there xs i x y h e
-
 client-draws : (w : World) (host : ℕ) (c : Client) (t : ClientStep) → slice_get w.clients host ≡ Some c → Drew host w.packets t → Holds w → Draws w → Draws (after_client w host t)
 unfolding after_client
 client-draws w host c t is new held h = record {
   clients = λ other d there. case other d (other == host) refl there;
   lone = λ other xid r asked none. lone other xid r (other == host) refl asked none;
-  answers = answers-more w.packets (map (from_host host) t.sends) (λ other xid a i. absurd (no-reply host other t.sends xid a i)) h.answers;
+  answers = answers-more w.packets (map (from_host host) t.sends) (λ other xid a i. absurd (none-to-host host other t.sends (reply xid a) i)) h.answers;
 } where
   apart : (other : ℕ) → (other == host) ≡ false → other ≢ host
   apart other differs same = let yes : (other == host) ≡ true = number-same other host same in absurd (cc)
@@ -61,13 +49,13 @@ client-draws w host c t is new held h = record {
   case other d false differs there =
       let before : slice_get w.clients other ≡ Some d = sym (get-set-other w.clients host other t.client (apart other differs)) ∙ there in
       let here : d.who.host ≡ other = (held.clients other d before).here in
-      seqs-more (λ x r n sq asked. asked-old d.who host w.packets t.sends (λ same. apart other differs (sym here ∙ same)) x r asked) (h.clients other d before)
+      seqs-more (λ x r n sq asked. other-asked w.packets host d.who.host t.sends x r (λ same. apart other differs (sym here ∙ same)) asked) (h.clients other d before)
 
   lone : (other xid : ℕ) (r : Request) (b : Bool) → (other == host) ≡ b → Asked (packets_with w.packets host t.sends) other xid r → slice_get (slice_set w.clients host t.client) other ≡ None → ⊥
-  lone other xid r true same asked none = set-there w.clients host t.client c is (subst (λ n. slice_get (slice_set w.clients host t.client) n ≡ None) (same-number other host same) none)
+  lone other xid r true same asked none = none-some t.client (sym (subst (λ n. slice_get (slice_set w.clients host t.client) n ≡ None) (same-number other host same) none) ∙ set-there w.clients host t.client c is)
   lone other xid r false differs asked none =
       h.lone other xid r
-      (asked-old (record { host = other; inc = 0 }) host w.packets t.sends (apart other differs) xid r asked)
+      (other-asked w.packets host other t.sends xid r (apart other differs) asked)
       (sym (get-set-other w.clients host other t.client (apart other differs)) ∙ none)
 
 at-client-draws : (w : World) (host : ℕ) (f : Client → ClientStep) (o : Option Client) → slice_get w.clients host ≡ o → ((c : Client) → IsAt host c w.packets → Seqs c.who c.seq w.packets → Drew host w.packets (f c)) → Holds w → Draws w → Draws (at_client w host f o)

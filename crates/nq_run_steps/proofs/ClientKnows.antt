@@ -1,5 +1,6 @@
 -- What a client and the server know of each other, kept by each small change of the client.
 use Rattle.std.proofs.Common.{◌≡◌, ◌⊎◌, ℕ, Bool, true, false, List, [], ◌∷◌, ◌++◌, Option, Some, None, refl, sym, subst, ap, ◌∙◌, arith, inl, inr}
+use Rattle.std.proofs.lemmas.Bool.{both_ways}
 use Rattle.nq_base.specs.declared.Event.{Event}
 use Rattle.nq_base.specs.declared.Grant.{Grant}
 use Rattle.nq_base.specs.declared.HostRow.{HostRow}
@@ -11,7 +12,7 @@ use Rattle.nq_client_steps.proofs.ClientCases.{Core, Closed, CanSend, CanVacate}
 use Rattle.nq_client_steps.proofs.ClientFacts.{fits_job}
 use Rattle.nq_client_steps.proofs.ClientMoves.{some-same, none-some, keeps-or-cancels}
 use Rattle.nq_run_steps.proofs.CoverFacts.{IsCoveredWhile, IsShort, IsTakeable, CoverFits, cover-leases, cover-used, cover-dropped, cover-ticket, cover-holds}
-use Rattle.nq_run_steps.proofs.HostLine.{LineFits, IsSettled, line-sends, line-adds, line-again, line-ticket, not-false}
+use Rattle.nq_run_steps.proofs.HostLine.{LineFits, IsSettled, line-sends, line-adds, line-again, line-ticket}
 use Rattle.nq_run_steps.proofs.Mail.{packets_with, packets-last}
 use Rattle.nq_run_steps.proofs.Packets.{Asked, Told, Mail}
 use Rattle.nq_run_steps.proofs.TagFacts.{IsDrawn, TagsFit, told-before, asked-before, tags-leases, used-from, dropped-from, tags-ticket, tags-adds, tags-vacates, tags-holds, tags-notes}
@@ -143,7 +144,7 @@ knows-cancels {line = line} {who = who} {ticket = ticket} {ps = ps} f m h = reco
 -- a notice waits
 pub knows-notes : {Heard : ℕ → Tag → Type 0} {Given : ℕ → Grant → ℕ → Type 0} {line : HostRow} {s : Server} {events : List Event} {who : Who} {now : ℕ} {attached : Bool} {ticket : Option Ticket} {leases : List Lease} {notices : List Notice} {ps : List Packet} (f : ℕ) (v : Tag) → Heard f v → Knows Heard Given line s events who now attached ticket leases notices ps → Knows Heard Given line s events who now attached ticket leases (record { file = f; tag = noticed_tag v (notice_on f notices) } ∷ drop_notice f notices) ps
 knows-notes {attached = attached} f v heard h = record {
-  lined = let l = h.lined in record { past = l.past; current = l.current; told = l.told; above = l.above; waiting = l.waiting; unnoticed = λ e. absurd (not-false attached (h.heard f v heard).0 e); evicted_past = l.evicted_past; unheard = l.unheard; settled = l.settled; answered = l.answered };
+  lined = let l = h.lined in record { past = l.past; current = l.current; told = l.told; above = l.above; waiting = l.waiting; unnoticed = λ e. absurd (both_ways attached e (h.heard f v heard).0); evicted_past = l.evicted_past; unheard = l.unheard; settled = l.settled; answered = l.answered };
   tagged = tags-notes f v (h.heard f v heard).1 h.tagged;
   covered = h.covered;
   heard = h.heard;

@@ -1,5 +1,5 @@
 -- What a client and the server know of each other is kept by a restart of the client, and by what other hosts send.
-use Rattle.std.proofs.Common.{◌≡◌, ◌<◌, ◌≤◌, ◌⊎◌, ℕ, ◌+◌, Bool, false, List, [], ◌∷◌, ◌++◌, Option, Some, map, refl, sym, subst, ap, ◌∙◌, arith, inl, inr}
+use Rattle.std.proofs.Common.{◌≡◌, ◌<◌, ◌≤◌, ◌⊎◌, ℕ, ◌+◌, Bool, false, List, [], ◌∷◌, ◌++◌, Option, Some, refl, sym, subst, ap, ◌∙◌, arith, inl, inr}
 use Rattle.nq_base.specs.declared.Event.{Event}
 use Rattle.nq_base.specs.declared.HostRow.{HostRow}
 use Rattle.nq_base.specs.declared.Reply.{Reply}
@@ -12,8 +12,8 @@ use Rattle.nq_client_steps.proofs.ClientMoves.{some-same, none-some}
 use Rattle.nq_run_steps.proofs.ClientSteps.{KnowsOf, knows-passes}
 use Rattle.nq_run_steps.proofs.CoverFacts.{CoverFits, cover-ticket}
 use Rattle.nq_run_steps.proofs.HostLine.{LineFits}
-use Rattle.nq_run_steps.proofs.Mail.{packets_with}
-use Rattle.nq_run_steps.proofs.Packets.{In, in-append, Asked, Told, message-same, not-both, Mail}
+use Rattle.nq_run_steps.proofs.Mail.{packets_with, other-asked, old-told}
+use Rattle.nq_run_steps.proofs.Packets.{Asked, Told, Mail}
 use Rattle.nq_run_steps.proofs.ServerKnows.{NoneHeard, NoneGiven}
 use Rattle.nq_run_steps.proofs.TagFacts.{TagsFit, told-before, asked-before}
 use Rattle.nq_run_steps.proofs.Worlds.{IsAt}
@@ -21,7 +21,7 @@ use Rattle.nq_model.specs.Client.{Client, attaching, Lease, Notice, Ticket}
 use Rattle.nq_model.specs.ClientStep.{restart, starts, fresh_client, next_incarnation}
 use Rattle.nq_model.specs.Hear.{inc_of}
 use Rattle.nq_model.specs.Message.{Message, Packet, call, reply, asker}
-use Rattle.nq_model.specs.Server.{Server, standing, to_host}
+use Rattle.nq_model.specs.Server.{Server, standing}
 use Rattle.nq_model.specs.Skew.{ticks_of}
 use Rattle.nq_model.specs.World.{from_host}
 
@@ -36,12 +36,12 @@ module _ (line : HostRow) (s : Server) (events : List Event) (c : Client) (ps : 
   first = record { xid = 1; first = c.now; last = c.now; request = Request.Attach who; job = attaching }
 
   -- what was told, and what was asked, before
-  old-told : (n : Message) → Told (ps ++ from_host c.who.host (call 1 (Request.Attach who)) ∷ []) c.who.host n → Told ps c.who.host n
-  old-told n sent = told-before ps c.who.host c.who.host (call 1 (Request.Attach who)) n sent
+  told-there : (n : Message) → Told (ps ++ from_host c.who.host (call 1 (Request.Attach who)) ∷ []) c.who.host n → Told ps c.who.host n
+  told-there n sent = told-before ps c.who.host c.who.host (call 1 (Request.Attach who)) n sent
 
   -- a reply is to an incarnation before
   past-reply : (x : ℕ) (a : Reply) → Told (ps ++ from_host c.who.host (call 1 (Request.Attach who)) ∷ []) c.who.host (reply x a) → inc_of a ≡ c.who.inc + 1 → ⊥
-  past-reply x a sent inc = let below = m.past x a (old-told (reply x a) sent) in omega arith
+  past-reply x a sent inc = let below = m.past x a (told-there (reply x a) sent) in omega arith
 
   -- a request of the incarnation that begins is ATTACH, and others are of those before
   attaches : (x : ℕ) (r : Request) (w : Who) → asker r ≡ Some w → (1 ≡ x) × (Request.Attach who ≡ r) → r ≡ Request.Attach w
@@ -71,7 +71,7 @@ module _ (line : HostRow) (s : Server) (events : List Event) (c : Client) (ps : 
     answered = λ x a sent inc. absurd (past-reply x a sent inc);
   } where
     noticed : (x : ℕ) (w : Who) (file : ℕ) (tag : Tag) → Told (ps ++ from_host c.who.host (call 1 (Request.Attach who)) ∷ []) c.who.host (call x (Request.Evicted w file tag)) → w.inc ≤ c.who.inc
-    noticed x w file tag sent = h.lined.evicted_past x w file tag (old-told (call x (Request.Evicted w file tag)) sent)
+    noticed x w file tag sent = h.lined.evicted_past x w file tag (told-there (call x (Request.Evicted w file tag)) sent)
 
     above : (x : ℕ) (r : Request) (w : Who) → asker r ≡ Some w → line.inc < w.inc → Asked ps c.who.host x r ⊎ ((1 ≡ x) × (Request.Attach who ≡ r)) → r ≡ Request.Attach w
     above x r w by later (inl old) = h.lined.above x r w old by later
@@ -85,9 +85,9 @@ module _ (line : HostRow) (s : Server) (events : List Event) (c : Client) (ps : 
   restarted-tags = record {
     held = λ file l e. none-some l e;
     noticed = λ file n e. none-some n e;
-    evicts = λ x w file tag sent. h.tagged.evicts x w file tag (old-told (call x (Request.Evicted w file tag)) sent);
+    evicts = λ x w file tag sent. h.tagged.evicts x w file tag (told-there (call x (Request.Evicted w file tag)) sent);
     vacates = λ x w file tag sent. h.tagged.vacates x w file tag (old-vacated x w file tag sent);
-    grants = λ x a g sent. h.tagged.grants x a g (old-told (reply x a) sent);
+    grants = λ x a g sent. h.tagged.grants x a g (told-there (reply x a) sent);
     past_held = λ x w file tag l sent inc e. none-some l e;
     past_given = λ x w file tag y a g t sent inc told i. absurd (past-reply y a told i);
   }
@@ -114,29 +114,11 @@ restart-knows {line = line} {s = s} {events = events} e host c ps clock a h = re
 -- ---- what other hosts send
 
 module _ (who : Who) (host : ℕ) (ps : List Packet) (sends : List Message) (apart : who.host ≡ host → ⊥) where
-  asked-new : (ms : List Message) (x : ℕ) (r : Request) → In (map (from_host host) ms) (from_host who.host (call x r)) → ⊥
-  asked-new [] x r i = i
-  asked-new (n ∷ ms) x r (inl e) = apart (sym (message-same host who.host n (call x r) e).0)
-  asked-new (n ∷ ms) x r (inr i) = asked-new ms x r i
-
-  told-new : (ms : List Message) (n : Message) → In (map (from_host host) ms) (to_host who.host n) → ⊥
-  told-new [] n i = i
-  told-new (k ∷ ms) n (inl e) = not-both host who.host k n e
-  told-new (k ∷ ms) n (inr i) = told-new ms n i
-
-  pub asked-old : (x : ℕ) (r : Request) → Asked (packets_with ps host sends) who.host x r → Asked ps who.host x r
-  asked-old x r i = case (in-append ps (map (from_host host) sends) (from_host who.host (call x r)) i)
-    where
-      case : Asked ps who.host x r ⊎ In (map (from_host host) sends) (from_host who.host (call x r)) → Asked ps who.host x r
-      case (inl old) = old
-      case (inr new) = absurd (asked-new sends x r new)
+  asked-old : (x : ℕ) (r : Request) → Asked (packets_with ps host sends) who.host x r → Asked ps who.host x r
+  asked-old x r i = other-asked ps host who.host sends x r apart i
 
   told-old : (n : Message) → Told (packets_with ps host sends) who.host n → Told ps who.host n
-  told-old n i = case (in-append ps (map (from_host host) sends) (to_host who.host n) i)
-    where
-      case : Told ps who.host n ⊎ In (map (from_host host) sends) (to_host who.host n) → Told ps who.host n
-      case (inl old) = old
-      case (inr new) = absurd (told-new sends n new)
+  told-old n i = old-told ps host who.host sends n i
 
   -- nothing that is asked or told of this host is new
   other-packets : {line : HostRow} {s : Server} {events : List Event} {now : ℕ} {attached : Bool} {ticket : Option Ticket} {leases : List Lease} {notices : List Notice} → Knows NoneHeard NoneGiven line s events who now attached ticket leases notices ps → Knows NoneHeard NoneGiven line s events who now attached ticket leases notices (packets_with ps host sends)

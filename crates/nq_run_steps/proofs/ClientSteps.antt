@@ -1,5 +1,6 @@
 -- What a client and the server know of each other is kept by each step of the client.
 use Rattle.std.proofs.Common.{◌≡◌, ◌≤◌, ℕ, ◌+◌, ◌-◌, Bool, true, false, not, ◌&&◌, List, [], ◌∷◌, ◌++◌, Option, Some, None, refl, sym, subst, ap, ◌∙◌, arith, inl, inr, append-nil}
+use Rattle.std.proofs.lemmas.Bool.{and_parts, both_ways}
 use Rattle.nq_base.specs.declared.Call.{Call}
 use Rattle.nq_base.specs.declared.Event.{Event}
 use Rattle.nq_base.specs.declared.Grant.{Grant}
@@ -15,10 +16,10 @@ use Rattle.nq_client_steps.proofs.ClientMoves.{some-same, none-some}
 use Rattle.nq_client_steps.proofs.ClientWalk.{Replying, reply-keeps, notice-keeps, call-keeps, tick-keeps}
 use Rattle.nq_run_steps.proofs.Clocks.{same-cover}
 use Rattle.nq_run_steps.proofs.CoverFacts.{IsCoveredWhile, IsTakeable, CoverFits, cover-ticket}
-use Rattle.nq_run_steps.proofs.HostLine.{IsSettled, line-ticket, not-false}
+use Rattle.nq_run_steps.proofs.HostLine.{IsSettled, line-ticket}
 use Rattle.nq_run_steps.proofs.Mail.{packets_with, spent-mail}
 use Rattle.nq_run_steps.proofs.Packets.{Asked, Told, Mail}
-use Rattle.nq_server_steps.proofs.Rows.{choice, both-true, same-number}
+use Rattle.nq_server_steps.proofs.Rows.{choice, same-number}
 use Rattle.nq_run_steps.proofs.ServerKnows.{NoneHeard, NoneGiven}
 use Rattle.nq_run_steps.proofs.TagFacts.{IsDrawn, tags-ticket}
 use Rattle.nq_run_steps.proofs.Worlds.{Going, IsAt, begun-going, timed-going}
@@ -102,7 +103,7 @@ of-attach (Reply.Attach inc) w h = refl
 of-attach other w h = absurd (cc)
 
 attach-replied : (r : Reply) (w : Who) (t : Ticket) → t.job ≡ attaching → t.request ≡ Request.Attach w → reply_counts r t ≡ true → r ≡ Reply.Attach (inc_of r)
-attach-replied (Reply.Refused inc status) w t job asks counts = absurd (not-false (refusal_counts status t.request t.job) counts (ap (λ j. refusal_counts status t.request j) job))
+attach-replied (Reply.Refused inc status) w t job asks counts = absurd (both_ways (refusal_counts status t.request t.job) (ap (λ j. refusal_counts status t.request j) job) counts)
 attach-replied other w t job asks counts = of-attach other w (ap (λ q. is_of_procedure other q) (sym asks) ∙ counts)
 
 -- the grants that a request may bring: those in the replies to it, with terms that count from its first sending
@@ -203,8 +204,8 @@ reply-knows host c ps number xid r None is sent a h = tt
 reply-knows {line = line} {s = s} {events = events} host c ps number xid r (Some t) is sent a h =
     choice (KnowsIf line s events host ps) (is_reply_to c xid r t) (Some (goes_on (replied (begun c) number t r))) None
     (λ e.
-    let k = both-true _ _ e in
-    let l = both-true _ _ k.0 in
+    let k = and_parts _ _ e in
+    let l = and_parts _ _ k.0 in
     let told : Told ps c.who.host (reply xid r) = subst (λ n. Told ps n (reply xid r)) (sym a.here) sent in
     knows-ends host (goes_on (replied (begun c) number t r)) a.here
     (reply-keeps (knowing-closed NoneHeard (GivenTo ps c.who t) line s events c.who ps) c number t r (replying-knows host c ps xid r t is k.1 (same-number _ _ l.0) (same-number _ _ l.1) told a h)))
@@ -226,7 +227,7 @@ notice-knows {line = line} {s = s} {events = events} host c ps x w file tag sent
     (λ e.
     knows-ends host (goes_on (evicted (cancels (begun c) file) file tag)) a.here
     (notice-keeps (knowing-closed (IsNoticed file tag) NoneGiven line s events c.who ps) c file tag (refl, refl) (λ g at bad. bad) a.alone
-    (record { going = begun-going host c ps a; knows = knows-begins (heard (same-number _ _ (both-true _ _ (both-true _ _ e).0).1)) (λ f g at bad. absurd bad) h })))
+    (record { going = begun-going host c ps a; knows = knows-begins (heard (same-number _ _ (and_parts _ _ (and_parts _ _ e).0).1)) (λ f g at bad. absurd bad) h })))
     (λ e. tt)
   where
     told : Told ps c.who.host (call x (Request.Evicted w file tag))

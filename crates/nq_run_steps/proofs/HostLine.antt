@@ -1,5 +1,6 @@
 -- The line of a host's decided calls, and what is under way for it: what holds of both for each client.
 use Rattle.std.proofs.Common.{◌≡◌, ◌<◌, ◌≤◌, ◌⊎◌, ℕ, Bool, true, false, List, [], ◌∷◌, ◌++◌, Option, Some, None, refl, sym, subst, ap, ◌∙◌, arith, inl, inr}
+use Rattle.std.proofs.lemmas.Bool.{both_ways}
 use Rattle.nq_base.specs.declared.HostRow.{HostRow}
 use Rattle.nq_base.specs.declared.Reply.{Reply}
 use Rattle.nq_base.specs.declared.Request.{Request}
@@ -47,9 +48,6 @@ pub record LineFits (who : Who) (attached : Bool) (ticket : Option Ticket) (noti
 abbrev pub LineIn : HostRow → List Packet → Core → Type 0
 LineIn line ps k = LineFits k.who k.attached k.ticket k.notices line (packets_with ps k.who.host k.sends)
 
-pub not-false : (b : Bool) → b ≡ true → b ≡ false → ⊥
-not-false b t f = absurd (cc)
-
 -- a request is sent by an attached client with none under way
 pub line-sends : {who : Who} {attached : Bool} {notices : List Notice} {line : HostRow} {ps : List Packet} (xid : ℕ) (t : Ticket) → t.xid ≡ xid → attached ≡ true → asker t.request ≡ Some who → Mail who xid None ps → LineFits who attached None notices line ps → LineFits who attached (Some t) notices line (ps ++ from_host who.host (call xid t.request) ∷ [])
 line-sends {who = who} {attached = attached} {notices = notices} {line = line} {ps = ps} xid t numbered is_attached asks m h = record {
@@ -57,10 +55,10 @@ line-sends {who = who} {attached = attached} {notices = notices} {line = line} {
   current = h.current;
   told = λ x inc sent. h.told x inc (old x (Reply.Attach inc) sent);
   above = λ x r w sent by later. above x r w by later (in-last ps mine (from_host who.host (call x r)) sent);
-  waiting = λ e. absurd (not-false attached is_attached e);
+  waiting = λ e. absurd (both_ways attached e is_attached);
   unnoticed = h.unnoticed;
   evicted_past = λ x w file tag sent. h.evicted_past x w file tag (older x w file tag (in-last ps mine (to_host who.host (call x (Request.Evicted w file tag))) sent));
-  unheard = λ e. absurd (not-false attached is_attached e);
+  unheard = λ e. absurd (both_ways attached e is_attached);
   settled = λ kept x r w n sent by inc seq. settled kept x r w n by inc seq (in-last ps mine (from_host who.host (call x r)) sent);
   answered = λ x a sent inc u e same n seq. let fresh = (m.replied x a (old x a sent) inc).number in let one : t ≡ u = some-same t u e in let number : t.xid ≡ x = ap (λ z. z.xid) one ∙ same in absurd (omega arith);
 } where
@@ -104,10 +102,10 @@ line-adds {who = who} {attached = attached} {ticket = ticket} {notices = notices
   current = h.current;
   told = λ x inc sent. h.told x inc (old x (Reply.Attach inc) sent);
   above = λ x r w sent by later. above x r w by later (in-last ps mine (from_host who.host (call x r)) sent);
-  waiting = λ e. absurd (not-false attached is_attached e);
+  waiting = λ e. absurd (both_ways attached e is_attached);
   unnoticed = h.unnoticed;
   evicted_past = λ x w file tag sent. h.evicted_past x w file tag (older x w file tag (in-last ps mine (to_host who.host (call x (Request.Evicted w file tag))) sent));
-  unheard = λ e. absurd (not-false attached is_attached e);
+  unheard = λ e. absurd (both_ways attached e is_attached);
   settled = λ kept x r w n sent by inc seq. settled kept x r w n by inc seq (in-last ps mine (from_host who.host (call x r)) sent);
   answered = λ x a sent. h.answered x a (old x a sent);
 } where

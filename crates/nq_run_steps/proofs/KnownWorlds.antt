@@ -1,6 +1,7 @@
 -- What the server and each client of a world know of each other, kept by each event; and what it says of their leases.
 use Rattle.std.proofs.Common.{◌≡◌, ◌≢◌, ◌<◌, ℕ, zero, suc, ◌+◌, ◌-◌, Bool, true, false, ◌==◌, List, [], ◌∷◌, ◌++◌, Option, Some, None, refl, sym, subst, ap, ◌∙◌, arith}
 use Rattle.std.specs.Prelude.{slice_get, slice_set, replicate, unwrap_or}
+use Rattle.std.proofs.lemmas.Bool.{and_parts}
 use Rattle.nq_base.specs.declared.Call.{Call}
 use Rattle.nq_base.specs.declared.Event.{Event}
 use Rattle.nq_base.specs.declared.Grant.{Grant}
@@ -12,7 +13,7 @@ use Rattle.nq_run_steps.proofs.ClientSteps.{KnowsOf, KnowsIf, knows-passes, call
 use Rattle.nq_run_steps.proofs.CoverFacts.{IsTakeable}
 use Rattle.nq_run_steps.proofs.Mail.{packets_with}
 use Rattle.nq_run_steps.proofs.Packets.{In, Told, in-get}
-use Rattle.nq_server_steps.proofs.Rows.{both-true, same-number, number-same}
+use Rattle.nq_server_steps.proofs.Rows.{same-number, number-same}
 use Rattle.nq_run_steps.proofs.ServerKnows.{Effect, Timely, knows-after}
 use Rattle.nq_run_steps.proofs.WorldClocks.{Clocked}
 use Rattle.nq_run_steps.proofs.Worlds.{IsAt, Holds, get-set-same, get-set-other, first-client, to-told}
@@ -39,7 +40,7 @@ pub at-clock : (w : World) (events : List Event) (host : ℕ) (c : Client) → s
 at-clock w events host c is held clocked = clocked.clients host c is ∙ ap (λ n. ticks_of n events) (sym (held.clients host c is).here)
 
 -- an event that does nothing
-ignored-known : (w : World) (e : Event) (events : List Event) → Holds w → Clocked w events → Known w events → Known w (e ∷ events)
+pub ignored-known : (w : World) (e : Event) (events : List Event) → Holds w → Clocked w events → Known w events → Known w (e ∷ events)
 ignored-known w e events held clocked h = record {
   clients = λ host c is. knows-passes e c.now c (at-clock w events host c is held clocked) (omega arith) (held.clients host c is).alone (h.clients host c is);
 }
@@ -80,9 +81,6 @@ tick-known w events host held clocked h = at-client-known w (Event.ClientTick ho
 
 pub restart-known : (w : World) (events : List Event) (host : ℕ) → Holds w → Clocked w events → Known w events → Known (at_client w host restart (slice_get w.clients host)) (Event.Restart host ∷ events)
 restart-known w events host held clocked h = at-client-known w (Event.Restart host) events host restart (slice_get w.clients host) refl (λ c clock a k. restart-knows (Event.Restart host) host c w.packets clock a k) held clocked h
-
-pub lost-known : (w : World) (e : Event) (events : List Event) → Holds w → Clocked w events → Known w events → Known w (e ∷ events)
-lost-known = ignored-known
 
 -- ---- a step of the server
 
@@ -136,7 +134,7 @@ takeable w host c t file g a held k = record {
   sent = in-get w.packets k.k k.packet k.sent
 
   both : ((k.xid == t.xid) ≡ true) × ((inc_of k.answer == c.who.inc) ≡ true)
-  both = both-true _ _ (both-true _ _ k.counts).0
+  both = and_parts _ _ (and_parts _ _ k.counts).0
 
 takeable-covered : (w : World) (events : List Event) → Holds w → Known w events → TakeableAreCovered w events
 takeable-covered w events held h host c t file g is can caching runs =

@@ -1,4 +1,5 @@
 pub mod Packets
+pub mod Members
 pub mod ServerSays
 pub mod Mail
 pub mod Worlds

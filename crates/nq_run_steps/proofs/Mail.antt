@@ -7,7 +7,7 @@ use Rattle.nq_base.specs.declared.Tag.{Tag}
 use Rattle.nq_base.specs.declared.Who.{Who}
 use Rattle.nq_client_steps.proofs.ClientCases.{Core, Closed, after_request, after_vacated, after_again}
 use Rattle.nq_client_steps.proofs.ClientMoves.{some-same, none-some, keeps-or-cancels}
-use Rattle.nq_run_steps.proofs.Packets.{In, in-left, in-append, Asked, message-same, told-same, not-both, reply-same, IsReplied, Mail, IsFewer, fewer, mail-sends, mail-adds, mail-again}
+use Rattle.nq_run_steps.proofs.Packets.{In, in-left, in-append, Asked, message-same, told-same, not-both, reply-same, IsReplied, Mail, IsFewer, fewer, mail-sends, mail-adds, mail-again, Told}
 use Rattle.nq_run_steps.proofs.ServerSays.{IsSaid, said_reply, said_error, said_notice, AllSaid}
 use Rattle.nq_model.specs.Client.{Job, Ticket}
 use Rattle.nq_model.specs.Hear.{wants_of, inc_of, cancelled}
@@ -27,6 +27,40 @@ map-last f (x ∷ xs) y = ap (λ zs. f x ∷ zs) (map-last f xs y)
 -- one more message
 pub packets-last : (ps : List Packet) (host : ℕ) (sends : List Message) (m : Message) → packets_with ps host (sends ++ m ∷ []) ≡ packets_with ps host sends ++ from_host host m ∷ []
 packets-last ps host sends m = ap (λ qs. ps ++ qs) (map-last (from_host host) sends m) ∙ sym (append_assoc ps (map (from_host host) sends) (from_host host m ∷ []))
+
+-- a client sends nothing to a host
+pub none-to-host : (host other : ℕ) (ms : List Message) (m : Message) → In (map (from_host host) ms) (to_host other m) → ⊥
+none-to-host host other [] m i = i
+none-to-host host other (n ∷ ms) m (inl e) = not-both host other n m e
+none-to-host host other (n ∷ ms) m (inr i) = none-to-host host other ms m i
+
+-- what a host is told was there before a client's step
+pub old-told : (ps : List Packet) (host other : ℕ) (sends : List Message) (m : Message) → Told (packets_with ps host sends) other m → Told ps other m
+old-told ps host other sends m told = case (in-append ps (map (from_host host) sends) (to_host other m) told)
+  where
+    case : In ps (to_host other m) ⊎ In (map (from_host host) sends) (to_host other m) → In ps (to_host other m)
+    case (inl old) = old
+    case (inr new) = absurd (none-to-host host other sends m new)
+
+-- a request among what a client sent
+pub sent-calls : (host other : ℕ) (sends : List Message) (x : ℕ) (r : Request) → In (map (from_host host) sends) (from_host other (call x r)) → In sends (call x r)
+sent-calls host other [] x r i = i
+sent-calls host other (m ∷ ms) x r (inl e) = inl (message-same host other m (call x r) e).1
+sent-calls host other (m ∷ ms) x r (inr i) = inr (sent-calls host other ms x r i)
+
+-- what a client sends is from its host
+pub sent-host : (host other : ℕ) (ms : List Message) (m : Message) → In (map (from_host host) ms) (from_host other m) → host ≡ other
+sent-host host other [] m i = absurd i
+sent-host host other (n ∷ ms) m (inl e) = (message-same host other n m e).0
+sent-host host other (n ∷ ms) m (inr i) = sent-host host other ms m i
+
+-- what another host asked was asked before a client's step
+pub other-asked : (ps : List Packet) (host other : ℕ) (sends : List Message) (x : ℕ) (r : Request) → (other ≡ host → ⊥) → Asked (packets_with ps host sends) other x r → Asked ps other x r
+other-asked ps host other sends x r apart asked = case (in-append ps (map (from_host host) sends) (from_host other (call x r)) asked)
+  where
+    case : In ps (from_host other (call x r)) ⊎ In (map (from_host host) sends) (from_host other (call x r)) → In ps (from_host other (call x r))
+    case (inl old) = old
+    case (inr new) = absurd (apart (sym (sent-host host other sends (call x r) new)))
 
 -- the mail in the middle of a step
 abbrev pub MailIn : List Packet → Core → Type 0

@@ -1,5 +1,6 @@
 -- What the server says in a step: each reply answers a request that was sent, and a grant comes only where one was wanted.
 use Rattle.std.proofs.Common.{◌≡◌, ◌⊎◌, ℕ, ◌+◌, ◌%◌, true, List, [], ◌∷◌, ◌++◌, Option, Some, None, refl, sym, subst, ap, ◌∙◌, inl, inr}
+use Rattle.std.proofs.lemmas.Bool.{and_from}
 use Rattle.nq_base.specs.declared.Grant.{Grant}
 use Rattle.nq_base.specs.declared.Refusal.{Refusal}
 use Rattle.nq_base.specs.declared.Reply.{Reply}
@@ -10,8 +11,8 @@ use Rattle.nq_base.specs.declared.Verdict.{Verdict}
 use Rattle.nq_base.specs.declared.Want.{Want}
 use Rattle.nq_base.specs.declared.Who.{Who}
 use Rattle.nq_client_steps.proofs.ClientMoves.{some-same, none-some}
-use Rattle.nq_run_steps.proofs.Packets.{In, in-append, Asked}
-use Rattle.nq_server_steps.proofs.Rows.{number-same, true-both}
+use Rattle.nq_run_steps.proofs.Packets.{In, in-append, Asked, told-same}
+use Rattle.nq_server_steps.proofs.Rows.{number-same}
 use Rattle.nq_server_steps.proofs.ServerCases.{server-hears}
 use Rattle.nq_server_steps.proofs.ServerOutcomes.{error_for, IsPlain, unattached, attached_again, not_yet, no_entry, entry, no_attributes, attributes, no_file, no_block, decided_again, is_old}
 use Rattle.nq_model.specs.Decide.{Decision, decides, creates, writes_through, stores, stores_recovering, resizes, removes, puts_off, verdict_reply, commits}
@@ -23,6 +24,12 @@ use Rattle.nq_model.specs.Profile.{xid_end}
 use Rattle.nq_model.specs.Server.{Server, to_host, says, quiet, drops, notices}
 use Rattle.nq_model.specs.ServerStep.{attaches, vacates, tells_later, serves, leases, receive}
 use Rattle.nq_model.specs.Table.{Table}
+
+-- notices are no replies
+pub notices-no-reply : (xid : ℕ) (rows : List Row) (host x : ℕ) (a : Reply) → In (notices xid rows) (to_host host (reply x a)) → ⊥
+notices-no-reply xid [] host x a h = h
+notices-no-reply xid (row ∷ rows) host x a (inl e) = let t = told-same row.who.host host (call xid (Request.Evicted row.who row.file row.tag)) (reply x a) e in absurd (cc)
+notices-no-reply xid (row ∷ rows) host x a (inr h) = notices-no-reply ((xid + 1) % xid_end) rows host x a h
 
 -- a reply to a request that was sent
 pub record IsReplyTo (ps : List Packet) (host xid : ℕ) (a : Reply) : Type 0 where
@@ -225,7 +232,7 @@ module _ (ps : List Packet) (s : Server) (sender next : ℕ) (d : Datagram) (was
     putting_off_by_own = λ xid who r f want own e by on w asking c o ev. later xid who r _ _ e by asking.current.from.host;
     reading = λ xid who q block f body e asking there c. serving-said xid who q f block body _ None None e asking.current.from.host (λ g grants. none-some g grants);
     reading_full = λ xid who q block want f body e asking there c own room. serving-said xid who q f block body _ None (Some want) e asking.current.from.host (λ g grants. none-some g grants);
-    reading_granted = λ xid who q block want f body row term e asking there c granted. serving-said xid who q f block body _ _ (Some want) e asking.current.from.host (λ g grants. true-both _ _ (number-same f.id f.id refl) refl);
+    reading_granted = λ xid who q block want f body row term e asking there c granted. serving-said xid who q f block body _ _ (Some want) e asking.current.from.host (λ g grants. and_from _ _ (number-same f.id f.id refl) refl);
     leasing_full = λ xid who want f e asking c own room. leasing-said xid who f _ None want e asking.current.from.host;
     leasing = λ xid who want f row term e asking c granted. leasing-said xid who f _ _ want e asking.current.from.host;
     declining = λ xid who seq r v e by sq fresh declined. committed xid who seq r (decides s v) e by sq fresh.current.from.host (declines-said v);

@@ -1,6 +1,7 @@
 -- In every run: the clocks of the server and of the clients show how often they ticked.
 use Rattle.std.proofs.Common.{◌≡◌, ◌≢◌, ℕ, ◌+◌, Bool, true, false, not, ◌&&◌, ◌==◌, List, [], ◌∷◌, Option, Some, None, if◌then◌else◌, refl, sym, subst, ap, ◌∙◌, arith, length}
 use Rattle.std.specs.Prelude.{slice_get, slice_set}
+use Rattle.std.proofs.lemmas.Bool.{and_parts}
 use Rattle.nq_base.specs.declared.Call.{Call}
 use Rattle.nq_base.specs.declared.Event.{Event}
 use Rattle.nq_base.specs.declared.Grant.{Grant}
@@ -12,7 +13,7 @@ use Rattle.nq_base.specs.declared.Who.{Who}
 use Rattle.nq_client_steps.proofs.ClientCases.{Core, core_of, Closed}
 use Rattle.nq_client_steps.proofs.ClientWalk.{Replying, reply-keeps, notice-keeps, call-keeps, tick-keeps}
 use Rattle.nq_run_steps.proofs.Packets.{Told, in-get}
-use Rattle.nq_server_steps.proofs.Rows.{choice, both-true, same-number, number-same}
+use Rattle.nq_server_steps.proofs.Rows.{choice, same-number, number-same}
 use Rattle.nq_run_steps.proofs.ServerKnows.{NoneHeard, NoneGiven}
 use Rattle.nq_server_steps.proofs.ServerMoves.{receive-keeps, tick-keeps as server-tick-keeps}
 use Rattle.nq_run_steps.proofs.Worlds.{IsAt, Holds, given-by, get-set-same, get-set-other, first-client, to-told, run-holds}
@@ -76,7 +77,7 @@ reply-still : (host : ℕ) (c : Client) (ps : List Packet) (number xid : ℕ) (r
 reply-still host c ps number xid r None is sent a = tt
 reply-still host c ps number xid r (Some t) is sent a =
     choice (StillIf c) (is_reply_to c xid r t) (Some (goes_on (replied (begun c) number t r))) None
-    (λ e. let k = both-true _ _ e in let l = both-true _ _ k.0 in (reply-keeps (still-closed c.who c.now c.attached NoneHeard (given-by t)) c number t r (replying k.1 (same-number _ _ l.0) (same-number _ _ l.1))).core)
+    (λ e. let k = and_parts _ _ e in let l = and_parts _ _ k.0 in (reply-keeps (still-closed c.who c.now c.attached NoneHeard (given-by t)) c number t r (replying k.1 (same-number _ _ l.0) (same-number _ _ l.1))).core)
     (λ e. tt)
   where
     replying : reply_counts r t ≡ true → xid ≡ t.xid → inc_of r ≡ c.who.inc → Replying (given-by t) (IsStill c.who c.now c.attached) c t r

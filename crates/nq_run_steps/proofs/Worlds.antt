@@ -1,6 +1,7 @@
 -- In every run: what holds of each client alone, and of its mail.
 use Rattle.std.proofs.Common.{◌≡◌, ◌≢◌, ◌≤◌, ◌⊎◌, ℕ, zero, suc, ◌+◌, Bool, true, false, not, ◌&&◌, ◌==◌, List, [], ◌∷◌, ◌++◌, Option, Some, None, is_some, map, refl, sym, subst, ap, ◌∙◌, arith, inl, inr, append-nil, length}
 use Rattle.std.specs.Prelude.{slice_get, slice_set}
+use Rattle.std.proofs.lemmas.Bool.{and_parts}
 use Rattle.nq_base.specs.declared.Call.{Call}
 use Rattle.nq_base.specs.declared.Event.{Event}
 use Rattle.nq_base.specs.declared.Grant.{Grant}
@@ -17,7 +18,7 @@ use Rattle.nq_client_steps.proofs.ClientMoves.{some-same, none-some}
 use Rattle.nq_client_steps.proofs.ClientWalk.{Replying, reply-keeps, notice-keeps, call-keeps, tick-keeps}
 use Rattle.nq_run_steps.proofs.Mail.{packets_with, MailIn, mail-closed, spent-mail, server-mail, other-mail}
 use Rattle.nq_run_steps.proofs.Packets.{In, in-right, in-append, in-last, in-get, Asked, Told, message-same, not-both, call-same, IsAsked, IsOwn, Mail}
-use Rattle.nq_server_steps.proofs.Rows.{choice, both-true, same-number, number-same}
+use Rattle.nq_server_steps.proofs.Rows.{choice, same-number, number-same}
 use Rattle.nq_server_steps.proofs.ServerCases.{request-sent, server-ticks}
 use Rattle.nq_run_steps.proofs.ServerSays.{IsSaid, said_reply, said_error, said_notice, AllSaid, all-said}
 use Rattle.nq_model.specs.Client.{Client, ClientStep, begun, attaching, Ticket, lease_on}
@@ -31,6 +32,12 @@ use Rattle.nq_model.specs.Table.{same_who}
 use Rattle.nq_model.specs.World.{Head, World, from_host, after_server, after_client, at_client, after_hearing, sending_host, deliver_to_client, deliver_to, deliver, step, first_clients, start, run}
 
 -- ---- lists by place
+
+-- an element that is set is found
+pub set-there : {A : Type 0} (xs : List A) (i : ℕ) (x y : A) → slice_get xs i ≡ Some y → slice_get (slice_set xs i x) i ≡ Some x
+set-there [] i x y e = none-some y e
+set-there (z ∷ xs) zero x y e = refl
+set-there (z ∷ xs) (suc i) x y e = set-there xs i x y e
 
 pub get-set-same : {A : Type 0} (xs : List A) (i : ℕ) (x y : A) → slice_get (slice_set xs i x) i ≡ Some y → y ≡ x
 get-set-same [] i x y h = none-some y h
@@ -234,7 +241,7 @@ heard-reply : (host : ℕ) (c : Client) (ps : List Packet) (number xid : ℕ) (r
 heard-reply host c ps number xid r None is a sent = tt
 heard-reply host c ps number xid r (Some ticket) is a sent =
     choice (MovedIf host ps) (is_reply_to c xid r ticket) (Some (goes_on (replied (begun c) number ticket r))) None
-    (λ e. let k = both-true _ _ e in let l = both-true _ _ k.0 in moved host c.who ps (goes_on (replied (begun c) number ticket r)) a.here (reply-keeps (going-closed c.who ps nothing-heard (given-by ticket)) c number ticket r (replying k.1 (same-number _ _ l.0) (same-number _ _ l.1))))
+    (λ e. let k = and_parts _ _ e in let l = and_parts _ _ k.0 in moved host c.who ps (goes_on (replied (begun c) number ticket r)) a.here (reply-keeps (going-closed c.who ps nothing-heard (given-by ticket)) c number ticket r (replying k.1 (same-number _ _ l.0) (same-number _ _ l.1))))
     (λ e. tt)
   where
     before : Going c.who ps (core_of (begun c))

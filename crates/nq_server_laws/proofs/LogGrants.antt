@@ -3,16 +3,18 @@ use Rattle.std.proofs.Common.{◌≡◌, ◌<◌, ◌≤◌, ℕ, ◌+◌, ◌==
 use Rattle.nq_base.specs.declared.Entry.{Entry}
 use Rattle.nq_base.specs.declared.Row.{Row}
 use Rattle.nq_base.specs.declared.Want.{Want}
+use Rattle.nq_model.proofs.Lists.{each-map}
 use Rattle.nq_model.specs.Ask.{Question, sharing_row, caching_row, shared_again, renewed_row}
+use Rattle.nq_model.specs.Journal.{Each}
 use Rattle.nq_model.specs.Kept.{File, Kept, find_file, with_files, with_new_file, with_row}
 use Rattle.nq_model.specs.Message.{Datagram}
 use Rattle.nq_model.specs.Profile.{shortest_term}
 use Rattle.nq_model.specs.Server.{Phase, serving, recovering, Server, standing_in, standing}
 use Rattle.nq_model.specs.ServerStep.{to_read, receive, fence, tick, booted, boot, crash}
 use Rattle.nq_model.specs.Table.{Table, next_tag, put_row, with_rows, after_draw, empty_table}
+use Rattle.nq_server_laws.proofs.ServerNumbers.{fence-longest}
 use Rattle.nq_server_steps.proofs.AskCases.{IsGranted, shares_again, begins_sharing, begins_caching, renews_row}
 use Rattle.nq_server_laws.proofs.LogMoves.{timed, LogMoves, log-moves, tick-log-moves}
-use Rattle.nq_server_laws.proofs.LogTimes.{EachEntry, each-entry}
 use Rattle.nq_server_laws.proofs.RowTimes.{RowRuns, EachRow, TimesFit, term-bounds}
 use Rattle.nq_server_laws.proofs.ServerFits.{ServerFits}
 use Rattle.nq_server_laws.proofs.ServerTables.{BootsFit, BootsFitOf, ServesBoot, RecoversBoot}
@@ -32,7 +34,7 @@ later-opened opened longest drawn boot longest' drawn' h (Entry.G who file mode 
 later-opened opened longest drawn boot longest' drawn' h other g = tt
 
 abbrev pub GrantsFit : Kept → Phase → Table → List Entry → Type 0
-GrantsFit kept phase table log = EachEntry (IsOfGrants kept.opened kept.longest (standing_in phase table).drawn) log
+GrantsFit kept phase table log = Each (IsOfGrants kept.opened kept.longest (standing_in phase table).drawn) log
 
 abbrev pub GrantsFitOf : Server → List Entry → Type 0
 GrantsFitOf s log = GrantsFit s.kept s.phase s.table log
@@ -54,17 +56,17 @@ granted-within table q want row term long each (begins_sharing none room shared 
 granted-within table q want row term long each (begins_caching none room shared is lasts) = let b = term-bounds q.longest want.term long in omega (arith, b.1)
 granted-within table q want row term long each (renews_row own found stays caching is lasts) = let b = term-bounds q.longest want.term long in omega (arith, b.1)
 
-drawn-in : (opened longest : ℕ) (phase : Phase) (table : Table) (rows : List Row) (log : List Entry) → EachEntry (IsOfGrants opened longest (standing_in phase table).drawn) log → EachEntry (IsOfGrants opened longest (standing_in phase (with_rows table rows)).drawn) log
+drawn-in : (opened longest : ℕ) (phase : Phase) (table : Table) (rows : List Row) (log : List Entry) → Each (IsOfGrants opened longest (standing_in phase table).drawn) log → Each (IsOfGrants opened longest (standing_in phase (with_rows table rows)).drawn) log
 unfolding with_rows
 drawn-in opened longest serving table rows log g = g
 drawn-in opened longest (recovering until heard last) table rows log g = g
 
-drawn-more : (opened longest : ℕ) (phase : Phase) (table : Table) (after : Table) (log : List Entry) → phase ≡ serving → table.drawn ≤ after.drawn → EachEntry (IsOfGrants opened longest (standing_in phase table).drawn) log → EachEntry (IsOfGrants opened longest (standing_in phase after).drawn) log
+drawn-more : (opened longest : ℕ) (phase : Phase) (table : Table) (after : Table) (log : List Entry) → phase ≡ serving → table.drawn ≤ after.drawn → Each (IsOfGrants opened longest (standing_in phase table).drawn) log → Each (IsOfGrants opened longest (standing_in phase after).drawn) log
 drawn-more opened longest phase table after log p more g =
     subst
-    (λ p. EachEntry (IsOfGrants opened longest (standing_in p table).drawn) log → EachEntry (IsOfGrants opened longest (standing_in p after).drawn) log)
+    (λ p. Each (IsOfGrants opened longest (standing_in p table).drawn) log → Each (IsOfGrants opened longest (standing_in p after).drawn) log)
     (sym p)
-    (λ g. each-entry (IsOfGrants opened longest table.drawn) (IsOfGrants opened longest after.drawn) log (more-drawn opened longest table.drawn after.drawn more) g)
+    (λ g. each-map (IsOfGrants opened longest table.drawn) (IsOfGrants opened longest after.drawn) log (more-drawn opened longest table.drawn after.drawn more) g)
     g
 
 module _ (most booted : ℕ) (s : Server) (d : Datagram) (log : List Entry) (f : ServerFits most booted s) (g : GrantsFitOf s log) where
@@ -94,7 +96,7 @@ module _ (most booted : ℕ) (s : Server) (d : Datagram) (log : List Entry) (f :
     creating = λ name blocks serves can. g;
     changing = λ who h file serves current found same c. g;
     storing = λ who h file base row block first last serves current found same can. (tt, drawn-in s.kept.opened s.kept.longest s.phase s.table _ log g);
-    storing_recovering = λ who h file block first final until heard last current p found same. (tt, subst (λ p. EachEntry (IsOfGrants s.kept.opened s.kept.longest (standing_in p s.table).drawn) log) p g);
+    storing_recovering = λ who h file block first final until heard last current p found same. (tt, subst (λ p. Each (IsOfGrants s.kept.opened s.kept.longest (standing_in p s.table).drawn) log) p g);
     removing = λ who h serves current found c. drawn-in s.kept.opened s.kept.longest s.phase s.table _ log g;
   }
 
@@ -107,18 +109,13 @@ unfolding with_files
 fence-opened kept None = refl
 fence-opened kept (Some f) = refl
 
-fence-longest : (kept : Kept) (o : Option File) → (fence kept o).longest ≡ kept.longest
-unfolding with_files
-fence-longest kept None = refl
-fence-longest kept (Some f) = refl
+grants-fenced : (kept : Kept) (o : Option File) (drawn : ℕ) (log : List Entry) → Each (IsOfGrants kept.opened kept.longest drawn) log → Each (IsOfGrants (fence kept o).opened (fence kept o).longest drawn) log
+grants-fenced kept o drawn log g = subst (λ opened. Each (IsOfGrants opened (fence kept o).longest drawn) log) (sym (fence-opened kept o)) (subst (λ longest. Each (IsOfGrants kept.opened longest drawn) log) (sym (fence-longest kept o)) g)
 
-grants-fenced : (kept : Kept) (o : Option File) (drawn : ℕ) (log : List Entry) → EachEntry (IsOfGrants kept.opened kept.longest drawn) log → EachEntry (IsOfGrants (fence kept o).opened (fence kept o).longest drawn) log
-grants-fenced kept o drawn log g = subst (λ opened. EachEntry (IsOfGrants opened (fence kept o).longest drawn) log) (sym (fence-opened kept o)) (subst (λ longest. EachEntry (IsOfGrants kept.opened longest drawn) log) (sym (fence-longest kept o)) g)
-
-grants-opened : (s : Server) (until heard : ℕ) (last : Table) (log : List Entry) → s.phase ≡ recovering until heard last → BootsFitOf s → GrantsFitOf s log → EachEntry (IsOfGrants s.kept.boot s.longest s.table.drawn) log
+grants-opened : (s : Server) (until heard : ℕ) (last : Table) (log : List Entry) → s.phase ≡ recovering until heard last → BootsFitOf s → GrantsFitOf s log → Each (IsOfGrants s.kept.boot s.longest s.table.drawn) log
 grants-opened s until heard last log p b g =
     let r : RecoversBoot s.kept.boot s.kept.opened s.table last = subst (λ p. BootsFit s.kept.boot s.kept.opened p s.table) p b in
-    each-entry (IsOfGrants s.kept.opened s.kept.longest (standing s).drawn) (IsOfGrants s.kept.boot s.longest s.table.drawn) log (later-opened s.kept.opened s.kept.longest (standing s).drawn s.kept.boot s.longest s.table.drawn r.opened_before) g
+    each-map (IsOfGrants s.kept.opened s.kept.longest (standing s).drawn) (IsOfGrants s.kept.boot s.longest s.table.drawn) log (later-opened s.kept.opened s.kept.longest (standing s).drawn s.kept.boot s.longest s.table.drawn r.opened_before) g
 
 -- and after a tick
 pub grants-tick : (s : Server) (now : ℕ) (log : List Entry) → BootsFitOf s → GrantsFitOf s log → GrantsFitOf (tick s now).server (timed (tick s now).entries ++ log)
@@ -140,5 +137,5 @@ grants-crash s longest log b g = (tt, in-phase (s.kept.opened == 0) refl)
     opened-before (recovering until heard last) b = omega (arith, b.opened_before)
 
     in-phase : (z : Bool) → (s.kept.opened == 0) ≡ z → GrantsFit (if z then record s.kept { boot = s.kept.boot + 1; opened = s.kept.boot + 1; longest = longest } else record s.kept { boot = s.kept.boot + 1 }) (if z then serving else recovering (s.now + s.kept.longest + 8) s.now (standing s)) (empty_table (s.kept.boot + 1)) log
-    in-phase true e = each-entry (IsOfGrants s.kept.opened s.kept.longest (standing s).drawn) (IsOfGrants (s.kept.boot + 1) longest 0) log (later-opened s.kept.opened s.kept.longest (standing s).drawn (s.kept.boot + 1) longest 0 (opened-before s.phase b)) g
+    in-phase true e = each-map (IsOfGrants s.kept.opened s.kept.longest (standing s).drawn) (IsOfGrants (s.kept.boot + 1) longest 0) log (later-opened s.kept.opened s.kept.longest (standing s).drawn (s.kept.boot + 1) longest 0 (opened-before s.phase b)) g
     in-phase false e = g

@@ -2,6 +2,7 @@
 -- was heard.
 use Rattle.std.proofs.Common.{◌≡◌, ◌≤◌, ◌⊎◌, ℕ, ◌+◌, ◌==◌, Bool, true, false, not, ◌&&◌, List, ◌∷◌, ◌++◌, Option, Some, if◌then◌else◌, max, refl, sym, subst, ap, ◌∙◌, arith, inl, inr}
 use Rattle.std.specs.List.{find}
+use Rattle.std.proofs.lemmas.Bool.{and_parts, and_from}
 use Rattle.nq_base.specs.declared.Access.{Access}
 use Rattle.nq_base.specs.declared.Entry.{Entry}
 use Rattle.nq_base.specs.declared.Mode.{Mode}
@@ -10,7 +11,9 @@ use Rattle.nq_base.specs.declared.Row.{Row}
 use Rattle.nq_base.specs.declared.Tag.{Tag}
 use Rattle.nq_base.specs.declared.Want.{Want}
 use Rattle.nq_base.specs.declared.Who.{Who}
+use Rattle.nq_model.proofs.Lists.{each-map}
 use Rattle.nq_model.specs.Ask.{Question, term_of, conflicts, marked, sharing_row, caching_row, shared_again, renewed_row}
+use Rattle.nq_model.specs.Journal.{Each}
 use Rattle.nq_model.specs.Kept.{Kept, host_row}
 use Rattle.nq_model.specs.Message.{Datagram}
 use Rattle.nq_model.specs.Profile.{skew}
@@ -19,11 +22,11 @@ use Rattle.nq_model.specs.ServerStep.{to_read, is_over, end_reading, receive, ti
 use Rattle.nq_model.specs.Table.{Table, caches, is_writing, greater_mode, same_who, is_row_of, find_row, drop_row, put_row, with_rows, after_draw, empty_table}
 use Rattle.nq_server_steps.proofs.AskCases.{with_marked, IsGranted, shares_again, begins_sharing, begins_caching, renews_row}
 use Rattle.nq_server_laws.proofs.LogMoves.{timed, LogMoves, log-moves, tick-log-moves}
-use Rattle.nq_server_laws.proofs.LogTimes.{EachEntry, each-entry, IsBy, LogBy}
+use Rattle.nq_server_laws.proofs.LogTimes.{IsBy, LogBy}
 use Rattle.nq_server_steps.proofs.Incarnations.{one-who}
 use Rattle.nq_server_steps.proofs.RowChanges.{HasUniqueKeys, unique-filtered, has-key, found-put, found-kept, found-vacated, found-marked}
 use Rattle.nq_server_laws.proofs.RowTimes.{EachRow, each-fewer, each-put}
-use Rattle.nq_server_steps.proofs.Rows.{both-true, true-both, same-number, number-same, found-row}
+use Rattle.nq_server_steps.proofs.Rows.{same-number, number-same, found-row}
 use Rattle.nq_server_laws.proofs.ServerFacts.{IncsFit, IncsFitOf, AreCurrent}
 use Rattle.nq_server_laws.proofs.ServerTables.{NoneRecoveringOf, none-opened, StandingFits, StandingFitsOf}
 use Rattle.nq_server_steps.proofs.TableFits.{TableFits}
@@ -103,8 +106,8 @@ other-grant who file row r mode tag term now w f other = by (same_who who r.who 
     by : (b : Bool) → (same_who who r.who && file == r.file) ≡ b → b ≡ false
     by false e = refl
     by true e =
-        let a = both-true _ _ e in
-        let c = both-true _ _ a.0 in
+        let a = and_parts _ _ e in
+        let c = and_parts _ _ a.0 in
         let host : row.who.host ≡ r.who.host = ap (λ x. x.host) w ∙ same-number _ _ c.0 in
         let same : row.file ≡ r.file = f ∙ same-number _ _ a.1 in
         let key : is_row_of r.file r.who.host row ≡ true = has-key r.file r.who.host row same host in
@@ -114,7 +117,7 @@ own-grant : (who : Who) (file : ℕ) (row : Row) (term now : ℕ) (log : List En
 own-grant who file row term now log w f =
     subst (λ x. find (is_grant_to row.who row.file) (Entry.G x file row.mode row.tag term now ∷ log) ≡ Some (Entry.G row.who row.file row.mode row.tag term now)) w
     (subst (λ i. find (is_grant_to row.who row.file) (Entry.G row.who i row.mode row.tag term now ∷ log) ≡ Some (Entry.G row.who row.file row.mode row.tag term now)) f
-    (ap (λ b. if b then Some (Entry.G row.who row.file row.mode row.tag term now) else find (is_grant_to row.who row.file) log) (true-both _ _ (true-both _ _ (number-same row.who.host row.who.host refl) (number-same row.who.inc row.who.inc refl)) (number-same row.file row.file refl))))
+    (ap (λ b. if b then Some (Entry.G row.who row.file row.mode row.tag term now) else find (is_grant_to row.who row.file) log) (and_from _ _ (and_from _ _ (number-same row.who.host row.who.host refl) (number-same row.who.inc row.who.inc refl)) (number-same row.file row.file refl))))
 
 -- a granted caching row does not end before its term and the skew have passed
 granted-ends : (table : Table) (q : Question) (want : Want) (row : Row) (term : ℕ) → IsGranted table q want row term → caches row.mode ≡ true → q.now + term + skew ≤ row.until
@@ -216,7 +219,7 @@ IsHeardOf who file heard other = Unit {0}
 
 -- where a row lets its holder write, it was heard no earlier than each write that was stored for its holder
 abbrev pub HearsWrites : List Entry → Row → Type 0
-HearsWrites log row = is_writing row.mode ≡ true → EachEntry (IsHeardOf row.who row.file row.heard) log
+HearsWrites log row = is_writing row.mode ≡ true → Each (IsHeardOf row.who row.file row.heard) log
 
 -- while the server serves
 abbrev pub RowsHear : Phase → Table → List Entry → Type 0
@@ -227,8 +230,8 @@ by-heard-of : (who : Who) (file time : ℕ) (e : Entry) → IsBy time e → IsHe
 by-heard-of who file time (Entry.S w f block first last now) by = λ x y. by
 by-heard-of who file time other by = tt
 
-heard-of-by : (who : Who) (file time : ℕ) (log : List Entry) → LogBy time log → EachEntry (IsHeardOf who file time) log
-heard-of-by who file time log by = each-entry (IsBy time) (IsHeardOf who file time) log (by-heard-of who file time) by
+heard-of-by : (who : Who) (file time : ℕ) (log : List Entry) → LogBy time log → Each (IsHeardOf who file time) log
+heard-of-by who file time log by = each-map (IsBy time) (IsHeardOf who file time) log (by-heard-of who file time) by
 
 hears-marked : (log : List Entry) (r : Row) (b : Bool) → HearsWrites log r → HearsWrites log (if b then record r { evicting = true } else r)
 hears-marked log r true hears = hears
@@ -262,7 +265,7 @@ granted-hears table q want row term log by each (shares_again own found stays sh
 granted-hears table q want row term log by each (begins_sharing none room shared is lasts) = subst (HearsWrites log) (sym is) (λ writes. absurd (cc))
 granted-hears table q want row term log by each (begins_caching none room shared is lasts) = subst (HearsWrites log) (sym is) (λ writes. heard-of-by q.who q.file q.now log by)
 granted-hears table q want row term log by each (renews_row own found stays caching is lasts) =
-    subst (HearsWrites log) (sym is) (λ writes. renewed-hears own.mode want.mode own.heard q.now (λ heard. EachEntry (IsHeardOf own.who own.file heard) log) (each q.file q.who.host own found) (heard-of-by own.who own.file q.now log by) writes)
+    subst (HearsWrites log) (sym is) (λ writes. renewed-hears own.mode want.mode own.heard q.now (λ heard. Each (IsHeardOf own.who own.file heard) log) (each q.file q.who.host own found) (heard-of-by own.who own.file q.now log by) writes)
 
 module _ (s : Server) (d : Datagram) (log : List Entry) (t : StandingFitsOf s) (by : LogBy s.now log) (h : RowsHear s.phase s.table log) where
   own-hear : s.phase ≡ serving → EachRow (HearsWrites log) s.table.rows

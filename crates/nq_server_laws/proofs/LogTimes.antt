@@ -2,22 +2,15 @@
 use Rattle.std.proofs.Common.{◌≡◌, ◌≤◌, ℕ, zero, suc, ◌+◌, ◌==◌, Bool, true, false, List, [], ◌∷◌, ◌++◌, Some, if◌then◌else◌, refl, sym, subst, arith}
 use Rattle.std.specs.List.{find, slice_get}
 use Rattle.nq_base.specs.declared.Entry.{Entry}
+use Rattle.nq_model.proofs.Lists.{each-map}
+use Rattle.nq_model.specs.Journal.{Each}
 use Rattle.nq_model.specs.Kept.{with_files, with_new_file, with_row}
 use Rattle.nq_model.specs.Message.{Datagram}
 use Rattle.nq_model.specs.Server.{Phase, serving, recovering, Server, standing}
 use Rattle.nq_model.specs.ServerStep.{receive, tick, booted, boot, crash}
 use Rattle.nq_server_laws.proofs.LogMoves.{timed, LogMoves, log-moves, tick-log-moves}
 
--- each entry
-abbrev pub EachEntry : (Entry → Type 0) → List Entry → Type 0
-EachEntry P [] = Unit {0}
-EachEntry P (e ∷ entries) = P e × EachEntry P entries
-
-pub each-entry : (P R : Entry → Type 0) (entries : List Entry) → ((e : Entry) → P e → R e) → EachEntry P entries → EachEntry R entries
-each-entry P R [] more each = tt
-each-entry P R (e ∷ entries) more each = (more e each.0, each-entry P R entries more each.1)
-
-pub entry-at : (P : Entry → Type 0) (entries : List Entry) (place : ℕ) (e : Entry) → EachEntry P entries → slice_get entries place ≡ Some e → P e
+pub entry-at : (P : Entry → Type 0) (entries : List Entry) (place : ℕ) (e : Entry) → Each P entries → slice_get entries place ≡ Some e → P e
 entry-at P [] place e each there = absurd (cc)
 entry-at P (x ∷ entries) zero e each there = let same : x ≡ e = cc in subst P same each.0
 entry-at P (x ∷ entries) (suc place) e each there = entry-at P entries place e each.1 there
@@ -41,10 +34,10 @@ by-later time later h other by = tt
 
 -- no time of the entries is after this one
 abbrev pub LogBy : ℕ → List Entry → Type 0
-LogBy time log = EachEntry (IsBy time) log
+LogBy time log = Each (IsBy time) log
 
 pub log-by-later : (time later : ℕ) (log : List Entry) → time ≤ later → LogBy time log → LogBy later log
-log-by-later time later log h by = each-entry (IsBy time) (IsBy later) log (by-later time later h) by
+log-by-later time later log h by = each-map (IsBy time) (IsBy later) log (by-later time later h) by
 
 by-moves : (s : Server) (d : Datagram) (log : List Entry) → LogBy s.now log → LogMoves s d log (λ kept phase table after. LogBy s.now after)
 by-moves s d log by = record {
@@ -88,14 +81,14 @@ IsHeard heard other = Unit {0}
 -- while the server recovers, each write that was ever stored was heard by the time that it has for that
 abbrev pub HeardAll : Phase → List Entry → Type 0
 HeardAll serving log = Unit {0}
-HeardAll (recovering until heard last) log = EachEntry (IsHeard heard) log
+HeardAll (recovering until heard last) log = Each (IsHeard heard) log
 
 by-heard : (time : ℕ) (e : Entry) → IsBy time e → IsHeard time e
 by-heard time (Entry.S who file block first last now) by = by
 by-heard time other by = tt
 
-heard-by : (time : ℕ) (log : List Entry) → LogBy time log → EachEntry (IsHeard time) log
-heard-by time log by = each-entry (IsBy time) (IsHeard time) log (by-heard time) by
+heard-by : (time : ℕ) (log : List Entry) → LogBy time log → Each (IsHeard time) log
+heard-by time log by = each-map (IsBy time) (IsHeard time) log (by-heard time) by
 
 heard-served : (phase : Phase) (log : List Entry) → phase ≡ serving → HeardAll phase log
 heard-served phase log p = subst (λ p. HeardAll p log) (sym p) tt

@@ -2,8 +2,6 @@
 use Rattle.std.proofs.Common.{◌≡◌, ◌<◌, ◌≤◌, ◌⊎◌, ℕ, ◌+◌, ◌==◌, Bool, true, false, not, ◌&&◌, List, Some, if◌then◌else◌, refl, sym, subst, ap, ◌∙◌, arith, inl, inr}
 use Rattle.std.specs.Prelude.{nat_le}
 use Rattle.nq_base.specs.declared.Access.{Access}
-use Rattle.nq_base.specs.declared.Mode.{Mode}
-use Rattle.nq_base.specs.declared.Mode.TheVariants.{NonCaching, Reading, Writing}
 use Rattle.nq_base.specs.declared.Request.{Request}
 use Rattle.nq_base.specs.declared.Row.{Row}
 use Rattle.nq_base.specs.declared.Want.{Want}
@@ -15,6 +13,7 @@ use Rattle.nq_model.specs.Server.{Phase, serving, recovering, Server, standing_i
 use Rattle.nq_model.specs.ServerStep.{to_read, receive, is_over, end_reading, tick, boot, crash}
 use Rattle.nq_model.specs.Table.{Table, caches, is_writing, greater_mode, is_row_of, find_row, drop_row, put_row, with_rows, after_draw, empty_table}
 use Rattle.nq_server_steps.proofs.AskCases.{with_marked, IsGranted, shares_again, begins_sharing, begins_caching, renews_row}
+use Rattle.nq_server_steps.proofs.Modes.{greater-caches}
 use Rattle.nq_server_steps.proofs.RowChanges.{HasUniqueKeys, unique-filtered, found-put, found-kept, found-vacated, found-marked, mark-is}
 use Rattle.nq_server_steps.proofs.ServerMoves.{ServerMoves, server-moves, receive-keeps, TickMoves, tick-moves, tick-keeps}
 use Rattle.nq_server_steps.proofs.ServerOutcomes.{wanted_by}
@@ -72,13 +71,6 @@ times-marked longest now rows f h access each = λ file host row found.
 pub term-bounds : (longest wish : ℕ) → shortest_term ≤ longest → (0 < granted_term longest wish) × (granted_term longest wish ≤ longest)
 term-bounds longest wish long = (omega arith, omega arith)
 
-grown-caches : (held wanted : Mode) → caches held ≡ true → caches (greater_mode held wanted) ≡ true
-grown-caches NonCaching wanted h = cc
-grown-caches Reading NonCaching h = refl
-grown-caches Reading Reading h = refl
-grown-caches Reading Writing h = refl
-grown-caches Writing wanted h = refl
-
 grown-heard : (b : Bool) (now heard : ℕ) → heard ≤ now → (if b then now else heard) ≤ now
 grown-heard true now heard h = omega arith
 grown-heard false now heard h = h
@@ -96,7 +88,7 @@ module _ (table : Table) (q : Question) (want : Want) (long : shortest_term ≤ 
       subst (RowRuns q.longest q.now) (sym is) (record { heard_by_now = omega arith; runs = λ e. omega arith; bounded = λ e. absurd (cc) })
   granted-runs row term (renews_row own found stays caching is lasts) =
       let r = each q.file q.who.host own found in
-      let caching_still : caches (greater_mode own.mode want.mode) ≡ true = grown-caches own.mode want.mode caching in
+      let caching_still : caches (greater_mode own.mode want.mode) ≡ true = greater-caches own.mode want.mode caching in
       subst (RowRuns q.longest q.now) (sym is) (record { heard_by_now = grown-heard _ q.now own.heard r.heard_by_now; runs = λ e. omega arith; bounded = λ e. absurd (cc) })
 
   pub waiter-runs : RowRuns q.longest q.now (sharing_row (with_marked table q) q (term_of q want))

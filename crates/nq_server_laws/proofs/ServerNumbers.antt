@@ -48,7 +48,7 @@ pub terms-receive : (most : ℕ) (s : Server) (sender next : ℕ) (d : Datagram)
 terms-receive most s sender next d f =
     subst (λ longest. TermsFit most (receive s sender next d).server.phase (receive s sender next d).server.kept.longest longest) (sym (receive-keeps s sender next d).0) (server-moves s sender next d (λ kept phase table. TermsFit most phase kept.longest s.longest) (terms-moves most s d f))
 
-fence-longest : (kept : Kept) (o : Option File) → (fence kept o).longest ≡ kept.longest
+pub fence-longest : (kept : Kept) (o : Option File) → (fence kept o).longest ≡ kept.longest
 unfolding with_files
 fence-longest kept None = refl
 fence-longest kept (Some f) = refl

@@ -15,12 +15,12 @@ at-least-writing mode Writing w h = h
 at-least-writing mode Reading w h = cc
 at-least-writing mode NonCaching w h = cc
 
-pub caching-at-least : (row mode : Mode) → caches mode ≡ true → is_at_least row mode ≡ true → caches row ≡ true
-caching-at-least row NonCaching c h = cc
-caching-at-least row Reading c h = h
-caching-at-least NonCaching Writing c h = cc
-caching-at-least Reading Writing c h = refl
-caching-at-least Writing Writing c h = refl
+pub at-least-caching : (row mode : Mode) → caches mode ≡ true → is_at_least row mode ≡ true → caches row ≡ true
+at-least-caching row NonCaching c h = cc
+at-least-caching row Reading c h = h
+at-least-caching NonCaching Writing c h = cc
+at-least-caching Reading Writing c h = refl
+at-least-caching Writing Writing c h = refl
 
 pub at-least-more : (row wanted mode : Mode) → is_at_least row mode ≡ true → is_at_least (greater_mode row wanted) mode ≡ true
 at-least-more row wanted NonCaching h = refl
@@ -34,3 +34,6 @@ at-least-more Reading wanted Reading h = step (is_writing wanted)
 at-least-more Reading wanted Writing h = cc
 at-least-more Writing wanted Reading h = refl
 at-least-more Writing wanted Writing h = refl
+
+pub greater-caches : (own wanted : Mode) → caches own ≡ true → caches (greater_mode own wanted) ≡ true
+greater-caches own wanted c = at-least-more own wanted Reading c

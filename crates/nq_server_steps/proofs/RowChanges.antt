@@ -2,6 +2,7 @@
 use Rattle.std.proofs.Common.{◌≡◌, ◌≢◌, ◌⊎◌, ℕ, Bool, true, false, not, ◌&&◌, ◌||◌, ◌==◌, List, [], ◌∷◌, Option, Some, None, if◌then◌else◌, map, refl, sym, subst, ap, ◌∙◌, inl, inr}
 use Rattle.std.specs.List.{find, filter, list_any}
 use Rattle.std.specs.Option.{option_map}
+use Rattle.std.proofs.lemmas.Bool.{and_parts, and_from}
 use Rattle.nq_base.specs.declared.Access.{Access}
 use Rattle.nq_base.specs.declared.Row.{Row}
 use Rattle.nq_base.specs.declared.Tag.{Tag}
@@ -9,7 +10,7 @@ use Rattle.nq_base.specs.declared.Who.{Who}
 use Rattle.nq_model.specs.Ask.{mode_conflicts, conflicts, shares, marked}
 use Rattle.nq_model.specs.ServerStep.{vacated_rows}
 use Rattle.nq_model.specs.Table.{caches, same_tag, is_row_of, find_row, drop_row, drop_host, drop_rows_of, row_before, insert_row, put_row}
-use Rattle.nq_server_steps.proofs.Rows.{both-true, true-both, same-number, number-same, find-passes, find-none, find-filter, find-dropped, find-map, insert-step}
+use Rattle.nq_server_steps.proofs.Rows.{same-number, number-same, find-passes, find-none, find-filter, find-dropped, find-map, insert-step}
 
 -- no two rows are of one file and host
 abbrev pub HasUniqueKeys : List Row → Type 0
@@ -26,10 +27,10 @@ abbrev pub mark : (file host : ℕ) → Access → Row → Row
 mark file host access r = if conflicts file host access r then record r { evicting = true } else r
 
 pub of-key : (file host : ℕ) (row : Row) → is_row_of file host row ≡ true → (row.file ≡ file) × (row.who.host ≡ host)
-of-key file host row h = let e = both-true _ _ h in (same-number _ _ e.0, same-number _ _ e.1)
+of-key file host row h = let e = and_parts _ _ h in (same-number _ _ e.0, same-number _ _ e.1)
 
 pub has-key : (file host : ℕ) (row : Row) → row.file ≡ file → row.who.host ≡ host → is_row_of file host row ≡ true
-has-key file host row e f = true-both _ _ (number-same _ _ e) (number-same _ _ f)
+has-key file host row e f = and_from _ _ (number-same _ _ e) (number-same _ _ f)
 
 pub own-key : (row : Row) → is_row_of row.file row.who.host row ≡ true
 own-key row = has-key row.file row.who.host row refl refl
@@ -91,7 +92,7 @@ found-put file host row r rows h = by (is_row_of file host row) refl (sym (find-
 
 -- rows without those of a host
 pub find-host-dropped : (file host : ℕ) (rows : List Row) → find_row file host (drop_host host rows) ≡ None
-find-host-dropped file host rows = find-dropped (is_row_of file host) (λ r. not (r.who.host == host)) rows (λ r h. ap not (both-true _ _ h).1)
+find-host-dropped file host rows = find-dropped (is_row_of file host) (λ r. not (r.who.host == host)) rows (λ r h. ap not (and_parts _ _ h).1)
 
 other-host : (file host h : ℕ) (r : Row) → h ≢ host → is_row_of file h r ≡ true → not (r.who.host == host) ≡ true
 other-host file host h r other e = by (r.who.host == host) refl
@@ -105,7 +106,7 @@ find-other-host-dropped file host h rows other = find-filter (is_row_of file h) 
 
 -- rows without those of a file
 pub find-file-dropped : (file host : ℕ) (rows : List Row) → find_row file host (drop_rows_of file rows) ≡ None
-find-file-dropped file host rows = find-dropped (is_row_of file host) (λ r. not (r.file == file)) rows (λ r h. ap not (both-true _ _ h).0)
+find-file-dropped file host rows = find-dropped (is_row_of file host) (λ r. not (r.file == file)) rows (λ r h. ap not (and_parts _ _ h).0)
 
 other-file : (file host f : ℕ) (r : Row) → f ≢ file → is_row_of f host r ≡ true → not (r.file == file) ≡ true
 other-file file host f r other e = by (r.file == file) refl
@@ -309,7 +310,7 @@ no-clash file host access h rows r none found other =
 
     by : (b : Bool) → (r.file == file) ≡ true → not (r.who.host == host) ≡ true → (r.file == file && not (r.who.host == host) && b) ≡ false → b ≡ false
     by false x y z = refl
-    by true x y z = let bad : (r.file == file && not (r.who.host == host) && true) ≡ true = true-both _ _ (true-both _ _ x y) refl in cc
+    by true x y z = let bad : (r.file == file && not (r.who.host == host) && true) ≡ true = and_from _ _ (and_from _ _ x y) refl in cc
 
 -- a row that conflicts is another host's row of the file
 pub record IsClash (file host : ℕ) (access : Access) (r : Row) : Type 0 where
@@ -319,8 +320,8 @@ pub record IsClash (file host : ℕ) (access : Access) (r : Row) : Type 0 where
 
 pub is-clash : (file host : ℕ) (access : Access) (r : Row) → conflicts file host access r ≡ true → IsClash file host access r
 is-clash file host access r h =
-    let a = both-true _ _ h in
-    let b = both-true _ _ a.0 in
+    let a = and_parts _ _ h in
+    let b = and_parts _ _ a.0 in
     record { of_file = same-number _ _ b.0; other = λ e. differs e b.1; kind = a.1 }
   where
     differs : r.who.host ≡ host → not (r.who.host == host) ≡ true → ⊥
@@ -350,7 +351,7 @@ not-shared file host h rows r none found other =
 
     joined : (a : Bool) → (r.file == file) ≡ true → not (r.who.host == host) ≡ true → (r.file == file && not (r.who.host == host) && a) ≡ false → a ≡ false
     joined false x y z = refl
-    joined true x y z = let bad : (r.file == file && not (r.who.host == host) && true) ≡ true = true-both _ _ (true-both _ _ x y) refl in cc
+    joined true x y z = let bad : (r.file == file && not (r.who.host == host) && true) ≡ true = and_from _ _ (and_from _ _ x y) refl in cc
 
     by : (a b : Bool) → (r.file == file) ≡ true → not (r.who.host == host) ≡ true → (r.file == file && not (r.who.host == host) && (not a || b)) ≡ false → (a ≡ true) × (b ≡ false)
     by true false x y z = (refl, refl)

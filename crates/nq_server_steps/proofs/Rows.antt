@@ -1,8 +1,9 @@
 -- Look-ups in lists of rows after each change of the list.
-use Rattle.std.proofs.Common.{◌≡◌, ◌⊎◌, ℕ, Bool, true, false, ◌&&◌, not, ◌==◌, List, [], ◌∷◌, Some, None, if◌then◌else◌, map, refl, subst, arith, inl, inr}
+use Rattle.std.proofs.Common.{◌≡◌, ◌⊎◌, ℕ, Bool, true, false, ◌&&◌, ◌==◌, List, [], ◌∷◌, Some, None, if◌then◌else◌, map, refl, subst, arith, inl, inr}
 use Rattle.std.specs.List.{find, filter}
 use Rattle.std.specs.Option.{option_map}
 use Rattle.std.proofs.lemmas.Bool.Decides.{nat_tests}
+use Rattle.std.proofs.lemmas.Bool.{and_parts}
 use Rattle.nq_base.specs.declared.Row.{Row}
 use Rattle.nq_model.specs.Table.{is_row_of, find_row, insert_row}
 
@@ -15,23 +16,6 @@ choice Q false x y when otherwise = otherwise refl
 pub decided : (b : Bool) → (b ≡ true) ⊎ (b ≡ false)
 decided true = inl refl
 decided false = inr refl
-
-pub both-true : (a b : Bool) → a && b ≡ true → (a ≡ true) × (b ≡ true)
-both-true true true h = (refl, refl)
-both-true true false h = cc
-both-true false b h = cc
-
-pub true-both : (a b : Bool) → a ≡ true → b ≡ true → a && b ≡ true
-true-both true b x y = y
-true-both false b x y = cc
-
-pub not-true : (b : Bool) → not b ≡ true → b ≡ false
-not-true true h = cc
-not-true false h = refl
-
-pub false-not : (b : Bool) → b ≡ false → not b ≡ true
-false-not true h = cc
-false-not false h = refl
 
 pub same-number : (m n : ℕ) → (m == n) ≡ true → m ≡ n
 same-number m n h = grind (arith, nat_tests)
@@ -94,7 +78,7 @@ find-map p f (y ∷ xs) same = find-map-step p f y xs (p y) refl (same y) (find-
 -- a row that was looked up is of that file and host
 pub found-row : (file host : ℕ) (rows : List Row) (row : Row) → find_row file host rows ≡ Some row → (row.file ≡ file) × (row.who.host ≡ host)
 found-row file host rows row h =
-    let e = both-true _ _ (find-passes (is_row_of file host) row rows h) in (same-number _ _ e.0, same-number _ _ e.1)
+    let e = and_parts _ _ (find-passes (is_row_of file host) row rows h) in (same-number _ _ e.0, same-number _ _ e.1)
 
 -- whether two keys are one
 abbrev pub same_key : (file host f h : ℕ) → Bool

@@ -3,6 +3,7 @@ use Rattle.std.proofs.Common.{◌≡◌, ◌<◌, ◌≤◌, ℕ, ◌+◌, ◌-�
 use Rattle.std.specs.List.{find}
 use Rattle.std.specs.Prelude.{slice_get, is_some, nat_le}
 use Rattle.std.proofs.lemmas.Bool.Decides.{nat_tests}
+use Rattle.std.proofs.lemmas.Bool.{and_parts, or_parts}
 use Rattle.nq_base.specs.declared.PushBase.{PushBase}
 use Rattle.nq_base.specs.declared.Refusal.{Refusal}
 use Rattle.nq_base.specs.declared.Reply.{Reply as Answer}
@@ -20,8 +21,8 @@ use Rattle.nq_model.specs.Server.{Phase, serving, recovering, Server, ServerStep
 use Rattle.nq_model.specs.ServerStep.{attaches, attach, look_up, get_attr, read, read_block, read_of, get_lease, lease_of, tells_later, serves, to_read, access_of, is_attach, look, perform, not_attached, admit, answer_request, receive, at_time, opens, is_due, end_reading, end_writing, tick_in, tick}
 use Rattle.nq_model.specs.Table.{Table, find_row}
 use Rattle.nq_server_steps.proofs.AskCases.{with_waiter, IsGranted, asks}
-use Rattle.nq_server_steps.proofs.Rows.{choice, both-true, same-number, find-passes}
-use Rattle.nq_server_steps.proofs.Tests.{is-below, is-not-below, is-at-most, is-not-at-most, is-above, is-same, either-false, none-there}
+use Rattle.nq_server_steps.proofs.Rows.{choice, same-number, find-passes}
+use Rattle.nq_server_steps.proofs.Tests.{is-below, is-not-below, is-at-most, is-not-at-most, is-above, is-same, none-there}
 use Rattle.nq_server_steps.proofs.ServerOutcomes.{file_changed_by, base_in, only_asks, line_of, IsFrom, IsCurrent, IsFresh, unattached, attached_again, not_yet, no_entry, entry, no_attributes, attributes, no_file, no_block, decided_again, is_old, IsAsking, IsChanging, clash_with, CanResize, CanStore, bad_length, name_taken, no_room, not_kept, outside, no_row, not_under, not_over, not_while_recovering, bad_size, no_room_to_grow, ServerCases, TickCases}
 
 fits : (n most : ℕ) → (n == 0 || nat_lt most n) ≡ false → (0 < n) × (n ≤ most)
@@ -37,9 +38,9 @@ is-attach-of other who h by = cc
 
 lets-store : (s : Server) (who : Who) (f : File) (base : PushBase) (row : Row) → find_row f.id who.host s.table.rows ≡ Some row → lets_push s who f base row ≡ true → CanStore s who f base row
 lets-store s who f base row found h =
-    let a = both-true _ _ h in
-    let b = both-true _ _ a.0 in
-    let c = both-true _ _ b.0 in
+    let a = and_parts _ _ h in
+    let b = and_parts _ _ a.0 in
+    let c = and_parts _ _ b.0 in
     record { row_found = found; writes = c.0; inc = same-number _ _ c.1; boot = same-number _ _ b.1; rev = same-number _ _ a.1 }
 
 module _ (s : Server) (sender next : ℕ) (d : Datagram) (Q : ServerStep → Type 0) (cases : ServerCases s sender next d Q) where
@@ -86,8 +87,8 @@ module _ (s : Server) (sender next : ℕ) (d : Datagram) (Q : ServerStep → Typ
       (creates s name blocks)
       (λ no. cases.declining xid who seq r Verdict.NoSpace e refl refl fresh (no_room seq blocks name serves refl refl))
       (λ room.
-      let a = either-false _ _ room in
-      let b = either-false _ _ a.0 in
+      let a = or_parts _ _ room in
+      let b = or_parts _ _ a.0 in
       cases.creating xid who seq blocks name e fresh serves (record {
         some = (fits blocks most_blocks_of_file good).0;
         few = (fits blocks most_blocks_of_file good).1;
@@ -150,7 +151,7 @@ module _ (s : Server) (sender next : ℕ) (d : Datagram) (Q : ServerStep → Typ
       (stores_recovering s until last who f block first final body)
       (decides s Verdict.Fenced)
       (λ rests.
-      let a = both-true _ _ rests in
+      let a = and_parts _ _ rests in
       cases.storing_recovering xid who seq block first final base body f until heard last e fresh recovers found (is-not-at-most _ _ within) (same-number _ _ a.0) (same-number _ _ a.1))
       (λ bars. cases.declining xid who seq _ Verdict.Fenced e refl refl fresh (not_over seq f.id block first final base body f (record { until = until; heard = heard; last = last; phase = recovers }) refl found bars refl)))
 
@@ -445,7 +446,7 @@ module _ (s : Server) (sender next : ℕ) (d : Datagram) (Q : ServerStep → Typ
       (admit s who xid next r (line_of s who))
       (drops s wrong_host)
       (λ right.
-      let a = both-true _ _ right in
+      let a = and_parts _ _ right in
       admits xid who r e by (record { host = same-number _ _ a.0; possible = is-below _ _ a.1 }))
       (λ wrong. cases.dropping wrong_host)
 

@@ -17,7 +17,7 @@ use Rattle.nq_model.specs.Ask.{conflicts, marked, grant_of}
 use Rattle.nq_model.specs.Decide.{decides, creates, writes_through, stores, stores_recovering, resizes, removes, puts_off, in_the_way, verdict_reply, commits}
 use Rattle.nq_model.specs.Kept.{File, blocks_of, blocks_in_all, find_file, find_name, host_row}
 use Rattle.nq_model.specs.LeaseInterval.{requested_file}
-use Rattle.nq_model.specs.Message.{Message, error, Datagram, too_long, no_message, no_call, other_rpc, other_program, other_version, unknown_procedure, garbage_vacated, garbage, request, rpc_mismatch, program_unavailable, program_mismatch, procedure_unavailable, garbage_arguments, Reason, asker, sequence_of}
+use Rattle.nq_model.specs.Message.{Message, error, Datagram, too_long, no_message, no_call, other_rpc, other_program, other_version, unknown_procedure, garbage_vacated, garbage, request, rpc_mismatch, program_unavailable, program_mismatch, procedure_unavailable, garbage_arguments, Reason, asker, sequence_of, reply}
 use Rattle.nq_model.specs.Profile.{most_hosts, most_files, most_blocks, most_blocks_of_file, most_ids}
 use Rattle.nq_model.specs.Server.{serving, recovering, Server, ServerStep, quiet, drops, says, replies, with_table}
 use Rattle.nq_model.specs.ServerStep.{attaches, vacates, tells_later, serves, leases, to_read, access_of, is_attach, at_time, opens, is_due, end_reading, ends_writing}
@@ -36,6 +36,15 @@ error_for (unknown_procedure xid) = Some (error xid procedure_unavailable)
 error_for garbage_vacated = None
 error_for (garbage xid) = Some (error xid garbage_arguments)
 error_for (request xid r) = None
+
+-- and it is no reply
+pub error-no-reply : (d : Datagram) (m : Message) (x : ℕ) (a : Answer) → error_for d ≡ Some m → m ≡ reply x a → ⊥
+error-no-reply (other_rpc xid) m x a e is = cc
+error-no-reply (other_program xid) m x a e is = cc
+error-no-reply (other_version xid) m x a e is = cc
+error-no-reply (unknown_procedure xid) m x a e is = cc
+error-no-reply (garbage xid) m x a e is = cc
+error-no-reply other m x a e is = cc
 
 -- the file that a request is about to change
 abbrev pub file_changed_by : Request → Option ℕ

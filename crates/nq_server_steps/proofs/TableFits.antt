@@ -3,6 +3,7 @@ use Rattle.std.proofs.Common.{◌≡◌, ◌≢◌, ◌≤◌, ◌⊎◌, ℕ, �
 use Rattle.std.specs.List.{find}
 use Rattle.std.specs.Prelude.{is_some}
 use Rattle.std.proofs.lemmas.Bool.Decides.{nat_tests}
+use Rattle.std.proofs.lemmas.Bool.{and_parts}
 use Rattle.nq_base.specs.declared.Access.{Access}
 use Rattle.nq_base.specs.declared.Mode.{Mode}
 use Rattle.nq_base.specs.declared.Mode.TheVariants.{NonCaching, Reading, Writing}
@@ -14,7 +15,7 @@ use Rattle.nq_model.specs.ServerStep.{access_of, access_of_mode}
 use Rattle.nq_model.specs.Table.{Table, next_tag, tag_below, caches, is_writing, greater_mode, is_row_of, find_row, put_row, with_rows, after_draw}
 use Rattle.nq_server_steps.proofs.AskCases.{clash_in, with_marked, with_waiter, IsGranted, shares_again, begins_sharing, begins_caching, renews_row}
 use Rattle.nq_server_steps.proofs.RowChanges.{HasUniqueKeys, of-key, found-put, unique-put, found-marked, mark, mark-is, unique-marked, no-clash}
-use Rattle.nq_server_steps.proofs.Rows.{both-true, found-row}
+use Rattle.nq_server_steps.proofs.Rows.{found-row}
 
 -- a row is of a kept file; its tags were drawn in this boot, the chain's first no later than its latest; and where its
 -- holder may not cache it is not to be given up
@@ -105,7 +106,7 @@ mark-calm file host access r calm = by (conflicts file host access r) refl
   where
     by : (b : Bool) → conflicts file host access r ≡ b → caches (if b then record r { evicting = true } else r).mode ≡ false → (if b then record r { evicting = true } else r).evicting ≡ false
     by false e = calm
-    by true e = not-both (marks-caching access r.mode (both-true (r.file == file && not (r.who.host == host)) (mode_conflicts access r.mode) e).1)
+    by true e = not-both (marks-caching access r.mode (and_parts (r.file == file && not (r.who.host == host)) (mode_conflicts access r.mode) e).1)
       where
         not-both : caches r.mode ≡ true → caches r.mode ≡ false → true ≡ false
         not-both x y = cc

@@ -1,7 +1,6 @@
 -- What an ok says is said at its place: whatever the journal tells later, it stays true.
 use Rattle.std.proofs.Common.{◌≡◌, ◌⊎◌, ℕ, List, [], ◌∷◌, ◌++◌, Option, Some, None, refl, sym, subst, ◌∙◌, inl, inr, append_assoc}
 use Rattle.std.specs.Prelude.{⊤}
-use Rattle.std.specs.Option.{option_or}
 use Rattle.nq_base.specs.declared.Entry.{Entry}
 use Rattle.nq_base.specs.declared.Entry.TheVariants.{L, A}
 use Rattle.nq_base.specs.declared.Loss.{Loss}
@@ -9,24 +8,13 @@ use Rattle.nq_base.specs.declared.Said.TheVariants.{Ok, OkValue, OkBy, Lost}
 use Rattle.nq_base.specs.declared.Told.{Told}
 use Rattle.nq_base.specs.declared.Told.TheVariants.{Create, Lookup, Attr, Read, Fetch, Write, WriteSync, Sync, Resize, Remove}
 use Rattle.nq_base.specs.declared.Who.{Who}
-use Rattle.nq_model.specs.Journal.{Each, Exists, Throughout, Somewhere, SpeaksOf, call_of, told_by, IsStored}
+use Rattle.nq_call_facts.proofs.Placed.{call-later, call-told}
+use Rattle.nq_model.proofs.Lists.{exists-map, each-map, exists-right}
+use Rattle.nq_model.specs.Journal.{Exists, Throughout, Somewhere, SpeaksOf, call_of, IsStored}
 use Rattle.nq_model.specs.Reported.{Names, loss_told}
 use Rattle.nq_model.specs.Synchronized.{IsNamedLoss, IsSettled, IsSettledResize, IsKept, IsKeptAt, IsSynchronized}
 
 -- ---- lists
-
-pub exists-more : {X : Type 0} (P Q : X → Type 0) (xs : List X) → ((x : X) → P x → Q x) → Exists P xs → Exists Q xs
-exists-more P Q [] f h = h
-exists-more P Q (x ∷ xs) f (inl p) = inl (f x p)
-exists-more P Q (x ∷ xs) f (inr h) = inr (exists-more P Q xs f h)
-
-pub exists-later : {X : Type 0} (P : X → Type 0) (later xs : List X) → Exists P xs → Exists P (later ++ xs)
-exists-later P [] xs h = h
-exists-later P (x ∷ later) xs h = inr (exists-later P later xs h)
-
-pub each-more : {X : Type 0} (P Q : X → Type 0) (xs : List X) → ((x : X) → P x → Q x) → Each P xs → Each Q xs
-each-more P Q [] f h = h
-each-more P Q (x ∷ xs) f h = (f x h.0, each-more P Q xs f h.1)
 
 pub somewhere-more : (P Q : Entry → List Entry → Type 0) (xs : List Entry) → ((e : Entry) (before : List Entry) → P e before → Q e before) → Somewhere P xs → Somewhere Q xs
 somewhere-more P Q [] f h = h
@@ -34,14 +22,6 @@ somewhere-more P Q (x ∷ xs) f (inl p) = inl (f x xs p)
 somewhere-more P Q (x ∷ xs) f (inr h) = inr (somewhere-more P Q xs f h)
 
 -- ---- what a call asks
-
--- what is told first stays so
-pub told-first : (told : Told) (o : Option Told) (p : Option Told) → o ≡ Some told → option_or o p ≡ Some told
-told-first told o p e = rw e refl
-
-pub call-later : (later journal : List Entry) (who : Who) (q : ℕ) (told : Told) → call_of journal who q ≡ Some told → call_of (later ++ journal) who q ≡ Some told
-call-later [] journal who q told e = e
-call-later (x ∷ later) journal who q told e = told-first told (call_of (later ++ journal) who q) (told_by x who q) (call-later later journal who q told e)
 
 speaks-later : (later journal : List Entry) (file : ℕ) (who : Who) (q : ℕ) (o : Option Told) → call_of journal who q ≡ o → SpeaksOf file o → SpeaksOf file (call_of (later ++ journal) who q)
 speaks-later later journal file who q None e h = absurd h
@@ -54,19 +34,19 @@ names-later later journal who loss (A by q (Lost spans)) h = (h.0, speaks-later 
 names-later later journal who loss other h = absurd h
 
 named-later : (later journal answered : List Entry) (write e : Entry) → IsNamedLoss journal answered write e → IsNamedLoss (later ++ journal) answered write e
-named-later later journal answered write (L who file block first last) h = (h.0, exists-more _ _ answered (λ a n. names-later later journal who (loss_told file block first last) a n) h.1)
+named-later later journal answered write (L who file block first last) h = (h.0, exists-map _ _ answered (λ a n. names-later later journal who (loss_told file block first last) a n) h.1)
 named-later later journal answered write other h = absurd h
 
 pub named-answered : (journal answered more : List Entry) (write e : Entry) → IsNamedLoss journal answered write e → IsNamedLoss journal (more ++ answered) write e
-named-answered journal answered more write (L who file block first last) h = (h.0, exists-later (Names journal who (loss_told file block first last)) more answered h.1)
+named-answered journal answered more write (L who file block first last) h = (h.0, exists-right (Names journal who (loss_told file block first last)) more answered h.1)
 named-answered journal answered more write other h = absurd h
 
 pub settled-later : (later journal stores more answered : List Entry) (who : Who) (file : ℕ) (write : Entry) → IsSettled journal stores answered who file write → IsSettled (later ++ journal) (more ++ stores) answered who file write
 settled-later later journal stores more answered who file write h d = case (h d)
   where
     case : IsStored stores write ⊎ Exists (IsNamedLoss journal answered write) journal → IsStored (more ++ stores) write ⊎ Exists (IsNamedLoss (later ++ journal) answered write) (later ++ journal)
-    case (inl stored) = inl (exists-later _ more stores stored)
-    case (inr named) = inr (exists-later _ later journal (exists-more _ _ journal (λ e n. named-later later journal answered write e n) named))
+    case (inl stored) = inl (exists-right _ more stores stored)
+    case (inr named) = inr (exists-right _ later journal (exists-map _ _ journal (λ e n. named-later later journal answered write e n) named))
 
 -- and where more was answered
 pub settled-answered : (journal stores answered more : List Entry) (who : Who) (file : ℕ) (write : Entry) → IsSettled journal stores answered who file write → IsSettled journal stores (more ++ answered) who file write
@@ -74,17 +54,17 @@ settled-answered journal stores answered more who file write h d = case (h d)
   where
     case : IsStored stores write ⊎ Exists (IsNamedLoss journal answered write) journal → IsStored stores write ⊎ Exists (IsNamedLoss journal (more ++ answered) write) journal
     case (inl stored) = inl stored
-    case (inr named) = inr (exists-more _ _ journal (λ e n. named-answered journal answered more write e n) named)
+    case (inr named) = inr (exists-map _ _ journal (λ e n. named-answered journal answered more write e n) named)
 
 pub resize-later : (later journal answered : List Entry) (who : Who) (q file : ℕ) (e : Entry) (before : List Entry) → IsSettledResize journal answered who q file e before → IsSettledResize (later ++ journal) answered who q file e before
-resize-later later journal answered who q file (Entry.Z by n f from to) before h = (h.0, h.1, each-more _ _ answered (λ write s. settled-later later journal before [] answered who file write s) h.2)
+resize-later later journal answered who q file (Entry.Z by n f from to) before h = (h.0, h.1, each-map _ _ answered (λ write s. settled-later later journal before [] answered who file write s) h.2)
 resize-later later journal answered who q file other before h = absurd h
 
 -- ---- what is answered ok
 
 pub kept-later : (later journal before : List Entry) (who : Who) (q : ℕ) (o : Option Told) → IsKept journal before who q o → IsKept (later ++ journal) before who q o
 kept-later later journal before who q (Some (WriteSync file block value)) h = h
-kept-later later journal before who q (Some (Sync file)) h = each-more _ _ before (λ write s. settled-later later journal journal later before who file write s) h
+kept-later later journal before who q (Some (Sync file)) h = each-map _ _ before (λ write s. settled-later later journal journal later before who file write s) h
 kept-later later journal before who q (Some (Resize file blocks)) h = somewhere-more _ _ before (λ e b r. resize-later later journal before who q file e b r) h
 kept-later later journal before who q (Some (Remove file)) h = somewhere-more _ _ before (λ e b r. resize-later later journal before who q file e b r) h
 kept-later later journal before who q (Some (Create name blocks)) h = tt
@@ -109,7 +89,7 @@ KeptHere other before = ⊤
 
 ok-later : (later before : List Entry) (entry : Entry) (who : Who) (q : ℕ) → OkAt entry before who q → IsKept (later ++ entry ∷ before) before who q (call_of (later ++ entry ∷ before) who q)
 ok-later later before entry who q h =
-    let asks : call_of (later ++ entry ∷ before) who q ≡ Some h.told = call-later later (entry ∷ before) who q h.told (told-first h.told (call_of before who q) (told_by entry who q) h.asks) in
+    let asks : call_of (later ++ entry ∷ before) who q ≡ Some h.told = call-later later (entry ∷ before) who q h.told (call-told entry before who q h.told h.asks) in
     subst (IsKept (later ++ entry ∷ before) before who q) (sym asks) (kept-later later (entry ∷ before) before who q (Some h.told) h.kept)
 
 here-later : (later before : List Entry) (entry : Entry) → KeptHere entry before → IsKeptAt (later ++ entry ∷ before) entry before

@@ -1,6 +1,7 @@
 -- An ok is kept at its place: of a call that asks nothing of it, of a sync, and of a put.
 use Rattle.std.proofs.Common.{◌≡◌, ◌≤◌, ◌⊎◌, ℕ, Bool, true, false, not, ◌||◌, ◌==◌, if◌then◌else◌, List, [], ◌∷◌, Option, Some, refl, sym, subst, ap, ◌∙◌, inl, inr}
 use Rattle.std.specs.List.{list_any}
+use Rattle.std.proofs.lemmas.Bool.{and_parts, not-true}
 use Rattle.nq_base.specs.declared.Call.{Call}
 use Rattle.nq_base.specs.declared.Entry.{Entry}
 use Rattle.nq_base.specs.declared.Entry.TheVariants.{W, S, L, A}
@@ -17,11 +18,11 @@ use Rattle.nq_model.specs.Journal.{Each, Exists, Somewhere, Stores, IsStored}
 use Rattle.nq_model.specs.Reported.{Names, loss_told}
 use Rattle.nq_model.specs.Synchronized.{IsNamedLoss, IsSettled, IsPutKept, IsKept}
 use Rattle.nq_report_laws.specs.LossesInRuns.{IsLossOf, IsOneOf}
+use Rattle.nq_run_steps.proofs.Members.{each-in, in-exists}
 use Rattle.nq_run_steps.proofs.Packets.{In}
-use Rattle.nq_server_steps.proofs.Rows.{both-true, not-true, number-same}
+use Rattle.nq_server_steps.proofs.Rows.{number-same}
 use Rattle.nq_synchronized_laws.proofs.KeptPlaces.{OkAt, somewhere-more}
 use Rattle.nq_synchronized_laws.proofs.OkFacts.{CoversNumber, by_store, by_loss, LiesWithin, in_list, under_way, PutWaits, IsPutWrite, IsOpenAs}
-use Rattle.nq_synchronized_laws.proofs.OkMoves.{each-in, exists-in}
 
 -- ---- calls of whose ok nothing is asked
 
@@ -60,12 +61,12 @@ list-any-in p (y ∷ ys) x (inr i) e = either (p y) (list_any p ys) (list-any-in
 -- it has no delayed writes
 pub clean-none : (file block n : ℕ) (dirty : List Push) (push : Option Push) → is_clean_in file dirty push ≡ true → LiesWithin dirty push file block n → ⊥
 clean-none file block n dirty push clean (in_list p i of at from to) =
-    let a = both-true (not (list_any (is_push_of file) dirty)) (not (push_passes (is_push_of file) push)) clean in
+    let a = and_parts (not (list_any (is_push_of file) dirty)) (not (push_passes (is_push_of file) push)) clean in
     let none : list_any (is_push_of file) dirty ≡ false = not-true (list_any (is_push_of file) dirty) a.0 in
     let some : list_any (is_push_of file) dirty ≡ true = list-any-in (is_push_of file) dirty p i (number-same p.file file of) in
     absurd (cc)
 clean-none file block n dirty push clean (under_way p e of at from to) =
-    let a = both-true (not (list_any (is_push_of file) dirty)) (not (push_passes (is_push_of file) push)) clean in
+    let a = and_parts (not (list_any (is_push_of file) dirty)) (not (push_passes (is_push_of file) push)) clean in
     let none : push_passes (is_push_of file) push ≡ false = not-true (push_passes (is_push_of file) push) a.1 in
     let of_file : (p.file == file) ≡ true = number-same p.file file of in
     let some : push_passes (is_push_of file) push ≡ true = ap (push_passes (is_push_of file)) e ∙ of_file in
@@ -100,11 +101,11 @@ settles whole base stores answered who file losses k (W by f block n value false
 
     named : (first last : ℕ) → In base (L who file block first last) → first ≤ n → n ≤ last → IsOneOf losses (loss_told file block first last) ⊎ Exists (Names whole who (loss_told file block first last)) answered → Exists (IsNamedLoss whole answered (W by f block n value false)) whole
     named first last at from to (inl one) = absurd (unlosses file losses (loss_told file block first last) k.none refl one)
-    named first last at from to (inr names) = exists-in (IsNamedLoss whole answered (W by f block n value false)) whole (L who file block first last) (k.lost block first last at) ((d.0, d.1, refl, from, to), names)
+    named first last at from to (inr names) = in-exists (IsNamedLoss whole answered (W by f block n value false)) whole (L who file block first last) (k.lost block first last at) ((d.0, d.1, refl, from, to), names)
 
     case : CoversNumber base who file block n → IsStored stores (W by f block n value false) ⊎ Exists (IsNamedLoss whole answered (W by f block n value false)) whole
-    case (by_store first last now at from to) = inl (exists-in (λ e. Stores e (W by f block n value false)) stores (S who file block first last now) (k.stored block first last now at) (d.0, d.1, refl, from, to))
-    case (by_loss first last at from to) = inr (named first last at from to (k.named (loss_told file block first last) (exists-in (IsLossOf who (loss_told file block first last)) base (L who file block first last) at (refl, refl))))
+    case (by_store first last now at from to) = inl (in-exists (λ e. Stores e (W by f block n value false)) stores (S who file block first last now) (k.stored block first last now at) (d.0, d.1, refl, from, to))
+    case (by_loss first last at from to) = inr (named first last at from to (k.named (loss_told file block first last) (in-exists (IsLossOf who (loss_told file block first last)) base (L who file block first last) at (refl, refl))))
 settles whole base stores answered who file losses k other i d = absurd d
 
 -- each delayed write of the file is settled
@@ -164,7 +165,7 @@ put-ok who u file block body journal dirty push h is waits clean unsaved = recor
   stored (inl c) = by (covers-before who who u.q file block waits.number Ok journal c)
     where
       by : CoversNumber journal who file block waits.number → IsStored journal (W who file block waits.number waits.value false)
-      by (by_store first last now at from to) = exists-in (λ e. Stores e (W who file block waits.number waits.value false)) journal (S who file block first last now) at (refl, refl, refl, from, to)
+      by (by_store first last now at from to) = in-exists (λ e. Stores e (W who file block waits.number waits.value false)) journal (S who file block first last now) at (refl, refl, refl, from, to)
       by (by_loss first last at from to) = absurd (waits.unlost first last at from to)
 
   is_stored : IsStored journal (W who file block waits.number waits.value false)

@@ -1,6 +1,7 @@
 -- What is kept of a client's call under way, over a whole step of the client: a call, a tick, a datagram, a restart.
 use Rattle.std.proofs.Common.{◌≡◌, ◌<◌, ◌≤◌, ◌⊎◌, ℕ, ◌+◌, Bool, true, false, ◌&&◌, ◌==◌, List, [], ◌∷◌, Some, None, is_some, if◌then◌else◌, refl, subst, ap, ◌∙◌, arith, inl, inr}
 use Rattle.std.specs.Option.{option_or}
+use Rattle.std.proofs.lemmas.Bool.{and_parts, and_from}
 use Rattle.nq_base.specs.declared.Call.{Call}
 use Rattle.nq_base.specs.declared.Entry.{Entry}
 use Rattle.nq_base.specs.declared.Entry.TheVariants.{C, W, L, A, B}
@@ -23,7 +24,8 @@ use Rattle.nq_model.specs.Send.{send_next}
 use Rattle.nq_model.specs.Settle.{settle}
 use Rattle.nq_report_laws.specs.LossesInRuns.{cleans}
 use Rattle.nq_run_steps.proofs.Packets.{In}
-use Rattle.nq_server_steps.proofs.Rows.{same-number, number-same, both-true, true-both}
+use Rattle.nq_server_steps.proofs.Incarnations.{who-same}
+use Rattle.nq_server_steps.proofs.Rows.{same-number, number-same}
 use Rattle.nq_synchronized_laws.proofs.KeptPlaces.{KeptHere}
 use Rattle.nq_synchronized_laws.proofs.OkFacts.{Made, IsOpenAs, IsFor, KeepsOf, All, book_of, Mid, After, ended}
 use Rattle.nq_synchronized_laws.proofs.OkMoves.{open-more, put-more, made-more, numbered-more}
@@ -57,15 +59,7 @@ module _ {line : HostRow} {journal : List Entry} (t : ClientStep) (m : Mid All l
 -- ---- a call
 
 same-self : (w : Who) → same_who w w ≡ true
-same-self w = true-both (w.host == w.host) (w.inc == w.inc) (number-same w.host w.host refl) (number-same w.inc w.inc refl)
-
-same-whole : (v w : Who) → same_who v w ≡ true → v ≡ w
-same-whole v w h =
-    let a = both-true (v.host == w.host) (v.inc == w.inc) h in
-    ap (λ n. who_of n v.inc) (same-number v.host w.host a.0) ∙ ap (λ n. who_of w.host n) (same-number v.inc w.inc a.1)
-  where
-    who_of : ℕ → ℕ → Who
-    who_of host inc = record { host = host; inc = inc }
+same-self w = and_from (w.host == w.host) (w.inc == w.inc) (number-same w.host w.host refl) (number-same w.inc w.inc refl)
 
 -- a call that no C is of is not told
 untold-by : (who : Who) (q : ℕ) (e : Entry) → (entry_who e ≡ Some who → entry_call e ≡ Some q → ⊥) → told_by e who q ≡ None
@@ -73,7 +67,7 @@ untold-by who q (C by n told) none = step (same_who by who && n == q) refl
   where
     step : (b : Bool) → (same_who by who && n == q) ≡ b → (if b then Some told else None) ≡ None
     step false e = refl
-    step true e = let a = both-true (same_who by who) (n == q) e in absurd (none (ap Some (same-whole by who a.0)) (ap Some (same-number n q a.1)))
+    step true e = let a = and_parts (same_who by who) (n == q) e in absurd (none (ap Some (who-same by who a.0)) (ap Some (same-number n q a.1)))
 untold-by who q other none = refl
 
 untold : (who : Who) (q : ℕ) (journal : List Entry) → ((e : Entry) → In journal e → entry_who e ≡ Some who → entry_call e ≡ Some q → ⊥) → call_of journal who q ≡ None
@@ -137,7 +131,7 @@ module _ (line : HostRow) (c : Client) (journal : List Entry) (h : Ready line c 
   tells-new : (op : Call) → call_of (C c.who (c.calls + 1) (told op) ∷ journal) c.who (c.calls + 1) ≡ Some (told op)
   tells-new op =
       let a : call_of journal c.who (c.calls + 1) ≡ None = untold c.who (c.calls + 1) journal fresh in
-      let b : (same_who c.who c.who && (c.calls + 1) == (c.calls + 1)) ≡ true = true-both (same_who c.who c.who) ((c.calls + 1) == (c.calls + 1)) (same-self c.who) (number-same (c.calls + 1) (c.calls + 1) refl) in
+      let b : (same_who c.who c.who && (c.calls + 1) == (c.calls + 1)) ≡ true = and_from (same_who c.who c.who) ((c.calls + 1) == (c.calls + 1)) (same-self c.who) (number-same (c.calls + 1) (c.calls + 1) refl) in
       ap (λ o. option_or o (told_by (C c.who (c.calls + 1) (told op)) c.who (c.calls + 1))) a ∙ ap (λ x. if x then Some (told op) else None) b
 
   open-new : (op : Call) → IsOpen (C c.who (c.calls + 1) (told op) ∷ journal) c.who (c.calls + 1)

@@ -14,11 +14,12 @@ use Rattle.nq_model.specs.Client.{Client, ClientStep, Ticket, UnderWay, losses_o
 use Rattle.nq_model.specs.Hear.{loss_of, loss_entry, all_dirty, other_push, loses, waits_for, with_through, marks_through}
 use Rattle.nq_model.specs.Journal.{Throughout}
 use Rattle.nq_report_laws.specs.LossesInRuns.{cleans}
+use Rattle.nq_run_steps.proofs.Members.{in-filtered}
 use Rattle.nq_run_steps.proofs.Packets.{In, in-append}
 use Rattle.nq_server_steps.proofs.Rows.{same-number, number-same}
 use Rattle.nq_synchronized_laws.proofs.KeptPlaces.{KeptHere}
 use Rattle.nq_synchronized_laws.proofs.OkFacts.{PutWaits, IsOpenAs, KeepsOk, All, Book, book_of, Mid}
-use Rattle.nq_synchronized_laws.proofs.OkMoves.{in-filter, open-more, put-more, writes-there, loss-there}
+use Rattle.nq_synchronized_laws.proofs.OkMoves.{open-more, put-more, writes-there, loss-there}
 
 -- after the request under way was spent: none is under way, and the call is still the one that was
 pub record Spent (call : Option UnderWay) (Spared : UnderWay → Type 0) (line : HostRow) (journal : List Entry) (t : ClientStep) : Type 0 where
@@ -202,7 +203,7 @@ spent-loses {call = call} {line = line} {journal = journal} t file s = record {
     told = λ u f is spared e. losses-other f file c.losses ps (cleans-other file f u spared e) on (m.keeps.told u f is tt e);
     put = λ u f block body is spared. m.keeps.put u f block body is tt;
     made = λ k u n e. none-some k (sym s.free ∙ e);
-    numbers = record { listed = λ p i. m.keeps.numbers.listed p (in-filter _ c.dirty p i); pushed = λ p e. m.keeps.numbers.pushed p (other-is p c.push e); lost = m.keeps.numbers.lost };
+    numbers = record { listed = λ p i. m.keeps.numbers.listed p (in-filtered _ c.dirty p i); pushed = λ p e. m.keeps.numbers.pushed p (other-is p c.push e); lost = m.keeps.numbers.lost };
   }
 
   owns : (e : Entry) → In es e ⊎ In t.entries e → entry_who e ≡ Some c.who

@@ -1,58 +1,29 @@
 -- How what is kept of a client and the journal changes with each entry, and with the lists of delayed writes.
-use Rattle.std.proofs.Common.{◌≡◌, ◌≢◌, ◌<◌, ◌≤◌, ◌⊎◌, ℕ, ◌+◌, Bool, true, false, List, [], ◌∷◌, ◌++◌, Option, Some, None, map, if◌then◌else◌, refl, sym, subst, ap, ◌∙◌, arith, inl, inr}
-use Rattle.std.proofs.lemmas.List.{reverse-append}
+use Rattle.std.proofs.Common.{◌≡◌, ◌≢◌, ◌<◌, ◌≤◌, ◌⊎◌, ℕ, ◌+◌, Bool, true, false, List, [], ◌∷◌, Option, Some, None, map, if◌then◌else◌, refl, sym, subst, ap, ◌∙◌, arith, inl, inr}
 use Rattle.std.specs.Prelude.{reverse}
-use Rattle.std.specs.List.{filter, find}
+use Rattle.std.specs.List.{filter}
 use Rattle.nq_base.specs.declared.Entry.{Entry}
 use Rattle.nq_base.specs.declared.Entry.TheVariants.{W, L, A}
 use Rattle.nq_base.specs.declared.Push.{Push}
 use Rattle.nq_base.specs.declared.Request.{Request}
 use Rattle.nq_base.specs.declared.Who.{Who}
+use Rattle.nq_call_facts.proofs.Placed.{call-later}
 use Rattle.nq_call_steps.proofs.CallsFit.{entry_who}
 use Rattle.nq_client_steps.proofs.ClientMoves.{some-same, none-some}
+use Rattle.nq_model.proofs.Lists.{each-map}
 use Rattle.nq_model.specs.Client.{UnderWay, is_push_of, is_push_at, first_dirty, drop_dirty, dirty_at}
 use Rattle.nq_model.specs.ClientStep.{told}
 use Rattle.nq_model.specs.Hear.{loss_entry, push_of}
-use Rattle.nq_model.specs.Journal.{Each, Exists, Somewhere, IsAnswer}
+use Rattle.nq_model.specs.Journal.{Exists, Somewhere, IsAnswer}
 use Rattle.nq_model.specs.Settle.{overwritten, overwritten_at, with_write}
 use Rattle.nq_model.specs.Synchronized.{IsSettledResize, IsDelayedBy}
 use Rattle.nq_report_laws.proofs.Books.{unsaved_on}
+use Rattle.nq_run_steps.proofs.Members.{in-filtered, in-filter, in-map, find-in, in-reverse}
 use Rattle.nq_run_steps.proofs.Packets.{In, in-append, in-last}
-use Rattle.nq_synchronized_laws.proofs.KeptPlaces.{each-more, somewhere-more, call-later, settled-later, settled-answered}
+use Rattle.nq_synchronized_laws.proofs.KeptPlaces.{somewhere-more, settled-later, settled-answered}
 use Rattle.nq_synchronized_laws.proofs.OkFacts.{PutWaits, Made, IsOpenAs, Numbered}
 
 -- ---- lists
-
-pub in-filter : {X : Type 0} (p : X → Bool) (xs : List X) (x : X) → In (filter p xs) x → In xs x
-in-filter p [] x h = h
-in-filter p (y ∷ ys) x h = step (p y) (λ i. in-filter p ys x i) h
-  where
-    step : (b : Bool) → (In (filter p ys) x → In ys x) → In (if b then y ∷ filter p ys else filter p ys) x → (y ≡ x) ⊎ In ys x
-    step true rest (inl e) = inl e
-    step true rest (inr i) = inr (rest i)
-    step false rest i = inr (rest i)
-
-pub in-map : {X Y : Type 0} (f : X → Y) (xs : List X) (y : Y) → In (map f xs) y → (x : X) × In xs x × (f x ≡ y)
-in-map f [] y h = absurd h
-in-map f (x ∷ xs) y (inl e) = (x, inl refl, e)
-in-map f (x ∷ xs) y (inr i) = let k = in-map f xs y i in (k.0, inr k.1, k.2)
-
-pub in-find : {X : Type 0} (p : X → Bool) (xs : List X) (x : X) → find p xs ≡ Some x → In xs x
-in-find p [] x h = none-some x h
-in-find p (y ∷ ys) x h = step (p y) (λ e. in-find p ys x e) h
-  where
-    step : (b : Bool) → (find p ys ≡ Some x → In ys x) → (if b then Some y else find p ys) ≡ Some x → (y ≡ x) ⊎ In ys x
-    step true rest e = inl (some-same y x e)
-    step false rest e = inr (rest e)
-
-pub each-in : {X : Type 0} (P : X → Type 0) (xs : List X) → ((x : X) → In xs x → P x) → Each P xs
-each-in P [] f = tt
-each-in P (x ∷ xs) f = (f x (inl refl), each-in P xs (λ y i. f y (inr i)))
-
-pub exists-in : {X : Type 0} (P : X → Type 0) (xs : List X) (x : X) → In xs x → P x → Exists P xs
-exists-in P [] x i p = absurd i
-exists-in P (y ∷ ys) x (inl e) p = inl (subst P (sym e) p)
-exists-in P (y ∷ ys) x (inr i) p = inr (exists-in P ys x i p)
 
 -- ---- entries
 
@@ -104,7 +75,7 @@ pub resize-more : (who : Who) (q file : ℕ) (e : Entry) (journal : List Entry) 
 resize-more who q file e journal none h = inr (somewhere-more (IsSettledResize journal journal who q file) (IsSettledResize (e ∷ journal) (e ∷ journal) who q file) journal more h)
   where
     more : (z : Entry) (before : List Entry) → IsSettledResize journal journal who q file z before → IsSettledResize (e ∷ journal) (e ∷ journal) who q file z before
-    more (Entry.Z by n f from to) before r = (r.0, r.1, (λ d. absurd (no-delayed who file e none d), each-more _ _ journal (λ write s. settled-answered (e ∷ journal) before journal (e ∷ []) who file write (settled-later (e ∷ []) journal before [] journal who file write s)) r.2))
+    more (Entry.Z by n f from to) before r = (r.0, r.1, (λ d. absurd (no-delayed who file e none d), each-map _ _ journal (λ write s. settled-answered (e ∷ journal) before journal (e ∷ []) who file write (settled-later (e ∷ []) journal before [] journal who file write s)) r.2))
     more other before r = absurd r
 
 pub made-more : (who : Who) (q : ℕ) (r : Request) (e : Entry) (journal : List Entry) → ((file block n value : ℕ) → e ≡ W who file block n value false → ⊥) → Made who q r journal → Made who q r (e ∷ journal)
@@ -179,8 +150,8 @@ numbered-written {who = who} {number = number} {dirty = dirty} {push = push} {jo
 -- delayed writes are under way
 pub numbered-taken : {who : Who} {number : ℕ} {dirty : List Push} {push : Option Push} {journal : List Entry} (file : ℕ) (p : Push) → first_dirty file dirty ≡ Some p → Numbered who number dirty push journal → Numbered who number (drop_dirty p.file p.block dirty) (Some p) journal
 numbered-taken {number = number} {dirty = dirty} file p first h = record {
-  listed = λ q i. h.listed q (in-filter _ dirty q i);
-  pushed = λ q e. subst (λ z. z.last < number) (some-same p q e) (h.listed p (in-find (is_push_of file) dirty p first));
+  listed = λ q i. h.listed q (in-filtered _ dirty q i);
+  pushed = λ q e. subst (λ z. z.last < number) (some-same p q e) (h.listed p (find-in (is_push_of file) dirty p first));
   lost = h.lost;
 }
 
@@ -188,15 +159,6 @@ pub numbered-stored : {who : Who} {number : ℕ} {dirty : List Push} {push : Opt
 numbered-stored h = record { listed = h.listed; pushed = λ p e. none-some p e; lost = h.lost }
 
 -- ---- losses
-
-passing-in : {X : Type 0} (f : X → Bool) (xs : List X) (p : X) → In (filter f xs) p → In xs p × (f p ≡ true)
-passing-in f [] p h = absurd h
-passing-in f (x ∷ xs) p h = step (f x) refl (λ i. passing-in f xs p i) h
-  where
-    step : (b : Bool) → f x ≡ b → (In (filter f xs) p → In xs p × (f p ≡ true)) → In (if b then x ∷ filter f xs else filter f xs) p → In (x ∷ xs) p × (f p ≡ true)
-    step true e rest (inl same) = (inl same, subst (λ z. f z ≡ true) same e)
-    step true e rest (inr h) = let k = rest h in (inr k.0, k.1)
-    step false e rest h = let k = rest h in (inr k.0, k.1)
 
 -- each is of the file, and was there
 pub writes-there : (file : ℕ) (push : Option Push) (dirty : List Push) (p : Push) → In (unsaved_on file push dirty) p → ((push ≡ Some p) ⊎ In dirty p) × (is_push_of file p ≡ true)
@@ -213,15 +175,7 @@ writes-there file push dirty p i = case (in-append (push_of file push) (filter (
 
     case : In (push_of file push) p ⊎ In (filter (is_push_of file) dirty) p → ((push ≡ Some p) ⊎ In dirty p) × (is_push_of file p ≡ true)
     case (inl h) = let k = under-way push h in (inl k.0, k.1)
-    case (inr h) = let k = passing-in (is_push_of file) dirty p h in (inr k.0, k.1)
-
-in-reverse : {X : Type 0} (xs : List X) (x : X) → In (reverse xs) x → In xs x
-in-reverse [] x h = h
-in-reverse (y ∷ ys) x h = case (in-last (reverse ys) y x (subst (λ zs. In zs x) (reverse-append (y ∷ []) ys) h)) (λ i. in-reverse ys x i)
-  where
-    case : In (reverse ys) x ⊎ (y ≡ x) → (In (reverse ys) x → In ys x) → (y ≡ x) ⊎ In ys x
-    case (inl i) rest = inr (rest i)
-    case (inr e) rest = inl e
+    case (inr h) = let k = in-filter (is_push_of file) dirty p h in (inr k.0, k.1)
 
 -- an entry of the losses is an L of one of the writes
 pub loss-there : (who : Who) (ps : List Push) (e : Entry) → In (reverse (map (loss_entry who) ps)) e → (p : Push) × In ps p × (loss_entry who p ≡ e)

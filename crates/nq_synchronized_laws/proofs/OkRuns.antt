@@ -1,6 +1,6 @@
 -- In every run each ok is kept, where the delayed writes, the losses and the calls of each client stand as the journal tells.
-use Rattle.std.proofs.Common.{◌≡◌, ◌≢◌, ◌≤◌, ℕ, zero, suc, ◌+◌, List, [], ◌∷◌, ◌++◌, Some, length, refl, sym, subst, ap, ◌∙◌}
-use Rattle.std.specs.Prelude.{slice_get, slice_set}
+use Rattle.std.proofs.Common.{◌≡◌, ◌≢◌, ◌≤◌, ℕ, ◌+◌, List, [], ◌∷◌, ◌++◌, Some, length, sym, subst, ap, ◌∙◌}
+use Rattle.std.specs.Prelude.{slice_get}
 use Rattle.nq_base.specs.declared.Entry.{Entry}
 use Rattle.nq_base.specs.declared.Event.{Event}
 use Rattle.nq_base.specs.declared.Party.{Party}
@@ -21,7 +21,7 @@ use Rattle.nq_model.specs.Skew.{IsWithinSkew}
 use Rattle.nq_model.specs.World.{Head, World, after_server, after_client, at_client, after_hearing, sending_host, deliver_to_client, deliver_to, deliver, start, run}
 use Rattle.nq_run_cases.proofs.RunCases.{During, client_at, Keeps, run-keeps, OfClients, clients-after}
 use Rattle.nq_run_steps.proofs.Packets.{In, in-get, Told}
-use Rattle.nq_run_steps.proofs.Worlds.{to-server, to-told, first-client, run-holds}
+use Rattle.nq_run_steps.proofs.Worlds.{to-server, to-told, first-client, run-holds, set-there}
 use Rattle.nq_synchronized_laws.proofs.KeptPlaces.{KeptHere, synchronized}
 use Rattle.nq_synchronized_laws.proofs.OkClient.{Ready, call-end, tick-end, hear-end, restart-end}
 use Rattle.nq_synchronized_laws.proofs.OkFacts.{KeepsOf, book_of, After, ended}
@@ -59,12 +59,6 @@ OkOf host c w = KeepsOf (host_row w.server.kept host) c w.journal
 pub record Oks (w : World) : Type 0 where
   pub clients : OfClients OkOf w
   pub kept : Throughout KeptHere w.journal
-
--- an element that is set is found
-set-there : {X : Type 0} (xs : List X) (i : ℕ) (x y : X) → slice_get xs i ≡ Some y → slice_get (slice_set xs i x) i ≡ Some x
-set-there [] i x y e = none-some y e
-set-there (z ∷ xs) zero x y e = refl
-set-there (z ∷ xs) (suc i) x y e = set-there xs i x y e
 
 -- the start
 starts : (head : Head) → Oks (start head)

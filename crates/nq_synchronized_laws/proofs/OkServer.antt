@@ -8,6 +8,7 @@ use Rattle.nq_base.specs.declared.Request.{Request}
 use Rattle.nq_base.specs.declared.Who.{Who}
 use Rattle.nq_client_steps.proofs.ClientFacts.{Alone, is_clean_in}
 use Rattle.nq_client_steps.proofs.ClientMoves.{some-same}
+use Rattle.nq_model.proofs.Lists.{exists-map}
 use Rattle.nq_model.specs.Client.{Client, for_call, attaching, Ticket, UnderWay}
 use Rattle.nq_model.specs.Journal.{Exists, Throughout, Somewhere}
 use Rattle.nq_model.specs.Message.{Packet, sequence_of}
@@ -17,7 +18,7 @@ use Rattle.nq_report_laws.specs.LossesInRuns.{IsLossOf, IsOneOf, cleans}
 use Rattle.nq_run_steps.proofs.HostLine.{LineFits, IsSettled}
 use Rattle.nq_run_steps.proofs.Packets.{In, Mail}
 use Rattle.nq_server_steps.proofs.Rows.{number-same}
-use Rattle.nq_synchronized_laws.proofs.KeptPlaces.{KeptHere, exists-more, names-later}
+use Rattle.nq_synchronized_laws.proofs.KeptPlaces.{KeptHere, names-later}
 use Rattle.nq_synchronized_laws.proofs.OkAnswers.{clean-none, all-settled}
 use Rattle.nq_synchronized_laws.proofs.OkFacts.{CoversNumber, LiesWithin, Made, IsFor, IsDone, KeepsOf, IsThroughWrite}
 use Rattle.nq_synchronized_laws.proofs.OkMoves.{IsMild, open-more, put-more, made-more, numbered-more}
@@ -83,7 +84,7 @@ module _ (c : Client) (ps : List Packet) (old new : HostRow) (journal : List Ent
 
       names : (loss : Loss) → IsOneOf c.losses loss ⊎ Exists (Names journal c.who loss) journal → IsOneOf c.losses loss ⊎ Exists (Names whole c.who loss) whole
       names loss (inl one) = inl one
-      names loss (inr n) = inr (inr (exists-more (Names journal c.who loss) (Names whole c.who loss) journal (λ e m. names-later (Z c.who u.q file from to ∷ []) journal c.who loss e m) n))
+      names loss (inr n) = inr (inr (exists-map (Names journal c.who loss) (Names whole c.who loss) journal (λ e m. names-later (Z c.who u.q file from to ∷ []) journal c.who loss e m) n))
 
   -- what the call's request makes where it was done
   shaped : (u : UnderWay) (r : Request) (es : List Entry) → c.call ≡ Some u → IsFor u c.dirty c.push r → Shape c.who r es → Made c.who u.q r (es ++ journal)

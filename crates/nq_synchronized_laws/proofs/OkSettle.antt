@@ -22,12 +22,13 @@ use Rattle.nq_model.specs.Message.{sequence_of}
 use Rattle.nq_model.specs.Send.{sends_request, after_seq, after_number, takes_push, sends_write, gives_up, send_next}
 use Rattle.nq_model.specs.Settle.{said, answers, names_losses, reads_cached, after_read, delays, after_write, marks_written, settle, ticket_is_for_call}
 use Rattle.nq_report_laws.specs.LossesInRuns.{cleans}
+use Rattle.nq_run_steps.proofs.Members.{in-filtered, find-in}
 use Rattle.nq_run_steps.proofs.Packets.{In}
 use Rattle.nq_server_steps.proofs.Rows.{number-same}
 use Rattle.nq_synchronized_laws.proofs.KeptPlaces.{KeptHere, OkAt}
 use Rattle.nq_synchronized_laws.proofs.OkAnswers.{is_plain, plain-ok, sync-ok, put-ok}
 use Rattle.nq_synchronized_laws.proofs.OkFacts.{CoversNumber, LiesWithin, in_list, under_way, PutWaits, IsOpenAs, IsFor, IsDone, Numbered, KeepsOk, All, Book, book_of, Mid, After, ended, not-for-call}
-use Rattle.nq_synchronized_laws.proofs.OkMoves.{in-filter, in-find, open-more, put-more, numbered-more, numbered-raised, numbered-written, numbered-taken}
+use Rattle.nq_synchronized_laws.proofs.OkMoves.{open-more, put-more, numbered-more, numbered-raised, numbered-written, numbered-taken}
 
 -- the step's entries with one more of the client
 pub own-more : (who : Who) (first : Entry) (entries : List Entry) → entry_who first ≡ Some who → ((e : Entry) → In entries e → entry_who e ≡ Some who) → (e : Entry) → In (first ∷ entries) e → entry_who e ≡ Some who
@@ -280,8 +281,8 @@ module _ {line : HostRow} {journal : List Entry} (t : ClientStep) (m : Mid All l
 -- ---- delayed writes before the next request
 
 taken-within : (file f block n : ℕ) (p : Push) (dirty : List Push) (push : Option Push) → first_dirty file dirty ≡ Some p → LiesWithin (drop_dirty p.file p.block dirty) (Some p) f block n → LiesWithin dirty push f block n
-taken-within file f block n p dirty push first (in_list q i of at from to) = in_list q (in-filter _ dirty q i) of at from to
-taken-within file f block n p dirty push first (under_way q e of at from to) = in_list q (subst (In dirty) (some-same p q e) (in-find (is_push_of file) dirty p first)) of at from to
+taken-within file f block n p dirty push first (in_list q i of at from to) = in_list q (in-filtered _ dirty q i) of at from to
+taken-within file f block n p dirty push first (under_way q e of at from to) = in_list q (subst (In dirty) (some-same p q e) (find-in (is_push_of file) dirty p first)) of at from to
 
 module _ (t : ClientStep) (journal : List Entry) where
   asked-before : (job : Job) (request : Request) → After journal (book_of (sends_request t job request)) → After journal (book_of t)

@@ -7,11 +7,10 @@ use Rattle.nq_base.specs.declared.Row.{Row}
 use Rattle.nq_base.specs.declared.Tag.{Tag}
 use Rattle.nq_base.specs.declared.Want.{Want}
 use Rattle.nq_base.specs.declared.Who.{Who}
+use Rattle.nq_run_steps.proofs.Members.{in-filtered, find-in}
 use Rattle.nq_server_steps.proofs.AskCases.{IsGranted, shares_again, begins_sharing, begins_caching, renews_row}
 use Rattle.nq_run_steps.proofs.Packets.{In}
 use Rattle.nq_server_steps.proofs.Rows.{choice}
-use Rattle.nq_lease_laws.proofs.ServerEffects.{in-filter}
-use Rattle.nq_lease_laws.proofs.ServerHears.{find-in}
 use Rattle.nq_server_steps.proofs.ServerMoves.{server-moves, tick-moves}
 use Rattle.nq_tag_laws.proofs.TagOrder.{steps-server}
 use Rattle.nq_model.specs.Ask.{Question, conflicts, marked, sharing_row, caching_row, shared_again, renewed_row, term_of}
@@ -58,7 +57,7 @@ put-numbered row rows new h r i = case (in-insert row (drop_row row.file row.who
   where
     case : (row ≡ r) ⊎ In (drop_row row.file row.who.host rows) r → IsNumbered r
     case (inl e) = subst (λ z. IsNumbered z) e new
-    case (inr j) = h r (in-filter (λ z. not (is_row_of row.file row.who.host z)) rows r j)
+    case (inr j) = h r (in-filtered (λ z. not (is_row_of row.file row.who.host z)) rows r j)
 
 mark-numbered : (r : Row) (b : Bool) → IsNumbered r → IsNumbered (if b then record r { evicting = true } else r)
 mark-numbered r true h = h
@@ -73,7 +72,7 @@ vacated-numbered : (who : Who) (file : ℕ) (tag : Tag) (rows : List Row) (o : O
 vacated-numbered who file tag rows None h = h
 vacated-numbered who file tag rows (Some row) h =
     choice (λ z. AllNumbered z) (row.who.inc == who.inc && same_tag row.tag tag) (drop_row file who.host rows) rows
-    (λ e r i. h r (in-filter (λ z. not (is_row_of file who.host z)) rows r i)) (λ e. h)
+    (λ e r i. h r (in-filtered (λ z. not (is_row_of file who.host z)) rows r i)) (λ e. h)
 
 found-numbered : (file host : ℕ) (rows : List Row) (r : Row) → find_row file host rows ≡ Some r → AllNumbered rows → IsNumbered r
 found-numbered file host rows r found h = h r (find-in (is_row_of file host) rows r found)
@@ -129,15 +128,15 @@ numbered-receive s sender next d h = server-moves s sender next d (λ kept phase
     rows after all = numbered-after s.phase s.table after all h
 
     filtered : (test : Row → Bool) → Numbered s.phase (with_rows s.table (filter test s.table.rows))
-    filtered test = rows (with_rows s.table (filter test s.table.rows)) (λ r i. h.own r (in-filter test s.table.rows r i))
+    filtered test = rows (with_rows s.table (filter test s.table.rows)) (λ r i. h.own r (in-filtered test s.table.rows r i))
 
 numbered-tick : (s : Server) (now : ℕ) → Numbered s.phase s.table → Numbered (tick s now).server.phase (tick s now).server.table
 unfolding with_rows
 numbered-tick s now h = tick-moves s now (λ kept phase table. Numbered phase table) (record {
   waits = λ until heard last p goes_on. h;
   opening = λ until heard last p over. record { own = h.own; stands = h.own };
-  ends_reading = λ p. numbered-after s.phase s.table _ (λ r i. h.own r (in-filter (λ z. not (is_over now z)) s.table.rows r i)) h;
-  ending_writing = λ row p due. numbered-after s.phase s.table _ (λ r i. h.own r (in-filter (λ z. not (is_over now z)) s.table.rows r (in-filter (λ z. not (is_row_of row.file row.who.host z)) _ r i))) h;
+  ends_reading = λ p. numbered-after s.phase s.table _ (λ r i. h.own r (in-filtered (λ z. not (is_over now z)) s.table.rows r i)) h;
+  ending_writing = λ row p due. numbered-after s.phase s.table _ (λ r i. h.own r (in-filtered (λ z. not (is_over now z)) s.table.rows r (in-filtered (λ z. not (is_row_of row.file row.who.host z)) _ r i))) h;
 })
 
 numbered-boot : (kept : Kept) (longest now : ℕ) (last : Table) → AllNumbered last.rows → Numbered (boot kept longest now last).phase (boot kept longest now last).table

@@ -1,5 +1,6 @@
 -- Where the tags of a client and of its mail come from: a client makes none, so each is one that it was told.
 use Rattle.std.proofs.Common.{◌≡◌, ◌≢◌, ◌⊎◌, ℕ, ◌+◌, true, ◌&&◌, not, List, [], ◌∷◌, ◌++◌, Option, Some, None, refl, sym, subst, arith, inl, inr}
+use Rattle.std.proofs.lemmas.Bool.{and_parts}
 use Rattle.nq_base.specs.declared.Call.{Call}
 use Rattle.nq_base.specs.declared.Grant.{Grant}
 use Rattle.nq_base.specs.declared.Reply.{Reply}
@@ -12,7 +13,7 @@ use Rattle.nq_client_steps.proofs.ClientLists.{lease-after-put, notice-before-dr
 use Rattle.nq_client_steps.proofs.ClientMoves.{some-same, none-some, keeps-or-cancels}
 use Rattle.nq_client_steps.proofs.ClientWalk.{Replying, reply-keeps, notice-keeps, call-keeps, tick-keeps}
 use Rattle.nq_run_steps.proofs.Packets.{In, in-last, Told}
-use Rattle.nq_server_steps.proofs.Rows.{choice, both-true, same-number}
+use Rattle.nq_server_steps.proofs.Rows.{choice, same-number}
 use Rattle.nq_run_steps.proofs.TagFacts.{used-from, dropped-from}
 use Rattle.nq_run_steps.proofs.Worlds.{IsAt}
 use Rattle.nq_model.specs.Client.{Client, ClientStep, begun, Lease, Notice, Ticket, Job, lease_on, drop_lease, put_lease, used_lease, notice_on, drop_notice}
@@ -192,8 +193,8 @@ reply-told T host c ps number xid r None is names a sent h = tt
 reply-told T host c ps number xid r (Some t) is names a sent h =
     choice (LeavesIf T) (is_reply_to c xid r t) (Some (goes_on (replied (begun c) number t r))) None
     (λ e.
-    let k = both-true _ _ e in
-    let l = both-true _ _ k.0 in
+    let k = and_parts _ _ e in
+    let l = and_parts _ _ k.0 in
     ends T (goes_on (replied (begun c) number t r))
     (reply-keeps (tagged-closed T no-heard (given-in T t) (λ file tag bad. absurd bad) (λ file g at given. given.1)) c number t r (replying k.1 (same-number _ _ l.0) (same-number _ _ l.1))))
     (λ e. tt)

@@ -11,10 +11,11 @@ use Rattle.nq_base.specs.declared.Tag.{Tag}
 use Rattle.nq_base.specs.declared.Who.{Who}
 use Rattle.nq_client_steps.proofs.ClientMoves.{none-some}
 use Rattle.nq_run_steps.proofs.Clocks.{within-before}
+use Rattle.nq_run_steps.proofs.Mail.{sent-host}
 use Rattle.nq_tag_laws.proofs.GrantRows.{IsBacked, all-backed}
 use Rattle.nq_run_steps.proofs.KnownWorlds.{takeable}
-use Rattle.nq_lease_laws.proofs.LeaseIntervals.{Runs, run-runs, hearing, none-served, tick-sends, crash-sends}
-use Rattle.nq_run_steps.proofs.Packets.{In, in-append, in-get, Told, Asked, message-same, not-both}
+use Rattle.nq_lease_laws.proofs.LeaseIntervals.{Runs, run-runs, hearing, none-served, tick-sends, crash-sends, bounds-before}
+use Rattle.nq_run_steps.proofs.Packets.{In, in-append, in-get, Told, Asked, not-both}
 use Rattle.nq_tag_laws.proofs.RowNumbers.{row-numbered}
 use Rattle.nq_server_steps.proofs.Rows.{same-number, number-same}
 use Rattle.nq_lease_laws.proofs.ServerEffects.{standing-serving}
@@ -72,11 +73,6 @@ mapped T host [] all p i = absurd i
 mapped T host (m ∷ ms) all p (inl e) = subst (λ q. AllIn T q.message) e (all m (inl refl))
 mapped T host (m ∷ ms) all p (inr i) = mapped T host ms (λ n j. all n (inr j)) p i
 
-mapped-host : (host other : ℕ) (ms : List Message) (m : Message) → In (map (from_host host) ms) (from_host other m) → host ≡ other
-mapped-host host other [] m i = absurd i
-mapped-host host other (n ∷ ms) m (inl e) = (message-same host other n m e).0
-mapped-host host other (n ∷ ms) m (inr i) = mapped-host host other ms m i
-
 client-told : (T : Tag → Type 0) (w : World) (host : ℕ) (c : Client) (t : ClientStep) → slice_get w.clients host ≡ Some c → Leaves T t → AllTold T w → AllTold T (after_client w host t)
 unfolding after_client
 client-told T w host c t is l h = record {
@@ -99,7 +95,7 @@ client-told T w host c t is l h = record {
 
   sender : (other : ℕ) (m : Message) → In w.packets (from_host other m) ⊎ In (map (from_host host) t.sends) (from_host other m) → (d : Client) × (slice_get (slice_set w.clients host t.client) other ≡ Some d)
   sender other m (inl old) = let k = h.senders other m old in stays-there w.clients host other t.client k.0 k.1
-  sender other m (inr new) = stays-there w.clients host other t.client c (subst (λ n. slice_get w.clients n ≡ Some c) (mapped-host host other t.sends m new) is)
+  sender other m (inr new) = stays-there w.clients host other t.client c (subst (λ n. slice_get w.clients n ≡ Some c) (sent-host host other t.sends m new) is)
 
 at-told : (T : Tag → Type 0) (w : World) (host : ℕ) (f : Client → ClientStep) (o : Option Client) → slice_get w.clients host ≡ o → ((c : Client) → IsAt host c w.packets → AllHeld T c.leases c.notices → Leaves T (f c)) → Holds w → AllTold T w → AllTold T (at_client w host f o)
 at-told T w host f None is leaves held h = h
@@ -266,9 +262,6 @@ drawn-now head events tag h = record { later = []; earlier = events; moment = re
 
 drawn-before : (head : Head) (e : Event) (events : List Event) (tag : Tag) → WasDrawn head events tag → WasDrawn head (e ∷ events) tag
 drawn-before head e events tag h = record { later = e ∷ h.later; earlier = h.earlier; moment = ap (λ es. e ∷ es) h.moment; by_boot = h.by_boot; counted = h.counted; among = h.among }
-
-bounds-before : (most : ℕ) (head : Head) (e : Event) (events : List Event) → KeepsBounds most head (e ∷ events) → KeepsBounds most head events
-bounds-before most head e events b = record { hosts = b.hosts; first_long = b.first_long; first_short = b.first_short; boots = λ k d below. b.boots (suc k) d (omega arith) }
 
 run-told : (most : ℕ) (head : Head) (events : List Event) → KeepsBounds most head events → IsWithinSkew head.hosts most events → AllTold (WasDrawn head events) (run head events)
 run-told most head [] b within = start-told (WasDrawn head []) head

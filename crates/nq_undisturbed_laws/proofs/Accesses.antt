@@ -24,24 +24,14 @@ use Rattle.nq_fate_steps.proofs.PushLists.{is-at}
 use Rattle.nq_model.specs.Client.{Client, ClientStep, Job, Lease, Ticket, UnderWay, begun, lease_on, used_lease, marked_used, lets_read, lets_write, dirty_at, first_dirty, is_push_of, drop_dirty, is_push_at, clean_at, is_clean_at, drop_clean, Clean}
 use Rattle.nq_model.specs.ClientStep.{begins_call, is_called, sends_unless_cached, client_call, client_tick, at_time, sends_again, restart, starts}
 use Rattle.nq_model.specs.Hear.{vacates_lease, notes_notice, evicted, cancels, cancelled, wants_of, replied, goes_on, hear}
+use Rattle.nq_model.specs.Journal.{Each}
 use Rattle.nq_model.specs.Message.{Message}
 use Rattle.nq_model.specs.Send.{sends_request, after_seq, after_number, takes_push, gives_up, send_next}
 use Rattle.nq_model.specs.Settle.{answers, cached_body, held_body, pushed_body, clean_body, touched, reads_clean, reads_cached, after_read, after_write, delays, marks_written, settle}
-use Rattle.nq_server_steps.proofs.Rows.{find-passes, number-same}
-use Rattle.nq_undisturbed_laws.proofs.Journals.{AllEntries}
+use Rattle.nq_server_steps.proofs.Rows.{find-passes, number-same, find-filter}
 use Rattle.nq_undisturbed_laws.proofs.PlainParts.{IsPlain, PlainOf, plain-evicted, plain-answered, plain-named, plain-begins, plain-busy, plain-called, plain-replied}
 
 -- ---- lists
-
-find-filter : {Y : Type 0} (test keep : Y → Bool) (xs : List Y) → ((x : Y) → test x ≡ true → keep x ≡ true) → find test (filter keep xs) ≡ find test xs
-find-filter test keep [] all = refl
-find-filter {Y = Y} test keep (x ∷ xs) all = case (keep x) (test x) refl refl (find-filter test keep xs all)
-  where
-    case : (k b : Bool) → keep x ≡ k → test x ≡ b → find test (filter keep xs) ≡ find test xs → find test (if k then x ∷ filter keep xs else filter keep xs) ≡ (if b then Some x else find test xs)
-    case true true e f rest = rw f refl
-    case true false e f rest = rw f rest
-    case false true e f rest = let yes : keep x ≡ true = all x f in absurd (cc)
-    case false false e f rest = rest
 
 none-filter : {Y : Type 0} (test : Y → Bool) (xs : List Y) → find test (filter (λ x. not (test x)) xs) ≡ None
 none-filter test [] = refl
@@ -63,9 +53,9 @@ IsCalm (Some u) = (file : ℕ) × (block : ℕ) × (body : List ℕ) × (u.call 
 
 -- what a step has read or written so far: nothing, a block that the client has, or one write that it delayed
 pub data Accesses (who : Who) (t : ClientStep) : Type 0 where
-  neither : AllEntries IsPlain t.entries → Accesses who t
-  read : (q file block : ℕ) (lease : Lease) (body : List ℕ) (rest : List Entry) → t.entries ≡ A who q (Said.OkValue (value_of body)) ∷ R who q file block (value_of body) None ∷ rest → AllEntries IsPlain rest → IsHeld t.client file block lease → lets_read t.client.now lease ≡ true → cached_body t.client file block ≡ Some body → t.client.call ≡ None → Accesses who t
-  wrote : (file block number value : ℕ) (lease : Lease) (more rest : List Entry) → t.entries ≡ more ++ W who file block number value false ∷ rest → AllEntries IsPlain more → AllEntries IsPlain rest → IsHeld t.client file block lease → lets_write t.client.now lease ≡ true → IsCalm t.client.call → Accesses who t
+  neither : Each IsPlain t.entries → Accesses who t
+  read : (q file block : ℕ) (lease : Lease) (body : List ℕ) (rest : List Entry) → t.entries ≡ A who q (Said.OkValue (value_of body)) ∷ R who q file block (value_of body) None ∷ rest → Each IsPlain rest → IsHeld t.client file block lease → lets_read t.client.now lease ≡ true → cached_body t.client file block ≡ Some body → t.client.call ≡ None → Accesses who t
+  wrote : (file block number value : ℕ) (lease : Lease) (more rest : List Entry) → t.entries ≡ more ++ W who file block number value false ∷ rest → Each IsPlain more → Each IsPlain rest → IsHeld t.client file block lease → lets_write t.client.now lease ≡ true → IsCalm t.client.call → Accesses who t
 
 -- ---- settling
 
@@ -158,7 +148,7 @@ settle-accesses t h = settle-cases t (Accesses t.client.who) (record {
 
 -- a request that is sent leaves what was read or written
 still : (who : Who) (t s : ClientStep) → s.entries ≡ t.entries → s.client.leases ≡ t.client.leases → s.client.now ≡ t.client.now → s.client.call ≡ t.client.call → ((file block : ℕ) → cached_body s.client file block ≡ cached_body t.client file block) → Accesses who t → Accesses who s
-still who t s entries leases now call cached (neither plain) = neither (subst (AllEntries IsPlain) (sym entries) plain)
+still who t s entries leases now call cached (neither plain) = neither (subst (Each IsPlain) (sym entries) plain)
 still who t s entries leases now call cached (read q file block lease body rest es plain held lets has idle) =
     read q file block lease body rest (entries ∙ es) plain (record { held = ap (lease_on file) leases ∙ held.held; within = held.within }) (ap (λ n. lets_read n lease) now ∙ lets) (cached file block ∙ has) (call ∙ idle)
 still who t s entries leases now call cached (wrote file block number value lease more rest es plain others held lets calm) =

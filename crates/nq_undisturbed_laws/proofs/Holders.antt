@@ -2,6 +2,7 @@
 use Rattle.std.proofs.Common.{◌≡◌, ℕ, ◌-◌, ◌==◌, Bool, true, false, List, ◌∷◌, Some, refl, sym, subst, ap, ◌∙◌, arith}
 use Rattle.std.proofs.lemmas.Bool.Decides.{nat_tests}
 use Rattle.std.specs.Prelude.{slice_get, nat_lt}
+use Rattle.std.proofs.lemmas.Bool.{and_parts}
 use Rattle.nq_base.specs.declared.Entry.{Entry}
 use Rattle.nq_base.specs.declared.Entry.TheVariants.{C, A, W, L, B}
 use Rattle.nq_base.specs.declared.Event.{Event}
@@ -15,21 +16,22 @@ use Rattle.nq_chain_steps.specs.Chained.{IsChained}
 use Rattle.nq_client_steps.proofs.ClientMoves.{some-same}
 use Rattle.nq_fate_steps.proofs.WritesFit.{WritesFit, JournalFits}
 use Rattle.nq_lease_laws.proofs.LeaseIntervals.{Runs}
+use Rattle.nq_model.proofs.Lists.{each-append, each-map}
 use Rattle.nq_model.specs.Client.{Client, ClientStep, Lease, lease_on, lets_read, lets_write}
+use Rattle.nq_model.specs.Journal.{Each}
 use Rattle.nq_model.specs.Kept.{File, host_row}
-use Rattle.nq_model.specs.LeaseInterval.{is_at_least, IsCovered, KeepsLeaseInterval, cover_end}
+use Rattle.nq_model.specs.LeaseInterval.{IsCovered, KeepsLeaseInterval, cover_end}
 use Rattle.nq_model.specs.Message.{Packet}
 use Rattle.nq_model.specs.Server.{Phase, serving, recovering, Server, standing, standing_in}
 use Rattle.nq_model.specs.Table.{Table, is_writing, caches, find_row}
 use Rattle.nq_model.specs.World.{World}
 use Rattle.nq_request_laws.specs.OneRequests.{OpensOne}
 use Rattle.nq_run_steps.proofs.Worlds.{Holds}
-use Rattle.nq_server_steps.proofs.Modes.{writing-caches, at-least-writing}
-use Rattle.nq_server_steps.proofs.Rows.{both-true, same-number, number-same, find-passes}
+use Rattle.nq_server_steps.proofs.Modes.{writing-caches, at-least-writing, at-least-caching}
+use Rattle.nq_server_steps.proofs.Rows.{same-number, number-same, find-passes}
 use Rattle.nq_server_steps.proofs.TableFits.{TableFits}
 use Rattle.nq_undisturbed_laws.proofs.Accesses.{Accesses, neither, read, wrote}
 use Rattle.nq_undisturbed_laws.proofs.PlainParts.{IsPlain}
-use Rattle.nq_undisturbed_laws.proofs.Journals.{AllEntries, all-append, all-weaker}
 use Rattle.nq_undisturbed_laws.proofs.ServerLeaves.{HasWriting}
 use Rattle.nq_undisturbed_laws.proofs.Tags.{IsEntry, unclean-entry}
 use Rattle.nq_undisturbed_laws.specs.Undisturbed.{LeavesAlone}
@@ -66,11 +68,6 @@ one-holder files table fits file who other h k = case (other.host == who.host) r
         let bars = k.caching in
         absurd (cc)
 
-at-least-caching : (mode held : Mode) → caches held ≡ true → is_at_least mode held ≡ true → caches mode ≡ true
-at-least-caching mode Mode.Writing c h = writing-caches mode h
-at-least-caching mode Mode.Reading c h = h
-at-least-caching mode Mode.NonCaching c h = absurd (cc)
-
 -- the row of a chained lease over delayed writes lets its holder write
 pub chained-writes : (s : Server) (c : Client) (ps : List Packet) → ChainFits s c ps → (p : Push) → IsEntry c p → (l : Lease) (row : Row) → lease_on p.file c.leases ≡ Some l → IsChained (standing s) c.who p.file l.tag row → HasWriting (standing s) c.who p.file
 chained-writes s c ps f p entry l row held chained =
@@ -100,13 +97,13 @@ plain-leaves who file (B w) h = tt
 plain-leaves who file e h = absurd h
 
 lets-reads : (now : ℕ) (lease : Lease) → lets_read now lease ≡ true → (caches lease.mode ≡ true) × (nat_lt now lease.expiry ≡ true)
-lets-reads now lease h = both-true _ _ h
+lets-reads now lease h = and_parts _ _ h
 
 lets-writes : (now : ℕ) (lease : Lease) → lets_write now lease ≡ true → (caches lease.mode ≡ true) × (nat_lt now lease.expiry ≡ true)
-lets-writes now lease h = let a = both-true _ _ h in (writing-caches lease.mode a.0, a.1)
+lets-writes now lease h = let a = and_parts _ _ h in (writing-caches lease.mode a.0, a.1)
 
 -- what a client's step read and wrote leaves alone the delayed writes of every other whose row stands, after that step
-pub step-leaves : (hosts most : ℕ) (w : World) (events : List Event) → KnownOf hosts most w events → (host : ℕ) (t : ClientStep) → slice_get w.clients host ≡ Some t.client → (by : Who) → t.client.who ≡ by → Accesses by t → (who : Who) (file : ℕ) → HasWriting (standing w.server) who file → AllEntries (LeavesAlone who file) t.entries
+pub step-leaves : (hosts most : ℕ) (w : World) (events : List Event) → KnownOf hosts most w events → (host : ℕ) (t : ClientStep) → slice_get w.clients host ≡ Some t.client → (by : Who) → t.client.who ≡ by → Accesses by t → (who : Who) (file : ℕ) → HasWriting (standing w.server) who file → Each (LeavesAlone who file) t.entries
 step-leaves hosts most w events k host t is by mine a who file h = case a
   where
     fits : TableFits w.server.kept.files (standing w.server).boot (standing w.server).drawn (standing w.server).rows
@@ -115,12 +112,12 @@ step-leaves hosts most w events k host t is by mine a who file h = case a
     holder : (f : ℕ) (lease : Lease) → lease_on f t.client.leases ≡ Some lease → (caches lease.mode ≡ true) × (nat_lt t.client.now lease.expiry ≡ true) → f ≡ file → by ≡ who
     holder f lease held lets same = one-holder w.server.kept.files (standing w.server) fits file who by h (subst (λ n. HasCaching (standing w.server) by n) same (subst (λ z. HasCaching (standing w.server) z f) mine (live-row w events host t.client f lease k.covers is held lets.0 lets.1)))
 
-    case : Accesses by t → AllEntries (LeavesAlone who file) t.entries
-    case (neither plain) = all-weaker IsPlain (LeavesAlone who file) (plain-leaves who file) t.entries plain
+    case : Accesses by t → Each (LeavesAlone who file) t.entries
+    case (neither plain) = each-map IsPlain (LeavesAlone who file) t.entries (plain-leaves who file) plain
     case (read q f block lease body rest es plain held lets has idle) =
-        subst (AllEntries (LeavesAlone who file)) (sym es)
-        (tt, ((λ same. holder f lease held.held (lets-reads t.client.now lease lets) same), all-weaker IsPlain (LeavesAlone who file) (plain-leaves who file) rest plain))
+        subst (Each (LeavesAlone who file)) (sym es)
+        (tt, ((λ same. holder f lease held.held (lets-reads t.client.now lease lets) same), each-map IsPlain (LeavesAlone who file) rest (plain-leaves who file) plain))
     case (wrote f block number value lease more rest es plain others held lets calm) =
-        subst (AllEntries (LeavesAlone who file)) (sym es)
-        (all-append (LeavesAlone who file) more (W by f block number value false ∷ rest) (all-weaker IsPlain (LeavesAlone who file) (plain-leaves who file) more plain)
-        ((λ same. (holder f lease held.held (lets-writes t.client.now lease lets) same, refl)), all-weaker IsPlain (LeavesAlone who file) (plain-leaves who file) rest others))
+        subst (Each (LeavesAlone who file)) (sym es)
+        (each-append (LeavesAlone who file) more (W by f block number value false ∷ rest) (each-map IsPlain (LeavesAlone who file) more (plain-leaves who file) plain)
+        ((λ same. (holder f lease held.held (lets-writes t.client.now lease lets) same, refl)), each-map IsPlain (LeavesAlone who file) rest (plain-leaves who file) others))

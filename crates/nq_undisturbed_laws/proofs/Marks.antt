@@ -3,13 +3,13 @@ use Rattle.std.proofs.Common.{◌≡◌, ◌<◌, ◌≤◌, ◌⊎◌, ℕ, fal
 use Rattle.nq_base.specs.declared.Entry.{Entry}
 use Rattle.nq_base.specs.declared.Entry.TheVariants.{A, W, R}
 use Rattle.nq_base.specs.declared.Who.{Who}
-use Rattle.nq_fate_steps.proofs.WritesFit.{CoversNumber, IsClear, IsRising}
+use Rattle.nq_fate_steps.proofs.JournalMoves.{covers-more}
+use Rattle.nq_fate_steps.proofs.WritesFit.{IsClear, IsRising}
 use Rattle.nq_model.specs.Client.{ClientStep}
-use Rattle.nq_model.specs.Journal.{Throughout}
+use Rattle.nq_model.specs.Journal.{Throughout, Each}
 use Rattle.nq_run_steps.proofs.Packets.{In}
 use Rattle.nq_undisturbed_laws.proofs.Accesses.{Accesses, neither, read, wrote}
 use Rattle.nq_undisturbed_laws.proofs.PlainParts.{IsPlain}
-use Rattle.nq_undisturbed_laws.proofs.Journals.{AllEntries}
 use Rattle.nq_undisturbed_laws.specs.Undisturbed.{IsDelayedWrite, LeavesAlone, IsUndisturbed}
 
 -- ---- later writes
@@ -34,34 +34,30 @@ since-later who file block n m value (e ∷ before) rising below (inr there) (in
 same-write : (who by : Who) (file f block b number n value v : ℕ) → W by f b n v false ≡ W who file block number value false → IsDelayedWrite who file block number (W by f b n v false)
 same-write who by file f block b number n value v e = (cc, cc, cc, cc)
 
-plain-no-write : (es : List Entry) (who : Who) (file block number value : ℕ) → AllEntries IsPlain es → In es (W who file block number value false) → ⊥
+pub plain-no-write : (es : List Entry) (who : Who) (file block number value : ℕ) → Each IsPlain es → In es (W who file block number value false) → ⊥
 plain-no-write [] who file block number value plain there = there
 plain-no-write (e ∷ es) who file block number value plain (inl same) = subst IsPlain same plain.0
 plain-no-write (e ∷ es) who file block number value plain (inr there) = plain-no-write es who file block number value plain.1 there
 
-read-no-write : (who by : Who) (q file block number value f b v w : ℕ) (said : _) (rest : List Entry) → AllEntries IsPlain rest → In (A by q said ∷ R by q f b v None ∷ rest) (W who file block number value false) → ⊥
+read-no-write : (who by : Who) (q file block number value f b v w : ℕ) (said : _) (rest : List Entry) → Each IsPlain rest → In (A by q said ∷ R by q f b v None ∷ rest) (W who file block number value false) → ⊥
 read-no-write who by q file block number value f b v w said rest plain (inl e) = absurd (cc)
 read-no-write who by q file block number value f b v w said rest plain (inr (inl e)) = absurd (cc)
 read-no-write who by q file block number value f b v w said rest plain (inr (inr there)) = plain-no-write rest who file block number value plain there
 
 -- a write that was delayed in this step is undisturbed
-pub fresh-write : (who by : Who) (t : ClientStep) (journal : List Entry) (file block number value : ℕ) → Accesses by t → In t.entries (W who file block number value false) → AllEntries (LeavesAlone who file) t.entries → IsUndisturbed who file block number (t.entries ++ journal)
+pub fresh-write : (who by : Who) (t : ClientStep) (journal : List Entry) (file block number value : ℕ) → Accesses by t → In t.entries (W who file block number value false) → Each (LeavesAlone who file) t.entries → IsUndisturbed who file block number (t.entries ++ journal)
 fresh-write who by t journal file block number value (neither plain) there leaves = absurd (plain-no-write t.entries who file block number value plain there)
 fresh-write who by t journal file block number value (read q f b lease body rest es plain held lets has idle) there leaves = absurd (read-no-write who by q file block number value f b _ 0 _ rest plain (subst (λ zs. In zs (W who file block number value false)) es there))
 fresh-write who by t journal file block number value (wrote f b n v lease more rest es plain others held lets calm) there leaves =
-    subst (λ zs. IsUndisturbed who file block number (zs ++ journal)) (sym es) (past more plain (subst (λ zs. In zs (W who file block number value false)) es there) (subst (AllEntries (LeavesAlone who file)) es leaves))
+    subst (λ zs. IsUndisturbed who file block number (zs ++ journal)) (sym es) (past more plain (subst (λ zs. In zs (W who file block number value false)) es there) (subst (Each (LeavesAlone who file)) es leaves))
   where
-    past : (more : List Entry) → AllEntries IsPlain more → In (more ++ W by f b n v false ∷ rest) (W who file block number value false) → AllEntries (LeavesAlone who file) (more ++ W by f b n v false ∷ rest) → IsUndisturbed who file block number ((more ++ W by f b n v false ∷ rest) ++ journal)
+    past : (more : List Entry) → Each IsPlain more → In (more ++ W by f b n v false ∷ rest) (W who file block number value false) → Each (LeavesAlone who file) (more ++ W by f b n v false ∷ rest) → IsUndisturbed who file block number ((more ++ W by f b n v false ∷ rest) ++ journal)
     past [] plain (inl e) leaves = inl (same-write who by file f block b number n value v e)
     past [] plain (inr there) leaves = absurd (plain-no-write rest who file block number value others there)
     past (e ∷ more) plain (inl same) leaves = absurd (subst IsPlain same plain.0)
     past (e ∷ more) plain (inr there) leaves = inr (leaves.0, past more plain.1 there leaves.1)
 
 -- ---- numbers that are covered
-
-pub covers-more : (more journal : List Entry) (who : Who) (file block n : ℕ) → CoversNumber journal who file block n → CoversNumber (more ++ journal) who file block n
-covers-more [] journal who file block n c = c
-covers-more (e ∷ more) journal who file block n c = inr (covers-more more journal who file block n c)
 
 pub clear-less : (more journal : List Entry) (who : Who) (file block first last : ℕ) → IsClear (more ++ journal) who file block first last → IsClear journal who file block first last
 clear-less more journal who file block first last clear n a b c = clear n a b (covers-more more journal who file block n c)

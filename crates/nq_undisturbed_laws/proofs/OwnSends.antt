@@ -13,9 +13,9 @@ use Rattle.nq_client_steps.proofs.ClientWalk.{reply-keeps, notice-keeps, call-ke
 use Rattle.nq_model.specs.Client.{Client, ClientStep, Job, Ticket, begun}
 use Rattle.nq_model.specs.ClientStep.{client_call, client_tick, at_time}
 use Rattle.nq_model.specs.Hear.{hear, cancelled, wants_of}
-use Rattle.nq_model.specs.LeaseInterval.{requested_file}
 use Rattle.nq_model.specs.Message.{Message, Packet, call, asker}
 use Rattle.nq_run_steps.proofs.Packets.{In, in-last, Told, Mail}
+use Rattle.nq_run_steps.proofs.Worlds.{given-by}
 
 -- a message asks something for an incarnation
 pub record IsBy (who : Who) (m : Message) : Type 0 where
@@ -74,9 +74,6 @@ any-heard file tag = Unit {0}
 
 abbrev none-given : ℕ → Grant → ℕ → Type 0
 none-given file g at = ⊥
-
-abbrev given-by : Ticket → ℕ → Grant → ℕ → Type 0
-given-by ticket file g at = requested_file ticket.request ≡ Some file
 
 begun-own : (c : Client) → Alone c → OwnSends c.who (core_of (begun c))
 begun-own c a = record { same = refl; ticket = λ t e. (a.asking.ticketed t e).asks; sends = λ m i. absurd i }

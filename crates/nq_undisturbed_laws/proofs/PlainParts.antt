@@ -18,12 +18,13 @@ use Rattle.nq_client_cases.proofs.PartCases.{answers-call-cases, vacates-noticed
 use Rattle.nq_client_cases.proofs.StepCases.{evicted-cases}
 use Rattle.nq_client_steps.proofs.ClientFacts.{Alone, fits_job, push_in}
 use Rattle.nq_client_steps.proofs.ClientMoves.{some-same}
+use Rattle.nq_model.proofs.Lists.{each-append}
 use Rattle.nq_model.specs.Client.{Client, ClientStep, Job, Ticket, begun, notice_on}
 use Rattle.nq_model.specs.ClientStep.{begins_call, is_called, says_busy}
 use Rattle.nq_model.specs.Hear.{vacates_lease, notes_notice, evicted, cancels, spends, attached, pauses, marks_through, replied, reply_counts, loses, all_dirty, other_push, loss_entry, reports, without_lease, push_refused, breaks_chain, if_broken, holds, takes_grant, takes_optional, answers_call, caches_block, purges, knows_revision, read_done, lease_done, write_done, ends_push, caches_push, vacates_noticed, push_done}
+use Rattle.nq_model.specs.Journal.{Each}
 use Rattle.nq_model.specs.Settle.{answers, names_losses}
 use Rattle.nq_server_steps.proofs.Rows.{number-same}
-use Rattle.nq_undisturbed_laws.proofs.Journals.{AllEntries, all-append}
 
 -- an entry of a client that is neither a read nor a write
 abbrev pub IsPlain : Entry → Type 0
@@ -37,13 +38,13 @@ IsPlain other = ⊥
 
 -- what a step noted so far is plain
 abbrev pub PlainOf : ClientStep → Type 0
-PlainOf t = AllEntries IsPlain t.entries
+PlainOf t = Each IsPlain t.entries
 
-plain-reverse : (es : List Entry) → AllEntries IsPlain es → AllEntries IsPlain (reverse es)
+plain-reverse : (es : List Entry) → Each IsPlain es → Each IsPlain (reverse es)
 plain-reverse [] a = tt
-plain-reverse (e ∷ es) a = subst (AllEntries IsPlain) (sym (reverse_onto es e [])) (all-append IsPlain (reverse es) (e ∷ []) (plain-reverse es a.1) (a.0, tt))
+plain-reverse (e ∷ es) a = subst (Each IsPlain) (sym (reverse_onto es e [])) (each-append IsPlain (reverse es) (e ∷ []) (plain-reverse es a.1) (a.0, tt))
 
-plain-losses : (who : Who) (ps : List Push) → AllEntries IsPlain (map (loss_entry who) ps)
+plain-losses : (who : Who) (ps : List Push) → Each IsPlain (map (loss_entry who) ps)
 plain-losses who [] = tt
 plain-losses who (p ∷ ps) = (tt, plain-losses who ps)
 
@@ -79,7 +80,7 @@ module _ (c : Client) where
 
   plain-loses : (t : ClientStep) (file : ℕ) → PlainOf t → t.client.who ≡ c.who → other_push file t.client.push ≡ None → SpentOf (loses t file)
   unfolding loses
-  plain-loses t file h who none = (all-append IsPlain (reverse (map (loss_entry t.client.who) (all_dirty t.client file))) t.entries (plain-reverse (map (loss_entry t.client.who) (all_dirty t.client file)) (plain-losses t.client.who (all_dirty t.client file))) h, none, who)
+  plain-loses t file h who none = (each-append IsPlain (reverse (map (loss_entry t.client.who) (all_dirty t.client file))) t.entries (plain-reverse (map (loss_entry t.client.who) (all_dirty t.client file)) (plain-losses t.client.who (all_dirty t.client file))) h, none, who)
 
   plain-without : (t : ClientStep) (file : ℕ) → SpentOf t → SpentOf (without_lease t file)
   unfolding without_lease

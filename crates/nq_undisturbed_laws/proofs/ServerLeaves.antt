@@ -1,6 +1,7 @@
 -- What a server's step leaves alone: where a writing row stands, nobody else reads, writes or stores on its file.
 use Rattle.std.proofs.Common.{◌≡◌, ℕ, ◌==◌, Bool, true, false, not, List, Option, Some, None, refl, sym, subst, ap, ◌∙◌}
 use Rattle.std.specs.List.{find}
+use Rattle.std.proofs.lemmas.Bool.{and_parts}
 use Rattle.nq_base.specs.declared.Access.{Access}
 use Rattle.nq_base.specs.declared.Grant.{Grant}
 use Rattle.nq_base.specs.declared.Mode.{Mode}
@@ -12,6 +13,7 @@ use Rattle.nq_base.specs.declared.Who.{Who}
 use Rattle.nq_client_steps.proofs.ClientMoves.{none-some, some-same}
 use Rattle.nq_model.specs.Ask.{conflicts, mode_conflicts}
 use Rattle.nq_model.specs.Decide.{Decision, decides, creates, writes_through, stores, stores_recovering, resizes, removes, puts_off, commits}
+use Rattle.nq_model.specs.Journal.{Each}
 use Rattle.nq_model.specs.Kept.{File, find_file, host_row}
 use Rattle.nq_model.specs.Message.{Datagram, request, asker, sequence_of}
 use Rattle.nq_model.specs.Server.{serving, Server, ServerStep, standing, standing_in, quiet, drops, says, keeping_with}
@@ -21,11 +23,10 @@ use Rattle.nq_server_laws.proofs.ServerFacts.{IncsFit, IncsFitOf}
 use Rattle.nq_server_laws.proofs.ServerTables.{StandingFits, StandingFitsOf}
 use Rattle.nq_server_steps.proofs.Incarnations.{one-who}
 use Rattle.nq_server_steps.proofs.RowChanges.{found-kept, found-any, find-row-dropped, no-clash, unique-filtered, HasUniqueKeys}
-use Rattle.nq_server_steps.proofs.Rows.{both-true, same-number, number-same, find-passes, found-row}
+use Rattle.nq_server_steps.proofs.Rows.{same-number, number-same, find-passes, found-row}
 use Rattle.nq_server_steps.proofs.ServerCases.{server-hears, server-ticks}
 use Rattle.nq_server_steps.proofs.ServerOutcomes.{IsFresh, IsCurrent, IsAsking, IsChanging, clash_with, file_changed_by, base_in}
 use Rattle.nq_server_steps.proofs.TableFits.{TableFits}
-use Rattle.nq_undisturbed_laws.proofs.Journals.{AllEntries}
 use Rattle.nq_undisturbed_laws.specs.Undisturbed.{LeavesAlone}
 
 -- a writing row of an incarnation stands
@@ -88,9 +89,9 @@ module _ (s : Server) (sender next : ℕ) (d : Datagram) (who : Who) (file : ℕ
           none-caches k.row.mode k.writes alone
 
   abbrev LeftAlone : ServerStep → Type 0
-  LeftAlone t = AllEntries (LeavesAlone who file) t.entries
+  LeftAlone t = Each (LeavesAlone who file) t.entries
 
-  grants-alone : (other : Who) (f : ℕ) (g : Option Grant) → AllEntries (LeavesAlone who file) (grants s other f g)
+  grants-alone : (other : Who) (f : ℕ) (g : Option Grant) → Each (LeavesAlone who file) (grants s other f g)
   grants-alone other f None = tt
   grants-alone other f (Some g) = (tt, tt)
 
@@ -105,7 +106,7 @@ module _ (s : Server) (sender next : ℕ) (d : Datagram) (who : Who) (file : ℕ
   reader-is : (other : Who) (f : File) (want : Option Want) → IsAsking s sender other f → find (conflicts f.id other.host (access_of want)) s.table.rows ≡ None → f.id ≡ file → other ≡ who
   reader-is other f want asking none same = holder-is other (access_of want) asking.serves asking.current (subst (λ n. find (conflicts n other.host (access_of want)) s.table.rows ≡ None) same none)
 
-  commits-alone : (other : Who) (seq xid : ℕ) (r : Request) (c : Decision) → AllEntries (LeavesAlone who file) c.entries → LeftAlone (commits other seq xid r c)
+  commits-alone : (other : Who) (seq xid : ℕ) (r : Request) (c : Decision) → Each (LeavesAlone who file) c.entries → LeftAlone (commits other seq xid r c)
   unfolding commits
   commits-alone other seq xid r c h = h
 
@@ -170,7 +171,7 @@ module _ (s : Server) (sender next : ℕ) (d : Datagram) (who : Who) (file : ℕ
       found = (found-kept (λ r. not (is_over now r)) due.file due.who.host s.table.rows due table.unique (found-any (is_due now) (end_reading now s.table.rows) due unique ends)).0
 
       writes : is_writing due.mode ≡ true
-      writes = (both-true _ _ (find-passes (is_due now) due (end_reading now s.table.rows) ends)).0
+      writes = (and_parts _ _ (find-passes (is_due now) due (end_reading now s.table.rows) ends)).0
 
       stands : find_row file who.host (drop_row due.file due.who.host (end_reading now s.table.rows)) ≡ Some after.row
       stands = subst (λ q. find_row file who.host (standing_in q (with_rows s.table (drop_row due.file due.who.host (end_reading now s.table.rows)))).rows ≡ Some after.row) p after.stands

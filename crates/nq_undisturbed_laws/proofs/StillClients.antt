@@ -1,6 +1,6 @@
 -- A client's step keeps undisturbed what can still be stored, its own and that of all others.
-use Rattle.std.proofs.Common.{◌≡◌, ◌≢◌, ◌<◌, ◌⊎◌, ℕ, zero, suc, ◌==◌, Bool, true, false, ◌&&◌, List, [], ◌∷◌, ◌++◌, Some, map, refl, sym, subst, ap, ◌∙◌, arith, inl, inr}
-use Rattle.std.specs.Prelude.{slice_get, slice_set}
+use Rattle.std.proofs.Common.{◌≡◌, ◌≢◌, ◌<◌, ◌⊎◌, ℕ, suc, ◌==◌, Bool, true, false, ◌&&◌, List, [], ◌∷◌, ◌++◌, Some, map, refl, sym, subst, ap, ◌∙◌, arith, inl, inr}
+use Rattle.std.specs.Prelude.{slice_get}
 use Rattle.nq_base.specs.declared.Entry.{Entry}
 use Rattle.nq_base.specs.declared.Entry.TheVariants.{W}
 use Rattle.nq_base.specs.declared.Event.{Event}
@@ -12,22 +12,24 @@ use Rattle.nq_base.specs.declared.Row.{Row}
 use Rattle.nq_base.specs.declared.Who.{Who}
 use Rattle.nq_chain_steps.proofs.ChainFacts.{IsFenced, gone, ahead, earlier, IsBoundOrFenced, bound, fenced, done_at, rev_at}
 use Rattle.nq_chain_steps.specs.Chained.{IsChained, has_done, has_done_write, is_done, due}
-use Rattle.nq_client_steps.proofs.ClientMoves.{none-some, some-same}
+use Rattle.nq_client_steps.proofs.ClientMoves.{some-same}
 use Rattle.nq_fate_steps.proofs.WritesFit.{WritesFit, IsClear, IsBehind}
 use Rattle.nq_model.specs.Client.{Client, ClientStep, Lease, lease_on}
+use Rattle.nq_model.specs.Journal.{Each}
 use Rattle.nq_model.specs.Kept.{host_row}
 use Rattle.nq_model.specs.Message.{Message, Packet, call, asker}
 use Rattle.nq_model.specs.Server.{standing}
 use Rattle.nq_model.specs.World.{World, after_client, from_host}
 use Rattle.nq_request_laws.specs.OneRequests.{IsOpen, IsUnderWay}
 use Rattle.nq_run_cases.proofs.RunCases.{OfClients, clients-after}
+use Rattle.nq_run_steps.proofs.Mail.{other-asked}
 use Rattle.nq_run_steps.proofs.Packets.{In, in-append, Asked, message-same, call-same}
-use Rattle.nq_run_steps.proofs.Worlds.{get-set-other}
+use Rattle.nq_run_steps.proofs.Worlds.{get-set-other, set-there}
 use Rattle.nq_server_steps.proofs.Incarnations.{one-who}
 use Rattle.nq_server_steps.proofs.Rows.{same-number, number-same}
 use Rattle.nq_undisturbed_laws.proofs.Accesses.{Accesses}
 use Rattle.nq_undisturbed_laws.proofs.Holders.{KnownOf, chained-writes, step-leaves}
-use Rattle.nq_undisturbed_laws.proofs.Journals.{AllEntries, undisturbed-more}
+use Rattle.nq_undisturbed_laws.proofs.Journals.{undisturbed-more}
 use Rattle.nq_undisturbed_laws.proofs.Marks.{clear-less}
 use Rattle.nq_undisturbed_laws.proofs.OwnSends.{IsBy, AllOwn}
 use Rattle.nq_undisturbed_laws.proofs.ServerLeaves.{HasWriting}
@@ -36,11 +38,6 @@ use Rattle.nq_undisturbed_laws.proofs.Tags.{IsEntry, unclean-entry, Follows}
 use Rattle.nq_undisturbed_laws.specs.Undisturbed.{LeavesAlone, IsUndisturbed}
 
 -- ---- lists by place
-
-pub set-there : {Y : Type 0} (xs : List Y) (i : ℕ) (x y : Y) → slice_get xs i ≡ Some y → slice_get (slice_set xs i x) i ≡ Some x
-set-there [] i x y e = none-some y e
-set-there (z ∷ xs) zero x y e = refl
-set-there (z ∷ xs) (suc i) x y e = set-there xs i x y e
 
 pub in-place : {Y : Type 0} (xs : List Y) (x : Y) → In xs x → (k : ℕ) × (slice_get xs k ≡ Some x)
 in-place [] x h = absurd h
@@ -52,19 +49,6 @@ in-place (y ∷ xs) x (inr h) = let k = in-place xs x h in (suc k.0, k.1)
 behind-of : (line : HostRow) (c : Client) (ps : List Packet) (journal : List Entry) → WritesFit line c ps journal → (p : Push) → IsEntry c p → IsBehind c.who journal p
 behind-of line c ps journal f p (inl i) = (f.list.listed p i).behind
 behind-of line c ps journal f p (inr e) = let k = f.under_way p e in let n = push-sequence k.request.request p k.pushes in (f.pushed p k.request n.0 e k.asks n.1).behind
-
--- packets of other hosts are old
-old-asked : (ps : List Packet) (host other x : ℕ) (r : Request) (sends : List Message) → (host ≡ other → ⊥) → Asked (ps ++ map (from_host host) sends) other x r → Asked ps other x r
-old-asked ps host other x r sends apart asked = case (in-append ps (map (from_host host) sends) (from_host other (call x r)) asked)
-  where
-    none : (ms : List Message) → In (map (from_host host) ms) (from_host other (call x r)) → ⊥
-    none [] h = h
-    none (m ∷ ms) (inl e) = apart (message-same host other m (call x r) e).0
-    none (m ∷ ms) (inr h) = none ms h
-
-    case : In ps (from_host other (call x r)) ⊎ In (map (from_host host) sends) (from_host other (call x r)) → Asked ps other x r
-    case (inl old) = old
-    case (inr new) = absurd (none sends new)
 
 -- ---- a push of the running incarnation that is not fenced is the push under way, of a chained file
 
@@ -149,7 +133,7 @@ module _ (hosts most : ℕ) (w : World) (e : Event) (events : List Event) (host 
   server-same = refl
 
   -- what was read and written in the step
-  leaves : (who : Who) (file : ℕ) → HasWriting (standing w.server) who file → AllEntries (LeavesAlone who file) t.entries
+  leaves : (who : Who) (file : ℕ) → HasWriting (standing w.server) who file → Each (LeavesAlone who file) t.entries
   unfolding after_client
   leaves who file h = step-leaves hosts most (after_client w host t) (e ∷ events) z.after host t own-is c.who z.who z.accesses who file h
 
@@ -222,7 +206,7 @@ module _ (hosts most : ℕ) (w : World) (e : Event) (events : List Event) (host 
         ((g other d there).unsaved p entry (clear-less t.entries w.journal d.who p.file p.block p.first p.last clear) l row held chained);
     sent = λ x v n file block first last base body asked of inc above free.
         let here = (z.before.holds.clients other d there).here in
-        let old = old-asked w.packets host d.who.host x (Request.Write v n file block first last (Some base) body) t.sends (λ same. apart (sym here ∙ sym same)) asked in
+        let old = other-asked w.packets host d.who.host t.sends x (Request.Write v n file block first last (Some base) body) (λ same. apart (sym here ∙ same)) asked in
         undisturbed-more v file block first t.entries w.journal
         (leaves v file (push-writes w.server other w.packets (z.before.pushes other d there) x v n file block first last base body (subst (λ h. Asked w.packets h x (Request.Write v n file block first last (Some base) body)) here old) (of ∙ here) (subst (λ h. v.inc ≡ (host_row w.server.kept h).inc) here inc) (subst (λ h. (host_row w.server.kept h).seq < n) here above) free))
         ((g other d there).sent x v n file block first last base body old of inc above free);

@@ -2,7 +2,7 @@
 use Rattle.std.proofs.Common.{◌≡◌, ◌<◌, ◌≤◌, ◌⊎◌, ℕ, Bool, true, false, List, [], ◌∷◌, ◌++◌, Some, refl, sym, subst, ap, ◌∙◌, arith, inl, inr}
 use Rattle.std.proofs.lemmas.Bool.Decides.{nat_tests}
 use Rattle.nq_base.specs.declared.Entry.{Entry}
-use Rattle.nq_base.specs.declared.Entry.TheVariants.{W, S, L}
+use Rattle.nq_base.specs.declared.Entry.TheVariants.{W, L}
 use Rattle.nq_base.specs.declared.Grant.{Grant}
 use Rattle.nq_base.specs.declared.HostRow.{HostRow}
 use Rattle.nq_base.specs.declared.Push.{Push}
@@ -15,9 +15,12 @@ use Rattle.nq_chain_steps.proofs.ChainFacts.{ChainFits, PushesFit, StandsWriting
 use Rattle.nq_chain_steps.specs.Chained.{IsChained, KnowsFile, has_done, has_done_write, due}
 use Rattle.nq_client_steps.proofs.ClientFacts.{is_clean_in, push_in}
 use Rattle.nq_client_steps.proofs.ClientMoves.{none-some, some-same}
-use Rattle.nq_fate_steps.proofs.WritesFit.{WritesFit, CoversNumber, IsClear, IsDirty, IsRising, LiesWithin, in_list, under_way, PushStands, waits, stored}
+use Rattle.nq_fate_steps.proofs.FactPushes.{dirty-clear}
+use Rattle.nq_fate_steps.proofs.JournalMoves.{store-covers, covers-more}
+use Rattle.nq_fate_steps.proofs.WritesFit.{WritesFit, CoversNumber, IsClear, IsRising, LiesWithin, in_list, under_way, PushStands, waits, stored}
+use Rattle.nq_model.proofs.Lists.{exists-left}
 use Rattle.nq_model.specs.Client.{Client, ClientStep, Lease, Ticket, lease_on}
-use Rattle.nq_model.specs.Journal.{Covers, Throughout}
+use Rattle.nq_model.specs.Journal.{Covers, Throughout, Each}
 use Rattle.nq_model.specs.Kept.{host_row}
 use Rattle.nq_model.specs.LeaseInterval.{requested_file}
 use Rattle.nq_model.specs.Message.{Packet, sequence_of}
@@ -28,8 +31,8 @@ use Rattle.nq_run_steps.proofs.Packets.{In, in-append, Asked}
 use Rattle.nq_server_laws.proofs.ServerTables.{BootsFit, BootsFitOf, StandingFitsOf}
 use Rattle.nq_server_steps.proofs.Modes.{writing-caches}
 use Rattle.nq_undisturbed_laws.proofs.Accesses.{Accesses}
-use Rattle.nq_undisturbed_laws.proofs.Journals.{AllEntries, undisturbed-more}
-use Rattle.nq_undisturbed_laws.proofs.Marks.{since-later, fresh-write, covers-more}
+use Rattle.nq_undisturbed_laws.proofs.Journals.{undisturbed-more}
+use Rattle.nq_undisturbed_laws.proofs.Marks.{since-later, fresh-write}
 use Rattle.nq_undisturbed_laws.proofs.ServerLeaves.{HasWriting}
 use Rattle.nq_undisturbed_laws.proofs.Tags.{IsEntry, unclean-entry, Follows, keeps_tag, granted, lost}
 use Rattle.nq_undisturbed_laws.specs.Undisturbed.{LeavesAlone, IsUndisturbed}
@@ -128,11 +131,6 @@ was-chained s c ps f stood boots q entry lease held t (granted k) l row after ch
 
 -- ---- what a client's step keeps
 
-covers-before : (es journal : List Entry) (who : Who) (file block n : ℕ) → CoversNumber es who file block n → CoversNumber (es ++ journal) who file block n
-covers-before [] journal who file block n c = absurd c
-covers-before (e ∷ es) journal who file block n (inl c) = inl c
-covers-before (e ∷ es) journal who file block n (inr c) = inr (covers-before es journal who file block n c)
-
 -- a request that pushes has a sequence
 pub push-sequence : (r : Request) (q : Push) → push_in r ≡ Some q → (n : ℕ) × (sequence_of r ≡ Some n)
 push-sequence (Request.Write w seq file block first last (Some base) body) q e = (seq, refl)
@@ -143,15 +141,6 @@ covered-in : (journal : List Entry) (who : Who) (file block first last n : ℕ) 
 covered-in [] who file block first last n there from to = absurd there
 covered-in (e ∷ journal) who file block first last n (inl same) from to = inl (subst (λ z. Covers z (W who file block n 0 false)) (sym same) (refl, refl, refl, from, to))
 covered-in (e ∷ journal) who file block first last n (inr there) from to = inr (covered-in journal who file block first last n there from to)
-
-stored-in : (journal : List Entry) (who : Who) (file block first last now n : ℕ) → In journal (S who file block first last now) → first ≤ n → n ≤ last → CoversNumber journal who file block n
-stored-in [] who file block first last now n there from to = absurd there
-stored-in (e ∷ journal) who file block first last now n (inl same) from to = inl (subst (λ z. Covers z (W who file block n 0 false)) (sym same) (refl, refl, refl, from, to))
-stored-in (e ∷ journal) who file block first last now n (inr there) from to = inr (stored-in journal who file block first last now n there from to)
-
--- an entry that a number of it is not covered of is clear
-dirty-clear : (who : Who) (number : ℕ) (journal : List Entry) (p : Push) → IsDirty who number journal p → IsClear journal who p.file p.block p.first p.last
-dirty-clear who number journal p d n from to c = let less = d.above n c in absurd (omega arith)
 
 -- the entry in which the first write of another lay before
 pub record WasEntry (line : HostRow) (c : Client) (journal : List Entry) (p : Push) : Type 0 where
@@ -177,16 +166,16 @@ was-entry line c ps journal f p value there free = case (f.list.unsaved p.file p
             stands : PushStands line c.who n.0 journal q → IsClear journal c.who q.file q.block q.first q.last
             stands (waits undone clear) = clear
             stands (stored now done there) =
-                let covered : CoversNumber journal c.who q.file q.block p.first = stored-in journal c.who q.file q.block q.first q.last now p.first there from to in
+                let covered : CoversNumber journal c.who q.file q.block p.first = store-covers journal c.who q.file q.block q.first q.last now p.first there from to in
                 absurd (free (subst (λ z. CoversNumber journal c.who z p.block p.first) file (subst (λ z. CoversNumber journal c.who q.file z p.first) block covered)))
 
     case : CoversNumber journal c.who p.file p.block p.first ⊎ LiesWithin c.dirty c.push p.file p.block p.first → WasEntry line c journal p
     case (inl covered) = absurd (free covered)
-    case (inr (in_list q i file block from to)) = record { q = q; entry = inl i; on_file = file; on_block = block; from = from; to = to; clear = dirty-clear c.who c.number journal q (f.list.listed q i) }
+    case (inr (in_list q i file block from to)) = record { q = q; entry = inl i; on_file = file; on_block = block; from = from; to = to; clear = dirty-clear (f.list.listed q i) }
     case (inr (under_way q e file block from to)) = record { q = q; entry = inr e; on_file = file; on_block = block; from = from; to = to; clear = push-clear q e file block from to }
 
 -- the entries of the client that stepped
-pub own-unsaved : (s : Server) (line : HostRow) (c : Client) (ps : List Packet) (journal : List Entry) → ChainFits s c ps → StandingFitsOf s → BootsFitOf s → WritesFit line c ps journal → Throughout IsRising journal → ((q : Push) → IsEntry c q → IsClear journal c.who q.file q.block q.first q.last → (l : Lease) (row : Row) → lease_on q.file c.leases ≡ Some l → IsChained (standing s) c.who q.file l.tag row → IsUndisturbed c.who q.file q.block q.first journal) → (t : ClientStep) → Accesses c.who t → ((q : Push) (lease : Lease) → IsEntry c q → lease_on q.file c.leases ≡ Some lease → Follows c q lease.tag (Takes c ps q) t) → (p : Push) (value : ℕ) → In (t.entries ++ journal) (W c.who p.file p.block p.first value false) → p.first ≤ p.last → IsClear (t.entries ++ journal) c.who p.file p.block p.first p.last → AllEntries (LeavesAlone c.who p.file) t.entries → (l : Lease) (row : Row) → lease_on p.file t.client.leases ≡ Some l → IsChained (standing s) c.who p.file l.tag row → IsUndisturbed c.who p.file p.block p.first (t.entries ++ journal)
+pub own-unsaved : (s : Server) (line : HostRow) (c : Client) (ps : List Packet) (journal : List Entry) → ChainFits s c ps → StandingFitsOf s → BootsFitOf s → WritesFit line c ps journal → Throughout IsRising journal → ((q : Push) → IsEntry c q → IsClear journal c.who q.file q.block q.first q.last → (l : Lease) (row : Row) → lease_on q.file c.leases ≡ Some l → IsChained (standing s) c.who q.file l.tag row → IsUndisturbed c.who q.file q.block q.first journal) → (t : ClientStep) → Accesses c.who t → ((q : Push) (lease : Lease) → IsEntry c q → lease_on q.file c.leases ≡ Some lease → Follows c q lease.tag (Takes c ps q) t) → (p : Push) (value : ℕ) → In (t.entries ++ journal) (W c.who p.file p.block p.first value false) → p.first ≤ p.last → IsClear (t.entries ++ journal) c.who p.file p.block p.first p.last → Each (LeavesAlone c.who p.file) t.entries → (l : Lease) (row : Row) → lease_on p.file t.client.leases ≡ Some l → IsChained (standing s) c.who p.file l.tag row → IsUndisturbed c.who p.file p.block p.first (t.entries ++ journal)
 own-unsaved s line c ps journal f stood boots writes rising still t accesses follows p value there ordered clear leaves l row held chained = case (in-append t.entries journal (W c.who p.file p.block p.first value false) there)
   where
     uncovered : CoversNumber journal c.who p.file p.block p.first → ⊥
@@ -216,4 +205,4 @@ own-unsaved s line c ps journal f stood boots writes rising still t accesses fol
             by (inr loss) =
                 let covered : CoversNumber t.entries c.who was.q.file was.q.block p.first = covered-in t.entries c.who was.q.file was.q.block was.q.first was.q.last p.first loss was.from was.to in
                 let mine : CoversNumber t.entries c.who p.file p.block p.first = subst (λ z. CoversNumber t.entries c.who z p.block p.first) was.on_file (subst (λ z. CoversNumber t.entries c.who was.q.file z p.first) was.on_block covered) in
-                absurd (clear p.first (omega arith) ordered (covers-before t.entries journal c.who p.file p.block p.first mine))
+                absurd (clear p.first (omega arith) ordered (exists-left (λ e. Covers e (W c.who p.file p.block p.first 0 false)) t.entries journal mine))

@@ -16,6 +16,7 @@ use Rattle.nq_excuse_steps.proofs.BoundBefore.{Stood, StandsWriting}
 use Rattle.nq_fate_steps.proofs.ServerTells.{ServerTells, Moves, same_lines, attaches_one, decides_one}
 use Rattle.nq_fate_steps.proofs.WritesFit.{IsClear}
 use Rattle.nq_model.specs.Client.{Client, Job, Lease, Ticket, lease_on}
+use Rattle.nq_model.specs.Journal.{Each}
 use Rattle.nq_model.specs.Kept.{host_row}
 use Rattle.nq_model.specs.Message.{call, asker, sequence_of}
 use Rattle.nq_model.specs.Server.{ServerStep, standing}
@@ -30,7 +31,7 @@ use Rattle.nq_run_steps.proofs.TagFacts.{IsDrawn}
 use Rattle.nq_server_steps.proofs.Rows.{same-number, number-same}
 use Rattle.nq_server_steps.proofs.ServerOutcomes.{file_changed_by, base_in}
 use Rattle.nq_undisturbed_laws.proofs.Holders.{KnownOf, chained-writes}
-use Rattle.nq_undisturbed_laws.proofs.Journals.{AllEntries, undisturbed-more}
+use Rattle.nq_undisturbed_laws.proofs.Journals.{undisturbed-more}
 use Rattle.nq_undisturbed_laws.proofs.Marks.{clear-less}
 use Rattle.nq_undisturbed_laws.proofs.ServerLeaves.{HasWriting}
 use Rattle.nq_undisturbed_laws.proofs.StillClients.{F, in-place}
@@ -59,7 +60,7 @@ pub record Served (hosts most : ℕ) (w : World) (e : Event) (events : List Even
   pub tells : ServerTells w.packets w.server t
   pub fenced : (file boot rev : ℕ) → file < w.server.kept.next → IsFenced w.server.kept file boot rev → IsFenced t.server.kept file boot rev
   pub stood : (who : Who) (file : ℕ) (tag : Tag) → IsDrawn (standing w.server).boot (standing w.server).drawn tag → StandsWriting who file tag (standing t.server).rows → Stood who file tag (standing w.server).rows
-  pub alone : (who : Who) (file : ℕ) → HasWriting (standing w.server) who file → HasWriting (standing t.server) who file → ChangesNothing w who file → AllEntries (LeavesAlone who file) t.entries
+  pub alone : (who : Who) (file : ℕ) → HasWriting (standing w.server) who file → HasWriting (standing t.server) who file → ChangesNothing w who file → Each (LeavesAlone who file) t.entries
 
 -- a WRITE that goes through is the call's
 for-call : (job : Job) (r : Request) (v : Who) (m file block first last : ℕ) (body : List ℕ) → r ≡ Request.Write v m file block first last None body → fits_job job r ≡ true → job ≡ Job.for_call

@@ -1,7 +1,6 @@
 -- What a client's step does to the tag of the lease of a file that has delayed writes: it stays, or a grant of the chain is
 -- taken, or the delayed writes are lost.
-use Rattle.std.proofs.Common.{◌≡◌, ◌≢◌, ◌⊎◌, ℕ, Bool, true, false, ◌&&◌, ◌||◌, not, ◌==◌, List, [], ◌∷◌, ◌++◌, Option, Some, None, map, if◌then◌else◌, refl, sym, subst, ap, ◌∙◌, inl, inr, reverse}
-use Rattle.std.proofs.lemmas.Grind.{reverse_onto}
+use Rattle.std.proofs.Common.{◌≡◌, ◌≢◌, ◌⊎◌, ℕ, Bool, true, false, ◌&&◌, ◌||◌, not, ◌==◌, List, [], ◌∷◌, ◌++◌, Option, Some, None, map, refl, sym, subst, ap, ◌∙◌, inl, inr, reverse}
 use Rattle.std.specs.List.{filter, list_any}
 use Rattle.nq_base.specs.declared.Answer.{Answer}
 use Rattle.nq_base.specs.declared.Call.{Call}
@@ -19,7 +18,7 @@ use Rattle.nq_client_cases.proofs.SettleCases.{settle-cases}
 use Rattle.nq_client_cases.proofs.PartCases.{answers-call-cases, vacates-noticed-cases, reports-cases, if-broken-cases, takes-optional-cases, lease-done-cases, then-caches-cases, caches-write-cases, caches-push-cases, vacates-if-clean-cases}
 use Rattle.nq_client_cases.proofs.StepCases.{call-cases, unless-cached-cases, tick-cases, evicted-cases, heard-cases}
 use Rattle.nq_client_steps.proofs.ClientFacts.{Alone, fits_job}
-use Rattle.nq_client_steps.proofs.ClientLists.{marked-before, marked-tag, lease-before-drop, lease-after-put, other-number}
+use Rattle.nq_client_steps.proofs.ClientLists.{marked-before, marked-tag, lease-before-drop, lease-after-put}
 use Rattle.nq_client_steps.proofs.ClientMoves.{some-same}
 use Rattle.nq_model.specs.Client.{Client, ClientStep, Job, Lease, Ticket, begun, lease_on, used_lease, drop_lease, notice_on, is_push_of, is_clean, push_passes}
 use Rattle.nq_model.specs.ClientStep.{begins_call, is_called, says_busy, client_call, client_tick, at_time, sends_again}
@@ -29,8 +28,10 @@ use Rattle.nq_model.specs.Message.{Message, reply}
 use Rattle.nq_model.specs.Send.{sends_request, after_seq, after_number, takes_push, gives_up, send_next}
 use Rattle.nq_model.specs.Settle.{answers, names_losses, after_read, after_write, reads_cached, delays, marks_written, settle}
 use Rattle.nq_model.specs.Table.{tag_below}
+use Rattle.nq_run_steps.proofs.Members.{map-in, reverse-in, filter-in}
 use Rattle.nq_run_steps.proofs.Packets.{In, in-left, in-right}
 use Rattle.nq_server_steps.proofs.Rows.{same-number, number-same}
+use Rattle.nq_server_steps.proofs.Tests.{is-other}
 
 -- a client has an entry of delayed writes, in its list or under way
 abbrev pub IsEntry : Client → Push → Type 0
@@ -43,31 +44,6 @@ pub record GoesOn (file : ℕ) (t s : ClientStep) : Type 0 where
   pub leases : (l : Lease) → lease_on file s.client.leases ≡ Some l → (m : Lease) × (lease_on file t.client.leases ≡ Some m) × (l.tag ≡ m.tag)
 
 -- ---- lists
-
-in-map : {Y V : Type 0} (f : Y → V) (xs : List Y) (x : Y) → In xs x → In (map f xs) (f x)
-in-map f [] x h = h
-in-map f (y ∷ xs) x (inl e) = inl (ap f e)
-in-map f (y ∷ xs) x (inr h) = inr (in-map f xs x h)
-
-in-reverse : {Y : Type 0} (xs : List Y) (x : Y) → In xs x → In (reverse xs) x
-in-reverse [] x h = h
-in-reverse (y ∷ xs) x (inl e) = subst (λ zs. In zs x) (sym (reverse_onto xs y [])) (in-right (reverse xs) (y ∷ []) x (inl e))
-in-reverse (y ∷ xs) x (inr h) = subst (λ zs. In zs x) (sym (reverse_onto xs y [])) (in-left (reverse xs) (y ∷ []) x (in-reverse xs x h))
-
-in-kept : {Y : Type 0} (y x : Y) (ys : List Y) (test : Y → Bool) (b : Bool) → test y ≡ b → test x ≡ true → (y ≡ x) ⊎ In ys x → (b ≡ true → ((y ≡ x) ⊎ In ys x)) × (b ≡ false → In ys x)
-in-kept y x ys test true e passes (inl one) = (λ f. inl one, λ f. absurd (cc))
-in-kept y x ys test false e passes (inl one) = (λ f. absurd (cc), λ f. let yes : test y ≡ true = subst (λ z. test z ≡ true) (sym one) passes in absurd (cc))
-in-kept y x ys test b e passes (inr i) = (λ f. inr i, λ f. i)
-
-in-filter : {Y : Type 0} (test : Y → Bool) (xs : List Y) (x : Y) → test x ≡ true → In xs x → In (filter test xs) x
-in-filter test [] x passes h = h
-in-filter {Y = Y} test (y ∷ xs) x passes h = case (test y) refl (in-filter test xs x passes) h
-  where
-    case : (b : Bool) → test y ≡ b → (In xs x → In (filter test xs) x) → (y ≡ x) ⊎ In xs x → In (if b then y ∷ filter test xs else filter test xs) x
-    case true e rest (inl one) = inl one
-    case true e rest (inr i) = inr (rest i)
-    case false e rest (inl one) = let yes : test y ≡ true = subst (λ z. test z ≡ true) (sym one) passes in absurd (cc)
-    case false e rest (inr i) = rest i
 
 any-in : (file : ℕ) (xs : List Push) (x : Push) → In xs x → x.file ≡ file → list_any (is_push_of file) xs ≡ true
 any-in file [] x h of = absurd h
@@ -88,7 +64,7 @@ unclean-entry c q (inr e) = let same : (q.file == q.file) ≡ true = number-same
     both false p = rw p refl
 
 in-all : (c : Client) (q : Push) → IsEntry c q → In (all_dirty c q.file) q
-in-all c q (inl i) = in-right (push_of q.file c.push) (filter (is_push_of q.file) c.dirty) q (in-filter (is_push_of q.file) c.dirty q (number-same q.file q.file refl) i)
+in-all c q (inl i) = in-right (push_of q.file c.push) (filter (is_push_of q.file) c.dirty) q (filter-in (is_push_of q.file) c.dirty q (number-same q.file q.file refl) i)
 in-all c q (inr e) = in-left (push_of q.file c.push) (filter (is_push_of q.file) c.dirty) q (subst (λ o. In (push_of q.file o) q) (sym e) (let same : (q.file == q.file) ≡ true = number-same q.file q.file refl in rw same (inl refl)))
 
 entry-lost : (t : ClientStep) (c : Client) (q : Push) (file : ℕ) → t.client.who ≡ c.who → t.client.dirty ≡ c.dirty → t.client.push ≡ c.push → q.file ≡ file → IsEntry c q → In (loses t file).entries (L c.who q.file q.block q.first q.last)
@@ -97,7 +73,7 @@ entry-lost t c q file who dirty push of i =
     let here : IsEntry t.client q = moved i in
     let all : In (all_dirty t.client file) q = subst (λ f. In (all_dirty t.client f) q) of (in-all t.client q here) in
     subst (λ w. In (loses t file).entries (L w q.file q.block q.first q.last)) who
-    (in-left (reverse (map (loss_entry t.client.who) (all_dirty t.client file))) t.entries (loss_entry t.client.who q) (in-reverse (map (loss_entry t.client.who) (all_dirty t.client file)) (loss_entry t.client.who q) (in-map (loss_entry t.client.who) (all_dirty t.client file) q all)))
+    (in-left (reverse (map (loss_entry t.client.who) (all_dirty t.client file))) t.entries (loss_entry t.client.who q) (reverse-in (map (loss_entry t.client.who) (all_dirty t.client file)) (loss_entry t.client.who q) (map-in (loss_entry t.client.who) (all_dirty t.client file) q all)))
   where
     moved : IsEntry c q → IsEntry t.client q
     moved (inl k) = inl (subst (λ d. In d q) (sym dirty) k)
@@ -288,7 +264,7 @@ module _ (c : Client) (q : Push) (tag : Tag) (Brings : Grant → Type 0) where
       where
         case : (b : Bool) → (q.file == file) ≡ b → Follows (takes_grant t file g sent)
         case true e = let of = same-number q.file file e in go-broken t file g sent k.who k.dirty k.push k.leases of (brings of) (start t k.leases)
-        case false e = go-other t file g sent (other-number q.file file e) (start t k.leases)
+        case false e = go-other t file g sent (is-other q.file file e) (start t k.leases)
 
     go-optional : (t : ClientStep) (file : ℕ) (o : Option Grant) (sent : ℕ) → IsSpent t → ((g : Grant) → o ≡ Some g → q.file ≡ file → Brings g) → Follows (takes_optional t file o sent)
     go-optional t file o sent k brings = takes-optional-cases t file o sent Follows (λ e. start t k.leases) (λ g e. go-takes t file g sent k (brings g e))

@@ -19,6 +19,7 @@ use Rattle.nq_lease_laws.specs.LeaseIntervalInRuns.{KeepsBounds}
 use Rattle.nq_model.specs.Client.{Client, ClientStep, Lease, lease_on}
 use Rattle.nq_model.specs.ClientStep.{client_call, client_tick, restart, starts, fresh_client, attached_client, next_incarnation}
 use Rattle.nq_model.specs.Hear.{hear}
+use Rattle.nq_model.specs.Journal.{Each}
 use Rattle.nq_model.specs.Kept.{File, find_file, host_row}
 use Rattle.nq_model.specs.Message.{Message, Packet, call, datagram_of, request, too_long}
 use Rattle.nq_model.specs.Server.{Server, ServerStep, standing}
@@ -29,16 +30,16 @@ use Rattle.nq_request_laws.proofs.WorldSequences.{asked-before-server}
 use Rattle.nq_run_cases.proofs.RunCases.{During, Keeps, client_at, OfClients, run-keeps, clients-after}
 use Rattle.nq_run_steps.proofs.Packets.{In, in-append, in-get, Asked, Told, message-same, call-same}
 use Rattle.nq_run_steps.proofs.ServerSays.{AllSaid}
-use Rattle.nq_run_steps.proofs.Worlds.{Holds, get-set-other, first-client, to-server, to-told, received-said, tick-said, crash-said}
+use Rattle.nq_run_steps.proofs.Worlds.{Holds, get-set-other, first-client, to-server, to-told, received-said, tick-said, crash-said, set-there}
 use Rattle.nq_server_steps.proofs.Rows.{same-number, number-same}
 use Rattle.nq_undisturbed_laws.proofs.Accesses.{Accesses, call-accesses, tick-accesses, hear-accesses}
 use Rattle.nq_undisturbed_laws.proofs.Fences.{fenced-receive, fenced-tick, fenced-crash}
 use Rattle.nq_undisturbed_laws.proofs.Holders.{KnownOf}
-use Rattle.nq_undisturbed_laws.proofs.Journals.{AllEntries, undisturbed-more}
+use Rattle.nq_undisturbed_laws.proofs.Journals.{undisturbed-more}
 use Rattle.nq_undisturbed_laws.proofs.Marks.{clear-less}
 use Rattle.nq_undisturbed_laws.proofs.OwnSends.{OwnSends, call-own, tick-own, hear-own}
 use Rattle.nq_undisturbed_laws.proofs.ServerLeaves.{receive-alone, tick-alone, crash-alone}
-use Rattle.nq_undisturbed_laws.proofs.StillClients.{F, step-still, set-there}
+use Rattle.nq_undisturbed_laws.proofs.StillClients.{F, step-still}
 use Rattle.nq_undisturbed_laws.proofs.StillFits.{StillFits, Takes, push-writes}
 use Rattle.nq_undisturbed_laws.proofs.StillServer.{Served, served-still}
 use Rattle.nq_undisturbed_laws.proofs.Tags.{IsEntry, Follows, call-follows, tick-follows, hear-follows}
@@ -138,7 +139,7 @@ module _ (most : ℕ) (head : Head) (known : (events : List Event) → KeepsBoun
 
   -- ---- a restart
 
-  restart-entries : (c : Client) (who : Who) (file : ℕ) → AllEntries (LeavesAlone who file) (restart c).entries
+  restart-entries : (c : Client) (who : Who) (file : ℕ) → Each (LeavesAlone who file) (restart c).entries
   unfolding starts
   restart-entries c who file = (tt, tt)
 
