@@ -31,11 +31,11 @@ abbrev pub one-host : Head
 one-host = record { hosts = 1; term = 5; longest = 60; files = (97 ∷ [], 1) ∷ [] }
 
 -- a lease is asked for and granted, and the write is delayed; the newest event first
-pub delayed : List Event
+unfoldable pub delayed : List Event
 delayed = Event.Deliver 1 ∷ Event.Deliver 0 ∷ Event.Call 0 (Call.Write 1 0 zeros) ∷ []
 
 -- thirteen rounds, in which the lease ends
-pub rounds : List Event
+unfoldable pub rounds : List Event
 rounds =
     Event.ServerTick ∷ Event.ClientTick 0
     ∷ Event.ServerTick ∷ Event.ClientTick 0
@@ -57,7 +57,7 @@ lost-later : List Event
 lost-later = Event.Deliver 8 ∷ Event.Deliver 2 ∷ rounds
 
 -- the client after it delayed the write
-pub writer : Client
+unfoldable pub writer : Client
 writer = unwrap_or (slice_get (run one-host delayed).clients 0) (attached_client (record { host = 0; inc = 1 }) 5 0)
 
 is-there : is_some (slice_get (run one-host delayed).clients 0) ≡ true

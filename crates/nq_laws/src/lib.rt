@@ -34,12 +34,13 @@ pub use nq_report_laws::{
 pub use nq_request_laws::{
     one_request_is_open, one_request_per_sequence, replies_come_after, requests_are_met,
 };
-pub use nq_server_laws::{recovery_waits, rows_stand_apart};
+pub use nq_server_laws::{recoveries_are_met, recovery_waits, rows_stand_apart};
 pub use nq_synchronized_laws::{oks_are_kept_in_every_run, oks_are_met};
 pub use nq_tag_laws::{
     standing_table_grows, tags_are_drawn_in_order, vacated_tags_are_met, vacated_tags_are_past,
 };
 pub use nq_undisturbed_laws::{
-    delayed_writes_are_undisturbed_in_every_run, unsaved_files_are_bound_or_fenced_in_every_run,
+    bound_and_fenced_are_met, delayed_writes_are_undisturbed_in_every_run,
+    unsaved_files_are_bound_or_fenced_in_every_run,
 };
 pub use promises::headline;

@@ -11,3 +11,4 @@ pub mod LogTimes
 pub mod LogGrants
 pub mod LogRows
 pub mod LogFits
+pub mod SomeRecovery

@@ -1,3 +1,4 @@
+pub mod RecoveriesAreMet
 pub mod RecoveryWaits
 pub mod RowsApart
 pub mod ServerAlone

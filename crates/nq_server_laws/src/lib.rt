@@ -4,4 +4,4 @@
 
 mod server;
 
-pub use server::{recovery_waits, rows_stand_apart};
+pub use server::{recoveries_are_met, recovery_waits, rows_stand_apart};

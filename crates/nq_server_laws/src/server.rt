@@ -1,5 +1,6 @@
 //! A server alone.
 
+ghost use Rattle.nq_server_laws.specs.RecoveriesAreMet.{RecoveriesAreMet};
 ghost use Rattle.nq_server_laws.specs.RecoveryWaits.{RecoveryWaits};
 ghost use Rattle.nq_server_laws.specs.RowsApart.{RowsStandApart};
 
@@ -15,4 +16,10 @@ pub fn rows_stand_apart()
 /// and no sooner than the write slack after each write that was stored in it (Macklem 1994).
 pub fn recovery_waits()
     ensures { RecoveryWaits }
+{}
+
+/// There is a server with a row that lets its holder write, and that its holder is told to give up; it crashes, and while it
+/// recovers, with that row in mind, it stores delayed writes.
+pub fn recoveries_are_met()
+    ensures { RecoveriesAreMet }
 {}

@@ -13,3 +13,4 @@ pub mod StillServer
 pub mod UndisturbedRuns
 pub mod KnownRuns
 pub mod BoundOrFenced
+pub mod SomeFenced

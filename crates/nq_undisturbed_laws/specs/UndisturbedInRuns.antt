@@ -1,5 +1,5 @@
 -- In every run: what can still be stored is undisturbed, and what can not be stored any more was fenced (Macklem 1994).
-use Rattle.std.specs.Prelude.{◌≡◌, ◌<◌, ◌≤◌, ◌⊎◌, ℕ, true, false, List, Some, None, slice_get}
+use Rattle.std.specs.Prelude.{◌≡◌, ◌<◌, ◌≤◌, ◌⊎◌, ℕ, true, false, List, Some, None, slice_get, ◌++◌}
 use Rattle.nq_base.specs.declared.Entry.{Entry}
 use Rattle.nq_base.specs.declared.Entry.TheVariants.{W}
 use Rattle.nq_base.specs.declared.Event.{Event}
@@ -95,3 +95,32 @@ DelayedWritesAreUndisturbed =
     → KeepsBounds most head events
     → IsWithinSkew head.hosts most events
     → BoundWritesAreUndisturbed (run head events) × OpenPushesAreUndisturbed (run head events)
+
+-- ---- that the premises are met
+
+-- after some schedule within skew a client has delayed writes of a bound file, none of them stored or lost; and after further
+-- events it still has them, and the file is fenced for them
+pub record BoundAndFencedAreMet : Type 0 where
+  pub most : ℕ
+  pub head : Head
+  pub events : List Event
+  pub later : List Event
+  pub host : ℕ
+  pub file : ℕ
+  pub push : Push
+  pub on_file : push.file ≡ file
+  pub client : Client
+  pub bounds : KeepsBounds most head events
+  pub within : IsWithinSkew head.hosts most events
+  pub there : slice_get (run head events).clients host ≡ Some client
+  pub unclean : is_clean client file ≡ false
+  pub unsaved : IsUnsaved client push
+  pub uncovered : IsUncovered (run head events).journal client.who push
+  pub bound : IsBoundAndDue (run head events) host client file
+  pub client_later : Client
+  pub bounds_later : KeepsBounds most head (later ++ events)
+  pub within_later : IsWithinSkew head.hosts most (later ++ events)
+  pub there_later : slice_get (run head (later ++ events)).clients host ≡ Some client_later
+  pub unclean_later : is_clean client_later file ≡ false
+  pub unsaved_later : IsUnsaved client_later push
+  pub fenced : IsFencedAt (run head (later ++ events)) host client_later file

@@ -5,5 +5,6 @@
 mod undisturbed;
 
 pub use undisturbed::{
-    delayed_writes_are_undisturbed_in_every_run, unsaved_files_are_bound_or_fenced_in_every_run,
+    bound_and_fenced_are_met, delayed_writes_are_undisturbed_in_every_run,
+    unsaved_files_are_bound_or_fenced_in_every_run,
 };

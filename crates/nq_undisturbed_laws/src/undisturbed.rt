@@ -1,6 +1,6 @@
 //! What can still be stored is undisturbed, and what can not was fenced.
 
-ghost use Rattle.nq_undisturbed_laws.specs.UndisturbedInRuns.{DelayedWritesAreUndisturbed, UnsavedFilesAreBoundOrFenced};
+ghost use Rattle.nq_undisturbed_laws.specs.UndisturbedInRuns.{BoundAndFencedAreMet, DelayedWritesAreUndisturbed, UnsavedFilesAreBoundOrFenced};
 
 /// After every schedule within skew, a file with delayed writes at a client is held for writing; and the client's row stands and
 /// the file is kept at the revision that is due, or these writes can not be stored any more, by the file's revision, by a later
@@ -15,4 +15,10 @@ pub fn unsaved_files_are_bound_or_fenced_in_every_run()
 /// it, and its length stayed (Gray and Cheriton 1989; Macklem 1994).
 pub fn delayed_writes_are_undisturbed_in_every_run()
     ensures { DelayedWritesAreUndisturbed }
+{}
+
+/// There is such a schedule, after which a client has delayed writes of a bound file, none of them stored or lost yet; and a
+/// longer one, after which it still has them, and they can not be stored any more.
+pub fn bound_and_fenced_are_met()
+    ensures { BoundAndFencedAreMet }
 {}
