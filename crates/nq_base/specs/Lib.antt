@@ -1,3 +1,4 @@
 pub mod Block
 pub mod Lists
 pub mod Name
+pub mod Steps

@@ -1,4 +1,5 @@
-use Rattle.std.specs.Prelude.{◌≡◌, ◌≢◌, ◌≤◌, ◌-◌, ◌++◌, ℕ, List, length, take, drop, replicate, All}
+use Rattle.std.specs.Prelude.{◌≡◌, ◌≢◌, ◌≤◌, ◌-◌, ◌==◌, ◌++◌, ℕ, nat_le, Bool, ◌&&◌, not, List, length, take, drop, replicate, All}
+use Rattle.std.specs.List.{list_all}
 use Rattle.std.proofs.Common.{arith, length-take}
 use Rattle.std.proofs.lemmas.List.{take-append-drop}
 
@@ -9,6 +10,13 @@ IsNameByte b = (33 ≤ b) × (b ≤ 126) × (b ≢ 47)
 -- a name is 1 to 64 such bytes
 abbrev pub IsName : List ℕ → Type 0
 IsName bytes = (1 ≤ length bytes) × (length bytes ≤ 64) × All IsNameByte bytes
+
+-- the tests of these
+abbrev pub is_name_byte : ℕ → Bool
+is_name_byte b = nat_le 33 b && nat_le b 126 && not (b == 47)
+
+unfoldable pub is_name : List ℕ → Bool
+is_name bytes = nat_le 1 (length bytes) && nat_le (length bytes) 64 && list_all is_name_byte bytes
 
 -- 64 bytes of which the first ones are a name and the others zeros
 pub record IsStored (bytes : List ℕ) (used : ℕ) : Type 0 where

@@ -7,9 +7,11 @@ use Rattle.std.proofs.lemmas.Bool.Decides.{nat_tests, leb_tells}
 use Rattle.std.proofs.lemmas.Fmt.{decimal_digit, decimal_nonempty, first_decimal, digits_decimal, digits_value-decimal, decimal-digits_value}
 use Rattle.std.proofs.lemmas.List.{drop_all}
 use Rattle.std.proofs.lemmas.Str.Parse.{IsNumeralModel, numerals_by_fold}
-use Rattle.nq_journal.specs.Reading.{◌>>=◌, only_if, with_digit, digits_after, is_digit, is_plain, u64_of, u32_of}
+use Rattle.nq_base.specs.Steps.{◌>>=◌}
+use Rattle.nq_base.proofs.Options.{bind_some}
+use Rattle.nq_journal.specs.Reading.{only_if, with_digit, digits_after, is_digit, is_plain, u64_of, u32_of}
 use Rattle.nq_journal.proofs.LineWords.{IsFree, IsWord}
-use Rattle.nq_journal.proofs.Options.{bind_some, only_if_some}
+use Rattle.nq_journal.proofs.Options.{only_if_some}
 use Rattle.nq_journal.proofs.Cuts.{drop_at_place}
 
 -- at a place the number takes the digit there

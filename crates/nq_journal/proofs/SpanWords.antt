@@ -6,7 +6,8 @@ use Rattle.std.proofs.lemmas.List.{take_more, map-append, flat_map_more}
 use Rattle.std.proofs.lemmas.List.Elements.{All-push}
 use Rattle.std.proofs.lemmas.Option.{slice_get_cases, slice_get_within, get_or_from_slice_get}
 use Rattle.nq_base.specs.declared.Span.{Span}
-use Rattle.nq_journal.specs.Reading.{◌>>=◌, cut, word_at}
+use Rattle.nq_base.specs.Steps.{◌>>=◌}
+use Rattle.nq_journal.specs.Reading.{cut, word_at}
 use Rattle.nq_journal.specs.ReadingAnswers.{span_of, spans_of}
 use Rattle.nq_journal.specs.Text.{FitsSpan, span_word}
 use Rattle.nq_journal.specs.Words.{spaced}

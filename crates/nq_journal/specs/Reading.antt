@@ -1,14 +1,9 @@
 -- Reading a line from the left: a value and what stands behind it, or nothing where it is not spelled there.
 use Rattle.std.specs.Prelude.{◌≡◌, ℕ, ◌+◌, ◌-◌, ◌*◌, ◌^◌, ◌==◌, Bool, true, false, not, ◌&&◌, ◌||◌, List, [], ◌∷◌, ◌++◌, length, slice_index, Option, Some, None, nat_lt, nat_le, if◌then◌else◌}
-use Rattle.std.specs.List.{list_all}
+use Rattle.nq_base.specs.Name.{is_name}
+use Rattle.nq_base.specs.Steps.{◌>>=◌}
 use Rattle.nq_base.specs.declared.Tag.{Tag}
 use Rattle.nq_base.specs.declared.Who.{Who}
-
-infixl 10 ◌>>=◌
--- goes on with the value of a step, or ends where there is none
-abbrev pub ◌>>=◌ : {A B : Type 0} → Option A → (A → Option B) → Option B
-None >>= f = None
-(Some x) >>= f = f x
 
 -- a value, if it passes a test
 abbrev pub only_if : {A : Type 0} → Bool → A → Option A
@@ -64,13 +59,9 @@ u64_of word = if is_plain word then digits_after 0 word else None
 unfoldable pub u32_of : List ℕ → Option ℕ
 u32_of word = u64_of word >>= λ n. only_if (nat_lt n (2 ^ 32)) n
 
--- a byte that a name may have
-abbrev pub is_name_byte : ℕ → Bool
-is_name_byte b = nat_le 33 b && nat_le b 126 && not (b == 47)
-
 -- a name
 unfoldable pub name_of : List ℕ → Option (List ℕ)
-name_of word = only_if (nat_le 1 (length word) && nat_le (length word) 64 && list_all is_name_byte word) word
+name_of word = only_if (is_name word) word
 
 -- the first word
 abbrev pub word_at : List (List ℕ) → Option (List ℕ × List (List ℕ))

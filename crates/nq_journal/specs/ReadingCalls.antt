@@ -2,8 +2,9 @@
 use Rattle.std.specs.Prelude.{ℕ, List, Option, Some, None, codes, if◌then◌else◌}
 use Rattle.std.specs.Str.{bytes_eq}
 use Rattle.nq_base.specs.declared.Told.{Told}
+use Rattle.nq_base.specs.Steps.{◌>>=◌}
 use Rattle.nq_journal.specs.declared.read_calls.Verb.{Verb}
-use Rattle.nq_journal.specs.Reading.{◌>>=◌, word_at, u32_at, name_at, place_at}
+use Rattle.nq_journal.specs.Reading.{word_at, u32_at, name_at, place_at}
 
 -- what stands behind the word `create`
 unfoldable pub create_at : List (List ℕ) → Option (Told × List (List ℕ))

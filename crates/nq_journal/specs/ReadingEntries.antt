@@ -4,9 +4,10 @@ use Rattle.std.specs.Str.{bytes_eq}
 use Rattle.nq_base.specs.declared.Entry.{Entry}
 use Rattle.nq_base.specs.declared.Mode.{Mode}
 use Rattle.nq_base.specs.declared.Told.{Told}
+use Rattle.nq_base.specs.Steps.{◌>>=◌}
 use Rattle.nq_journal.specs.Text.{entry_words, Fits}
 use Rattle.nq_journal.specs.declared.read_entries.Kind.{Kind}
-use Rattle.nq_journal.specs.Reading.{◌>>=◌, only_if, word_at, u64_at, u32_at, who_at, place_at, is_done, tag_at}
+use Rattle.nq_journal.specs.Reading.{only_if, word_at, u64_at, u32_at, who_at, place_at, is_done, tag_at}
 use Rattle.nq_journal.specs.ReadingCalls.{told_at}
 use Rattle.nq_journal.specs.ReadingAnswers.{said_at}
 

@@ -2,18 +2,15 @@
 use Rattle.std.proofs.Common.{◌≡◌, ℕ, ◌<◌, ◌≤◌, ◌^◌, List, [], ◌∷◌, ◌++◌, Option, Some, None, refl, ap, sym, ◌∙◌, arith, lit<, codes, ◌⊎◌, inl, inr, subst}
 use Rattle.std.specs.Fmt.{decimal}
 use Rattle.std.proofs.lemmas.Option.{none-some, same_Some, some_pair_parts}
+use Rattle.nq_base.specs.Steps.{◌>>=◌}
+use Rattle.nq_base.proofs.Options.{bind_some}
 use Rattle.nq_base.specs.declared.Call.{Call}
 use Rattle.nq_base.specs.declared.Told.{Told}
 use Rattle.nq_script.specs.Calls.{SpellsCall, call_of}
-use Rattle.nq_script.specs.Reading.{◌>>=◌, either, after, cut_at, number_of, number_then, two_numbers, three_numbers, fetch_of, put_of, told_of}
+use Rattle.nq_script.specs.Reading.{either, after, cut_at, number_of, number_then, two_numbers, three_numbers, fetch_of, put_of, told_of}
 use Rattle.nq_script.specs.Text.{spaced}
 use Rattle.nq_script.proofs.Cuts.{cut-again, cut-found, after-found}
 use Rattle.nq_script.proofs.Numbers.{number-again, number-found, decimal-lacks}
-
--- what a step gives comes of what the first gave
-pub bind-found : {A B : Type 0} (o : Option A) (f : A → Option B) (y : B) → (o >>= f) ≡ Some y → (x : A) × (o ≡ Some x) × (f x ≡ Some y)
-bind-found None f y e = absurd (none-some y e)
-bind-found (Some x) f y e = (x, refl, e)
 
 -- what a choice gives comes of the one or, where that is not there, of the other
 pub either-found : {A B : Type 0} (o : Option A) (f : A → Option B) (other : Option B) (y : B) → either o f other ≡ Some y
@@ -31,8 +28,8 @@ number32-again n low = number-again 4294967295 n (lit< tt) (omega arith)
 pub then-found : (text : List ℕ) (n : ℕ) (rest : List ℕ) → number_then text ≡ Some (n, rest) → (text ≡ decimal n ++ 32 ∷ rest) × (n < 2 ^ 32)
 unfolding number_then
 then-found text n rest e =
-    let cut = bind-found (cut_at 32 text) (λ p. number_of 4294967295 p.0 >>= λ v. Some (v, p.1)) (n, rest) e in
-    let value = bind-found (number_of 4294967295 cut.0.0) (λ v. Some (v, cut.0.1)) (n, rest) cut.2 in
+    let cut = bind_some (cut_at 32 text) (λ p. number_of 4294967295 p.0 >>= λ v. Some (v, p.1)) (n, rest) e in
+    let value = bind_some (number_of 4294967295 cut.0.0) (λ v. Some (v, cut.0.1)) (n, rest) cut.2 in
     let same = some_pair_parts value.0 n cut.0.1 rest value.2 in
     let found = number32-found cut.0.0 n (value.1 ∙ ap (λ v. Some v) same.0) in
     ((cut-found 32 text cut.0.0 cut.0.1 cut.1).0 ∙ ap (λ w. w ++ 32 ∷ cut.0.1) found.0 ∙ ap (λ r. decimal n ++ 32 ∷ r) same.1, found.1)
@@ -48,8 +45,8 @@ pub two-found : (text : List ℕ) (p : ℕ × ℕ) → two_numbers text ≡ Some
     → (p.0 < 2 ^ 32) × (p.1 < 2 ^ 32) × (text ≡ spaced (decimal p.0 ∷ decimal p.1 ∷ []))
 unfolding two_numbers
 two-found text p e =
-    let first = bind-found (number_then text) (λ f. number_of 4294967295 f.1 >>= λ s. Some (f.0, s)) p e in
-    let second = bind-found (number_of 4294967295 first.0.1) (λ s. Some (first.0.0, s)) p first.2 in
+    let first = bind_some (number_then text) (λ f. number_of 4294967295 f.1 >>= λ s. Some (f.0, s)) p e in
+    let second = bind_some (number_of 4294967295 first.0.1) (λ s. Some (first.0.0, s)) p first.2 in
     let same = some_pair_parts first.0.0 p.0 second.0 p.1 second.2 in
     let one = then-found text p.0 first.0.1 (first.1 ∙ ap (λ n. Some (n, first.0.1)) same.0) in
     let two = number32-found first.0.1 p.1 (second.1 ∙ ap (λ n. Some n) same.1) in
@@ -64,8 +61,8 @@ pub three-found : (text : List ℕ) (p : ℕ × ℕ × ℕ) → three_numbers te
     → (p.0 < 2 ^ 32) × (p.1 < 2 ^ 32) × (p.2 < 2 ^ 32) × (text ≡ spaced (decimal p.0 ∷ decimal p.1 ∷ decimal p.2 ∷ []))
 unfolding three_numbers
 three-found text p e =
-    let first = bind-found (number_then text) (λ f. two_numbers f.1 >>= λ o. Some (f.0, o.0, o.1)) p e in
-    let others = bind-found (two_numbers first.0.1) (λ o. Some (first.0.0, o.0, o.1)) p first.2 in
+    let first = bind_some (number_then text) (λ f. two_numbers f.1 >>= λ o. Some (f.0, o.0, o.1)) p e in
+    let others = bind_some (two_numbers first.0.1) (λ o. Some (first.0.0, o.0, o.1)) p first.2 in
     let same : (first.0.0, others.0.0, others.0.1) ≡ p = same_Some (first.0.0, others.0.0, others.0.1) p others.2 in
     let one = then-found text p.0 first.0.1 (first.1 ∙ ap (λ q. Some (q.0, first.0.1)) same) in
     let two = two-found first.0.1 (p.1, p.2) (others.1 ∙ ap (λ q. Some (q.1, q.2)) same) in
@@ -80,7 +77,7 @@ three-again l m n low-l low-m low-n =
 fetch-found : (text : List ℕ) (told : Told) → fetch_of text ≡ Some told → SpellsCall (call_of told) (codes "fetch " ++ text)
 unfolding fetch_of
 fetch-found text told e =
-    let found = bind-found (two_numbers text) (λ p. Some (Told.Fetch p.0 p.1)) told e in
+    let found = bind_some (two_numbers text) (λ p. Some (Told.Fetch p.0 p.1)) told e in
     let two = two-found text found.0 found.1 in
     subst (λ t. SpellsCall (call_of t) (codes "fetch " ++ text)) (same_Some (Told.Fetch found.0.0 found.0.1) told found.2)
     (two.0, two.1, ap (λ r. codes "fetch " ++ r) two.2)
@@ -88,7 +85,7 @@ fetch-found text told e =
 put-found : (text : List ℕ) (told : Told) → put_of text ≡ Some told → SpellsCall (call_of told) (codes "put " ++ text)
 unfolding put_of
 put-found text told e =
-    let found = bind-found (three_numbers text) (λ p. Some (Told.WriteSync p.0 p.1 p.2)) told e in
+    let found = bind_some (three_numbers text) (λ p. Some (Told.WriteSync p.0 p.1 p.2)) told e in
     let three = three-found text found.0 found.1 in
     subst (λ t. SpellsCall (call_of t) (codes "put " ++ text)) (same_Some (Told.WriteSync found.0.0 found.0.1 found.0.2) told found.2)
     (three.0, three.1, (found.0.2, (three.2, refl), ap (λ r. codes "put " ++ r) three.3))

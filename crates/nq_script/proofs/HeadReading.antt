@@ -5,11 +5,12 @@ use Rattle.std.specs.List.{AllByRecursion}
 use Rattle.std.proofs.lemmas.Bool.{leb-true, le-leb}
 use Rattle.std.proofs.lemmas.List.Elements.{recursion_from_All}
 use Rattle.std.proofs.lemmas.Option.{none-some, same_Some, cond_some}
+use Rattle.nq_base.specs.Steps.{◌>>=◌}
+use Rattle.nq_base.proofs.Options.{bind_some}
 use Rattle.nq_base.specs.Name.{IsName, IsNameByte}
 use Rattle.nq_script.specs.Heads.{IsFile, IsNew, FitFiles, blocks_of, file_line}
-use Rattle.nq_script.specs.Reading.{◌>>=◌, after, cut_at, number_of, ranged_of, file_of}
+use Rattle.nq_script.specs.Reading.{after, cut_at, number_of, ranged_of, file_of}
 use Rattle.nq_script.specs.Text.{Lacks}
-use Rattle.nq_script.proofs.CallReading.{bind-found}
 use Rattle.nq_script.proofs.Cuts.{after-found, after-again, cut-found, cut-again}
 use Rattle.nq_script.proofs.Fitting.{fit-more, fit-last}
 use Rattle.nq_script.proofs.Numbers.{number-found, number-again}
@@ -19,8 +20,8 @@ pub ranged-found : (prefix : List ℕ) (least most : ℕ) (line : List ℕ) (n :
     → (line ≡ prefix ++ decimal n) × (least ≤ n) × (n ≤ most)
 unfolding ranged_of
 ranged-found prefix least most line n wide e =
-    let word = bind-found (after prefix line) (λ w. number_of most w >>= λ v. if nat_le least v then Some v else None) n e in
-    let value = bind-found (number_of most word.0) (λ v. if nat_le least v then Some v else None) n word.2 in
+    let word = bind_some (after prefix line) (λ w. number_of most w >>= λ v. if nat_le least v then Some v else None) n e in
+    let value = bind_some (number_of most word.0) (λ v. if nat_le least v then Some v else None) n word.2 in
     let above = cond_some (nat_le least value.0) value.0 n value.2 in
     let number = number-found most word.0 n wide (value.1 ∙ ap (λ v. Some v) above.1) in (
       after-found prefix line word.0 word.1 ∙ ap (λ w. prefix ++ w) number.0,
@@ -53,10 +54,10 @@ name-lacks at name low is = name-bytes-lack at name low (recursion_from_All IsNa
 pub file-found : (line : List ℕ) (f : List ℕ × ℕ) → file_of line ≡ Some f → (line ≡ file_line f) × (1 ≤ f.1) × (f.1 ≤ 1024)
 unfolding file_of
 file-found line f e =
-    let words = bind-found (after (codes "file ") line)
+    let words = bind_some (after (codes "file ") line)
     (λ w. cut_at 32 w >>= λ p. ranged_of [] 1 1024 p.1 >>= λ b. Some (p.0, b)) f e in
-    let parts = bind-found (cut_at 32 words.0) (λ p. ranged_of [] 1 1024 p.1 >>= λ b. Some (p.0, b)) f words.2 in
-    let blocks = bind-found (ranged_of [] 1 1024 parts.0.1) (λ b. Some (parts.0.0, b)) f parts.2 in
+    let parts = bind_some (cut_at 32 words.0) (λ p. ranged_of [] 1 1024 p.1 >>= λ b. Some (p.0, b)) f words.2 in
+    let blocks = bind_some (ranged_of [] 1 1024 parts.0.1) (λ b. Some (parts.0.0, b)) f parts.2 in
     let same : (parts.0.0, blocks.0) ≡ f = same_Some (parts.0.0, blocks.0) f blocks.2 in
     let number = ranged-found [] 1 1024 parts.0.1 blocks.0 (lit< tt) blocks.1 in
     subst (λ g. (line ≡ file_line g) × (1 ≤ g.1) × (g.1 ≤ 1024)) same (

@@ -4,12 +4,14 @@ use Rattle.std.specs.Str.{bytes_eq}
 use Rattle.std.proofs.lemmas.Bool.{ltb-true, lt-ltb}
 use Rattle.std.proofs.lemmas.Option.{none-some, same_Some, cond_some}
 use Rattle.std.proofs.lemmas.Slice.Eq.{bytes_eq-Decides}
+use Rattle.nq_base.specs.Steps.{◌>>=◌}
+use Rattle.nq_base.proofs.Options.{bind_some}
 use Rattle.nq_base.specs.declared.Event.{Event}
 use Rattle.nq_script.specs.Lines.{SpellsLine, line_of}
-use Rattle.nq_script.specs.Reading.{◌>>=◌, either, after, number_of, number_then, told_of, call_line, deliver_line, told_line}
+use Rattle.nq_script.specs.Reading.{either, after, number_of, number_then, told_of, call_line, deliver_line, told_line}
 use Rattle.nq_script.specs.declared.lines.Line.{Line}
 use Rattle.nq_script.specs.declared.lines.ToldLine.{ToldLine}
-use Rattle.nq_script.proofs.CallReading.{bind-found, either-found, then-found, then-again, told-found, told-again}
+use Rattle.nq_script.proofs.CallReading.{either-found, then-found, then-again, told-found, told-again}
 use Rattle.nq_script.proofs.Cuts.{after-found}
 use Rattle.nq_script.proofs.Numbers.{number-found, number-again}
 
@@ -17,8 +19,8 @@ call-found : (hosts : ℕ) (text : List ℕ) (told : ToldLine) → call_line hos
     → SpellsLine hosts (line_of told) (codes "call " ++ text)
 unfolding call_line
 call-found hosts text told e =
-    let host = bind-found (number_then text) (λ h. told_of h.1 >>= λ t. if nat_lt h.0 hosts then Some (ToldLine.Call h.0 t) else None) told e in
-    let call = bind-found (told_of host.0.1) (λ t. if nat_lt host.0.0 hosts then Some (ToldLine.Call host.0.0 t) else None) told host.2 in
+    let host = bind_some (number_then text) (λ h. told_of h.1 >>= λ t. if nat_lt h.0 hosts then Some (ToldLine.Call h.0 t) else None) told e in
+    let call = bind_some (told_of host.0.1) (λ t. if nat_lt host.0.0 hosts then Some (ToldLine.Call host.0.0 t) else None) told host.2 in
     let within = cond_some (nat_lt host.0.0 hosts) (ToldLine.Call host.0.0 call.0) told call.2 in
     let number = then-found text host.0.0 host.0.1 host.1 in
     subst (λ t. SpellsLine hosts (line_of t) (codes "call " ++ text)) within.1
@@ -28,7 +30,7 @@ deliver-found : (hosts : ℕ) (text : List ℕ) (told : ToldLine) → deliver_li
     → SpellsLine hosts (line_of told) (codes "deliver " ++ text)
 unfolding deliver_line
 deliver-found hosts text told e =
-    let packet = bind-found (number_of 18446744073709551615 text) (λ k. Some (ToldLine.Deliver k)) told e in
+    let packet = bind_some (number_of 18446744073709551615 text) (λ k. Some (ToldLine.Deliver k)) told e in
     let number = number-found 18446744073709551615 text packet.0 (lit< tt) packet.1 in
     let low : packet.0 ≤ 18446744073709551615 = number.1 in
     subst (λ t. SpellsLine hosts (line_of t) (codes "deliver " ++ text)) (same_Some (ToldLine.Deliver packet.0) told packet.2)

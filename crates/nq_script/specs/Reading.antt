@@ -1,6 +1,7 @@
 -- How words and numbers are read from the front of a text. The grammar does not speak of these; the laws in proofs/
 -- tie the two.
 use Rattle.std.specs.Prelude.{ℕ, ◌+◌, ◌*◌, ◌-◌, ◌==◌, ◌&&◌, nat_le, nat_lt, List, [], ◌∷◌, Option, Some, None, if◌then◌else◌, codes}
+use Rattle.nq_base.specs.Steps.{◌>>=◌}
 use Rattle.nq_base.specs.declared.Told.{Told}
 use Rattle.std.specs.Char.{is_ascii_digit}
 use Rattle.std.specs.Option.{option_map, option_and_then}
@@ -33,12 +34,6 @@ unfoldable pub number_of : (most : ℕ) → (word : List ℕ) → Option ℕ
 number_of most [] = None
 number_of most (c ∷ []) = digits_of most 0 (c ∷ [])
 number_of most (c ∷ d ∷ cs) = if c == 48 then None else digits_of most 0 (c ∷ d ∷ cs)
-
--- the second step, if the first gives something
-infixl 10 ◌>>=◌
-abbrev pub ◌>>=◌ : {A B : Type 0} → Option A → (A → Option B) → Option B
-None >>= f = None
-(Some x) >>= f = f x
 
 -- what is made of the first, if it is there, and else the second
 abbrev pub either : {A B : Type 0} → Option A → (A → Option B) → Option B → Option B

@@ -1,6 +1,6 @@
 -- Reading requests and results from the left: the value and the bytes behind it, or a fault.
-use Rattle.std.specs.Prelude.{◌≡◌, ℕ, Bool, ◌&&◌, not, nat_le, List, ◌++◌, length, Option, Some, None, is_none, Result, Ok, Err, ◌==◌, if◌then◌else◌, IfOk}
-use Rattle.std.specs.List.{list_all}
+use Rattle.std.specs.Prelude.{◌≡◌, ℕ, ◌&&◌, not, List, ◌++◌, length, Option, Some, None, is_none, Result, Ok, Err, ◌==◌, if◌then◌else◌, IfOk}
+use Rattle.nq_base.specs.Name.{is_name}
 use Rattle.nq_base.specs.declared.Grant.{Grant}
 use Rattle.nq_base.specs.declared.Mode.{Mode}
 use Rattle.nq_base.specs.declared.Mode.TheVariants.{NonCaching, Reading, Writing}
@@ -91,14 +91,6 @@ unfoldable pub optional_at : {A : Type 0} → (List ℕ → Result (A × List �
 optional_at part_at bytes = do
   there ← item (boolean_at bytes)
   if there.0 then some_of (part_at there.1) else Ok (None, there.1)
-
--- whether a name may have the byte
-abbrev pub is_name_byte : ℕ → Bool
-is_name_byte b = nat_le 33 b && (nat_le b 126 && not (b == 47))
-
--- whether the bytes are a name
-unfoldable pub is_name : List ℕ → Bool
-is_name bytes = nat_le 1 (length bytes) && (nat_le (length bytes) 64 && list_all is_name_byte bytes)
 
 -- the name of these bytes
 unfoldable pub name_of : List ℕ → Result (List ℕ) Garbage
