@@ -1,6 +1,7 @@
-ghost use Rattle.std.specs.Prelude.{◌≡◌, ◌+◌, ◌≤◌, ◌++◌, length, IfSome, IfOk, OnOk, OnErr, IsOk};
+ghost use Rattle.std.specs.Prelude.{◌≡◌, ◌⊎◌, ◌+◌, ◌≤◌, ◌++◌, length, IfSome, IfOk, OnOk, OnErr, IsOk};
 ghost use Rattle.nq_xdr.specs.Item.{word, hyper};
 ghost use Rattle.nq_wire.specs.Parts.{head, base_bytes, optional, optional_len, IsWho, IsPushBase};
+ghost use Rattle.nq_wire.specs.declared.procedure.Procedure.{Procedure};
 ghost use Rattle.nq_wire.specs.Procedure.{number_of};
 ghost use Rattle.nq_wire.specs.Request.{procedure_of, arguments, arguments_len, IsRequest, HasSpelling, IsArguments};
 
@@ -87,16 +88,16 @@ fn put_span(
     put_optional_base(push, out)
 }
 
+/// Writes the arguments of a request on a name, LOOKUP or CREATE.
 #[tactic(auto, unfolding(crate::specs::Request::arguments))]
-fn put(request: &Request, out: &mut Writer) -> Result<(), NoMemory>
+fn put_on_name(request: &Request, out: &mut Writer) -> Result<(), NoMemory>
+    requires { (procedure_of request.now ≡ Procedure.Lookup) ⊎ (procedure_of request.now ≡ Procedure.Create) }
     ensures written { OnOk result (out.new.bytes ≡ out.old.bytes ++ arguments request.now) }
     ensures fits { OnOk result (IsRequest request.now) }
     ensures succeeds { arguments_len request.now ≤ out.old.spare → IsOk result }
     ensures spare { out.old.spare ≤ out.new.spare + arguments_len request.now }
 {
     match request {
-        Request::Null => Ok(()),
-        Request::Attach { who } => put_who(who, out),
         Request::Lookup { who, name } => {
             put_who(who, out)?;
             put_name(name, out)
@@ -112,7 +113,57 @@ fn put(request: &Request, out: &mut Writer) -> Result<(), NoMemory>
             out.u32(*blocks)?;
             Ok(())
         }
+        _ => unreachable!(),
+    }
+}
+
+/// Writes the arguments of a request on a whole file, GETATTR, RESIZE or REMOVE.
+#[tactic(auto, unfolding(crate::specs::Request::arguments))]
+fn put_on_file(request: &Request, out: &mut Writer) -> Result<(), NoMemory>
+    requires { (procedure_of request.now ≡ Procedure.GetAttr) ⊎ (procedure_of request.now ≡ Procedure.Resize) ⊎ (procedure_of request.now ≡ Procedure.Remove) }
+    ensures written { OnOk result (out.new.bytes ≡ out.old.bytes ++ arguments request.now) }
+    ensures fits { OnOk result (IsRequest request.now) }
+    ensures succeeds { arguments_len request.now ≤ out.old.spare → IsOk result }
+    ensures spare { out.old.spare ≤ out.new.spare + arguments_len request.now }
+{
+    match request {
         Request::GetAttr { who, file } => put_file(who, file.0, out),
+        Request::Resize {
+            who,
+            seq,
+            call,
+            file,
+            blocks,
+        } => {
+            put_sequence(who, seq.0, out)?;
+            out.u64(*call)?;
+            put_place(file.0, *blocks, out)
+        }
+        Request::Remove {
+            who,
+            seq,
+            call,
+            file,
+        } => {
+            put_sequence(who, seq.0, out)?;
+            out.u64(*call)?;
+            out.u32(file.0)?;
+            Ok(())
+        }
+        _ => unreachable!(),
+    }
+}
+
+/// Writes the arguments of a request on a block, READ or WRITE.
+#[tactic(auto, unfolding(crate::specs::Request::arguments))]
+fn put_on_block(request: &Request, out: &mut Writer) -> Result<(), NoMemory>
+    requires { (procedure_of request.now ≡ Procedure.Read) ⊎ (procedure_of request.now ≡ Procedure.Write) }
+    ensures written { OnOk result (out.new.bytes ≡ out.old.bytes ++ arguments request.now) }
+    ensures fits { OnOk result (IsRequest request.now) }
+    ensures succeeds { arguments_len request.now ≤ out.old.spare → IsOk result }
+    ensures spare { out.old.spare ≤ out.new.spare + arguments_len request.now }
+{
+    match request {
         Request::Read {
             who,
             call,
@@ -139,6 +190,20 @@ fn put(request: &Request, out: &mut Writer) -> Result<(), NoMemory>
             put_span(first.0, last.0, push, out)?;
             put_body(body, out)
         }
+        _ => unreachable!(),
+    }
+}
+
+/// Writes the arguments of a request on a lease, GETLEASE, VACATED or EVICTED.
+#[tactic(auto, unfolding(crate::specs::Request::arguments))]
+fn put_on_lease(request: &Request, out: &mut Writer) -> Result<(), NoMemory>
+    requires { (procedure_of request.now ≡ Procedure.GetLease) ⊎ (procedure_of request.now ≡ Procedure.Vacated) ⊎ (procedure_of request.now ≡ Procedure.Evicted) }
+    ensures written { OnOk result (out.new.bytes ≡ out.old.bytes ++ arguments request.now) }
+    ensures fits { OnOk result (IsRequest request.now) }
+    ensures succeeds { arguments_len request.now ≤ out.old.spare → IsOk result }
+    ensures spare { out.old.spare ≤ out.new.spare + arguments_len request.now }
+{
+    match request {
         Request::GetLease { who, file, want } => {
             put_file(who, file.0, out)?;
             put_want(want, out)
@@ -147,27 +212,27 @@ fn put(request: &Request, out: &mut Writer) -> Result<(), NoMemory>
             put_file(who, file.0, out)?;
             put_tag(tag, out)
         }
-        Request::Resize {
-            who,
-            seq,
-            call,
-            file,
-            blocks,
-        } => {
-            put_sequence(who, seq.0, out)?;
-            out.u64(*call)?;
-            put_place(file.0, *blocks, out)
+        _ => unreachable!(),
+    }
+}
+
+#[tactic(auto, unfolding(crate::specs::Request::arguments))]
+fn put(request: &Request, out: &mut Writer) -> Result<(), NoMemory>
+    ensures written { OnOk result (out.new.bytes ≡ out.old.bytes ++ arguments request.now) }
+    ensures fits { OnOk result (IsRequest request.now) }
+    ensures succeeds { arguments_len request.now ≤ out.old.spare → IsOk result }
+    ensures spare { out.old.spare ≤ out.new.spare + arguments_len request.now }
+{
+    match request {
+        Request::Null => Ok(()),
+        Request::Attach { who } => put_who(who, out),
+        Request::Lookup { .. } | Request::Create { .. } => put_on_name(request, out),
+        Request::GetAttr { .. } | Request::Resize { .. } | Request::Remove { .. } => {
+            put_on_file(request, out)
         }
-        Request::Remove {
-            who,
-            seq,
-            call,
-            file,
-        } => {
-            put_sequence(who, seq.0, out)?;
-            out.u64(*call)?;
-            out.u32(file.0)?;
-            Ok(())
+        Request::Read { .. } | Request::Write { .. } => put_on_block(request, out),
+        Request::GetLease { .. } | Request::Vacated { .. } | Request::Evicted { .. } => {
+            put_on_lease(request, out)
         }
     }
 }
