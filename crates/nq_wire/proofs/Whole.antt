@@ -1,9 +1,11 @@
 -- All of the bytes: what is spelled so is read.
-use Rattle.std.proofs.Common.{◌≡◌, ℕ, ◌≤◌, ◌==◌, cond, List, [], ◌++◌, Result, Ok, Err, refl, sym, ap, subst, ◌∙◌, arith}
+use Rattle.std.proofs.Common.{◌≡◌, ℕ, ◌≤◌, ◌==◌, suc, false, cond, List, [], ◌∷◌, ◌++◌, length, Result, Ok, Err, refl, sym, ap, subst, ◌∙◌, arith}
+use Rattle.std.proofs.lemmas.Bool.Decides.{nat_tests}
 use Rattle.std.proofs.lemmas.List.{append-nil}
 use Rattle.nq_base.specs.declared.Reply.{Reply}
 use Rattle.nq_base.specs.declared.Request.{Request}
 use Rattle.nq_wire.specs.declared.fault.Garbage.{Garbage}
+use Rattle.nq_wire.specs.Garbage.{garbage}
 use Rattle.nq_wire.specs.declared.procedure.Procedure.{Procedure}
 use Rattle.nq_wire.specs.declared.procedure.Procedure.TheVariants.{Null, Attach, Lookup, Create, GetAttr, Read, Write, GetLease, Vacated, Evicted, Resize, Remove}
 use Rattle.nq_wire.specs.Procedure.{number_of}
@@ -69,37 +71,42 @@ reply_whole p r bytes is =
     let P : Procedure → Type 0 = Answers r in
     whole_of (results r) bytes (reply_at p) r is.bytes_are (reply_again p r [] (subst P same is.answers) is.value_fits)
 
-one_read : {A B : Type 0} (x : A) (y : B) (read : Result A B) → read ≡ Ok x → read ≡ Err y → ⊥
-one_read x y read is_ok is_err = cc
+-- a reading that fails, that ends before the bytes do, and that ends with them
+pub failed : {A : Type 0} (read : Result (A × List ℕ) Garbage) (fault : Garbage) → read ≡ Err fault → whole read ≡ Err fault
+failed read fault e = rw e refl
 
-same_read : {A B : Type 0} (x y : A) (read : Result A B) → read ≡ Ok x → read ≡ Ok y → x ≡ y
-same_read x y read is is' = cc
+pub left_over : {A : Type 0} (read : Result (A × List ℕ) Garbage) (x : A) (rest : List ℕ) → read ≡ Ok (x, rest) → (rest ≡ [] → ⊥) → whole read ≡ Err garbage
+left_over read x [] e left = absurd (left refl)
+left_over read x (b ∷ rest) e left = let more : (suc (length rest) == 0) ≡ false = grind (arith, nat_tests) in rw (e, more) refl
+
+pub ended : {A : Type 0} (read : Result (A × List ℕ) Garbage) (x : A) (rest : List ℕ) → read ≡ Ok (x, rest) → rest ≡ [] → whole read ≡ Ok x
+ended read x rest e none = rw (e, none) refl
 
 -- ---- what a reading by a procedure's number says
 
 pub number_fits : (p : Procedure) (n : ℕ) → number_of p ≡ n → n ≤ 11
 number_fits p n e = omega (arith, number_of-most p)
 
-pub no_request : (p : Procedure) (n : ℕ) (r : Request) (bytes : List ℕ) (read : Result Request Garbage) (fault : Garbage)
-    → number_of p ≡ n → read ≡ whole (request_at p bytes) → read ≡ Err fault → IsArguments n r bytes → ⊥
-no_request p n r bytes read fault number step was is =
+pub no_request : (p : Procedure) (n : ℕ) (r : Request) (bytes start : List ℕ) (fault : Garbage)
+    → number_of p ≡ n → start ≡ bytes → whole (request_at p start) ≡ Err fault → IsArguments n r bytes → ⊥
+no_request p n r bytes start fault number same was is =
     let P : ℕ → Type 0 = λ n. IsArguments n r bytes in
-    one_read r fault read (step ∙ request_whole p r bytes (subst P (sym number) is)) was
+    let read : whole (request_at p start) ≡ Ok r = rw same (request_whole p r bytes (subst P (sym number) is)) in cc
 
-pub one_request : (p : Procedure) (n : ℕ) (r s : Request) (bytes : List ℕ) (read : Result Request Garbage)
-    → number_of p ≡ n → read ≡ whole (request_at p bytes) → read ≡ Ok s → IsArguments n r bytes → s ≡ r
-one_request p n r s bytes read number step was is =
+pub one_request : (p : Procedure) (n : ℕ) (r s : Request) (bytes start : List ℕ)
+    → number_of p ≡ n → start ≡ bytes → whole (request_at p start) ≡ Ok s → IsArguments n r bytes → s ≡ r
+one_request p n r s bytes start number same was is =
     let P : ℕ → Type 0 = λ n. IsArguments n r bytes in
-    same_read s r read was (step ∙ request_whole p r bytes (subst P (sym number) is))
+    let read : whole (request_at p start) ≡ Ok r = rw same (request_whole p r bytes (subst P (sym number) is)) in cc
 
-pub no_reply : (p : Procedure) (n : ℕ) (r : Reply) (bytes : List ℕ) (read : Result Reply Garbage) (fault : Garbage)
-    → number_of p ≡ n → read ≡ whole (reply_at p bytes) → read ≡ Err fault → IsResults n r bytes → ⊥
-no_reply p n r bytes read fault number step was is =
+pub no_reply : (p : Procedure) (n : ℕ) (r : Reply) (bytes start : List ℕ) (fault : Garbage)
+    → number_of p ≡ n → start ≡ bytes → whole (reply_at p start) ≡ Err fault → IsResults n r bytes → ⊥
+no_reply p n r bytes start fault number same was is =
     let P : ℕ → Type 0 = λ n. IsResults n r bytes in
-    one_read r fault read (step ∙ reply_whole p r bytes (subst P (sym number) is)) was
+    let read : whole (reply_at p start) ≡ Ok r = rw same (reply_whole p r bytes (subst P (sym number) is)) in cc
 
-pub one_reply : (p : Procedure) (n : ℕ) (r s : Reply) (bytes : List ℕ) (read : Result Reply Garbage)
-    → number_of p ≡ n → read ≡ whole (reply_at p bytes) → read ≡ Ok s → IsResults n r bytes → s ≡ r
-one_reply p n r s bytes read number step was is =
+pub one_reply : (p : Procedure) (n : ℕ) (r s : Reply) (bytes start : List ℕ)
+    → number_of p ≡ n → start ≡ bytes → whole (reply_at p start) ≡ Ok s → IsResults n r bytes → s ≡ r
+one_reply p n r s bytes start number same was is =
     let P : ℕ → Type 0 = λ n. IsResults n r bytes in
-    same_read s r read was (step ∙ reply_whole p r bytes (subst P (sym number) is))
+    let read : whole (reply_at p start) ≡ Ok r = rw same (reply_whole p r bytes (subst P (sym number) is)) in cc

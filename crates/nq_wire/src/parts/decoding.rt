@@ -1,4 +1,4 @@
-ghost use Rattle.std.specs.Prelude.{◌≡◌, length, IfSome, IfOk};
+ghost use Rattle.std.specs.Prelude.{◌≡◌, ◌↔◌, [], length, IfSome, IfOk, IsOk};
 ghost use Rattle.nq_base.specs.Name.{IsName};
 ghost use Rattle.nq_xdr.specs.Item.{opaque};
 ghost use Rattle.nq_xdr.specs.Reading.{Gives};
@@ -165,12 +165,24 @@ pub(crate) fn name(reader: &mut Reader) -> Result<Name, Garbage>
     Ok(name)
 }
 
-/// The body of a block.
+/// The body of a block. It is inlined, since the block is else moved once more on its way to the caller.
+#[inline(always)]
 #[tactic(auto, unfolding(crate::specs::Reading::body_at))]
 pub(crate) fn body(reader: &mut Reader) -> Result<Block, Garbage>
     ensures found { Reads opaque (λ b. length b ≡ 4096) reader.old reader.new result }
     ensures step { Gives (λ b. (b, reader.new)) result (body_at reader.old) }
 {
     let bytes = reader.opaque(4096)?;
-    Block::from_bytes(bytes).ok_or(Garbage)
+    let Some(block) = Block::from_bytes(bytes) else {
+        return Err(Garbage);
+    };
+    Ok(block)
+}
+
+/// Ends the reading.
+pub(crate) fn end(reader: Reader) -> Result<(), Garbage>
+    ensures { IsOk result ↔ (reader.entry ≡ []) }
+{
+    reader.end()?;
+    Ok(())
 }

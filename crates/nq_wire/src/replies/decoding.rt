@@ -1,11 +1,11 @@
 ghost use Rattle.std.specs.Prelude.{◌≡◌, ◌≢◌, ◌<◌, ◌≤◌, ◌↔◌, IfOk};
 ghost use Rattle.nq_base.specs.declared.Reply.{Reply};
 ghost use Rattle.nq_xdr.specs.Reading.{Gives};
-ghost use Rattle.nq_wire.specs.Reply.{results, IsReply, Answers, IsRefusable, IsResults, ReadsReply, ReadsResults};
-ghost use Rattle.nq_wire.specs.Reading.{whole, found_at, created_at, attributes_at, block_at, written_at, lease_at, resized_at, results_at, answer_at, reply_at};
+ghost use Rattle.nq_wire.specs.Reply.{results, IsRefusable, IsResults, ReadsReply, ReadsResults};
+ghost use Rattle.nq_wire.specs.Reading.{found_at, created_at, attributes_at, block_at, written_at, lease_at, resized_at, results_at, answer_at, reply_at};
 
 use crate::fault::Garbage;
-use crate::parts::decoding::{body, optional_grant};
+use crate::parts::decoding::{body, end, optional_grant};
 use crate::{Procedure, Reply, WireFault, status};
 use nq_base::{FileId, Inc, Rev};
 use nq_xdr::Reader;
@@ -141,17 +141,6 @@ fn reply(procedure: Procedure, reader: &mut Reader) -> Result<Reply, Garbage>
     }
 }
 
-/// The reply whose results are all of the bytes.
-fn whole_reply(procedure: Procedure, bytes: &[u8]) -> Result<Reply, Garbage>
-    ensures found { IfOk result (λ r. Answers r procedure × IsReply r × (bytes.now ≡ results r)) }
-    ensures step { result ≡ whole (reply_at procedure bytes.now) }
-{
-    let mut reader = Reader::new(bytes);
-    let reply = reply(procedure, &mut reader)?;
-    reader.end()?;
-    Ok(reply)
-}
-
 /// The reply whose results are all of the bytes, by the number of the procedure that was called. The body
 /// of a block is copied once. Replies hold no memory, so none is wanted.
 ///
@@ -170,8 +159,11 @@ pub fn decode_reply(_alloc: Global, procedure: u32, bytes: &[u8]) -> Result<Repl
         ↔ ((procedure ≤ 11) × ((r : Reply) → IsResults procedure r bytes.now → ⊥)) }
     ensures memory { result ≢ Err WireFault.Memory }
 {
-    match Procedure::from_number(procedure) {
-        Some(called) => Ok(whole_reply(called, bytes)?),
-        None => Err(WireFault::NoSuchProc),
-    }
+    let Some(called) = Procedure::from_number(procedure) else {
+        return Err(WireFault::NoSuchProc);
+    };
+    let mut reader = Reader::new(bytes);
+    let reply = reply(called, &mut reader)?;
+    end(reader)?;
+    Ok(reply)
 }

@@ -3,11 +3,11 @@ ghost use Rattle.nq_base.specs.declared.Request.{Request};
 ghost use Rattle.nq_xdr.specs.Reading.{Gives};
 ghost use Rattle.nq_xdr.specs.Item.{hyper};
 ghost use Rattle.nq_wire.specs.Parts.{optional, base_bytes, IsPushBase};
-ghost use Rattle.nq_wire.specs.Request.{arguments, procedure_of, IsRequest, HasSpelling, IsOneWrite, IsArguments, ReadsRequest};
-ghost use Rattle.nq_wire.specs.Reading.{whole, attach_at, lookup_at, create_at, get_attr_at, read_at, span_at, write_at, get_lease_at, vacated_at, evicted_at, resize_at, remove_at, request_at};
+ghost use Rattle.nq_wire.specs.Request.{arguments, IsOneWrite, IsArguments, ReadsRequest};
+ghost use Rattle.nq_wire.specs.Reading.{attach_at, lookup_at, create_at, get_attr_at, read_at, span_at, write_at, get_lease_at, vacated_at, evicted_at, resize_at, remove_at, request_at};
 
 use crate::fault::Garbage;
-use crate::parts::decoding::{body, name, optional_push, optional_want, tag, want, who};
+use crate::parts::decoding::{body, end, name, optional_push, optional_want, tag, want, who};
 use crate::{Procedure, PushBase, Request, WireFault};
 use nq_base::{BlockNo, FileId, Number, Seq};
 use nq_xdr::Reader;
@@ -222,17 +222,6 @@ fn request(procedure: Procedure, reader: &mut Reader) -> Result<Request, Garbage
     }
 }
 
-/// The request whose arguments are all of the bytes.
-fn whole_request(procedure: Procedure, bytes: &[u8]) -> Result<Request, Garbage>
-    ensures found { IfOk result (λ r. (procedure_of r ≡ procedure) × IsRequest r × HasSpelling r × (bytes.now ≡ arguments r)) }
-    ensures step { result ≡ whole (request_at procedure bytes.now) }
-{
-    let mut reader = Reader::new(bytes);
-    let request = request(procedure, &mut reader)?;
-    reader.end()?;
-    Ok(request)
-}
-
 /// The request whose arguments are all of the bytes, by the number of the procedure that is called. The
 /// body of a block is copied once. Requests hold no memory, so none is wanted.
 ///
@@ -251,8 +240,11 @@ pub fn decode_request(_alloc: Global, procedure: u32, bytes: &[u8]) -> Result<Re
         ↔ ((procedure ≤ 11) × ((r : Request) → IsArguments procedure r bytes.now → ⊥)) }
     ensures memory { result ≢ Err WireFault.Memory }
 {
-    match Procedure::from_number(procedure) {
-        Some(called) => Ok(whole_request(called, bytes)?),
-        None => Err(WireFault::NoSuchProc),
-    }
+    let Some(called) = Procedure::from_number(procedure) else {
+        return Err(WireFault::NoSuchProc);
+    };
+    let mut reader = Reader::new(bytes);
+    let request = request(called, &mut reader)?;
+    end(reader)?;
+    Ok(request)
 }

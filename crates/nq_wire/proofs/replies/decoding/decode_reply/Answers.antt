@@ -1,40 +1,71 @@
-use Rattle.std.proofs.Common.{ap, refl, Ok}
+use Rattle.std.proofs.Common.{◌++◌, ap, refl, sym, ◌∙◌, Ok}
 use Rattle.std.proofs.lemmas.Result.{err_from_is_err_and}
-use Rattle.nq_wire.proofs.Whole.{number_fits, no_reply, one_reply}
+use Rattle.std.proofs.lemmas.Bool.{false≢true}
+use Rattle.std.proofs.lemmas.List.{append-nil}
+use Rattle.nq_wire.specs.Garbage.{garbage}
+use Rattle.nq_wire.specs.Reading.{reply_at}
+use Rattle.nq_wire.specs.Reply.{results}
+use Rattle.nq_wire.proofs.Whole.{failed, left_over, ended, number_fits, no_reply, one_reply}
 use Rattle.nq_wire.proofs.replies.decoding.decode_reply.Goals as goal
 
-pub returns-in_err-whole_reply-in-Some-clause-only : goal.returns-in_err-whole_reply-in-Some-clause-only
-returns-in_err-whole_reply-in-Some-clause-only c =
+-- the bytes begin with none
+pub returns-in_err-reply-clause-only : goal.returns-in_err-reply-clause-only
+returns-in_err-reply-clause-only c =
     λ r is.
-    absurd (no_reply c.in-Some.called c.args.procedure r c.args.bytes.now c.whole_reply.result c.in_err-whole_reply-in-Some.field-0.0 c.in-Some.ensures.some c.whole_reply.ensures.step c.in_err-whole_reply-in-Some.was is)
+    let was = failed (reply_at c.in-Some.called c.new-reader.result) c.in_err-reply.field-0.0 c.in_err-reply.ensures.step in
+    absurd (no_reply c.in-Some.called c.args.procedure r c.args.bytes.now c.new-reader.result c.in_err-reply.field-0.0 c.in-Some.ensures.some c.new-reader.ensures was is)
 
-pub returns-in_err-whole_reply-in-Some-clause-garbage : goal.returns-in_err-whole_reply-in-Some-clause-garbage
-returns-in_err-whole_reply-in-Some-clause-garbage c =
-    let p = err_from_is_err_and c.from_residual.result c.from_residual.ensures.1 in (
+pub returns-in_err-reply-clause-garbage : goal.returns-in_err-reply-clause-garbage
+returns-in_err-reply-clause-garbage c =
+    let p = err_from_is_err_and c.from_residual.result c.from_residual.ensures.1 in
+    let was = failed (reply_at c.in-Some.called c.new-reader.result) c.in_err-reply.field-0.0 c.in_err-reply.ensures.step in (
       λ _. (
         number_fits c.in-Some.called c.args.procedure c.in-Some.ensures.some,
         λ r is.
-            no_reply c.in-Some.called c.args.procedure r c.args.bytes.now c.whole_reply.result c.in_err-whole_reply-in-Some.field-0.0 c.in-Some.ensures.some c.whole_reply.ensures.step c.in_err-whole_reply-in-Some.was is,
+            no_reply c.in-Some.called c.args.procedure r c.args.bytes.now c.new-reader.result c.in_err-reply.field-0.0 c.in-Some.ensures.some c.new-reader.ensures was is,
       ),
       λ _. rw (p.1, p.2) refl,
     )
 
-pub returns-in_ok-whole_reply-in-Some-clause-only : goal.returns-in_ok-whole_reply-in-Some-clause-only
-returns-in_ok-whole_reply-in-Some-clause-only c =
+-- something stands behind it
+pub returns-in_err-end-clause-only : goal.returns-in_err-end-clause-only
+returns-in_err-end-clause-only c =
     λ r is.
-    ap (λ x. Ok x)
-    (one_reply c.in-Some.called c.args.procedure r c.in_ok-whole_reply-in-Some.field-0 c.args.bytes.now c.whole_reply.result c.in-Some.ensures.some c.whole_reply.ensures.step c.in_ok-whole_reply-in-Some.was is)
+    let was = left_over (reply_at c.in-Some.called c.new-reader.result) c.in_ok-reply.reply c.reply.new.reader c.in_ok-reply.ensures.step (λ none. false≢true (c.in_err-end.ensures.1 none)) in
+    absurd (no_reply c.in-Some.called c.args.procedure r c.args.bytes.now c.new-reader.result garbage c.in-Some.ensures.some c.new-reader.ensures was is)
 
-pub returns-in_ok-whole_reply-in-Some-clause-garbage : goal.returns-in_ok-whole_reply-in-Some-clause-garbage
-returns-in_ok-whole_reply-in-Some-clause-garbage c =
-    let found = c.in_ok-whole_reply-in-Some.ensures.found in (
+pub returns-in_err-end-clause-garbage : goal.returns-in_err-end-clause-garbage
+returns-in_err-end-clause-garbage c =
+    let p = err_from_is_err_and c.from_residual-in_err-end.result c.from_residual-in_err-end.ensures.1 in
+    let was = left_over (reply_at c.in-Some.called c.new-reader.result) c.in_ok-reply.reply c.reply.new.reader c.in_ok-reply.ensures.step (λ none. false≢true (c.in_err-end.ensures.1 none)) in (
+      λ _. (
+        number_fits c.in-Some.called c.args.procedure c.in-Some.ensures.some,
+        λ r is.
+            no_reply c.in-Some.called c.args.procedure r c.args.bytes.now c.new-reader.result garbage c.in-Some.ensures.some c.new-reader.ensures was is,
+      ),
+      λ _. rw (p.1, p.2) refl,
+    )
+
+-- it is read
+pub returns-clause-only : goal.returns-clause-only
+returns-clause-only c =
+    λ r is.
+    let was = ended (reply_at c.in-Some.called c.new-reader.result) c.in_ok-reply.reply c.reply.new.reader c.in_ok-reply.ensures.step (c.in_ok-end.ensures.0 refl) in
+    ap (λ x. Ok x)
+    (one_reply c.in-Some.called c.args.procedure r c.in_ok-reply.reply c.args.bytes.now c.new-reader.result c.in-Some.ensures.some c.new-reader.ensures was is)
+
+pub returns-clause-garbage : goal.returns-clause-garbage
+returns-clause-garbage c =
+    let found = c.in_ok-reply.ensures.found in
+    let spelling = results c.in_ok-reply.reply in (
       λ e. absurd cc,
       λ none.
-          absurd (none.1 c.in_ok-whole_reply-in-Some.field-0 (record {
+          absurd (none.1 c.in_ok-reply.reply (record {
             procedure = c.in-Some.called;
             procedure_is = c.in-Some.ensures.some;
             answers = found.0;
             value_fits = found.1;
-            bytes_are = found.2;
+            bytes_are =
+                sym c.new-reader.ensures ∙ found.2 ∙ ap (λ rest. spelling ++ rest) (c.in_ok-end.ensures.0 refl) ∙ append-nil spelling;
           })),
     )

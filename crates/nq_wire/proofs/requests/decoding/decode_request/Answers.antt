@@ -1,26 +1,53 @@
 use Rattle.std.proofs.Common.{ap, refl, Ok}
 use Rattle.std.proofs.lemmas.Result.{err_from_is_err_and}
-use Rattle.nq_wire.proofs.Whole.{number_fits, no_request, one_request}
+use Rattle.std.proofs.lemmas.Bool.{false≢true}
+use Rattle.nq_wire.specs.Garbage.{garbage}
+use Rattle.nq_wire.specs.Reading.{request_at}
+use Rattle.nq_wire.proofs.Whole.{failed, left_over, ended, number_fits, no_request, one_request}
 use Rattle.nq_wire.proofs.requests.decoding.decode_request.Goals as goal
 
-pub returns-in_err-whole_request-in-Some-clause-only : goal.returns-in_err-whole_request-in-Some-clause-only
-returns-in_err-whole_request-in-Some-clause-only c =
+-- the bytes begin with none
+pub returns-in_err-request-clause-only : goal.returns-in_err-request-clause-only
+returns-in_err-request-clause-only c =
     λ r is.
-    absurd (no_request c.in-Some.called c.args.procedure r c.args.bytes.now c.whole_request.result c.in_err-whole_request-in-Some.field-0.0 c.in-Some.ensures.some c.whole_request.ensures.step c.in_err-whole_request-in-Some.was is)
+    let was = failed (request_at c.in-Some.called c.new-reader.result) c.in_err-request.field-0.0 c.in_err-request.ensures.step in
+    absurd (no_request c.in-Some.called c.args.procedure r c.args.bytes.now c.new-reader.result c.in_err-request.field-0.0 c.in-Some.ensures.some c.new-reader.ensures was is)
 
-pub returns-in_err-whole_request-in-Some-clause-garbage : goal.returns-in_err-whole_request-in-Some-clause-garbage
-returns-in_err-whole_request-in-Some-clause-garbage c =
-    let p = err_from_is_err_and c.from_residual.result c.from_residual.ensures.1 in (
+pub returns-in_err-request-clause-garbage : goal.returns-in_err-request-clause-garbage
+returns-in_err-request-clause-garbage c =
+    let p = err_from_is_err_and c.from_residual.result c.from_residual.ensures.1 in
+    let was = failed (request_at c.in-Some.called c.new-reader.result) c.in_err-request.field-0.0 c.in_err-request.ensures.step in (
       λ _. (
         number_fits c.in-Some.called c.args.procedure c.in-Some.ensures.some,
         λ r is.
-            no_request c.in-Some.called c.args.procedure r c.args.bytes.now c.whole_request.result c.in_err-whole_request-in-Some.field-0.0 c.in-Some.ensures.some c.whole_request.ensures.step c.in_err-whole_request-in-Some.was is,
+            no_request c.in-Some.called c.args.procedure r c.args.bytes.now c.new-reader.result c.in_err-request.field-0.0 c.in-Some.ensures.some c.new-reader.ensures was is,
       ),
       λ _. rw (p.1, p.2) refl,
     )
 
-pub returns-in_ok-whole_request-in-Some-clause-only : goal.returns-in_ok-whole_request-in-Some-clause-only
-returns-in_ok-whole_request-in-Some-clause-only c =
+-- something stands behind it
+pub returns-in_err-end-clause-only : goal.returns-in_err-end-clause-only
+returns-in_err-end-clause-only c =
     λ r is.
+    let was = left_over (request_at c.in-Some.called c.new-reader.result) c.in_ok-request.request c.request.new.reader c.in_ok-request.ensures.step (λ none. false≢true (c.in_err-end.ensures.1 none)) in
+    absurd (no_request c.in-Some.called c.args.procedure r c.args.bytes.now c.new-reader.result garbage c.in-Some.ensures.some c.new-reader.ensures was is)
+
+pub returns-in_err-end-clause-garbage : goal.returns-in_err-end-clause-garbage
+returns-in_err-end-clause-garbage c =
+    let p = err_from_is_err_and c.from_residual-in_err-end.result c.from_residual-in_err-end.ensures.1 in
+    let was = left_over (request_at c.in-Some.called c.new-reader.result) c.in_ok-request.request c.request.new.reader c.in_ok-request.ensures.step (λ none. false≢true (c.in_err-end.ensures.1 none)) in (
+      λ _. (
+        number_fits c.in-Some.called c.args.procedure c.in-Some.ensures.some,
+        λ r is.
+            no_request c.in-Some.called c.args.procedure r c.args.bytes.now c.new-reader.result garbage c.in-Some.ensures.some c.new-reader.ensures was is,
+      ),
+      λ _. rw (p.1, p.2) refl,
+    )
+
+-- it is read
+pub returns-clause-only : goal.returns-clause-only
+returns-clause-only c =
+    λ r is.
+    let was = ended (request_at c.in-Some.called c.new-reader.result) c.in_ok-request.request c.request.new.reader c.in_ok-request.ensures.step (c.in_ok-end.ensures.0 refl) in
     ap (λ x. Ok x)
-    (one_request c.in-Some.called c.args.procedure r c.in_ok-whole_request-in-Some.field-0 c.args.bytes.now c.whole_request.result c.in-Some.ensures.some c.whole_request.ensures.step c.in_ok-whole_request-in-Some.was is)
+    (one_request c.in-Some.called c.args.procedure r c.in_ok-request.request c.args.bytes.now c.new-reader.result c.in-Some.ensures.some c.new-reader.ensures was is)
