@@ -1,8 +1,8 @@
 // Writing the entries of a journal, a line each.
-ghost use Rattle.std.specs.Prelude.{◌≡◌, [], ◌++◌, OnOk};
+ghost use Rattle.std.specs.Prelude.{◌≡◌, ℕ, [], ◌++◌, OnOk};
 ghost use Rattle.std.specs.List.{flat_map};
 ghost use Rattle.nq_journal.specs.Words.{joined, spaced};
-ghost use Rattle.nq_journal.specs.Text.{Fits, FitsWho, FitsSource, entry_words, entry_line, of_who, way_word, mode_word, source_words, longest_words};
+ghost use Rattle.nq_journal.specs.Text.{Fits, FitsWho, FitsSource, IsOfCall, IsOfWrite, IsOfLease, entry_words, entry_line, of_who, way_word, mode_word, source_words, longest_words};
 
 use crate::NoMemory;
 use crate::write_words::{push_command, push_numbers, push_said, push_told, push_word};
@@ -57,10 +57,11 @@ fn push_longest(out: &mut Vec<u8>, version: u32, longest: u32) -> Result<(), NoM
     Ok(())
 }
 
-// Appends the words of an entry.
+// Appends the words of an entry that tells of a call.
 #[tactic(auto, unfolding(crate::specs::Words::joined))]
-fn push_words(out: &mut Vec<u8>, version: u32, entry: &Entry) -> Result<(), NoMemory>
-    ensures written { OnOk result (out.new.items ≡ out.old.items ++ joined (entry_words version entry.now)) }
+fn push_of_call(out: &mut Vec<u8>, entry: &Entry) -> Result<(), NoMemory>
+    requires { IsOfCall entry.now }
+    ensures written { (version : ℕ) → OnOk result (out.new.items ≡ out.old.items ++ joined (entry_words version entry.now)) }
     ensures fits { OnOk result (Fits entry.now) }
 {
     match entry {
@@ -69,6 +70,51 @@ fn push_words(out: &mut Vec<u8>, version: u32, entry: &Entry) -> Result<(), NoMe
             push_numbers(out, &[*q])?;
             push_told(out, told)
         }
+        Entry::R {
+            who,
+            q,
+            file,
+            block,
+            value,
+            served,
+        } => {
+            push_who(out, b"R", who)?;
+            push_numbers(
+                out,
+                &[*q, u64::from(file.0), u64::from(block.0), u64::from(*value)],
+            )?;
+            push_source(out, *served)
+        }
+        Entry::Z {
+            who,
+            q,
+            file,
+            from,
+            to,
+        } => {
+            push_who(out, b"Z", who)?;
+            push_numbers(
+                out,
+                &[*q, u64::from(file.0), u64::from(*from), u64::from(*to)],
+            )
+        }
+        Entry::A { who, q, said } => {
+            push_who(out, b"A", who)?;
+            push_numbers(out, &[*q])?;
+            push_said(out, said)
+        }
+        _ => unreachable!(),
+    }
+}
+
+// Appends the words of an entry that tells of a write.
+#[tactic(auto, unfolding(crate::specs::Words::joined))]
+fn push_of_write(out: &mut Vec<u8>, entry: &Entry) -> Result<(), NoMemory>
+    requires { IsOfWrite entry.now }
+    ensures written { (version : ℕ) → OnOk result (out.new.items ≡ out.old.items ++ joined (entry_words version entry.now)) }
+    ensures fits { OnOk result (Fits entry.now) }
+{
+    match entry {
         Entry::W {
             who,
             file,
@@ -88,21 +134,6 @@ fn push_words(out: &mut Vec<u8>, version: u32, entry: &Entry) -> Result<(), NoMe
                 ],
             )?;
             push_word(out, way_name(*through))
-        }
-        Entry::R {
-            who,
-            q,
-            file,
-            block,
-            value,
-            served,
-        } => {
-            push_who(out, b"R", who)?;
-            push_numbers(
-                out,
-                &[*q, u64::from(file.0), u64::from(block.0), u64::from(*value)],
-            )?;
-            push_source(out, *served)
         }
         Entry::S {
             who,
@@ -137,6 +168,18 @@ fn push_words(out: &mut Vec<u8>, version: u32, entry: &Entry) -> Result<(), NoMe
                 &[u64::from(file.0), u64::from(block.0), first.0, last.0],
             )
         }
+        _ => unreachable!(),
+    }
+}
+
+// Appends the words of an entry that tells of a lease.
+#[tactic(auto, unfolding(crate::specs::Words::joined))]
+fn push_of_lease(out: &mut Vec<u8>, entry: &Entry) -> Result<(), NoMemory>
+    requires { IsOfLease entry.now }
+    ensures written { (version : ℕ) → OnOk result (out.new.items ≡ out.old.items ++ joined (entry_words version entry.now)) }
+    ensures fits { OnOk result (Fits entry.now) }
+{
+    match entry {
         Entry::G {
             who,
             file,
@@ -172,29 +215,27 @@ fn push_words(out: &mut Vec<u8>, version: u32, entry: &Entry) -> Result<(), NoMe
             out.extend_from_slice(b"O")?;
             push_numbers(out, &[u64::from(*boot), until.0, heard.0, now.0])
         }
+        _ => unreachable!(),
+    }
+}
+
+// Appends the words of an entry.
+#[tactic(auto, unfolding(crate::specs::Words::joined))]
+fn push_words(out: &mut Vec<u8>, version: u32, entry: &Entry) -> Result<(), NoMemory>
+    ensures written { OnOk result (out.new.items ≡ out.old.items ++ joined (entry_words version entry.now)) }
+    ensures fits { OnOk result (Fits entry.now) }
+{
+    match entry {
+        Entry::C { .. } | Entry::R { .. } | Entry::Z { .. } | Entry::A { .. } => {
+            push_of_call(out, entry)
+        }
+        Entry::W { .. } | Entry::S { .. } | Entry::L { .. } => push_of_write(out, entry),
+        Entry::G { .. } | Entry::F { .. } | Entry::O { .. } => push_of_lease(out, entry),
         Entry::B { who } => push_who(out, b"B", who),
         Entry::X { boot, now, longest } => {
             out.extend_from_slice(b"X")?;
             push_numbers(out, &[u64::from(*boot), now.0])?;
             push_longest(out, version, *longest)
-        }
-        Entry::Z {
-            who,
-            q,
-            file,
-            from,
-            to,
-        } => {
-            push_who(out, b"Z", who)?;
-            push_numbers(
-                out,
-                &[*q, u64::from(file.0), u64::from(*from), u64::from(*to)],
-            )
-        }
-        Entry::A { who, q, said } => {
-            push_who(out, b"A", who)?;
-            push_numbers(out, &[*q])?;
-            push_said(out, said)
         }
     }
 }
