@@ -1,9 +1,12 @@
--- What a call that decodes gives, from what reading the bytes gives.
+-- What calls that decode give, from what reading the bytes gives.
 use Rattle.std.proofs.Common.{◌≡◌, ℕ, List, Result, Ok, Err, sym, ap, subst, ◌∙◌, inl, inr, ◌⊎◌}
-use Rattle.std.specs.Prelude.{IfOk, IfErr, IsOk}
+use Rattle.std.specs.Prelude.{IfOk, IfErr, IsOk, IsOkAnd}
+use Rattle.nq_xdr.specs.Reading.{Gives}
 use Rattle.nq_rpc.specs.declared.fault.RpcFault.{RpcFault}
 use Rattle.nq_rpc.specs.declared.fault.RpcFault.TheVariants.{Short, BadKind, BadAuth, Xdr, Memory}
+use Rattle.nq_rpc.specs.declared.lent.LentMessage.{LentMessage}
 use Rattle.nq_rpc.specs.declared.message.Message.{Message}
+use Rattle.nq_rpc.specs.Lent.{lent_message}
 use Rattle.nq_rpc.specs.Message.{IsSpelled}
 use Rattle.nq_rpc.specs.Reading.{Decodes}
 use Rattle.nq_rpc.specs.Fault.{Next, Numbers, Choice, Authentication, End, IsItemFault, next, IsMessageFault, IsDecodeFault}
@@ -49,3 +52,27 @@ pub decoded_only_fault : (e : RpcFault) (r read : Result Message RpcFault) → r
 decoded_only_fault e (Ok x) read is given = sym given ∙ is
 decoded_only_fault e (Err d) read is (inl given) = sym given ∙ is
 decoded_only_fault e (Err d) read is (inr memory) = fault_given e d read is memory.0 memory.1 ∙ is
+
+-- ---- where nothing is copied
+
+one_message : (m n : Message) (read : Result Message RpcFault) → read ≡ Ok m → read ≡ Ok n → m ≡ n
+one_message m n read a b = cc
+
+one_fault : (d e : RpcFault) (read : Result Message RpcFault) → read ≡ Err d → read ≡ Err e → d ≡ e
+one_fault d e read a b = cc
+
+pub lent_found : (bytes : List ℕ) (r : Result LentMessage RpcFault) (read : Result Message RpcFault) → MessageSays bytes read → Gives lent_message r read → IfOk r (λ m. IsSpelled (lent_message m) bytes)
+lent_found bytes (Ok m) read says given = subst (MessageSays bytes) given says
+lent_found bytes (Err e) read says given = tt
+
+pub lent_fault : (bytes : List ℕ) (r : Result LentMessage RpcFault) (read : Result Message RpcFault) → MessageSays bytes read → Gives lent_message r read → IfErr r (IsMessageFault bytes)
+lent_fault bytes (Ok m) read says given = tt
+lent_fault bytes (Err e) read says given = subst (MessageSays bytes) given says
+
+pub lent_only : (m : Message) (r : Result LentMessage RpcFault) (read : Result Message RpcFault) → read ≡ Ok m → Gives lent_message r read → IsOkAnd r (λ lent. lent_message lent ≡ m)
+lent_only m (Ok lent) read is given = one_message (lent_message lent) m read given is
+lent_only m (Err e) read is given = absurd cc
+
+pub lent_only_fault : (e : RpcFault) (r : Result LentMessage RpcFault) (read : Result Message RpcFault) → read ≡ Err e → Gives lent_message r read → r ≡ Err e
+lent_only_fault e (Ok lent) read is given = absurd cc
+lent_only_fault e (Err d) read is given = ap (λ (x : RpcFault). Err x) (one_fault d e read given is)

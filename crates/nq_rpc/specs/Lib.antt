@@ -1,3 +1,4 @@
 pub mod Message
+pub mod Lent
 pub mod Reading
 pub mod Fault

@@ -1,12 +1,16 @@
-ghost use Rattle.std.specs.Prelude.{◌≡◌, ◌⊎◌, ℕ, List, IfOk, IfErr};
+ghost use Rattle.std.specs.Prelude.{◌≡◌, ◌⊎◌, ℕ, List, IfOk, IsOkAnd, IfErr};
 ghost use Rattle.nq_rpc.specs.declared.fault.RpcFault.{RpcFault};
 ghost use Rattle.nq_rpc.specs.declared.message.Message.{Message};
+ghost use Rattle.nq_rpc.specs.Lent.{lent_message, lent_outcome};
 ghost use Rattle.nq_rpc.specs.Message.{IsSpelled};
 ghost use Rattle.nq_rpc.specs.Fault.{IsMessageFault, IsDecodeFault};
 ghost use Rattle.nq_xdr.specs.Reading.{Gives};
 ghost use Rattle.nq_rpc.specs.Reading.{Decodes, behind_auth, call_at, ended, bounds_at, accepted_as, accepted_at, denied_as, denied_at, outcome_at, reply_at, message_at};
 
-use crate::{Bytes, CallMessage, Head, Message, Outcome, ReplyMessage, RpcFault, number};
+use crate::{
+    Bytes, CallMessage, Head, LentCall, LentMessage, LentOutcome, LentReply, Message, Outcome,
+    ReplyMessage, RpcFault, number,
+};
 use nq_xdr::Reader;
 use std::alloc::Global;
 
@@ -34,94 +38,86 @@ fn bounds(reader: &mut Reader) -> Result<(u32, u32), RpcFault>
 
 /// An error reply, which ends here.
 #[tactic(auto, unfolding(crate::specs::Reading::ended))]
-fn ended(outcome: Outcome, reader: Reader) -> Result<Outcome, RpcFault>
-    ensures { Gives (λ o. o) result (ended outcome reader.entry) }
+fn ended<'a>(outcome: LentOutcome<'a>, reader: Reader<'a>) -> Result<LentOutcome<'a>, RpcFault>
+    ensures { Gives lent_outcome result (ended (lent_outcome outcome.entry) reader.entry) }
 {
     reader.end()?;
     Ok(outcome)
 }
 
-/// The bytes that are left, copied.
-fn rest(alloc: Global, reader: &Reader) -> Result<Bytes, RpcFault>
-    ensures copied { IfOk result (λ b. b ≡ reader.now) }
-    ensures memory { IfErr result (λ e. e ≡ RpcFault.Memory) }
-{
-    Ok(Bytes::new(Vec::from_slice(alloc, reader.rest())?))
-}
-
 #[tactic(auto, unfolding(crate::specs::Reading::accepted_as))]
-fn accepted_as(alloc: Global, stat: u32, mut reader: Reader) -> Result<Outcome, RpcFault>
-    ensures { Decodes result (accepted_as stat reader.entry) }
+fn accepted_as(stat: u32, mut reader: Reader<'_>) -> Result<LentOutcome<'_>, RpcFault>
+    ensures { Gives lent_outcome result (accepted_as stat reader.entry) }
 {
     match stat {
-        number::SUCCESS => Ok(Outcome::Success(rest(alloc, &reader)?)),
-        number::PROG_UNAVAIL => ended(Outcome::ProgUnavail, reader),
+        number::SUCCESS => Ok(LentOutcome::Success(reader.rest())),
+        number::PROG_UNAVAIL => ended(LentOutcome::ProgUnavail, reader),
         number::PROG_MISMATCH => {
             let (low, high) = bounds(&mut reader)?;
-            ended(Outcome::ProgMismatch { low, high }, reader)
+            ended(LentOutcome::ProgMismatch { low, high }, reader)
         }
-        number::PROC_UNAVAIL => ended(Outcome::ProcUnavail, reader),
-        number::GARBAGE_ARGS => ended(Outcome::GarbageArgs, reader),
+        number::PROC_UNAVAIL => ended(LentOutcome::ProcUnavail, reader),
+        number::GARBAGE_ARGS => ended(LentOutcome::GarbageArgs, reader),
         _ => Err(RpcFault::BadKind),
     }
 }
 
 #[tactic(auto, unfolding(crate::specs::Reading::accepted_at))]
-fn accepted(alloc: Global, mut reader: Reader) -> Result<Outcome, RpcFault>
-    ensures { Decodes result (accepted_at reader.entry) }
+fn accepted(mut reader: Reader<'_>) -> Result<LentOutcome<'_>, RpcFault>
+    ensures { Gives lent_outcome result (accepted_at reader.entry) }
 {
     auth(&mut reader)?;
     let stat = reader.u32()?;
-    accepted_as(alloc, stat, reader)
+    accepted_as(stat, reader)
 }
 
 #[tactic(auto, unfolding(crate::specs::Reading::denied_as))]
-fn denied_as(stat: u32, mut reader: Reader) -> Result<Outcome, RpcFault>
-    ensures { Gives (λ o. o) result (denied_as stat reader.entry) }
+fn denied_as(stat: u32, mut reader: Reader<'_>) -> Result<LentOutcome<'_>, RpcFault>
+    ensures { Gives lent_outcome result (denied_as stat reader.entry) }
 {
     match stat {
         number::RPC_MISMATCH => {
             let (low, high) = bounds(&mut reader)?;
-            ended(Outcome::RpcMismatch { low, high }, reader)
+            ended(LentOutcome::RpcMismatch { low, high }, reader)
         }
         number::AUTH_ERROR => {
             let stat = reader.u32()?;
-            ended(Outcome::AuthError(stat), reader)
+            ended(LentOutcome::AuthError(stat), reader)
         }
         _ => Err(RpcFault::BadKind),
     }
 }
 
 #[tactic(auto, unfolding(crate::specs::Reading::denied_at))]
-fn denied(mut reader: Reader) -> Result<Outcome, RpcFault>
-    ensures { Gives (λ o. o) result (denied_at reader.entry) }
+fn denied(mut reader: Reader<'_>) -> Result<LentOutcome<'_>, RpcFault>
+    ensures { Gives lent_outcome result (denied_at reader.entry) }
 {
     let stat = reader.u32()?;
     denied_as(stat, reader)
 }
 
 #[tactic(auto, unfolding(crate::specs::Reading::outcome_at))]
-fn outcome(alloc: Global, mut reader: Reader) -> Result<Outcome, RpcFault>
-    ensures { Decodes result (outcome_at reader.entry) }
+fn outcome(mut reader: Reader<'_>) -> Result<LentOutcome<'_>, RpcFault>
+    ensures { Gives lent_outcome result (outcome_at reader.entry) }
 {
     match reader.u32()? {
-        number::MSG_ACCEPTED => accepted(alloc, reader),
+        number::MSG_ACCEPTED => accepted(reader),
         number::MSG_DENIED => denied(reader),
         _ => Err(RpcFault::BadKind),
     }
 }
 
 #[tactic(auto, unfolding(crate::specs::Reading::reply_at))]
-fn reply(alloc: Global, xid: u32, reader: Reader) -> Result<Message, RpcFault>
-    ensures { Decodes result (reply_at xid reader.entry) }
+fn reply(xid: u32, reader: Reader<'_>) -> Result<LentMessage<'_>, RpcFault>
+    ensures { Gives lent_message result (reply_at xid reader.entry) }
 {
-    let outcome = outcome(alloc, reader)?;
-    Ok(Message::Reply(ReplyMessage { xid, outcome }))
+    let outcome = outcome(reader)?;
+    Ok(LentMessage::Reply(LentReply { xid, outcome }))
 }
 
 #[tactic(auto, unfolding(crate::specs::Reading::call_at))]
-fn call(alloc: Global, xid: u32, mut reader: Reader) -> Result<Message, RpcFault>
-    ensures { Decodes result (call_at xid reader.entry) }
+fn call(xid: u32, mut reader: Reader<'_>) -> Result<LentMessage<'_>, RpcFault>
+    ensures { Gives lent_message result (call_at xid reader.entry) }
 {
     let rpcvers = reader.u32()?;
     let prog = reader.u32()?;
@@ -129,7 +125,7 @@ fn call(alloc: Global, xid: u32, mut reader: Reader) -> Result<Message, RpcFault
     let procedure = reader.u32()?;
     auth(&mut reader)?;
     auth(&mut reader)?;
-    Ok(Message::Call(CallMessage {
+    Ok(LentMessage::Call(LentCall {
         head: Head {
             xid,
             prog,
@@ -137,21 +133,85 @@ fn call(alloc: Global, xid: u32, mut reader: Reader) -> Result<Message, RpcFault
             procedure,
         },
         rpcvers,
-        arguments: rest(alloc, &reader)?,
+        arguments: reader.rest(),
     }))
 }
 
 #[tactic(auto, unfolding(crate::specs::Reading::message_at))]
-fn message(alloc: Global, bytes: &[u8]) -> Result<Message, RpcFault>
-    ensures { Decodes result (message_at bytes.now) }
+fn message(bytes: &[u8]) -> Result<LentMessage<'_>, RpcFault>
+    ensures { Gives lent_message result (message_at bytes.now) }
 {
     let mut reader = Reader::new(bytes);
     let xid = reader.u32()?;
     match reader.u32()? {
-        number::CALL => call(alloc, xid, reader),
-        number::REPLY => reply(alloc, xid, reader),
+        number::CALL => call(xid, reader),
+        number::REPLY => reply(xid, reader),
         _ => Err(RpcFault::BadKind),
     }
+}
+
+/// Reads a message, which is all of the bytes (RFC 1057 section 8), and lends its arguments or results. Its
+/// credential and its verifier may be of any flavor and are ignored. It takes no memory.
+///
+/// # Errors
+///
+/// The first fault in the order of the bytes.
+pub fn decode_in_place(bytes: &[u8]) -> Result<LentMessage<'_>, RpcFault>
+    // What is read is spelled so, and what is spelled so is read.
+    ensures found { IfOk result (λ m. IsSpelled (lent_message m) bytes.now) }
+    ensures only { (m : Message) → IsSpelled m bytes.now → IsOkAnd result (λ lent. lent_message lent ≡ m) }
+
+    // A fault is in the bytes, and a fault in the bytes is given.
+    ensures fault { IfErr result (IsMessageFault bytes.now) }
+    ensures only_fault { (e : RpcFault) → IsMessageFault bytes.now e → result ≡ Err e }
+
+    // All of it, as reading from the left.
+    ensures step { Gives lent_message result (message_at bytes.now) }
+{
+    message(bytes)
+}
+
+/// The message, with its arguments or results copied.
+fn copied(alloc: Global, lent: LentMessage<'_>) -> Result<Message, RpcFault>
+    ensures ok { IfOk result (λ m. m ≡ lent_message lent.entry) }
+    ensures memory { IfErr result (λ e. e ≡ RpcFault.Memory) }
+{
+    match lent {
+        LentMessage::Call(call) => Ok(Message::Call(CallMessage {
+            head: call.head,
+            rpcvers: call.rpcvers,
+            arguments: Bytes::new(Vec::from_slice(alloc, call.arguments)?),
+        })),
+        LentMessage::Reply(LentReply { xid, outcome }) => Ok(Message::Reply(ReplyMessage {
+            xid,
+            outcome: copied_outcome(alloc, outcome)?,
+        })),
+    }
+}
+
+/// What became of a call, with its results copied.
+fn copied_outcome(alloc: Global, lent: LentOutcome<'_>) -> Result<Outcome, RpcFault>
+    ensures ok { IfOk result (λ o. o ≡ lent_outcome lent.entry) }
+    ensures memory { IfErr result (λ e. e ≡ RpcFault.Memory) }
+{
+    Ok(match lent {
+        LentOutcome::Success(results) => {
+            Outcome::Success(Bytes::new(Vec::from_slice(alloc, results)?))
+        }
+        LentOutcome::ProgUnavail => Outcome::ProgUnavail,
+        LentOutcome::ProgMismatch { low, high } => Outcome::ProgMismatch { low, high },
+        LentOutcome::ProcUnavail => Outcome::ProcUnavail,
+        LentOutcome::GarbageArgs => Outcome::GarbageArgs,
+        LentOutcome::RpcMismatch { low, high } => Outcome::RpcMismatch { low, high },
+        LentOutcome::AuthError(stat) => Outcome::AuthError(stat),
+    })
+}
+
+/// The message, with its arguments or results copied, or the first fault.
+fn message_copied(alloc: Global, bytes: &[u8]) -> Result<Message, RpcFault>
+    ensures { Decodes result (message_at bytes.now) }
+{
+    copied(alloc, message(bytes)?)
 }
 
 /// Reads a message, which is all of the bytes (RFC 1057 section 8). Its credential and its verifier may
@@ -172,5 +232,5 @@ pub fn decode(alloc: Global, bytes: &[u8]) -> Result<Message, RpcFault>
     // All of it, as reading from the left.
     ensures step { Decodes result (message_at bytes.now) }
 {
-    message(alloc, bytes)
+    message_copied(alloc, bytes)
 }

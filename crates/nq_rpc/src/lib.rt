@@ -10,14 +10,16 @@ mod decoding;
 mod encoding;
 mod fault;
 pub mod laws;
+mod lent;
 mod memory;
 mod message;
 mod number;
 
 pub use bytes::Bytes;
-pub use decoding::decode;
+pub use decoding::{decode, decode_in_place};
 pub use encoding::{encode, encode_into};
 pub use fault::RpcFault;
+pub use lent::{LentCall, LentMessage, LentOutcome, LentReply};
 pub use memory::NoMemory;
 pub use message::{CallMessage, Head, Message, Outcome, ReplyMessage};
 

@@ -57,6 +57,27 @@ fn results_of(outcome: Outcome) -> Result<Vec<u8>, &'static str> {
 }
 
 #[test]
+fn messages_are_read_in_place(rt: HostRuntime) -> Result<(), Fail> {
+    let bytes = bytes_of(rt.alloc(), &LOOKUP)?;
+    let arguments = match decode_in_place(&bytes)? {
+        LentMessage::Call(call) => call.arguments,
+        LentMessage::Reply(_reply) => &[],
+    };
+    assert_eq!(rt; arguments, &bytes[40..]);
+    let bytes = bytes_of(rt.alloc(), &FOUND)?;
+    let outcome = match decode_in_place(&bytes)? {
+        LentMessage::Call(_call) => LentOutcome::ProcUnavail,
+        LentMessage::Reply(reply) => reply.outcome,
+    };
+    let results = match outcome {
+        LentOutcome::Success(results) => results,
+        _error => &[],
+    };
+    assert_eq!(rt; results, &bytes[24..]);
+    Ok(())
+}
+
+#[test]
 fn a_call_is_read_and_written(rt: HostRuntime) -> Result<(), Fail> {
     let bytes = bytes_of(rt.alloc(), &LOOKUP)?;
     let message = decode(rt.alloc(), &bytes)?;

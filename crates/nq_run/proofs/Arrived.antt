@@ -1,6 +1,6 @@
 -- What is read of a datagram that was written.
 use Rattle.std.proofs.Common.{◌≡◌, ◌⊎◌, inl, inr, ℕ, List, length, Result, Ok, Err, Option, Some, None, refl, sym, ap, subst, ◌∙◌, arith}
-use Rattle.std.specs.Prelude.{IsSome}
+use Rattle.std.specs.Prelude.{IsSome, IsOk, IsOkAnd}
 use Rattle.nq_base.specs.Block.{filled, value_of}
 use Rattle.nq_base.proofs.Filling.{filled-value}
 use Rattle.nq_base.specs.declared.Grant.{Grant}
@@ -11,8 +11,10 @@ use Rattle.nq_base.specs.declared.Request.{Request as Asked}
 use Rattle.nq_base.specs.declared.Who.{Who}
 use Rattle.nq_model.specs.Message.{Message, call, reply, error, rpc_mismatch, program_unavailable, program_mismatch, procedure_unavailable, garbage_arguments}
 use Rattle.nq_net.specs.Packets.{Datagram}
+use Rattle.nq_rpc.specs.Lent.{lent_message}
 use Rattle.nq_rpc.specs.declared.CallMessage.{CallMessage}
 use Rattle.nq_rpc.specs.declared.ReplyMessage.{ReplyMessage}
+use Rattle.nq_rpc.specs.declared.LentMessage.{LentMessage}
 use Rattle.nq_rpc.specs.declared.Message.{Message as Said}
 use Rattle.nq_rpc.specs.declared.Message.TheVariants as said
 use Rattle.nq_rpc.specs.declared.RpcFault.{RpcFault}
@@ -131,23 +133,35 @@ message_fits (error xid program_mismatch) fits = (fits, (omega arith, omega arit
 message_fits (error xid procedure_unavailable) fits = (fits, tt)
 message_fits (error xid garbage_arguments) fits = (fits, tt)
 
-one_decoded : (m x : Said) (decoded : Result Said RpcFault) → (decoded ≡ Ok m) ⊎ (decoded ≡ Err RpcFault.Memory) → decoded ≡ Ok x → x ≡ m
-one_decoded m x decoded (inl is) was = cc
-one_decoded m x decoded (inr is) was = cc
-
--- the packet that was found is that of the datagram
-pub found_packet : (from to : Party) (bytes : List ℕ) (decoded : Result Said RpcFault) (x : Said) (found : Option Packet)
-    → IsSpelled (record { sender = from; to = to; bytes = bytes })
-    → ((m : Said) → IsSpelledBy m bytes → (decoded ≡ Ok m) ⊎ (decoded ≡ Err RpcFault.Memory))
-    → decoded ≡ Ok x
-    → ((p : Packet) → Fits (packet_of p) → from ≡ (packet_of p).sender → to ≡ (packet_of p).to → x ≡ message_of (packet_of p).message → found ≡ Some p)
-    → found ≡ Some (packet_in (record { sender = from; to = to; bytes = bytes }))
-found_packet from to bytes decoded x found w only was each =
+-- the datagram of a packet spells its message
+said_there : (from to : Party) (bytes : List ℕ) → IsSpelled (record { sender = from; to = to; bytes = bytes })
+    → IsSpelledBy (message_of (packet_of (packet_in (record { sender = from; to = to; bytes = bytes }))).message) bytes
+said_there from to bytes w =
     let p : Packet = packet_in (record { sender = from; to = to; bytes = bytes }) in
     let m : Said = message_of (packet_of p).message in
     let same : bytes ≡ (datagram_of (packet_of p)).bytes = ap (λ (d : Datagram). d.bytes) w.is in
-    let spells : IsSpelledBy m bytes = subst (IsSpelledBy m) (sym same) (spelled m (message_fits (packet_of p).message w.fits)) in
-    each p w.fits (ap (λ (d : Datagram). d.sender) w.is) (ap (λ (d : Datagram). d.to) w.is) (one_decoded m x decoded (only m spells) was)
+    subst (IsSpelledBy m) (sym same) (spelled m (message_fits (packet_of p).message w.fits))
+
+-- it is read
+pub read_there : (from to : Party) (bytes : List ℕ) (decoded : Result LentMessage RpcFault)
+    → IsSpelled (record { sender = from; to = to; bytes = bytes })
+    → ((m : Said) → IsSpelledBy m bytes → IsOkAnd decoded (λ lent. lent_message lent ≡ m))
+    → IsOk decoded
+read_there from to bytes (Ok lent) w only = refl
+read_there from to bytes (Err e) w only = absurd (only _ (said_there from to bytes w))
+
+-- the packet that was found is that of the datagram
+pub found_packet : (from to : Party) (bytes : List ℕ) (decoded : Result LentMessage RpcFault) (lent : LentMessage) (found : Option Packet)
+    → IsSpelled (record { sender = from; to = to; bytes = bytes })
+    → ((m : Said) → IsSpelledBy m bytes → IsOkAnd decoded (λ lent. lent_message lent ≡ m))
+    → decoded ≡ Ok lent
+    → ((p : Packet) → Fits (packet_of p) → from ≡ (packet_of p).sender → to ≡ (packet_of p).to → lent_message lent ≡ message_of (packet_of p).message → found ≡ Some p)
+    → found ≡ Some (packet_in (record { sender = from; to = to; bytes = bytes }))
+found_packet from to bytes (Ok x) lent found w only was each =
+    let p : Packet = packet_in (record { sender = from; to = to; bytes = bytes }) in
+    let same : x ≡ lent = cc in
+    each p w.fits (ap (λ (d : Datagram). d.sender) w.is) (ap (λ (d : Datagram). d.to) w.is) (subst (λ z. lent_message z ≡ message_of (packet_of p).message) same (only _ (said_there from to bytes w)))
+found_packet from to bytes (Err e) lent found w only was each = absurd cc
 
 pub some_here : {A : Type 0} (x : A) (found : Option A) → found ≡ Some x → IsSome found
 some_here x (Some y) is = refl

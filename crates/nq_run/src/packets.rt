@@ -107,7 +107,7 @@ impl Packets {
         };
         self.bytes.clear();
         match datagram.bytes_into(&mut self.bytes) {
-            Ok(()) => packet_in(self.alloc, datagram.sender(), datagram.to(), &self.bytes),
+            Ok(()) => Ok(packet_in(self.alloc, datagram.sender(), datagram.to(), &self.bytes)),
             Err(_) => Err(NoMemory::Memory),
         }
     }

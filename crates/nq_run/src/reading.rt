@@ -1,6 +1,6 @@
 //! Messages of RPC as packets.
 
-ghost use Rattle.std.specs.Prelude.{◌≡◌, ℕ, length, Some, IfOk};
+ghost use Rattle.std.specs.Prelude.{◌≡◌, ℕ, length, Some};
 ghost use Rattle.nq_run.specs.Arrivals.{packet_in, IsSpelled};
 ghost use Rattle.nq_model.specs.Message.{call, reply};
 ghost use Rattle.nq_run.specs.Datagrams.{call_message, reply_message, message_of, FitsMessage, Fits};
@@ -8,12 +8,13 @@ ghost use Rattle.nq_run.specs.Packet.{packet_of, request_of, reply_of, request_p
 ghost use Rattle.nq_run.specs.declared.messages.Packet.{Packet};
 ghost use Rattle.nq_run.specs.declared.messages.Reply.{Reply};
 ghost use Rattle.nq_run.specs.declared.messages.Request.{Request};
-ghost use Rattle.nq_rpc.specs.declared.Message.{Message};
+ghost use Rattle.nq_rpc.specs.Lent.{lent_message};
+ghost use Rattle.nq_rpc.specs.declared.LentMessage.{LentMessage};
 ghost use Rattle.nq_wire.specs.Reply.{results, IsReply};
 
 use crate::messages::{Packet, Reply};
-use nq_base::{Host, NoMemory, Party};
-use nq_rpc::{CallMessage, Message, Outcome, ReplyMessage, decode};
+use nq_base::{Host, Party};
+use nq_rpc::{LentCall, LentMessage, LentOutcome, LentReply, decode_in_place};
 use nq_wire::{Procedure, decode_reply, decode_request};
 use std::alloc::Global;
 
@@ -21,43 +22,32 @@ use std::alloc::Global;
 const WRITTEN: usize = 16;
 
 /// The packet that a datagram says.
-///
-/// # Errors
-///
-/// Only want of memory.
-pub(crate) fn packet_in(
-    alloc: Global,
-    sender: Party,
-    to: Party,
-    bytes: &[u8],
-) -> Result<Packet, NoMemory>
+pub(crate) fn packet_in(alloc: Global, sender: Party, to: Party, bytes: &[u8]) -> Packet
     requires { IsSpelled (record { sender = sender; to = to; bytes = bytes.now }) }
-    ensures { IfOk result (λ packet. packet ≡ packet_in (record { sender = sender; to = to; bytes = bytes.now })) }
+    ensures { result ≡ packet_in (record { sender = sender; to = to; bytes = bytes.now }) }
 {
-    match decode(alloc, bytes) {
-        Ok(message) => Ok(packet_of(alloc, sender, to, &message).unwrap()),
-        Err(_) => Err(NoMemory::Memory),
-    }
+    let message = decode_in_place(bytes).unwrap();
+    packet_of(alloc, sender, to, &message).unwrap()
 }
 
 /// The packet that a message is; None where it is none of a run of puts and fetches.
-fn packet_of(alloc: Global, sender: Party, to: Party, message: &Message) -> Option<Packet>
+fn packet_of(alloc: Global, sender: Party, to: Party, message: &LentMessage<'_>) -> Option<Packet>
     ensures { (p : Packet) → Fits (packet_of p) → sender ≡ (packet_of p).sender → to ≡ (packet_of p).to
-        → message.now ≡ message_of (packet_of p).message → result ≡ Some p }
+        → lent_message message.now ≡ message_of (packet_of p).message → result ≡ Some p }
 {
     match (message, sender, to) {
-        (Message::Call(call), Party::Client(host), _) => request_of(alloc, host, call),
-        (Message::Reply(reply), _, Party::Client(host)) => reply_of(alloc, host, reply),
+        (LentMessage::Call(call), Party::Client(host), _) => request_of(alloc, host, call),
+        (LentMessage::Reply(reply), _, Party::Client(host)) => reply_of(alloc, host, reply),
         _ => None,
     }
 }
 
 /// The request of a host.
-fn request_of(alloc: Global, host: Host, asked: &CallMessage) -> Option<Packet>
+fn request_of(alloc: Global, host: Host, asked: &LentCall<'_>) -> Option<Packet>
     ensures { (xid : ℕ) (r : Request) → FitsMessage (call xid (request_of host r))
-        → Message.Call asked.now ≡ call_message xid (request_of host r) → result ≡ Some (request_packet host xid r) }
+        → lent_message (LentMessage.Call asked.now) ≡ call_message xid (request_of host r) → result ≡ Some (request_packet host xid r) }
 {
-    match decode_request(alloc, asked.head.procedure, asked.arguments.as_bytes()) {
+    match decode_request(alloc, asked.head.procedure, asked.arguments) {
         Ok(request) => asked_in(host, asked.head.xid, &request),
         Err(_) => None,
     }
@@ -99,12 +89,12 @@ fn asked_in(host: Host, xid: u32, request: &nq_base::Request) -> Option<Packet>
 }
 
 /// The reply to a host.
-fn reply_of(alloc: Global, host: Host, said: &ReplyMessage) -> Option<Packet>
+fn reply_of(alloc: Global, host: Host, said: &LentReply<'_>) -> Option<Packet>
     ensures { (xid : ℕ) (r : Reply) → FitsMessage (reply xid (reply_of r))
-        → Message.Reply said.now ≡ reply_message xid (reply_of r) → result ≡ Some (reply_packet host xid r) }
+        → lent_message (LentMessage.Reply said.now) ≡ reply_message xid (reply_of r) → result ≡ Some (reply_packet host xid r) }
 {
     match &said.outcome {
-        Outcome::Success(results) => match answer_of(alloc, results.as_bytes()) {
+        LentOutcome::Success(results) => match answer_of(alloc, results) {
             Some(reply) => Some(reply.packet(host, said.xid)),
             None => None,
         },
