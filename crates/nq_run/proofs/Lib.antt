@@ -2,6 +2,7 @@ mod Endings
 mod Events
 mod Lawful
 mod Plays
+mod Reread
 mod WordLists
 pub mod Arrived
 pub mod Callings

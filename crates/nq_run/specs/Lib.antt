@@ -1,6 +1,7 @@
 pub mod Packet
 pub mod Datagrams
 pub mod Arrivals
+pub mod Unfolded
 pub mod Serving
 pub mod Calling
 pub mod Running

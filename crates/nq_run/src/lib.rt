@@ -13,6 +13,7 @@ mod replay;
 mod rooms;
 mod servers;
 mod steps;
+mod unfolded;
 mod words;
 mod worlds;
 mod writing;

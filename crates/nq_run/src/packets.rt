@@ -7,6 +7,7 @@ ghost use Rattle.nq_run.specs.Packet.{packet_of};
 use crate::messages::Packet;
 use crate::reading::packet_in;
 use crate::rooms::{LONGEST, Room};
+use crate::unfolded::Unfolded;
 use nq_base::NoMemory;
 use nq_rpc::{Message, Outcome, encode_into};
 use nq_xdr::Writer;
@@ -19,8 +20,7 @@ use std::mem::replace;
 pub(crate) struct Packets {
     alloc: Global,
     datagrams: nq_net::Packets,
-    /// The bytes of the datagram that was read last. Nothing rests on them.
-    bytes: Vec<u8>,
+    last: Unfolded,
     /// Where the last packet was written. Nothing rests on it.
     room: Room,
 }
@@ -30,12 +30,13 @@ impl Model for Packets {
     ghost use Rattle.std.specs.List.{All};
     ghost use Rattle.nq_run.specs.Arrivals.{packet_in, IsSpelled};
     ghost use Rattle.nq_run.specs.Packet.{PacketList};
+    ghost use Rattle.nq_run.specs.Unfolded.{IsOf};
 
     ghost Value = { PacketList };
 
     ghost view = { λ p. record { items = map packet_in p.datagrams.datagrams; spare = p.datagrams.spare; spare_bytes = p.datagrams.spare_bytes } };
 
-    ghost invariant = { λ p. All IsSpelled p.datagrams.datagrams };
+    ghost invariant = { λ p. (All IsSpelled p.datagrams.datagrams) × IsOf p.datagrams.datagrams p.last.number p.last.bytes };
 }
 
 impl Packets {
@@ -46,7 +47,7 @@ impl Packets {
         Packets {
             alloc,
             datagrams: nq_net::Packets::new(alloc).unwrap(),
-            bytes: Vec::new(alloc),
+            last: Unfolded::new(alloc),
             room: Room::none(alloc),
         }
     }
@@ -105,11 +106,13 @@ impl Packets {
         let Some(datagram) = self.datagrams.get(number) else {
             unreachable!();
         };
-        self.bytes.clear();
-        match datagram.bytes_into(&mut self.bytes) {
-            Ok(()) => Ok(packet_in(self.alloc, datagram.sender(), datagram.to(), &self.bytes)),
-            Err(_) => Err(NoMemory::Memory),
-        }
+        self.last.read(number, &datagram)?;
+        Ok(packet_in(
+            self.alloc,
+            datagram.sender(),
+            datagram.to(),
+            self.last.bytes(),
+        ))
     }
 
     /// The datagrams: each is the one spelling of the packet in its place, whose numbers are within their fields.

@@ -207,7 +207,8 @@ fn call_message(xid: u32, request: &Request, room: Writer) -> Message
     })
 }
 
-/// The message of a reply.
+/// The message of a reply. It is inlined, since a reply else has room for a block wherever it is made.
+#[inline(always)]
 fn reply_message(xid: u32, answer: &Reply, room: Writer) -> Message
     requires empty { room.bytes ≡ [] }
     requires room { longest_body ≤ room.spare }

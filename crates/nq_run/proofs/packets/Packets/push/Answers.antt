@@ -5,6 +5,7 @@ use Rattle.nq_rpc.specs.Message.{spelling, null}
 use Rattle.nq_run.specs.Arrivals.{IsSpelled}
 use Rattle.nq_run.specs.Datagrams.{datagram_of}
 use Rattle.nq_run.specs.Packet.{packet_of}
+use Rattle.nq_run.proofs.Reread.{still_of}
 use Rattle.nq_run.proofs.Spelt.{spelled_new, items_pushed}
 use Rattle.nq_run.proofs.packets.Packets.push.Goals as goal
 
@@ -22,7 +23,9 @@ invariant_of-self c =
     let bytes : c.as_bytes.result.now ≡ spelling c.message-said.result null null = c.as_bytes.ensures ∙ written in
     let pushed : c.push.new.self.datagrams ≡ c.self.inside.datagrams.datagrams ++ datagram_of (packet_of c.args.packet.now) ∷ [] =
     rw (c.unwrap-2.ensures, c.sender.ensures, c.to.ensures, bytes, c.message-said.ensures.message) at c.push.ensures.pushed in
-    rw pushed (All-push IsSpelled c.self.inside.datagrams.datagrams (datagram_of (packet_of c.args.packet.now)) c.self.invariant (spelled_new c.args.packet.now c.message-said.ensures.fits))
+    rw pushed (
+    All-push IsSpelled c.self.inside.datagrams.datagrams (datagram_of (packet_of c.args.packet.now)) c.self.invariant.0 (spelled_new c.args.packet.now c.message-said.ensures.fits),
+    still_of c.self.inside.datagrams.datagrams (datagram_of (packet_of c.args.packet.now) ∷ []) c.self.inside.last.number c.self.inside.last.bytes c.self.invariant.1)
 
 pub returns : goal.returns
 returns c =
