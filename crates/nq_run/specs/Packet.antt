@@ -14,6 +14,7 @@ use Rattle.nq_run.specs.declared.messages.BlockCall.TheVariants.{Fetch, Put}
 use Rattle.nq_run.specs.declared.messages.Packet.{Packet}
 use Rattle.nq_run.specs.declared.messages.Reply.{Reply}
 use Rattle.nq_run.specs.declared.messages.Request.{Request}
+use Rattle.nq_run.specs.declared.rooms.Room.{Room}
 
 -- the one incarnation of a host
 abbrev pub first_of : ℕ → Who
@@ -90,8 +91,9 @@ abbrev pub sent_of : Option Packet → List Packet
 sent_of None = []
 sent_of (Some packet) = packet ∷ []
 
--- packets, and how many further datagrams and bytes fit before memory is wanted
+-- packets, how many further datagrams and bytes fit before memory is wanted, and the room in which one is written
 pub record PacketList : Type 0 where
   pub items : List Packet
   pub spare : ℕ
   pub spare_bytes : ℕ
+  pub room : Room

@@ -21,7 +21,7 @@ pub(crate) struct Packets {
     alloc: Global,
     datagrams: nq_net::Packets,
     last: Unfolded,
-    /// Where the last packet was written. Nothing rests on it.
+    /// Where a packet is written.
     room: Room,
 }
 
@@ -34,7 +34,7 @@ impl Model for Packets {
 
     ghost Value = { PacketList };
 
-    ghost view = { λ p. record { items = map packet_in p.datagrams.datagrams; spare = p.datagrams.spare; spare_bytes = p.datagrams.spare_bytes } };
+    ghost view = { λ p. record { items = map packet_in p.datagrams.datagrams; spare = p.datagrams.spare; spare_bytes = p.datagrams.spare_bytes; room = p.room } };
 
     ghost invariant = { λ p. (All IsSpelled p.datagrams.datagrams) × IsOf p.datagrams.datagrams p.last.number p.last.bytes };
 }
@@ -53,37 +53,33 @@ impl Packets {
     }
 
     /// Makes room for one more, and room in which it is written.
-    pub(crate) fn reserve(&mut self) -> Result<Room, NoMemory>
-        ensures written { IfOk result IsRoom }
+    pub(crate) fn reserve(&mut self) -> Result<(), NoMemory>
+        ensures written { OnOk result (IsRoom self.new.room) }
         ensures room { OnOk result (1 ≤ self.new.spare) }
         ensures room_bytes { OnOk result (longest ≤ self.new.spare_bytes) }
         ensures items { self.new.items ≡ self.old.items }
     {
-        let room = replace(&mut self.room, Room::none(self.alloc)).emptied()?;
+        self.room.empty()?;
         match self.datagrams.reserve(1, LONGEST) {
-            Ok(()) => Ok(room),
+            Ok(()) => Ok(()),
             Err(_) => Err(NoMemory::Memory),
         }
     }
 
     /// Adds one at the end, where room is reserved.
-    pub(crate) fn push(&mut self, packet: &Packet, room: Room)
-        requires written { IsRoom room }
+    pub(crate) fn push(&mut self, packet: &Packet)
+        requires written { IsRoom self.old.room }
         requires room { 1 ≤ self.old.spare }
         requires room_bytes { longest ≤ self.old.spare_bytes }
         ensures { self.new.items ≡ self.old.items ++ packet.now ∷ [] }
     {
-        let Room { body, message } = room;
-        let mut out = message;
+        let body = replace(&mut self.room.body, Writer::new(self.alloc).unwrap());
         let said = packet.message(body);
-        encode_into(&said, &mut out).unwrap();
+        encode_into(&said, &mut self.room.message).unwrap();
         self.datagrams
-            .push(packet.sender(), packet.to(), out.as_bytes())
+            .push(packet.sender(), packet.to(), self.room.message.as_bytes())
             .unwrap();
-        self.room = Room {
-            body: body_of(self.alloc, said),
-            message: out,
-        };
+        self.room.body = body_of(self.alloc, said);
     }
 
     /// How many there are.

@@ -1,6 +1,6 @@
 //! Room in which a packet is written.
 
-ghost use Rattle.std.specs.Prelude.{◌≡◌, ◌≤◌, [], IfOk};
+ghost use Rattle.std.specs.Prelude.{◌≡◌, ◌≤◌, [], OnOk};
 ghost use Rattle.nq_run.specs.Datagrams.{IsRoom};
 
 use nq_base::NoMemory;
@@ -30,26 +30,22 @@ impl Room {
     }
 
     /// Forgets what is written, and makes enough room for any packet.
-    pub(crate) fn emptied(self) -> Result<Room, NoMemory>
-        ensures { IfOk result IsRoom }
+    pub(crate) fn empty(&mut self) -> Result<(), NoMemory>
+        ensures { OnOk result (IsRoom self.new) }
     {
-        let Room { body, message } = self;
-        Ok(Room {
-            body: emptied(body, LONGEST_BODY)?,
-            message: emptied(message, LONGEST)?,
-        })
+        empty(&mut self.body, LONGEST_BODY)?;
+        empty(&mut self.message, LONGEST)
     }
 }
 
-/// The writer, which holds nothing and has this much room.
-fn emptied(written: Writer, room: usize) -> Result<Writer, NoMemory>
-    ensures empty { IfOk result (λ w. w.bytes ≡ []) }
-    ensures room { IfOk result (λ w. room ≤ w.spare) }
+/// Forgets what is written, and makes this much room.
+fn empty(out: &mut Writer, room: usize) -> Result<(), NoMemory>
+    ensures empty { out.new.bytes ≡ [] }
+    ensures room { OnOk result (room ≤ out.new.spare) }
 {
-    let mut out = written;
     out.clear();
     match out.reserve(room) {
-        Ok(()) => Ok(out),
+        Ok(()) => Ok(()),
         Err(_) => Err(NoMemory::Memory),
     }
 }

@@ -12,7 +12,6 @@ ghost use Rattle.nq_run.specs.Serving.{lengths, has_block, has_asked, entries_of
 use crate::clients::{Client, first_clients};
 use crate::messages::{BlockCall, Called, Packet, Reply, Request, Served};
 use crate::packets::Packets;
-use crate::rooms::Room;
 use crate::servers::Server;
 use nq_base::{Entry, FileList, Host};
 use nq_journal::Journal;
@@ -126,11 +125,11 @@ impl World {
         if self.journal.reserve(2).is_err() {
             return Err(StepFault::Memory);
         }
-        let room = self.packets.reserve()?;
+        self.packets.reserve()?;
         let Called { told, busy, sent } = self.clients[host.0 as usize].call(call)?;
         note(&mut self.journal, Some(told));
         note(&mut self.journal, busy);
-        send(&mut self.packets, sent, room);
+        send(&mut self.packets, sent);
         Ok(())
     }
 
@@ -204,11 +203,11 @@ impl World {
         if self.journal.reserve(1).is_err() {
             return Err(StepFault::Memory);
         }
-        let room = self.packets.reserve()?;
+        self.packets.reserve()?;
         let next = self.packets.len();
         let Served { reply, entry } = self.server.receive(host, asked, next)?;
         note(&mut self.journal, entry);
-        self.packets.push(&reply.packet(host, xid), room);
+        self.packets.push(&reply.packet(host, xid));
         Ok(())
     }
 
@@ -242,13 +241,13 @@ fn note(journal: &mut Journal, entry: Option<Entry>)
 }
 
 /// Adds a packet, if there is one, to packets that have room for it.
-fn send(packets: &mut Packets, packet: Option<Packet>, room: Room)
-    requires written { IsRoom room }
+fn send(packets: &mut Packets, packet: Option<Packet>)
+    requires written { IsRoom packets.old.room }
     requires room { 1 ≤ packets.old.spare }
     requires room_bytes { longest ≤ packets.old.spare_bytes }
     ensures { packets.new.items ≡ packets.old.items ++ sent_of packet }
 {
     if let Some(packet) = packet {
-        packets.push(&packet, room);
+        packets.push(&packet);
     }
 }
