@@ -81,7 +81,7 @@ struct Mark {
     middle: usize,
     end: usize,
     word: [u8; 4],
-    times: usize,
+    times: u32,
 }
 
 /// All datagrams that were sent, the first one first. Contracts see them, and how many further datagrams
@@ -151,7 +151,7 @@ impl Packets {
         self.bytes.extend_from_slice(&bytes[..run.at]).unwrap();
         let middle = self.bytes.len();
         self.bytes
-            .extend_from_slice(&bytes[run.at + 4 * run.times..])
+            .extend_from_slice(&bytes[run.at + 4 * run.times as usize..])
             .unwrap();
         let end = self.bytes.len();
         let mark = Mark {
@@ -193,7 +193,7 @@ impl Packets {
             to: mark.to,
             front: &self.bytes[mark.start..mark.middle],
             word,
-            times: mark.times,
+            times: mark.times as usize,
             back: &self.bytes[mark.middle..mark.end],
         })
     }

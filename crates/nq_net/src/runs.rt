@@ -1,18 +1,21 @@
 //! A word of four bytes that is repeated within a datagram.
 
-ghost use Rattle.std.specs.Prelude.{◌≡◌, ℕ, ◌+◌, ◌-◌, ◌*◌, ◌≤◌, ◌++◌, List, length, take, drop, vec_len, vec_capacity};
+ghost use Rattle.std.specs.Prelude.{◌≡◌, ℕ, ◌+◌, ◌-◌, ◌*◌, ◌^◌, ◌<◌, ◌≤◌, ◌++◌, List, length, take, drop, vec_len, vec_capacity};
 ghost use Rattle.nq_net.specs.Runs.{repeats, many, IsRepeated};
 
 /// A place at which a word is repeated.
 #[derive(Clone, Copy)]
 pub(crate) struct Run {
     pub(crate) at: usize,
-    pub(crate) times: usize,
+    pub(crate) times: u32,
     pub(crate) word: [u8; 4],
 }
 
 /// How many bytes a datagram has at least in which a repeated word is looked for.
 const FEW: usize = 256;
+
+/// How many bytes it has at most, so that a word is repeated fewer than 2^32 times.
+const MOST: usize = 0xffff_ffff;
 
 impl Run {
     /// No repetition.
@@ -28,7 +31,7 @@ impl Run {
         ensures within { result.at + 4 * result.times ≤ length bytes.now }
         ensures parts { bytes.now ≡ take result.at bytes.now ++ (repeats result.times result.word ++ drop (result.at + 4 * result.times) bytes.now) }
     {
-        if bytes.len() < FEW {
+        if bytes.len() < FEW || bytes.len() > MOST {
             return Run::NONE;
         }
         let middle = bytes.len() / 8 * 4;
@@ -96,6 +99,7 @@ fn last_by(bytes: &[u8], place: usize, step: usize) -> usize
 fn run_at(bytes: &[u8], at: usize, end: usize) -> Run
     requires some { at + 4 ≤ end }
     requires within { end ≤ length bytes.now }
+    requires short { length bytes.now < 2 ^ 32 }
     requires same { IsRepeated bytes.now at (end - 4 - at) }
     ensures four { length result.word ≡ 4 }
     ensures within { result.at + 4 * result.times ≤ length bytes.now }
@@ -103,7 +107,7 @@ fn run_at(bytes: &[u8], at: usize, end: usize) -> Run
 {
     Run {
         at,
-        times: (end - at) / 4,
+        times: ((end - at) / 4) as u32,
         word: [bytes[at], bytes[at + 1], bytes[at + 2], bytes[at + 3]],
     }
 }

@@ -1,5 +1,5 @@
 -- What is read of a datagram that was written.
-use Rattle.std.proofs.Common.{◌≡◌, ◌⊎◌, inl, inr, ℕ, List, length, Result, Ok, Err, Option, Some, None, refl, sym, ap, subst, ◌∙◌, arith}
+use Rattle.std.proofs.Common.{◌≡◌, ℕ, List, length, Result, Ok, Err, Option, Some, None, refl, sym, ap, subst, ◌∙◌, arith}
 use Rattle.std.specs.Prelude.{IsSome, IsOk, IsOkAnd}
 use Rattle.nq_base.specs.Block.{filled, value_of}
 use Rattle.nq_base.proofs.Filling.{filled-value}
