@@ -15,7 +15,8 @@ use std::alloc::Global;
 use std::marker::Model;
 use std::mem::replace;
 
-/// The packets, the first one first. Clauses see them, and how many further datagrams and bytes there is room for.
+/// The packets, the first one first. Clauses see them, how many further datagrams and bytes there is room for, and the room
+/// in which one is written.
 #[derive(Drop)]
 pub(crate) struct Packets {
     alloc: Global,

@@ -207,7 +207,7 @@ fn call_message(xid: u32, request: &Request, room: Writer) -> Message
     })
 }
 
-/// The message of a reply. It is inlined, since a reply else has room for a block wherever it is made.
+/// The message of a reply. It is inlined, so that a reply that has no block needs no room for one.
 #[inline(always)]
 fn reply_message(xid: u32, answer: &Reply, room: Writer) -> Message
     requires empty { room.bytes ≡ [] }

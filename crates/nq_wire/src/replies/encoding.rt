@@ -51,6 +51,7 @@ fn put_ok(inc: Inc, out: &mut Writer) -> Result<(), NoMemory>
     put_status(inc, status::OK, out)
 }
 
+/// Writes the results. It is inlined, so that a caller's reply that has no block needs no room for one.
 #[inline(always)]
 #[tactic(auto, unfolding(crate::specs::Reply::results))]
 fn put(reply: &Reply, out: &mut Writer) -> Result<(), NoMemory>
@@ -104,7 +105,8 @@ fn put(reply: &Reply, out: &mut Writer) -> Result<(), NoMemory>
 }
 
 /// Writes the results of a reply behind what `out` holds. Memory is wanted only where `out` has too
-/// little room, and [`LONGEST_RESULTS`] are always room enough. A refusal leaves `out` as it was.
+/// little room, and [`LONGEST_RESULTS`] are always room enough. A refusal leaves `out` as it was. It is inlined,
+/// as what it calls is.
 #[inline(always)]
 pub fn encode_reply_into(reply: &Reply, out: &mut Writer) -> Result<(), NoMemory>
     ensures written { OnOk result (out.new.bytes ≡ out.old.bytes ++ results reply.now) }
