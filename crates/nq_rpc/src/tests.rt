@@ -63,7 +63,10 @@ fn messages_are_read_in_place(rt: HostRuntime) -> Result<(), Fail> {
         LentMessage::Call(call) => call.arguments,
         LentMessage::Reply(_reply) => &[],
     };
-    assert_eq!(rt; arguments, &bytes[40..]);
+    assert_eq!(rt;
+        arguments,
+        [0, 0, 0, 1, 0, 0, 0, 1, 0, 0, 0, 1, 97, 0, 0, 0].as_slice()
+    );
     let bytes = bytes_of(rt.alloc(), &FOUND)?;
     let outcome = match decode_in_place(&bytes)? {
         LentMessage::Call(_call) => LentOutcome::ProcUnavail,
@@ -73,7 +76,10 @@ fn messages_are_read_in_place(rt: HostRuntime) -> Result<(), Fail> {
         LentOutcome::Success(results) => results,
         _error => &[],
     };
-    assert_eq!(rt; results, &bytes[24..]);
+    assert_eq!(rt;
+        results,
+        [0, 0, 0, 1, 0, 0, 0, 0, 0, 0, 0, 1, 0, 0, 0, 1].as_slice()
+    );
     Ok(())
 }
 
