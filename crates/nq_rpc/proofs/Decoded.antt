@@ -55,8 +55,9 @@ decoded_only_fault e (Err d) read is (inr memory) = fault_given e d read is memo
 
 -- ---- where nothing is copied
 
-one_message : (m n : Message) (read : Result Message RpcFault) → read ≡ Ok m → read ≡ Ok n → m ≡ n
-one_message m n read a b = cc
+-- what was read is one message
+pub one_read : (m n : Message) (read : Result Message RpcFault) → read ≡ Ok m → read ≡ Ok n → m ≡ n
+one_read m n read is was = cc
 
 one_fault : (d e : RpcFault) (read : Result Message RpcFault) → read ≡ Err d → read ≡ Err e → d ≡ e
 one_fault d e read a b = cc
@@ -70,7 +71,7 @@ lent_fault bytes (Ok m) read says given = tt
 lent_fault bytes (Err e) read says given = subst (MessageSays bytes) given says
 
 pub lent_only : (m : Message) (r : Result LentMessage RpcFault) (read : Result Message RpcFault) → read ≡ Ok m → Gives lent_message r read → IsOkAnd r (λ lent. lent_message lent ≡ m)
-lent_only m (Ok lent) read is given = one_message (lent_message lent) m read given is
+lent_only m (Ok lent) read is given = one_read (lent_message lent) m read given is
 lent_only m (Err e) read is given = absurd cc
 
 pub lent_only_fault : (e : RpcFault) (r : Result LentMessage RpcFault) (read : Result Message RpcFault) → read ≡ Err e → Gives lent_message r read → r ≡ Err e

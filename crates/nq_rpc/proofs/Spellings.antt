@@ -18,6 +18,7 @@ use Rattle.nq_rpc.specs.Reading.{ended, message_at}
 use Rattle.nq_rpc.proofs.Auths.{not_chosen}
 use Rattle.nq_rpc.proofs.Replies.{error_goes_on}
 use Rattle.nq_rpc.proofs.Messages.{null_fits, message_again, reply_goes_on}
+use Rattle.nq_rpc.proofs.Decoded.{one_read}
 
 -- ---- lengths
 
@@ -54,9 +55,6 @@ read_again : (m : Message) (bytes : List ℕ) → IsSpelled m bytes → message_
 read_again m bytes says =
     let s = says.1.1 in
     ap message_at s.bytes_are ∙ message_again m says.0 says.1.0 s.message_fits s.credential_fits s.verifier_fits
-
-one_read : (m n : Message) (read : Result Message RpcFault) → read ≡ Ok m → read ≡ Ok n → m ≡ n
-one_read m n read is is' = cc
 
 pub one_message : (m n : Message) (bytes : List ℕ) → IsSpelled m bytes → IsSpelled n bytes → m ≡ n
 one_message m n bytes says says' = one_read m n (message_at bytes) (read_again m bytes says) (read_again n bytes says')
