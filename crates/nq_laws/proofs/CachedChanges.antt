@@ -6,9 +6,9 @@ use Rattle.std.specs.Prelude.{slice_get}
 use Rattle.std.proofs.lemmas.Bool.{and_parts, not_from_false}
 use Rattle.nq_base.specs.declared.Call.{Call}
 use Rattle.nq_laws.proofs.CachedReads.{cached-in-every-run}
-use Rattle.nq_client_steps.proofs.ClientLists.{used-lease-found, number-other, lease-file}
-use Rattle.nq_server_steps.proofs.Rows.{find-passes, find-filter, same-number, number-same, choice}
-use Rattle.nq_run_steps.proofs.Worlds.{get-set-other, set-there}
+use Rattle.walk_client.proofs.ClientLists.{used-lease-found, number-other, lease-file}
+use Rattle.walk_server.proofs.Rows.{find-passes, find-filter, same-number, number-same, choice}
+use Rattle.walk_run.proofs.Worlds.{get-set-other, set-there}
 use Rattle.nq_laws.specs.CachedChanges.{ReadsBlock, IsAsItWas, ChangesNothingElse, CachedReadsChangeNothingElse}
 use Rattle.nq_laws.specs.CachedInRuns.{IsReady}
 use Rattle.nq_model.specs.CachedAtOnce.{AnswersAtOnce, after_cached}

@@ -5,25 +5,25 @@ use Rattle.std.specs.Prelude.{slice_get}
 use Rattle.nq_base.specs.declared.Entry.{Entry}
 use Rattle.nq_base.specs.declared.Event.{Event}
 use Rattle.nq_base.specs.declared.Party.{Party}
-use Rattle.nq_call_laws.proofs.OrderedCalls.{ordered-in-every-run, of-their-call-in-every-run}
-use Rattle.nq_chain_laws.proofs.ChainWorlds.{chain-fits}
-use Rattle.nq_excuse_laws.proofs.ExcusesInRuns.{losses-excused}
-use Rattle.nq_fate_laws.proofs.FateLaws.{accounted, waiting}
-use Rattle.nq_held_laws.proofs.HeldLaws.{held-in-every-run}
+use Rattle.law_calls.proofs.OrderedCalls.{ordered-in-every-run, of-their-call-in-every-run}
+use Rattle.law_chains.proofs.ChainWorlds.{chain-fits}
+use Rattle.law_endings.proofs.ExcusesInRuns.{losses-excused}
+use Rattle.law_fates.proofs.FateLaws.{accounted, waiting}
+use Rattle.law_held.proofs.HeldLaws.{held-in-every-run}
 use Rattle.nq_laws.proofs.CachedReads.{cached-in-every-run}
 use Rattle.nq_laws.specs.Headline.{HeadlineHolds, AtEveryMoment}
-use Rattle.nq_lease_laws.proofs.LeaseIntervals.{bounds-before}
-use Rattle.nq_lease_laws.specs.LeaseIntervalInRuns.{KeepsBounds}
-use Rattle.nq_legal_laws.proofs.LegalLaws.{legal-in-every-run}
+use Rattle.law_leases.proofs.LeaseIntervals.{bounds-before}
+use Rattle.law_leases.specs.LeaseIntervalInRuns.{KeepsBounds}
+use Rattle.law_legal.proofs.LegalLaws.{legal-in-every-run}
 use Rattle.nq_model.specs.Client.{Client, ClientStep}
 use Rattle.nq_model.specs.Hear.{hear}
 use Rattle.nq_model.specs.Message.{Message, Packet}
 use Rattle.nq_model.specs.Server.{ServerStep}
 use Rattle.nq_model.specs.Skew.{IsWithinSkew}
 use Rattle.nq_model.specs.World.{Head, World, after_server, after_client, at_client, after_hearing, deliver_to_client, deliver_to, deliver, step, run}
-use Rattle.nq_report_laws.proofs.ReportedRuns.{reported-in-every-run}
-use Rattle.nq_run_steps.proofs.Clocks.{within-before}
-use Rattle.nq_synchronized_laws.proofs.Standings.{synchronized-in-every-run}
+use Rattle.law_reports.proofs.ReportedRuns.{reported-in-every-run}
+use Rattle.walk_run.proofs.Clocks.{within-before}
+use Rattle.law_synchronized.proofs.Standings.{synchronized-in-every-run}
 
 headline : (most : ℕ) (head : Head) (events : List Event) → KeepsBounds most head events → IsWithinSkew head.hosts most events → HeadlineHolds (run head events)
 headline most head events bounds within =

@@ -3,10 +3,10 @@ use Rattle.std.specs.Prelude.{◌≡◌, ◌++◌, ℕ, List, Some, slice_get}
 use Rattle.nq_base.specs.declared.Call.{Call}
 use Rattle.nq_base.specs.declared.Entry.{Entry}
 use Rattle.nq_base.specs.declared.Event.{Event}
-use Rattle.nq_fate_laws.specs.FatesInRuns.{WaitingAreUnsaved}
-use Rattle.nq_held_laws.specs.HeldInRuns.{KeptBlocksAreHeld}
+use Rattle.law_fates.specs.FatesInRuns.{WaitingAreUnsaved}
+use Rattle.law_held.specs.HeldInRuns.{KeptBlocksAreHeld}
 use Rattle.nq_laws.specs.CachedInRuns.{IsReady}
-use Rattle.nq_lease_laws.specs.LeaseIntervalInRuns.{KeepsBounds}
+use Rattle.law_leases.specs.LeaseIntervalInRuns.{KeepsBounds}
 use Rattle.nq_model.specs.CachedAtOnce.{AnswersAtOnce}
 use Rattle.nq_model.specs.Client.{Client, Lease}
 use Rattle.nq_model.specs.ClientStep.{client_call}

@@ -1,14 +1,14 @@
 //! The headline.
 
-ghost use Rattle.nq_call_laws.specs.CallsInRuns.{OrderedInEveryRun, ReadsAreOfTheirCallInEveryRun};
-ghost use Rattle.nq_excuse_laws.specs.ExcusesInRuns.{LossesAreExcused};
-ghost use Rattle.nq_fate_laws.specs.FatesInRuns.{AccountedInEveryRun, WaitingAreUnsavedInEveryRun};
-ghost use Rattle.nq_held_laws.specs.HeldInRuns.{KeptBlocksAreHeldInEveryRun};
+ghost use Rattle.law_calls.specs.CallsInRuns.{OrderedInEveryRun, ReadsAreOfTheirCallInEveryRun};
+ghost use Rattle.law_endings.specs.ExcusesInRuns.{LossesAreExcused};
+ghost use Rattle.law_fates.specs.FatesInRuns.{AccountedInEveryRun, WaitingAreUnsavedInEveryRun};
+ghost use Rattle.law_held.specs.HeldInRuns.{KeptBlocksAreHeldInEveryRun};
 ghost use Rattle.nq_laws.specs.CachedInRuns.{CachedAtOnceInEveryRun};
 ghost use Rattle.nq_laws.specs.Headline.{AtEveryMoment};
-ghost use Rattle.nq_legal_laws.specs.LegalInRuns.{ReadsAreLegalInEveryRun};
-ghost use Rattle.nq_report_laws.specs.LossesInRuns.{ReportedInEveryRun};
-ghost use Rattle.nq_synchronized_laws.specs.SynchronizedInRuns.{SynchronizedInEveryRun};
+ghost use Rattle.law_legal.specs.LegalInRuns.{ReadsAreLegalInEveryRun};
+ghost use Rattle.law_reports.specs.LossesInRuns.{ReportedInEveryRun};
+ghost use Rattle.law_synchronized.specs.SynchronizedInRuns.{SynchronizedInEveryRun};
 
 /// For every schedule of calls, losses, repeats, reorderings, ticks within skew, restarts and crashes, the journal keeps each
 /// client's order; every successful read gives the latest standing write before it; missing are only delayed writes of clients

@@ -1,7 +1,7 @@
 -- What was read last is still what it was when a datagram is added.
 use Rattle.std.proofs.Common.{ℕ, List, ◌++◌, Option, Some, None}
 use Rattle.nq_net.specs.Packets.{Datagram}
-use Rattle.nq_request_laws.proofs.Places.{get-left}
+use Rattle.law_requests.proofs.Places.{get-left}
 use Rattle.nq_run.specs.Unfolded.{IsOf}
 
 pub still_of : (datagrams more : List Datagram) (number : Option ℕ) (bytes : List ℕ) → IsOf datagrams number bytes → IsOf (datagrams ++ more) number bytes

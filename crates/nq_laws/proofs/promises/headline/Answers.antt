@@ -1,14 +1,14 @@
-use Rattle.nq_call_laws.proofs.OrderedCalls.{of-their-call-in-every-run, ordered-in-every-run}
-use Rattle.nq_chain_laws.proofs.ChainWorlds.{chain-fits}
-use Rattle.nq_excuse_laws.proofs.ExcusesInRuns.{losses-excused}
-use Rattle.nq_fate_laws.proofs.FateLaws.{accounted, waiting}
-use Rattle.nq_held_laws.proofs.HeldLaws.{held-in-every-run}
+use Rattle.law_calls.proofs.OrderedCalls.{of-their-call-in-every-run, ordered-in-every-run}
+use Rattle.law_chains.proofs.ChainWorlds.{chain-fits}
+use Rattle.law_endings.proofs.ExcusesInRuns.{losses-excused}
+use Rattle.law_fates.proofs.FateLaws.{accounted, waiting}
+use Rattle.law_held.proofs.HeldLaws.{held-in-every-run}
 use Rattle.nq_laws.proofs.CachedReads.{cached-in-every-run}
 use Rattle.nq_laws.proofs.HeadlineParts.{at-every-moment}
 use Rattle.nq_laws.proofs.promises.headline.Goals as goal
-use Rattle.nq_legal_laws.proofs.LegalLaws.{legal-in-every-run}
-use Rattle.nq_report_laws.proofs.ReportedRuns.{reported-in-every-run}
-use Rattle.nq_synchronized_laws.proofs.Standings.{synchronized-in-every-run}
+use Rattle.law_legal.proofs.LegalLaws.{legal-in-every-run}
+use Rattle.law_reports.proofs.ReportedRuns.{reported-in-every-run}
+use Rattle.law_synchronized.proofs.Standings.{synchronized-in-every-run}
 
 pub returns-clause-ordered : goal.returns-clause-ordered
 returns-clause-ordered c = ordered-in-every-run

@@ -1,0 +1,104 @@
+-- A writing lease ends in silence; and a recovery ends after a crash.
+use Rattle.std.proofs.Common.{◌≡◌, true, List, [], ◌∷◌, ◌++◌, refl, arith}
+use Rattle.std.specs.List.{list_any}
+use Rattle.std.specs.Prelude.{All}
+use Rattle.nq_base.specs.Block.{zeros}
+use Rattle.nq_base.specs.declared.Call.{Call}
+use Rattle.nq_base.specs.declared.Event.{Event}
+use Rattle.law_endings.specs.EndingsInRuns.{was_caching, is_silent_end, is_opening, EndsSometime}
+use Rattle.law_leases.proofs.NoCrash.{one-first, no-crash-within, no-crash-after}
+use Rattle.law_leases.specs.LeaseIntervalInRuns.{BootsWithin}
+use Rattle.nq_model.proofs.SkewTest.{skew-test-is-sound}
+use Rattle.nq_model.specs.Skew.{is_within_skew}
+use Rattle.nq_model.specs.World.{Head}
+use Rattle.nq_model.specs.Ask.{grant_of, sharing_row, caching_row, shared_again, renewed_row, put_off, free, put_off_by_own, granted, no_lease}
+use Rattle.nq_model.specs.ClientStep.{begins_call, is_called, says_busy, at_time, sends_again, fresh_client, attached_client, starts}
+use Rattle.nq_model.specs.Decide.{decides, creates, writes_through, stores, wrote, stores_recovering, resizes, removes, puts_off, commits}
+use Rattle.nq_model.specs.Hear.{vacates_lease, loses, without_lease, granted_lease, holds, caches_block, purges, knows_revision, marks_through, ends_push, spends, attached, pauses, cancels, notes_notice}
+use Rattle.nq_model.specs.Kept.{new_file, written_file, resized_file, fenced_file, with_row, with_files, with_new_file}
+use Rattle.nq_model.specs.Send.{sends_request, after_seq, after_number, takes_push, gives_up}
+use Rattle.nq_model.specs.Server.{quiet, drops, says, after_notices, keeping, keeping_with, with_table}
+use Rattle.nq_model.specs.ServerStep.{attaches, tells_later, serves, leases, vacates, ends_writing, opens, boot, crash}
+use Rattle.nq_model.specs.ServerStep as server
+use Rattle.nq_model.specs.Settle.{answers, after_read, reads_cached, after_write, marks_written}
+use Rattle.nq_model.specs.Table.{empty_table, with_rows, after_draw}
+use Rattle.nq_model.specs.World.{after_server, after_client, start, run}
+
+-- one host that wants terms of five ticks, and one file of one block
+abbrev one-host : Head
+one-host = record { hosts = 1; term = 5; longest = 5; files = (97 ∷ [], 1) ∷ [] }
+
+-- a lease is asked for and granted, and the write is delayed; the newest event first
+delayed : List Event
+delayed = Event.Deliver 1 ∷ Event.Deliver 0 ∷ Event.Call 0 (Call.Write 1 0 zeros) ∷ []
+
+-- thirteen rounds, the newest event first
+rounds : List Event
+rounds =
+    Event.ServerTick ∷ Event.ClientTick 0
+    ∷ Event.ServerTick ∷ Event.ClientTick 0
+    ∷ Event.ServerTick ∷ Event.ClientTick 0
+    ∷ Event.ServerTick ∷ Event.ClientTick 0
+    ∷ Event.ServerTick ∷ Event.ClientTick 0
+    ∷ Event.ServerTick ∷ Event.ClientTick 0
+    ∷ Event.ServerTick ∷ Event.ClientTick 0
+    ∷ Event.ServerTick ∷ Event.ClientTick 0
+    ∷ Event.ServerTick ∷ Event.ClientTick 0
+    ∷ Event.ServerTick ∷ Event.ClientTick 0
+    ∷ Event.ServerTick ∷ Event.ClientTick 0
+    ∷ Event.ServerTick ∷ Event.ClientTick 0
+    ∷ Event.ServerTick ∷ Event.ClientTick 0
+    ∷ []
+
+-- the lease ends in silence
+silent : List Event
+silent = rounds ++ delayed
+
+-- the server crashes, and recovers
+opening : List Event
+opening = rounds ++ Event.Crash 5 ∷ delayed
+
+silent-ends : list_any is_silent_end (run one-host silent).journal ≡ true
+unfolding delayed rounds silent server.at_time grant_of sharing_row caching_row shared_again renewed_row put_off free put_off_by_own granted no_lease begins_call is_called says_busy at_time sends_again fresh_client attached_client starts decides creates writes_through stores wrote stores_recovering resizes removes puts_off commits vacates_lease loses without_lease granted_lease holds caches_block purges knows_revision marks_through ends_push spends attached pauses cancels notes_notice new_file written_file resized_file fenced_file with_row with_files with_new_file sends_request after_seq after_number takes_push gives_up quiet drops says after_notices keeping keeping_with with_table attaches tells_later serves leases vacates ends_writing opens boot crash answers after_read reads_cached after_write marks_written empty_table with_rows after_draw after_server after_client start
+silent-ends = refl
+
+recovery-ends : list_any is_opening (run one-host opening).journal ≡ true
+unfolding delayed rounds opening server.at_time grant_of sharing_row caching_row shared_again renewed_row put_off free put_off_by_own granted no_lease begins_call is_called says_busy at_time sends_again fresh_client attached_client starts decides creates writes_through stores wrote stores_recovering resizes removes puts_off commits vacates_lease loses without_lease granted_lease holds caches_block purges knows_revision marks_through ends_push spends attached pauses cancels notes_notice new_file written_file resized_file fenced_file with_row with_files with_new_file sends_request after_seq after_number takes_push gives_up quiet drops says after_notices keeping keeping_with with_table attaches tells_later serves leases vacates ends_writing opens boot crash answers after_read reads_cached after_write marks_written empty_table with_rows after_draw after_server after_client start
+recovery-ends = refl
+
+cached : was_caching 1 (run one-host opening).journal (record { host = 0; inc = 1 }) 1 ≡ true
+unfolding delayed rounds opening server.at_time grant_of sharing_row caching_row shared_again renewed_row put_off free put_off_by_own granted no_lease begins_call is_called says_busy at_time sends_again fresh_client attached_client starts decides creates writes_through stores wrote stores_recovering resizes removes puts_off commits vacates_lease loses without_lease granted_lease holds caches_block purges knows_revision marks_through ends_push spends attached pauses cancels notes_notice new_file written_file resized_file fenced_file with_row with_files with_new_file sends_request after_seq after_number takes_push gives_up quiet drops says after_notices keeping keeping_with with_table attaches tells_later serves leases vacates ends_writing opens boot crash answers after_read reads_cached after_write marks_written empty_table with_rows after_draw after_server after_client start
+cached = refl
+
+bounds-silent : All (BootsWithin 60) silent
+unfolding delayed rounds silent
+bounds-silent = no-crash-within 60 silent refl
+
+bounds-opening : All (BootsWithin 60) opening
+unfolding delayed rounds opening
+bounds-opening = no-crash-after 60 rounds (Event.Crash 5 ∷ delayed) refl (one-first 60 (Event.Crash 5) delayed (omega arith, omega arith) (no-crash-within 60 delayed refl))
+
+within-silent : is_within_skew 1 60 silent ≡ true
+unfolding delayed rounds silent
+within-silent = refl
+
+within-opening : is_within_skew 1 60 opening ≡ true
+unfolding delayed rounds opening
+within-opening = refl
+
+pub ends-sometime : EndsSometime
+ends-sometime = record {
+  most = 60;
+  head = one-host;
+  silent = silent;
+  opening = opening;
+  who = record { host = 0; inc = 1 };
+  file = 1;
+  bounds_silent = record { hosts = omega arith; first_long = omega arith; first_short = omega arith; boots = bounds-silent };
+  within_silent = skew-test-is-sound 1 60 silent within-silent;
+  ends = silent-ends;
+  bounds_opening = record { hosts = omega arith; first_long = omega arith; first_short = omega arith; boots = bounds-opening };
+  within_opening = skew-test-is-sound 1 60 opening within-opening;
+  opens = recovery-ends;
+  cached = cached;
+}

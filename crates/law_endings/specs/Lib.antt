@@ -1,0 +1,2 @@
+pub mod EndingsInRuns
+pub mod ExcusesInRuns

@@ -1,0 +1,21 @@
+//! What becomes of delayed writes.
+
+ghost use Rattle.law_fates.specs.FatesInRuns.{AccountedInEveryRun, HasEachFate, WaitingAreUnsavedInEveryRun};
+
+/// After every schedule within skew the journal accounts for its delayed writes: no delayed write is covered by two entries,
+/// so none is both stored and lost and none is stored twice, and each loss is of one write at least.
+pub fn writes_are_accounted_in_every_run()
+    ensures { AccountedInEveryRun }
+{}
+
+/// After every schedule within skew each delayed write of a running incarnation that was neither stored nor found lost lies
+/// within a dirty entry or the push under way of its client, of its file and block, whose numbers enclose it.
+pub fn waiting_writes_are_unsaved_in_every_run()
+    ensures { WaitingAreUnsavedInEveryRun }
+{}
+
+/// There is such a schedule, after which one delayed write of a running incarnation was stored, a second was lost, and a third
+/// waits in a dirty entry.
+pub fn each_fate_is_met()
+    ensures { HasEachFate }
+{}

@@ -1,0 +1,44 @@
+-- After one read with a want a client holds a lease that runs.
+use Rattle.std.proofs.Common.{◌≡◌, true, List, [], ◌∷◌, refl, arith}
+use Rattle.nq_base.specs.Block.{filled, zeros}
+use Rattle.nq_base.specs.declared.Call.{Call}
+use Rattle.nq_base.specs.declared.Event.{Event}
+use Rattle.law_leases.proofs.NoCrash.{no-crash-within}
+use Rattle.law_leases.specs.LeaseIntervalInRuns.{IsMet, holds_running}
+use Rattle.std.specs.Prelude.{slice_get}
+use Rattle.nq_model.proofs.SkewTest.{skew-test-is-sound}
+use Rattle.nq_model.specs.Ask.{grant_of, sharing_row, caching_row, shared_again, renewed_row, put_off, free, put_off_by_own, granted, no_lease}
+use Rattle.nq_model.specs.ClientStep.{begins_call, is_called, says_busy, at_time, sends_again, fresh_client, attached_client, starts}
+use Rattle.nq_model.specs.Decide.{decides, creates, writes_through, stores, wrote, stores_recovering, resizes, removes, puts_off, commits}
+use Rattle.nq_model.specs.Hear.{vacates_lease, loses, without_lease, granted_lease, holds, caches_block, purges, knows_revision, marks_through, ends_push, spends, attached, pauses, cancels, notes_notice}
+use Rattle.nq_model.specs.Kept.{new_file, written_file, resized_file, fenced_file, with_row, with_files, with_new_file}
+use Rattle.nq_model.specs.Send.{sends_request, after_seq, after_number, takes_push, gives_up}
+use Rattle.nq_model.specs.Server.{quiet, drops, says, after_notices, keeping, keeping_with, with_table}
+use Rattle.nq_model.specs.ServerStep.{attaches, tells_later, serves, leases, vacates, ends_writing, opens, boot, crash}
+use Rattle.nq_model.specs.Settle.{answers, after_read, reads_cached, after_write, marks_written}
+use Rattle.nq_model.specs.Table.{empty_table, with_rows, after_draw}
+use Rattle.nq_model.specs.World.{Head, after_server, after_client, start, run}
+
+-- two hosts, one file of one block
+abbrev pub two-hosts : Head
+two-hosts = record { hosts = 2; term = 30; longest = 60; files = (97 ∷ [], 1) ∷ [] }
+
+-- host 0 reads, and its packets arrive; the newest event first
+abbrev pub one-read : List Event
+one-read = Event.Deliver 1 ∷ Event.Deliver 0 ∷ Event.Call 0 (Call.Read 1 0) ∷ []
+
+holds-one : holds_running 1 (slice_get (run two-hosts one-read).clients 0) ≡ true
+unfolding filled zeros grant_of sharing_row caching_row shared_again renewed_row put_off free put_off_by_own granted no_lease begins_call is_called says_busy at_time sends_again fresh_client attached_client starts decides creates writes_through stores wrote stores_recovering resizes removes puts_off commits vacates_lease loses without_lease granted_lease holds caches_block purges knows_revision marks_through ends_push spends attached pauses cancels notes_notice new_file written_file resized_file fenced_file with_row with_files with_new_file sends_request after_seq after_number takes_push gives_up quiet drops says after_notices keeping keeping_with with_table attaches tells_later serves leases vacates ends_writing opens boot crash answers after_read reads_cached after_write marks_written empty_table with_rows after_draw after_server after_client start
+holds-one = refl
+
+pub is-met : IsMet
+is-met = record {
+  most = 60;
+  head = two-hosts;
+  events = one-read;
+  host = 0;
+  file = 1;
+  bounds = record { hosts = omega arith; first_long = omega arith; first_short = omega arith; boots = no-crash-within 60 one-read refl };
+  within = skew-test-is-sound 2 60 one-read refl;
+  holds = holds-one;
+}

@@ -1,0 +1,16 @@
+//! What an ok says.
+
+ghost use Rattle.law_synchronized.specs.SynchronizedInRuns.{IsSyncedOnce, SynchronizedInEveryRun};
+
+/// After every schedule within skew each ok is kept. To a put: its write is through, or an S before the answer covers it. To a
+/// sync: each delayed write of the incarnation on the file before the answer is covered by an S, or by an L that an A before
+/// the answer names. To a resize or removal: its Z stands before the answer, and each such write is covered by an S before
+/// that Z, or by an L so named (RFC 1813, FILE_SYNC).
+pub fn oks_are_kept_in_every_run()
+    ensures { SynchronizedInEveryRun }
+{}
+
+/// There is such a schedule, after which a sync was answered ok of a file on which a write was delayed and stored.
+pub fn oks_are_met()
+    ensures { IsSyncedOnce }
+{}

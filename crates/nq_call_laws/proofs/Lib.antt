@@ -1,2 +1,0 @@
-pub mod OrderedCalls
-pub mod SomeCalls

@@ -1,5 +1,0 @@
-use Rattle.nq_call_laws.proofs.OrderedCalls.{of-their-call-in-every-run}
-use Rattle.nq_call_laws.proofs.calls.reads_are_of_their_call_in_every_run.Goals as goal
-
-pub returns : goal.returns
-returns c = of-their-call-in-every-run

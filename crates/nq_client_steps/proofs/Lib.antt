@@ -1,9 +1,0 @@
-pub mod ClientFacts
-pub mod ClientCases
-pub mod ClientLists
-pub mod ClientMoves
-pub mod ClientWrites
-pub mod SendWalk
-pub mod SettleWalk
-pub mod HearWalk
-pub mod ClientWalk

@@ -1,2 +1,0 @@
-pub mod EndingWorlds
-pub mod SomeEnding

@@ -1,5 +1,0 @@
-use Rattle.nq_request_laws.proofs.OneRequests.{one-open-in-every-run}
-use Rattle.nq_request_laws.proofs.requests.one_request_is_open.Goals as goal
-
-pub returns : goal.returns
-returns c = one-open-in-every-run

@@ -1,0 +1,14 @@
+pub mod ClientFacts
+pub mod ClientCases
+pub mod ClientLists
+pub mod ClientMoves
+pub mod ClientWrites
+pub mod SendWalk
+pub mod SettleWalk
+pub mod HearWalk
+pub mod ClientWalk
+pub mod SettleCases
+pub mod SendCases
+pub mod RepliedCases
+pub mod StepCases
+pub mod PartCases
