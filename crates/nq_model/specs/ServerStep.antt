@@ -6,6 +6,7 @@ use Rattle.nq_base.specs.declared.Asked.{Asked}
 use Rattle.nq_base.specs.declared.Entry.{Entry}
 use Rattle.nq_base.specs.declared.Grant.{Grant}
 use Rattle.nq_base.specs.declared.HostRow.{HostRow}
+use Rattle.nq_base.specs.declared.Question.{Question}
 use Rattle.nq_base.specs.declared.Refusal.{Refusal}
 use Rattle.nq_base.specs.declared.Reply.{Reply as Answer}
 use Rattle.nq_base.specs.declared.Request.{Request}
@@ -15,7 +16,7 @@ use Rattle.nq_base.specs.declared.Tag.{Tag}
 use Rattle.nq_base.specs.declared.Verdict.{Verdict}
 use Rattle.nq_base.specs.declared.Want.{Want}
 use Rattle.nq_base.specs.declared.Who.{Who}
-use Rattle.nq_model.specs.Ask.{Question, Reply, ask}
+use Rattle.nq_model.specs.Ask.{Reply, ask}
 use Rattle.nq_model.specs.Decide.{decided_once, in_the_way}
 use Rattle.nq_model.specs.Kept.{File, Kept, blocks_of, find_file, find_name, replace_file, fenced_file, with_files, with_row, host_row}
 use Rattle.nq_model.specs.Message.{reply, error, Datagram, too_long, no_message, no_call, other_rpc, other_program, other_version, unknown_procedure, garbage_vacated, garbage, request, rpc_mismatch, program_unavailable, program_mismatch, procedure_unavailable, garbage_arguments, was_too_long, was_no_message, was_no_call, wrong_host, old_incarnation, no_reply_owed, asker}
@@ -69,7 +70,7 @@ to_read s who file want = record {
   access = access_of want;
   want = want;
   longest = s.longest;
-  now = s.now;
+  time = s.now;
   rev = file.rev;
   blocks = blocks_of file;
 }
