@@ -3,6 +3,7 @@ use Rattle.std.proofs.Common.{◌≡◌, ◌<◌, ◌⊎◌, ℕ, true, false, L
 use Rattle.nq_base.specs.declared.Access.{Access}
 use Rattle.nq_base.specs.declared.Grant.{Grant}
 use Rattle.nq_base.specs.declared.Mode.{Mode}
+use Rattle.nq_base.specs.declared.Question.{Question}
 use Rattle.nq_base.specs.declared.Refusal.{Refusal}
 use Rattle.nq_base.specs.declared.Reply.{Reply}
 use Rattle.nq_base.specs.declared.Request.{Request}
@@ -13,7 +14,7 @@ use Rattle.law_chains.proofs.ServerChains.{NewGrant, NewReply}
 use Rattle.walk_client.proofs.ClientMoves.{some-same, none-some}
 use Rattle.law_leases.proofs.Covers.{granted-key}
 use Rattle.law_leases.proofs.ServerEffects.{standing-serving, reads-no-seq}
-use Rattle.nq_model.specs.Ask.{Question, marked, grant_of, sharing_row, caching_row, shared_again, renewed_row}
+use Rattle.nq_model.specs.Ask.{marked, grant_of, sharing_row, caching_row, shared_again, renewed_row}
 use Rattle.nq_model.specs.Decide.{Decision, commits, row_after, decides, creates, writes_through, stores, wrote, stores_recovering, resizes, removes, puts_off, in_the_way, verdict_reply}
 use Rattle.nq_model.specs.Hear.{inc_of}
 use Rattle.nq_model.specs.Kept.{File, Kept, host_row, with_row, with_files, with_new_file}

@@ -5,6 +5,7 @@ use Rattle.std.proofs.lemmas.Bool.{and_parts}
 use Rattle.nq_base.specs.declared.Access.{Access}
 use Rattle.nq_base.specs.declared.Mode.{Mode}
 use Rattle.nq_base.specs.declared.Mode.TheVariants.{NonCaching, Reading, Writing}
+use Rattle.nq_base.specs.declared.Question.{Question}
 use Rattle.nq_base.specs.declared.Request.{Request}
 use Rattle.nq_base.specs.declared.Row.{Row}
 use Rattle.nq_base.specs.declared.Tag.{Tag}
@@ -14,7 +15,7 @@ use Rattle.law_chains.proofs.ServerChains.{Continues, RowFrom, row_fresh, row_on
 use Rattle.walk_client.proofs.ClientMoves.{some-same, none-some}
 use Rattle.law_leases.proofs.Covers.{granted-key}
 use Rattle.law_leases.proofs.ServerEffects.{standing-serving}
-use Rattle.nq_model.specs.Ask.{Question, marked, term_of, sharing_row, caching_row, shared_again, renewed_row}
+use Rattle.nq_model.specs.Ask.{marked, term_of, sharing_row, caching_row, shared_again, renewed_row}
 use Rattle.nq_model.specs.Kept.{File, find_file, host_row}
 use Rattle.nq_model.specs.LeaseInterval.{is_at_least}
 use Rattle.nq_model.specs.Message.{Packet}

@@ -4,6 +4,7 @@ use Rattle.std.proofs.lemmas.Bool.Decides.{nat_tests}
 use Rattle.nq_base.specs.declared.Access.{Access}
 use Rattle.nq_base.specs.declared.Mode.{Mode}
 use Rattle.nq_base.specs.declared.Mode.TheVariants.{Reading}
+use Rattle.nq_base.specs.declared.Question.{Question}
 use Rattle.nq_base.specs.declared.Row.{Row}
 use Rattle.nq_base.specs.declared.Tag.{Tag}
 use Rattle.nq_base.specs.declared.Want.{Want}
@@ -13,7 +14,7 @@ use Rattle.walk_client.proofs.ClientMoves.{some-same, none-some}
 use Rattle.walk_server.proofs.Modes.{at-least-more, at-least-caching}
 use Rattle.walk_server.proofs.RowChanges.{of-key, find-put, find-marked, mark, mark-is}
 use Rattle.walk_server.proofs.Rows.{found-row}
-use Rattle.nq_model.specs.Ask.{Question, marked, sharing_row, caching_row, shared_again, renewed_row, term_of}
+use Rattle.nq_model.specs.Ask.{marked, sharing_row, caching_row, shared_again, renewed_row, term_of}
 use Rattle.nq_model.specs.LeaseInterval.{is_at_least, HasFitting, IsCovered}
 use Rattle.nq_model.specs.Server.{serving, Server}
 use Rattle.nq_model.specs.Table.{Table, caches, tag_below, is_row_of, find_row, put_row, with_rows, after_draw}

@@ -4,6 +4,7 @@ use Rattle.std.proofs.lemmas.Bool.Decides.{nat_tests}
 use Rattle.nq_base.specs.declared.Access.{Access}
 use Rattle.nq_base.specs.declared.Event.{Event}
 use Rattle.nq_base.specs.declared.HostRow.{HostRow}
+use Rattle.nq_base.specs.declared.Question.{Question}
 use Rattle.nq_base.specs.declared.Refusal.{Refusal}
 use Rattle.nq_base.specs.declared.Reply.{Reply}
 use Rattle.nq_base.specs.declared.Request.{Request}
@@ -28,7 +29,7 @@ use Rattle.walk_run.proofs.ServerSays.{plain-inc, plain-grant}
 use Rattle.law_servers.proofs.ServerTables.{StandingFits}
 use Rattle.walk_server.proofs.TableFits.{TableFits}
 use Rattle.walk_run.proofs.TagFacts.{IsDrawn}
-use Rattle.nq_model.specs.Ask.{Question, conflicts, grant_of, sharing_row, caching_row, shared_again, renewed_row, term_of}
+use Rattle.nq_model.specs.Ask.{conflicts, grant_of, sharing_row, caching_row, shared_again, renewed_row, term_of}
 use Rattle.nq_model.specs.Client.{Lease, Notice, Ticket, lease_on}
 use Rattle.nq_model.specs.Decide.{in_the_way, verdict_reply}
 use Rattle.nq_model.specs.Hear.{inc_of}
@@ -336,12 +337,12 @@ module _ (ps : List Packet) (s : Server) (most sender next : ℕ) (d : Datagram)
       earlier : (boot drawn : ℕ) (since tag : Tag) → tag.boot ≡ boot → tag.number ≤ drawn → since.boot ≡ boot → since.number ≤ tag.number → tag_below (record { boot = boot; number = drawn + 1 }) since ≡ false
       earlier boot drawn since tag a b c e = grind (arith, nat_tests)
 
-  granted-lasts : (q : Question) (want : Want) (row : Row) (term : ℕ) → IsGranted s.table q want row term → caches row.mode ≡ true → q.now + term + skew ≤ row.until
+  granted-lasts : (q : Question) (want : Want) (row : Row) (term : ℕ) → IsGranted s.table q want row term → caches row.mode ≡ true → q.time + term + skew ≤ row.until
   unfolding sharing_row caching_row shared_again renewed_row
   granted-lasts q want row term (shares_again own found stays shares is lasts) c = let no : caches row.mode ≡ false = ap (λ r. caches r.mode) is ∙ shares in absurd (cc)
   granted-lasts q want row term (begins_sharing none room shared is lasts) c = let no : caches row.mode ≡ false = ap (λ r. caches r.mode) is in absurd (cc)
-  granted-lasts q want row term (begins_caching none room shared is lasts) c = let u : row.until ≡ q.now + term_of q want + skew = ap (λ r. r.until) is in omega arith
-  granted-lasts q want row term (renews_row own found stays caching is lasts) c = let u : row.until ≡ max own.until (q.now + term_of q want + skew) = ap (λ r. r.until) is in omega arith
+  granted-lasts q want row term (begins_caching none room shared is lasts) c = let u : row.until ≡ q.time + term_of q want + skew = ap (λ r. r.until) is in omega arith
+  granted-lasts q want row term (renews_row own found stays caching is lasts) c = let u : row.until ≡ max own.until (q.time + term_of q want + skew) = ap (λ r. r.until) is in omega arith
 
   granted-short : (q : Question) (want : Want) (row : Row) (term : ℕ) → q.longest ≡ s.longest → IsGranted s.table q want row term → caches row.mode ≡ true → term ≤ s.longest
   unfolding sharing_row shared_again

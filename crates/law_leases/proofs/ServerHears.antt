@@ -1,6 +1,7 @@
 -- What a datagram does to the server, as one client sees it: all outcomes.
 use Rattle.std.proofs.Common.{ℕ, Bool, List, [], ◌∷◌, Option, Some, None, refl, subst, arith, inl, inr}
 use Rattle.nq_base.specs.declared.Event.{Event}
+use Rattle.nq_base.specs.declared.Question.{Question}
 use Rattle.nq_base.specs.declared.Row.{Row}
 use Rattle.nq_base.specs.declared.Who.{Who}
 use Rattle.walk_run.proofs.Members.{find-in}
@@ -13,7 +14,6 @@ use Rattle.law_leases.proofs.ServerChanges.{declines-effect, puts-off-effect, cr
 use Rattle.law_leases.proofs.ServerEffects.{reads-no-seq, quiet-effect, drops-effect, says-effect, error-new, plain-effect, all-go-on, later-effect, marked-boot, marked-drawn, marked-rows, waiter-boot, waiter-drawn, way-rows, reads-effect, asks-effect, reads-granted, leases-granted}
 use Rattle.walk_run.proofs.ServerKnows.{Effect}
 use Rattle.walk_server.proofs.ServerOutcomes.{wanted_by, ServerCases}
-use Rattle.nq_model.specs.Ask.{Question}
 use Rattle.nq_model.specs.Client.{Lease, Notice, Ticket}
 use Rattle.nq_model.specs.Decide.{in_the_way}
 use Rattle.nq_model.specs.Message.{Packet, Datagram}

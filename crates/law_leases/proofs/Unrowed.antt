@@ -2,6 +2,7 @@
 use Rattle.std.proofs.Common.{◌≡◌, ◌⊎◌, ℕ, ◌==◌, Bool, true, false, not, List, Option, Some, refl, sym, subst, ap, ◌∙◌, inl, inr}
 use Rattle.nq_base.specs.declared.Access.{Access}
 use Rattle.nq_base.specs.declared.Event.{Event}
+use Rattle.nq_base.specs.declared.Question.{Question}
 use Rattle.nq_base.specs.declared.Request.{Request}
 use Rattle.nq_base.specs.declared.Row.{Row}
 use Rattle.nq_base.specs.declared.Want.{Want}
@@ -16,7 +17,7 @@ use Rattle.walk_server.proofs.ServerCases.{server-hears, server-ticks}
 use Rattle.walk_server.proofs.ServerOutcomes.{wanted_by, ServerCases, IsAsking}
 use Rattle.law_servers.proofs.ServerTables.{StandingFits, StandingFitsOf, NoneRecovering, none-of-boots}
 use Rattle.walk_server.proofs.TableFits.{TableFits}
-use Rattle.nq_model.specs.Ask.{Question, marked, sharing_row, caching_row, shared_again, renewed_row, term_of}
+use Rattle.nq_model.specs.Ask.{marked, sharing_row, caching_row, shared_again, renewed_row, term_of}
 use Rattle.nq_model.specs.Client.{Lease, Notice, Ticket}
 use Rattle.nq_model.specs.Decide.{decides, creates, writes_through, stores, wrote, stores_recovering, resizes, removes, puts_off, commits}
 use Rattle.nq_model.specs.Kept.{File}

@@ -1,10 +1,11 @@
 -- A row that its holder is told to give up keeps its tag in every step, until it goes.
 use Rattle.std.proofs.Common.{◌≡◌, ◌⊎◌, ℕ, ◌==◌, true, false, not, List, Option, Some, None, sym, subst, ap, ◌∙◌, inl, inr}
 use Rattle.nq_base.specs.declared.Access.{Access}
+use Rattle.nq_base.specs.declared.Question.{Question}
 use Rattle.nq_base.specs.declared.Row.{Row}
 use Rattle.nq_base.specs.declared.Want.{Want}
 use Rattle.nq_base.specs.declared.Who.{Who}
-use Rattle.nq_model.specs.Ask.{Question, term_of, marked, sharing_row, caching_row, shared_again, renewed_row}
+use Rattle.nq_model.specs.Ask.{term_of, marked, sharing_row, caching_row, shared_again, renewed_row}
 use Rattle.nq_model.specs.Message.{Datagram}
 use Rattle.nq_model.specs.Server.{Phase, serving, recovering, Server}
 use Rattle.nq_model.specs.ServerStep.{to_read, is_over, end_reading, receive, tick, boot, crash}

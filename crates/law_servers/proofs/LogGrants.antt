@@ -1,10 +1,11 @@
 -- What the timed entries say of grants: their terms and tags, and the rows that stand by them.
 use Rattle.std.proofs.Common.{◌≡◌, ◌<◌, ◌≤◌, ℕ, ◌+◌, ◌==◌, Bool, true, false, List, ◌++◌, Option, Some, None, if◌then◌else◌, refl, sym, subst, ap, ◌∙◌, arith}
 use Rattle.nq_base.specs.declared.Entry.{Entry}
+use Rattle.nq_base.specs.declared.Question.{Question}
 use Rattle.nq_base.specs.declared.Row.{Row}
 use Rattle.nq_base.specs.declared.Want.{Want}
 use Rattle.nq_model.proofs.Lists.{each-map}
-use Rattle.nq_model.specs.Ask.{Question, sharing_row, caching_row, shared_again, renewed_row}
+use Rattle.nq_model.specs.Ask.{sharing_row, caching_row, shared_again, renewed_row}
 use Rattle.nq_model.specs.Journal.{Each}
 use Rattle.nq_model.specs.Kept.{File, Kept, find_file, with_files, with_new_file, with_row}
 use Rattle.nq_model.specs.Message.{Datagram}
@@ -47,10 +48,10 @@ granted-tag table q want row term (begins_sharing none room shared is lasts) = a
 granted-tag table q want row term (begins_caching none room shared is lasts) = ap (λ r. r.tag) is
 granted-tag table q want row term (renews_row own found stays caching is lasts) = ap (λ r. r.tag) is
 
-pub granted-within : (table : Table) (q : Question) (want : Want) (row : Row) (term : ℕ) → shortest_term ≤ q.longest → EachRow (RowRuns q.longest q.now) table.rows → IsGranted table q want row term → term ≤ q.longest
+pub granted-within : (table : Table) (q : Question) (want : Want) (row : Row) (term : ℕ) → shortest_term ≤ q.longest → EachRow (RowRuns q.longest q.time) table.rows → IsGranted table q want row term → term ≤ q.longest
 granted-within table q want row term long each (shares_again own found stays shares is lasts) =
     let r = each q.file q.who.host own found in
-    let ends : own.until ≤ q.now + q.longest = r.bounded shares in
+    let ends : own.until ≤ q.time + q.longest = r.bounded shares in
     omega arith
 granted-within table q want row term long each (begins_sharing none room shared is lasts) = let b = term-bounds q.longest want.term long in omega (arith, b.1)
 granted-within table q want row term long each (begins_caching none room shared is lasts) = let b = term-bounds q.longest want.term long in omega (arith, b.1)
@@ -70,11 +71,11 @@ drawn-more opened longest phase table after log p more g =
     g
 
 module _ (most booted : ℕ) (s : Server) (d : Datagram) (log : List Entry) (f : ServerFits most booted s) (g : GrantsFitOf s log) where
-  granted-entry : (q : Question) (want : Want) (row : Row) (term : ℕ) (after : Table) → q.longest ≡ s.longest → q.now ≡ s.now → s.phase ≡ serving → after.drawn ≡ s.table.drawn + 1 → IsGranted s.table q want row term → (row.tag.boot ≤ s.kept.opened) × (row.tag.boot ≡ s.kept.opened → (term ≤ s.kept.longest) × (row.tag.number ≤ (standing_in s.phase after).drawn))
+  granted-entry : (q : Question) (want : Want) (row : Row) (term : ℕ) (after : Table) → q.longest ≡ s.longest → q.time ≡ s.now → s.phase ≡ serving → after.drawn ≡ s.table.drawn + 1 → IsGranted s.table q want row term → (row.tag.boot ≤ s.kept.opened) × (row.tag.boot ≡ s.kept.opened → (term ≤ s.kept.longest) × (row.tag.number ≤ (standing_in s.phase after).drawn))
   granted-entry q want row term after longest now p drawn granted =
       let b : ServesBoot s.kept.boot s.kept.opened s.table = subst (λ p. BootsFit s.kept.boot s.kept.opened p s.table) p f.boots in
       let times : EachRow (RowRuns s.longest s.now) s.table.rows = subst (λ p. TimesFit s.longest s.now p s.table) p f.times in
-      let times_q : EachRow (RowRuns q.longest q.now) s.table.rows = subst (λ l. EachRow (RowRuns l q.now) s.table.rows) (sym longest) (subst (λ n. EachRow (RowRuns s.longest n) s.table.rows) (sym now) times) in
+      let times_q : EachRow (RowRuns q.longest q.time) s.table.rows = subst (λ l. EachRow (RowRuns l q.time) s.table.rows) (sym longest) (subst (λ n. EachRow (RowRuns s.longest n) s.table.rows) (sym now) times) in
       let tag : row.tag ≡ next_tag s.table = granted-tag s.table q want row term granted in
       let boot : row.tag.boot ≡ s.table.boot = ap (λ t. t.boot) tag in
       let number : row.tag.number ≡ s.table.drawn + 1 = ap (λ t. t.number) tag in

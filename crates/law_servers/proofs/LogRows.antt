@@ -7,12 +7,13 @@ use Rattle.nq_base.specs.declared.Access.{Access}
 use Rattle.nq_base.specs.declared.Entry.{Entry}
 use Rattle.nq_base.specs.declared.Mode.{Mode}
 use Rattle.nq_base.specs.declared.Mode.TheVariants.{NonCaching, Reading, Writing}
+use Rattle.nq_base.specs.declared.Question.{Question}
 use Rattle.nq_base.specs.declared.Row.{Row}
 use Rattle.nq_base.specs.declared.Tag.{Tag}
 use Rattle.nq_base.specs.declared.Want.{Want}
 use Rattle.nq_base.specs.declared.Who.{Who}
 use Rattle.nq_model.proofs.Lists.{each-map}
-use Rattle.nq_model.specs.Ask.{Question, term_of, conflicts, marked, sharing_row, caching_row, shared_again, renewed_row}
+use Rattle.nq_model.specs.Ask.{term_of, conflicts, marked, sharing_row, caching_row, shared_again, renewed_row}
 use Rattle.nq_model.specs.Journal.{Each}
 use Rattle.nq_model.specs.Kept.{Kept, host_row}
 use Rattle.nq_model.specs.Message.{Datagram}
@@ -120,12 +121,12 @@ own-grant who file row term now log w f =
     (ap (λ b. if b then Some (Entry.G row.who row.file row.mode row.tag term now) else find (is_grant_to row.who row.file) log) (and_from _ _ (and_from _ _ (number-same row.who.host row.who.host refl) (number-same row.who.inc row.who.inc refl)) (number-same row.file row.file refl))))
 
 -- a granted caching row does not end before its term and the skew have passed
-granted-ends : (table : Table) (q : Question) (want : Want) (row : Row) (term : ℕ) → IsGranted table q want row term → caches row.mode ≡ true → q.now + term + skew ≤ row.until
+granted-ends : (table : Table) (q : Question) (want : Want) (row : Row) (term : ℕ) → IsGranted table q want row term → caches row.mode ≡ true → q.time + term + skew ≤ row.until
 unfolding sharing_row caching_row shared_again renewed_row
 granted-ends table q want row term (shares_again own found stays shares is lasts) caching = let same : row.mode ≡ own.mode = ap (λ r. r.mode) is in let bad : caches row.mode ≡ false = ap caches same ∙ shares in absurd (cc)
 granted-ends table q want row term (begins_sharing none room shared is lasts) caching = let same : row.mode ≡ NonCaching = ap (λ r. r.mode) is in let bad : caches row.mode ≡ false = ap caches same in absurd (cc)
-granted-ends table q want row term (begins_caching none room shared is lasts) caching = let until : row.until ≡ q.now + term_of q want + skew = ap (λ r. r.until) is in omega arith
-granted-ends table q want row term (renews_row own found stays held is lasts) caching = let until : row.until ≡ max own.until (q.now + term_of q want + skew) = ap (λ r. r.until) is in omega arith
+granted-ends table q want row term (begins_caching none room shared is lasts) caching = let until : row.until ≡ q.time + term_of q want + skew = ap (λ r. r.until) is in omega arith
+granted-ends table q want row term (renews_row own found stays held is lasts) caching = let until : row.until ≡ max own.until (q.time + term_of q want + skew) = ap (λ r. r.until) is in omega arith
 
 -- both facts are of the rows of its own table while it serves
 rows-fewer : (log : List Entry) (phase : Phase) (table : Table) (rows : List Row) → (phase ≡ serving → (file host : ℕ) (row : Row) → find_row file host rows ≡ Some row → find_row file host table.rows ≡ Some row) → RowsGranted phase table log → RowsGranted phase (with_rows table rows) log
@@ -146,7 +147,7 @@ module _ (s : Server) (d : Datagram) (log : List Entry) (t : StandingFitsOf s) (
   as-granted : (table : Table) (after : List Entry) → s.phase ≡ serving → EachRow (StandsByGrant after) table.rows → RowsGranted s.phase table after
   as-granted table after p f = subst (λ p. RowsGranted p table after) (sym p) f
 
-  put-granted : (q : Question) (want : Want) (row : Row) (term : ℕ) → q.now ≡ s.now → s.phase ≡ serving → q.who.inc ≡ (host_row s.kept q.who.host).inc → IsGranted s.table q want row term → EachRow (StandsByGrant (Entry.G q.who q.file row.mode row.tag term s.now ∷ log)) (put_row row s.table.rows)
+  put-granted : (q : Question) (want : Want) (row : Row) (term : ℕ) → q.time ≡ s.now → s.phase ≡ serving → q.who.inc ≡ (host_row s.kept q.who.host).inc → IsGranted s.table q want row term → EachRow (StandsByGrant (Entry.G q.who q.file row.mode row.tag term s.now ∷ log)) (put_row row s.table.rows)
   put-granted q want row term now p current granted =
       let to = granted-to s.kept s.table q want row term (incs-served s incs p) current granted in
       each-put-other
@@ -259,13 +260,13 @@ renewed-hears Reading NonCaching heard now P before new writes = absurd (cc)
 renewed-hears Reading Reading heard now P before new writes = absurd (cc)
 renewed-hears Reading Writing heard now P before new writes = new
 
-granted-hears : (table : Table) (q : Question) (want : Want) (row : Row) (term : ℕ) (log : List Entry) → LogBy q.now log → EachRow (HearsWrites log) table.rows → IsGranted table q want row term → HearsWrites log row
+granted-hears : (table : Table) (q : Question) (want : Want) (row : Row) (term : ℕ) (log : List Entry) → LogBy q.time log → EachRow (HearsWrites log) table.rows → IsGranted table q want row term → HearsWrites log row
 unfolding sharing_row caching_row shared_again renewed_row
 granted-hears table q want row term log by each (shares_again own found stays shares is lasts) = subst (HearsWrites log) (sym is) (each q.file q.who.host own found)
 granted-hears table q want row term log by each (begins_sharing none room shared is lasts) = subst (HearsWrites log) (sym is) (λ writes. absurd (cc))
-granted-hears table q want row term log by each (begins_caching none room shared is lasts) = subst (HearsWrites log) (sym is) (λ writes. heard-of-by q.who q.file q.now log by)
+granted-hears table q want row term log by each (begins_caching none room shared is lasts) = subst (HearsWrites log) (sym is) (λ writes. heard-of-by q.who q.file q.time log by)
 granted-hears table q want row term log by each (renews_row own found stays caching is lasts) =
-    subst (HearsWrites log) (sym is) (λ writes. renewed-hears own.mode want.mode own.heard q.now (λ heard. Each (IsHeardOf own.who own.file heard) log) (each q.file q.who.host own found) (heard-of-by own.who own.file q.now log by) writes)
+    subst (HearsWrites log) (sym is) (λ writes. renewed-hears own.mode want.mode own.heard q.time (λ heard. Each (IsHeardOf own.who own.file heard) log) (each q.file q.who.host own found) (heard-of-by own.who own.file q.time log by) writes)
 
 module _ (s : Server) (d : Datagram) (log : List Entry) (t : StandingFitsOf s) (by : LogBy s.now log) (h : RowsHear s.phase s.table log) where
   own-hear : s.phase ≡ serving → EachRow (HearsWrites log) s.table.rows

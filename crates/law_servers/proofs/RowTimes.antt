@@ -2,10 +2,11 @@
 use Rattle.std.proofs.Common.{◌≡◌, ◌<◌, ◌≤◌, ◌⊎◌, ℕ, ◌+◌, ◌==◌, Bool, true, false, not, ◌&&◌, List, Some, if◌then◌else◌, refl, sym, subst, ap, ◌∙◌, arith, inl, inr}
 use Rattle.std.specs.Prelude.{nat_le}
 use Rattle.nq_base.specs.declared.Access.{Access}
+use Rattle.nq_base.specs.declared.Question.{Question}
 use Rattle.nq_base.specs.declared.Request.{Request}
 use Rattle.nq_base.specs.declared.Row.{Row}
 use Rattle.nq_base.specs.declared.Want.{Want}
-use Rattle.nq_model.specs.Ask.{Question, term_of, marked, sharing_row, caching_row, shared_again, renewed_row}
+use Rattle.nq_model.specs.Ask.{term_of, marked, sharing_row, caching_row, shared_again, renewed_row}
 use Rattle.nq_model.specs.Kept.{Kept, with_files, with_new_file, with_row}
 use Rattle.nq_model.specs.Message.{Datagram, request}
 use Rattle.nq_model.specs.Profile.{shortest_term, granted_term}
@@ -75,23 +76,23 @@ grown-heard : (b : Bool) (now heard : ℕ) → heard ≤ now → (if b then now 
 grown-heard true now heard h = omega arith
 grown-heard false now heard h = h
 
-module _ (table : Table) (q : Question) (want : Want) (long : shortest_term ≤ q.longest) (wants : caches want.mode ≡ true) (each : EachRow (RowRuns q.longest q.now) table.rows) where
-  pub granted-runs : (row : Row) (term : ℕ) → IsGranted table q want row term → RowRuns q.longest q.now row
+module _ (table : Table) (q : Question) (want : Want) (long : shortest_term ≤ q.longest) (wants : caches want.mode ≡ true) (each : EachRow (RowRuns q.longest q.time) table.rows) where
+  pub granted-runs : (row : Row) (term : ℕ) → IsGranted table q want row term → RowRuns q.longest q.time row
   unfolding sharing_row caching_row shared_again renewed_row
   granted-runs row term (shares_again own found stays shares is lasts) =
       let r = each q.file q.who.host own found in
-      subst (RowRuns q.longest q.now) (sym is) (record { heard_by_now = r.heard_by_now; runs = r.runs; bounded = r.bounded })
+      subst (RowRuns q.longest q.time) (sym is) (record { heard_by_now = r.heard_by_now; runs = r.runs; bounded = r.bounded })
   granted-runs row term (begins_sharing none room shared is lasts) =
       let b = term-bounds q.longest want.term long in
-      subst (RowRuns q.longest q.now) (sym is) (record { heard_by_now = omega arith; runs = λ e. omega (arith, b.0); bounded = λ e. omega (arith, b.1) })
+      subst (RowRuns q.longest q.time) (sym is) (record { heard_by_now = omega arith; runs = λ e. omega (arith, b.0); bounded = λ e. omega (arith, b.1) })
   granted-runs row term (begins_caching none room shared is lasts) =
-      subst (RowRuns q.longest q.now) (sym is) (record { heard_by_now = omega arith; runs = λ e. omega arith; bounded = λ e. absurd (cc) })
+      subst (RowRuns q.longest q.time) (sym is) (record { heard_by_now = omega arith; runs = λ e. omega arith; bounded = λ e. absurd (cc) })
   granted-runs row term (renews_row own found stays caching is lasts) =
       let r = each q.file q.who.host own found in
       let caching_still : caches (greater_mode own.mode want.mode) ≡ true = greater-caches own.mode want.mode caching in
-      subst (RowRuns q.longest q.now) (sym is) (record { heard_by_now = grown-heard _ q.now own.heard r.heard_by_now; runs = λ e. omega arith; bounded = λ e. absurd (cc) })
+      subst (RowRuns q.longest q.time) (sym is) (record { heard_by_now = grown-heard _ q.time own.heard r.heard_by_now; runs = λ e. omega arith; bounded = λ e. absurd (cc) })
 
-  pub waiter-runs : RowRuns q.longest q.now (sharing_row (with_marked table q) q (term_of q want))
+  pub waiter-runs : RowRuns q.longest q.time (sharing_row (with_marked table q) q (term_of q want))
   unfolding sharing_row
   waiter-runs =
       let b = term-bounds q.longest want.term long in

@@ -2,10 +2,11 @@
 use Rattle.std.proofs.Common.{◌≡◌, ◌<◌, ◌≤◌, ◌⊎◌, ℕ, ◌+◌, ◌==◌, Bool, true, false, not, List, Option, Some, None, if◌then◌else◌, max, refl, sym, subst, ap, ◌∙◌, arith, inl, inr}
 use Rattle.nq_base.specs.declared.Access.{Access}
 use Rattle.nq_base.specs.declared.HostRow.{HostRow}
+use Rattle.nq_base.specs.declared.Question.{Question}
 use Rattle.nq_base.specs.declared.Row.{Row}
 use Rattle.nq_base.specs.declared.Want.{Want}
 use Rattle.nq_base.specs.declared.Who.{Who}
-use Rattle.nq_model.specs.Ask.{Question, term_of, marked, sharing_row, caching_row, shared_again, renewed_row}
+use Rattle.nq_model.specs.Ask.{term_of, marked, sharing_row, caching_row, shared_again, renewed_row}
 use Rattle.nq_model.specs.Kept.{File, Kept, find_file, replace_file, drop_file, with_files, with_new_file, with_row, host_row}
 use Rattle.nq_model.specs.Message.{Datagram, too_long}
 use Rattle.nq_model.specs.Profile.{write_slack}

@@ -1,6 +1,7 @@
 -- Each grant that the server sends is of a row that stands after the step.
 use Rattle.std.proofs.Common.{◌≡◌, ◌⊎◌, ℕ, ◌+◌, ◌%◌, List, [], ◌∷◌, ◌++◌, Some, None, refl, sym, subst, ap, ◌∙◌, inl, inr}
 use Rattle.nq_base.specs.declared.Grant.{Grant}
+use Rattle.nq_base.specs.declared.Question.{Question}
 use Rattle.nq_base.specs.declared.Refusal.{Refusal}
 use Rattle.nq_base.specs.declared.Reply.{Reply}
 use Rattle.nq_base.specs.declared.Request.{Request}
@@ -14,7 +15,7 @@ use Rattle.walk_server.proofs.RowChanges.{find-put-same}
 use Rattle.walk_server.proofs.ServerCases.{server-hears}
 use Rattle.walk_server.proofs.ServerOutcomes.{error_for}
 use Rattle.walk_run.proofs.ServerSays.{plain-grant, verdict-grant}
-use Rattle.nq_model.specs.Ask.{Question, grant_of}
+use Rattle.nq_model.specs.Ask.{grant_of}
 use Rattle.nq_model.specs.Decide.{Decision, decides, creates, writes_through, stores, stores_recovering, resizes, removes, puts_off, verdict_reply, commits}
 use Rattle.nq_model.specs.Kept.{File}
 use Rattle.nq_model.specs.LeaseInterval.{grant_in}

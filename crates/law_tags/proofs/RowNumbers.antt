@@ -3,6 +3,7 @@ use Rattle.std.proofs.Common.{◌≡◌, ◌<◌, ◌⊎◌, ℕ, ◌+◌, ◌==
 use Rattle.std.specs.List.{filter}
 use Rattle.nq_base.specs.declared.Access.{Access}
 use Rattle.nq_base.specs.declared.Event.{Event}
+use Rattle.nq_base.specs.declared.Question.{Question}
 use Rattle.nq_base.specs.declared.Row.{Row}
 use Rattle.nq_base.specs.declared.Tag.{Tag}
 use Rattle.nq_base.specs.declared.Want.{Want}
@@ -13,7 +14,7 @@ use Rattle.walk_run.proofs.Packets.{In}
 use Rattle.walk_server.proofs.Rows.{choice}
 use Rattle.walk_server.proofs.ServerMoves.{server-moves, tick-moves}
 use Rattle.law_tags.proofs.TagOrder.{steps-server}
-use Rattle.nq_model.specs.Ask.{Question, conflicts, marked, sharing_row, caching_row, shared_again, renewed_row, term_of}
+use Rattle.nq_model.specs.Ask.{conflicts, marked, sharing_row, caching_row, shared_again, renewed_row, term_of}
 use Rattle.nq_model.specs.Kept.{Kept}
 use Rattle.nq_model.specs.Message.{Datagram}
 use Rattle.nq_model.specs.Server.{Phase, serving, recovering, Server, standing, standing_in}

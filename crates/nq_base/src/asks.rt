@@ -2,8 +2,8 @@
 
 use crate::blocks::Block;
 use crate::kept::Row;
-use crate::numbers::{BlockNo, FileId, Number};
-use crate::tags::Grant;
+use crate::numbers::{BlockNo, FileId, Number, Rev, Ticks};
+use crate::tags::{Grant, Want, Who};
 
 /// What a host is about to do with a file.
 #[derive(Clone, Copy, PartialEq, Eq)]
@@ -12,6 +12,27 @@ pub enum Access {
     Read,
     /// To change it.
     Write,
+}
+
+/// What the lease table is asked before a file is read or changed.
+#[derive(Clone, Copy)]
+pub struct Question {
+    /// Who asks.
+    pub who: Who,
+    /// The file.
+    pub file: FileId,
+    /// What the asker is about to do with it.
+    pub access: Access,
+    /// The lease that the asker wants, if any.
+    pub want: Option<Want>,
+    /// The longest term of this boot, in ticks.
+    pub longest: u32,
+    /// The server's time, in ticks.
+    pub time: Ticks,
+    /// The file's revision.
+    pub rev: Rev,
+    /// The file's length in blocks.
+    pub blocks: u32,
 }
 
 /// The row that put an asker off.

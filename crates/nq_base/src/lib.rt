@@ -15,7 +15,7 @@ mod requests;
 mod tags;
 
 pub use answers::{Answer, Value};
-pub use asks::{Access, Asked, Clash, Push};
+pub use asks::{Access, Asked, Clash, Push, Question};
 pub use blocks::Block;
 pub use calls::{Call, Event};
 pub use entries::{Entry, Said, Told};

@@ -6,23 +6,12 @@ use Rattle.nq_base.specs.declared.Asked.{Asked}
 use Rattle.nq_base.specs.declared.Grant.{Grant}
 use Rattle.nq_base.specs.declared.Mode.{Mode}
 use Rattle.nq_base.specs.declared.Mode.TheVariants.{NonCaching}
+use Rattle.nq_base.specs.declared.Question.{Question}
 use Rattle.nq_base.specs.declared.Row.{Row}
 use Rattle.nq_base.specs.declared.Want.{Want}
 use Rattle.nq_base.specs.declared.Who.{Who}
 use Rattle.nq_model.specs.Profile.{skew, most_rows, granted_term}
 use Rattle.nq_model.specs.Table.{Table, next_tag, caches, is_writing, greater_mode, find_row, put_row, with_rows, after_draw}
-
--- who asks for which file, what for, which lease he wants, and when; the file's revision and length, and the
--- longest term of this boot
-pub record Question : Type 0 where
-  pub who : Who
-  pub file : ℕ
-  pub access : Access
-  pub want : Option Want
-  pub longest : ℕ
-  pub now : ℕ
-  pub rev : ℕ
-  pub blocks : ℕ
 
 -- what the asker is told, and the table after it
 pub record Reply : Type 0 where
@@ -65,8 +54,8 @@ sharing_row table q term = record {
   mode = NonCaching;
   tag = next_tag table;
   since = next_tag table;
-  until = q.now + term;
-  heard = q.now;
+  until = q.time + term;
+  heard = q.time;
   evicting = false;
 }
 
@@ -78,8 +67,8 @@ caching_row table q mode term = record {
   mode = mode;
   tag = next_tag table;
   since = next_tag table;
-  until = q.now + term + skew;
-  heard = q.now;
+  until = q.time + term + skew;
+  heard = q.time;
   evicting = false;
 }
 
@@ -92,8 +81,8 @@ unfoldable pub renewed_row : Table → Question → Row → Mode → (term : ℕ
 renewed_row table q row mode term = record row {
   mode = greater_mode row.mode mode;
   tag = next_tag table;
-  until = max row.until (q.now + term + skew);
-  heard = if is_writing mode && not (is_writing row.mode) then q.now else row.heard;
+  until = max row.until (q.time + term + skew);
+  heard = if is_writing mode && not (is_writing row.mode) then q.time else row.heard;
 }
 
 -- the table with a waiting row, where a lease is wanted, the asker has no row, and there is room for one
@@ -133,7 +122,7 @@ no_lease table = record { table = table; asked = Asked.NoLease }
 
 -- case 4: the asker's own row is non-caching; its lease runs on until the row's end
 abbrev pub share_again : Table → Question → Row → Reply
-share_again table q own = granted table q (shared_again table own) (own.until - q.now)
+share_again table q own = granted table q (shared_again table own) (own.until - q.time)
 
 -- cases 5 and 6: the asker has no row, and gets a non-caching one where the file is shared
 abbrev pub begin : Table → Question → Want → Reply

@@ -7,6 +7,7 @@ use Rattle.nq_base.specs.declared.Asked.{Asked}
 use Rattle.nq_base.specs.declared.Entry.{Entry}
 use Rattle.nq_base.specs.declared.HostRow.{HostRow}
 use Rattle.nq_base.specs.declared.PushBase.{PushBase}
+use Rattle.nq_base.specs.declared.Question.{Question}
 use Rattle.nq_base.specs.declared.Refusal.{Refusal}
 use Rattle.nq_base.specs.declared.Reply.{Reply as Answer}
 use Rattle.nq_base.specs.declared.Request.{Request}
@@ -15,7 +16,7 @@ use Rattle.nq_base.specs.declared.Row.{Row}
 use Rattle.nq_base.specs.declared.Verdict.{Verdict}
 use Rattle.nq_base.specs.declared.Verdict.TheVariants.{Done, Fenced, Exist, NoSpace, Invalid, Stale, TryLater}
 use Rattle.nq_base.specs.declared.Who.{Who}
-use Rattle.nq_model.specs.Ask.{Question, Reply, ask, conflicts}
+use Rattle.nq_model.specs.Ask.{Reply, ask, conflicts}
 use Rattle.nq_model.specs.Kept.{File, blocks_of, blocks_in_all, find_file, find_name, replace_file, drop_file, written_file, resized_file, with_files, with_new_file, with_row}
 use Rattle.nq_model.specs.Message.{Packet, reply}
 use Rattle.nq_model.specs.Profile.{write_slack, most_files, most_blocks, most_blocks_of_file, most_ids}
@@ -69,11 +70,11 @@ stores s who file row block first last body = record {
 }
 
 -- a recovery in which a write was heard now: it goes on for the write slack at least
-unfoldable pub wrote : Server → (until : ℕ) (last : Table) → Server
+unfoldable pub wrote : Server → (until : ℕ) (last : Option Table) → Server
 wrote s until last = record s { phase = recovering (max until (s.now + write_slack)) s.now last }
 
 -- delayed writes are stored while the server recovers
-unfoldable pub stores_recovering : Server → (until : ℕ) (last : Table) → Who → File → (block first final : ℕ) (body : List ℕ) → Decision
+unfoldable pub stores_recovering : Server → (until : ℕ) (last : Option Table) → Who → File → (block first final : ℕ) (body : List ℕ) → Decision
 stores_recovering s until last who file block first final body = record {
   server = keeping (wrote s until last) (with_files s.kept (replace_file (written_file file block body) s.kept.files));
   sends = [];
@@ -113,7 +114,7 @@ to_change s who file = record {
   access = Access.Write;
   want = None;
   longest = s.longest;
-  now = s.now;
+  time = s.now;
   rev = file.rev;
   blocks = blocks_of file;
 }
@@ -181,7 +182,7 @@ decide_write s who (Some file) block first last push body =
     if nat_le (blocks_of file) block then decides s Invalid else decide_write_in s who file block first last push body
 
 -- a push while recovering: it is stored where it rests on the boot that served last and on the kept revision
-abbrev pub decide_push_recovering : Server → (until : ℕ) (last : Table) → Who → Option File → (block first final : ℕ) → PushBase → (body : List ℕ) → Decision
+abbrev pub decide_push_recovering : Server → (until : ℕ) (last : Option Table) → Who → Option File → (block first final : ℕ) → PushBase → (body : List ℕ) → Decision
 decide_push_recovering s until last who None block first final base body = decides s Stale
 decide_push_recovering s until last who (Some file) block first final base body =
     if nat_le (blocks_of file) block
@@ -191,7 +192,7 @@ decide_push_recovering s until last who (Some file) block first final base body 
     else decides s Fenced)
 
 -- a WRITE while recovering: one that goes through is put off
-abbrev pub decide_write_recovering : Server → (until : ℕ) (last : Table) → Who → (file block first final : ℕ) → Option PushBase → (body : List ℕ) → Decision
+abbrev pub decide_write_recovering : Server → (until : ℕ) (last : Option Table) → Who → (file block first final : ℕ) → Option PushBase → (body : List ℕ) → Decision
 decide_write_recovering s until last who file block first final None body = decides s TryLater
 decide_write_recovering s until last who file block first final (Some base) body =
     decide_push_recovering s until last who (find_file file s.kept.files) block first final base body

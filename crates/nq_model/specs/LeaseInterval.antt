@@ -15,7 +15,7 @@ use Rattle.nq_model.specs.Client.{Lease, Ticket, Client, lease_on}
 use Rattle.nq_model.specs.Hear.{is_reply_to}
 use Rattle.nq_model.specs.Message.{Packet, reply}
 use Rattle.nq_model.specs.Profile.{skew}
-use Rattle.nq_model.specs.Server.{Phase, serving, recovering, Server}
+use Rattle.nq_model.specs.Server.{Phase, serving, recovering, last_table, Server}
 use Rattle.nq_model.specs.Skew.{server_ticks, ticks_of}
 use Rattle.nq_model.specs.Table.{Table, caches, is_writing, tag_below, find_row}
 use Rattle.nq_model.specs.World.{World}
@@ -62,7 +62,7 @@ pub record OutlivedBy (who : Who) (file : ℕ) (mode : Mode) (tag : Tag) (until 
 abbrev pub IsCovered : Server → Phase → Who → (file : ℕ) → Mode → Tag → (until : ℕ) → Type 0
 IsCovered s serving who file mode tag until = HasFitting who file mode tag until s.table
 IsCovered s (recovering end heard last) who file mode tag until =
-    OutlivedBy who file mode tag until s.kept.opened end last
+    OutlivedBy who file mode tag until s.kept.opened end (last_table last)
 
 -- the time until which a lease is covered that was first asked for at this time of its holder's clock, with this term
 abbrev pub cover_end : (host asked term : ℕ) → List Event → ℕ

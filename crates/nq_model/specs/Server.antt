@@ -1,5 +1,5 @@
 -- The server's state, and what a step of it gives.
-use Rattle.std.specs.Prelude.{ℕ, ◌+◌, ◌%◌, List, [], ◌∷◌}
+use Rattle.std.specs.Prelude.{ℕ, ◌+◌, ◌%◌, List, [], ◌∷◌, Option, Some, None}
 use Rattle.nq_base.specs.declared.Entry.{Entry}
 use Rattle.nq_base.specs.declared.Party.{Party}
 use Rattle.nq_base.specs.declared.Refusal.{Refusal}
@@ -10,13 +10,14 @@ use Rattle.nq_base.specs.declared.Who.{Who}
 use Rattle.nq_model.specs.Kept.{Kept}
 use Rattle.nq_model.specs.Message.{Message, Packet, Reason, call, reply}
 use Rattle.nq_model.specs.Profile.{xid_end}
-use Rattle.nq_model.specs.Table.{Table}
+use Rattle.nq_model.specs.Table.{Table, empty_table}
 
 -- a boot serves, or it recovers: until a time at the earliest, after a write was last heard, and with the table with
--- which the last boot served in mind, on which no answer rests (Macklem 1994, recovery by waiting)
+-- which the last boot served in mind, on which no answer rests (Macklem 1994, recovery by waiting). A server that boots
+-- over a disk knows no such table
 pub data Phase : Type 0 where
   serving : Phase
-  recovering : (until heard : ℕ) (last : Table) → Phase
+  recovering : (until heard : ℕ) (last : Option Table) → Phase
 
 -- the server: what it keeps, its phase, its lease table, the longest term of this boot, the number of its next
 -- notice, and its time
@@ -41,10 +42,24 @@ pub record ServerStep : Type 0 where
   pub entries : List Entry
   pub outcome : Outcome
 
+-- the table that stands in for the last one where none is known: an empty one, of boot 0
+abbrev pub no_table : Table
+no_table = empty_table 0
+
+-- the last table, or the one that stands in for it
+abbrev pub last_table : Option Table → Table
+last_table None = no_table
+last_table (Some table) = table
+
+-- the table with which a boot served last, if one is known: that of the boot, or while it recovers the one that it has
+-- in mind
+abbrev pub last_in : Phase → Table → Option Table
+last_in serving table = Some table
+last_in (recovering until heard last) table = last
+
 -- the table that stands: that of the boot, or while it recovers that of the last boot that served
 abbrev pub standing_in : Phase → Table → Table
-standing_in serving table = table
-standing_in (recovering until heard last) table = last
+standing_in phase table = last_table (last_in phase table)
 
 abbrev pub standing : Server → Table
 standing s = standing_in s.phase s.table

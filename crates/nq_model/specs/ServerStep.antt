@@ -6,6 +6,7 @@ use Rattle.nq_base.specs.declared.Asked.{Asked}
 use Rattle.nq_base.specs.declared.Entry.{Entry}
 use Rattle.nq_base.specs.declared.Grant.{Grant}
 use Rattle.nq_base.specs.declared.HostRow.{HostRow}
+use Rattle.nq_base.specs.declared.Question.{Question}
 use Rattle.nq_base.specs.declared.Refusal.{Refusal}
 use Rattle.nq_base.specs.declared.Reply.{Reply as Answer}
 use Rattle.nq_base.specs.declared.Request.{Request}
@@ -15,12 +16,12 @@ use Rattle.nq_base.specs.declared.Tag.{Tag}
 use Rattle.nq_base.specs.declared.Verdict.{Verdict}
 use Rattle.nq_base.specs.declared.Want.{Want}
 use Rattle.nq_base.specs.declared.Who.{Who}
-use Rattle.nq_model.specs.Ask.{Question, Reply, ask}
+use Rattle.nq_model.specs.Ask.{Reply, ask}
 use Rattle.nq_model.specs.Decide.{decided_once, in_the_way}
 use Rattle.nq_model.specs.Kept.{File, Kept, blocks_of, find_file, find_name, replace_file, fenced_file, with_files, with_row, host_row}
 use Rattle.nq_model.specs.Message.{reply, error, Datagram, too_long, no_message, no_call, other_rpc, other_program, other_version, unknown_procedure, garbage_vacated, garbage, request, rpc_mismatch, program_unavailable, program_mismatch, procedure_unavailable, garbage_arguments, was_too_long, was_no_message, was_no_call, wrong_host, old_incarnation, no_reply_owed, asker}
 use Rattle.nq_model.specs.Profile.{skew, write_slack, most_hosts}
-use Rattle.nq_model.specs.Server.{Phase, serving, recovering, Server, ServerStep, taken, to_host, quiet, drops, says, replies, refuses, notices, after_notices, keeping_with, with_table, standing}
+use Rattle.nq_model.specs.Server.{Phase, serving, recovering, Server, ServerStep, taken, to_host, quiet, drops, says, replies, refuses, notices, after_notices, keeping_with, with_table, last_in}
 use Rattle.nq_model.specs.Table.{Table, is_writing, same_tag, find_row, drop_row, drop_host, with_rows, empty_table}
 
 -- ATTACH of a later incarnation: the host's row begins anew, and its leases are gone
@@ -69,7 +70,7 @@ to_read s who file want = record {
   access = access_of want;
   want = want;
   longest = s.longest;
-  now = s.now;
+  time = s.now;
   rev = file.rev;
   blocks = blocks_of file;
 }
@@ -291,7 +292,7 @@ tick s now = tick_in (at_time s now) s.phase
 
 -- a boot over this kept state: it serves at once where none served before, else it recovers. The wait is for the
 -- longest term of the boot that served last, the skew and the write slack
-abbrev pub boot_phase : (opened longest now : ℕ) → Table → Phase
+abbrev pub boot_phase : (opened longest now : ℕ) → Option Table → Phase
 boot_phase opened longest now last =
     if opened == 0 then serving else recovering (now + longest + (skew + write_slack)) now last
 
@@ -303,8 +304,8 @@ booted kept longest =
     else record kept { boot = kept.boot + 1 }
 
 -- the server after a boot over this kept state at this time, with this longest term; the table is the last one that
--- served
-unfoldable pub boot : Kept → (longest now : ℕ) → Table → Server
+-- served, if one is known
+unfoldable pub boot : Kept → (longest now : ℕ) → Option Table → Server
 boot kept longest now last = record {
   kept = booted kept longest;
   phase = boot_phase kept.opened kept.longest now last;
@@ -318,7 +319,7 @@ boot kept longest now last = record {
 -- that the recovery waits for
 unfoldable pub crash : Server → (longest : ℕ) → ServerStep
 crash s longest = record {
-  server = boot s.kept longest s.now (standing s);
+  server = boot s.kept longest s.now (last_in s.phase s.table);
   sends = [];
   entries = Entry.X (s.kept.boot + 1) s.now (booted s.kept longest).longest ∷ [];
   outcome = taken;

@@ -13,7 +13,6 @@ use Rattle.nq_model.specs.Message.{Message, Packet, datagram_of}
 use Rattle.nq_model.specs.Profile.{most_hosts}
 use Rattle.nq_model.specs.Server.{Server, ServerStep}
 use Rattle.nq_model.specs.ServerStep.{receive, tick, crash, boot}
-use Rattle.nq_model.specs.Table.{empty_table}
 
 -- what a run begins with: so many hosts, the term that clients want, the longest term that the server grants, and
 -- files with their lengths
@@ -119,7 +118,7 @@ first_clients term host (suc count) =
 -- the world at the start: the server serves its first boot, and each client is attached
 unfoldable pub start : Head → World
 start head = record {
-  server = boot (first_kept head) head.longest 0 (empty_table 0);
+  server = boot (first_kept head) head.longest 0 None;
   clients = first_clients head.term 0 head.hosts;
   packets = [];
   journal = [];

@@ -1,10 +1,11 @@
 -- What is kept of a server and of the timed entries of a whole run, whatever leases its clients want.
 use Rattle.std.proofs.Common.{◌≡◌, ◌<◌, ◌≤◌, ℕ, ◌+◌, ◌==◌, Bool, true, false, List, [], ◌++◌, Option, Some, None, if◌then◌else◌, refl, sym, subst, ap, arith}
 use Rattle.nq_base.specs.declared.Entry.{Entry}
+use Rattle.nq_base.specs.declared.Question.{Question}
 use Rattle.nq_base.specs.declared.Row.{Row}
 use Rattle.nq_base.specs.declared.Want.{Want}
 use Rattle.nq_model.proofs.Lists.{each-map}
-use Rattle.nq_model.specs.Ask.{Question, sharing_row, caching_row, shared_again, renewed_row}
+use Rattle.nq_model.specs.Ask.{sharing_row, caching_row, shared_again, renewed_row}
 use Rattle.nq_model.specs.Journal.{Each}
 use Rattle.nq_model.specs.Kept.{File, Kept, find_file, with_files, with_new_file, with_row}
 use Rattle.nq_model.specs.Message.{Datagram}

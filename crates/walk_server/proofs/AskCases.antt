@@ -2,9 +2,10 @@
 use Rattle.std.proofs.Common.{◌≡◌, ℕ, ◌-◌, Bool, true, false, nat_lt, Option, Some, None, if◌then◌else◌, refl, length}
 use Rattle.std.specs.List.{find, list_any}
 use Rattle.nq_base.specs.declared.Asked.{Asked}
+use Rattle.nq_base.specs.declared.Question.{Question}
 use Rattle.nq_base.specs.declared.Row.{Row}
 use Rattle.nq_base.specs.declared.Want.{Want}
-use Rattle.nq_model.specs.Ask.{Question, Reply, conflicts, shares, marked, term_of, sharing_row, caching_row, shared_again, renewed_row, with_waiting, put_off, free, put_off_by_own, granted, no_lease, share_again, begin, renew, ask_for, ask_freely, ask_past, ask}
+use Rattle.nq_model.specs.Ask.{Reply, conflicts, shares, marked, term_of, sharing_row, caching_row, shared_again, renewed_row, with_waiting, put_off, free, put_off_by_own, granted, no_lease, share_again, begin, renew, ask_for, ask_freely, ask_past, ask}
 use Rattle.nq_model.specs.Profile.{most_rows}
 use Rattle.nq_model.specs.Table.{Table, caches, find_row, put_row, with_rows, after_draw}
 use Rattle.walk_server.proofs.Rows.{choice}
@@ -41,7 +42,7 @@ told_later table clash = record { table = table; asked = Asked.TryLater (record 
 -- why a row is granted for a term: the asker's own non-caching row goes on, or he has none and shares the file, or he
 -- has none and gets a caching one, or his own caching row is renewed
 pub data IsGranted (table : Table) (q : Question) (want : Want) (row : Row) (term : ℕ) : Type 0 where
-  shares_again : (own : Row) → own_in table q ≡ Some own → own.evicting ≡ false → caches own.mode ≡ false → row ≡ shared_again table own → term ≡ own.until - q.now → IsGranted table q want row term
+  shares_again : (own : Row) → own_in table q ≡ Some own → own.evicting ≡ false → caches own.mode ≡ false → row ≡ shared_again table own → term ≡ own.until - q.time → IsGranted table q want row term
   begins_sharing : own_in table q ≡ None → has_room table ≡ true → is_shared table q ≡ true → row ≡ sharing_row table q (term_of q want) → term ≡ term_of q want → IsGranted table q want row term
   begins_caching : own_in table q ≡ None → has_room table ≡ true → is_shared table q ≡ false → row ≡ caching_row table q want.mode (term_of q want) → term ≡ term_of q want → IsGranted table q want row term
   renews_row : (own : Row) → own_in table q ≡ Some own → own.evicting ≡ false → caches own.mode ≡ true → row ≡ renewed_row table q own want.mode (term_of q want) → term ≡ term_of q want → IsGranted table q want row term
@@ -107,7 +108,7 @@ goes-on table q R cases e want f own g =
     (renew table q want own)
     (share_again table q own)
     (λ caching. cases.granting want (renewed_row table q own want.mode (term_of q want)) (term_of q want) e f (renews_row own g stays caching refl refl))
-    (λ sharing. cases.granting want (shared_again table own) (own.until - q.now) e f (shares_again own g stays sharing refl refl)))
+    (λ sharing. cases.granting want (shared_again table own) (own.until - q.time) e f (shares_again own g stays sharing refl refl)))
 
 past-none : (table : Table) (q : Question) (R : Reply → Type 0) → AskCases table q R → clash_in table q ≡ None → (want : Option Want) → q.want ≡ want → (own : Option Row) → own_in table q ≡ own → R (ask_freely table q want own)
 past-none table q R cases e None f own g = cases.freely e f

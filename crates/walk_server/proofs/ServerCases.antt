@@ -5,6 +5,7 @@ use Rattle.std.specs.Prelude.{slice_get, is_some, nat_le}
 use Rattle.std.proofs.lemmas.Bool.Decides.{nat_tests}
 use Rattle.std.proofs.lemmas.Bool.{and_parts, or_parts}
 use Rattle.nq_base.specs.declared.PushBase.{PushBase}
+use Rattle.nq_base.specs.declared.Question.{Question}
 use Rattle.nq_base.specs.declared.Refusal.{Refusal}
 use Rattle.nq_base.specs.declared.Reply.{Reply as Answer}
 use Rattle.nq_base.specs.declared.Request.{Request}
@@ -12,7 +13,7 @@ use Rattle.nq_base.specs.declared.Row.{Row}
 use Rattle.nq_base.specs.declared.Verdict.{Verdict}
 use Rattle.nq_base.specs.declared.Want.{Want}
 use Rattle.nq_base.specs.declared.Who.{Who}
-use Rattle.nq_model.specs.Ask.{Question, free, put_off_by_own, granted, no_lease, ask}
+use Rattle.nq_model.specs.Ask.{free, put_off_by_own, granted, no_lease, ask}
 use Rattle.nq_model.specs.Decide.{Decision, to_change, unless_asked, unless_conflict, decide_create, lets_push, decide_push, decide_write_in, decide_write, decide_push_recovering, decide_write_recovering, decide_resize, decide_remove, decide_in, decide, decided_once, decides, creates, writes_through, stores, stores_recovering, resizes, removes, in_the_way, verdict_reply, commits}
 use Rattle.nq_model.specs.Kept.{File, blocks_of, blocks_in_all, find_file, find_name}
 use Rattle.nq_model.specs.Message.{Message, call, reply, error, datagram_of, Datagram, too_long, no_message, no_call, other_rpc, other_program, other_version, unknown_procedure, garbage_vacated, garbage, request, was_too_long, was_no_message, was_no_call, wrong_host, old_incarnation, no_reply_owed, asker, sequence_of}

@@ -7,9 +7,10 @@ use Rattle.std.proofs.lemmas.Bool.{and_parts}
 use Rattle.nq_base.specs.declared.Access.{Access}
 use Rattle.nq_base.specs.declared.Mode.{Mode}
 use Rattle.nq_base.specs.declared.Mode.TheVariants.{NonCaching, Reading, Writing}
+use Rattle.nq_base.specs.declared.Question.{Question}
 use Rattle.nq_base.specs.declared.Row.{Row}
 use Rattle.nq_base.specs.declared.Want.{Want}
-use Rattle.nq_model.specs.Ask.{Question, mode_conflicts, conflicts, marked, term_of, sharing_row, caching_row, shared_again, renewed_row}
+use Rattle.nq_model.specs.Ask.{mode_conflicts, conflicts, marked, term_of, sharing_row, caching_row, shared_again, renewed_row}
 use Rattle.nq_model.specs.Kept.{File, find_file}
 use Rattle.nq_model.specs.ServerStep.{access_of, access_of_mode}
 use Rattle.nq_model.specs.Table.{Table, next_tag, tag_below, caches, is_writing, greater_mode, is_row_of, find_row, put_row, with_rows, after_draw}
