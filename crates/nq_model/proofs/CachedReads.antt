@@ -67,25 +67,25 @@ settled-read c op file block lease body h =
 settled-call : (c : Client) (op : Call) → ticket_is_for_call c.ticket ≡ false → settle (called c op) ≡ settle_call (called c op) (begun_call c op) op
 settled-call c op idle = settled (called c op) (begun_call c op) (called-call c op) (rw called-ticket idle)
 
-pub read_at_once : (c : Client) (file block : ℕ) (lease : Lease) (body : List ℕ) → HasCached c file block lease body → AnswersAtOnce c (Call.Read file block) file block body (client_call c (Call.Read file block))
-read_at_once c file block lease body h =
+pub read_at_once : (c : Client) (file block : ℕ) (lease : Lease) (body : List ℕ) → HasCached c file block lease body → ticket_is_for_call c.ticket ≡ false → AnswersAtOnce c (Call.Read file block) file block body (client_call c (Call.Read file block))
+read_at_once c file block lease body h idle =
     let op : Call = Call.Read file block in
     let e : client_call c op ≡ reads_cached (called c op) (begun_call c op) file block body =
     called-freely c op h.free h.attached refl
-    ∙ ap sends_unless_cached (settled-call c op h.idle ∙ settled-read c op file block lease body h)
+    ∙ ap sends_unless_cached (settled-call c op idle ∙ settled-read c op file block lease body h)
     ∙ nothing-sent (called c op) (begun_call c op) file block body
     in
     subst (λ t. AnswersAtOnce c op file block body t) (sym e) (answers-at-once c op file block body)
 
-pub fetch_at_once : (c : Client) (file block : ℕ) (lease : Lease) (body : List ℕ) → HasCached c file block lease body → AnswersAtOnce c (Call.Fetch file block) file block body (client_call c (Call.Fetch file block))
-fetch_at_once c file block lease body h =
+pub fetch_at_once : (c : Client) (file block : ℕ) (lease : Lease) (body : List ℕ) → HasCached c file block lease body → ticket_is_for_call c.ticket ≡ false → AnswersAtOnce c (Call.Fetch file block) file block body (client_call c (Call.Fetch file block))
+fetch_at_once c file block lease body h idle =
     let op : Call = Call.Fetch file block in
     let e : client_call c op ≡ reads_cached (called c op) (begun_call c op) file block body =
     called-freely c op h.free h.attached refl
-    ∙ ap sends_unless_cached (settled-call c op h.idle ∙ settled-read c op file block lease body h)
+    ∙ ap sends_unless_cached (settled-call c op idle ∙ settled-read c op file block lease body h)
     ∙ nothing-sent (called c op) (begun_call c op) file block body
     in
     subst (λ t. AnswersAtOnce c op file block body t) (sym e) (answers-at-once c op file block body)
 
 pub cached-at-once : CachedAtOnce
-cached-at-once c file block lease body h = (read_at_once c file block lease body h, fetch_at_once c file block lease body h)
+cached-at-once c file block lease body h idle = (read_at_once c file block lease body h idle, fetch_at_once c file block lease body h idle)

@@ -1,4 +1,5 @@
 pub mod Accounts
+pub mod ByFile
 pub mod CachedReads
 pub mod JournalTests
 pub mod LegalTest

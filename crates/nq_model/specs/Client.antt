@@ -12,6 +12,7 @@ use Rattle.nq_base.specs.declared.Request.{Request}
 use Rattle.nq_base.specs.declared.Span.{Span}
 use Rattle.nq_base.specs.declared.Tag.{Tag}
 use Rattle.nq_base.specs.declared.Who.{Who}
+use Rattle.nq_model.specs.ByFile.{insert_by, add_by}
 use Rattle.nq_model.specs.Message.{Message}
 use Rattle.nq_model.specs.Profile.{renewal, most_clean, at_most}
 use Rattle.nq_model.specs.Table.{caches, is_writing}
@@ -69,7 +70,9 @@ pub record Ticket : Type 0 where
 -- the client: its incarnation, the term that it wants, its time, whether it is attached, the number of its last call,
 -- the call and the request under way, until when it pauses, the next sequence, the number of the next request and of
 -- the next write; the leases that it holds, notices that wait, losses that no answer named yet; delayed writes in
--- order and those under way; clean blocks with the one that was used last in front, and their revisions
+-- order and those under way; clean blocks with the one that was used last in front, and their revisions. Leases,
+-- notices and revisions stand in order of files, one for each; so do losses, those of a file in the order in which
+-- they were found
 pub record Client : Type 0 where
   pub who : Who
   pub term : ℕ
@@ -115,21 +118,33 @@ noting t entry = record t { entries = entry ∷ t.entries }
 abbrev pub lease_on : ℕ → List Lease → Option Lease
 lease_on file leases = find (λ l. l.file == file) leases
 
+-- the file of a lease
+abbrev pub file_of_lease : Lease → ℕ
+file_of_lease l = l.file
+
 -- the leases without that of a file
 abbrev pub drop_lease : ℕ → List Lease → List Lease
 drop_lease file leases = filter (λ l. not (l.file == file)) leases
 
 -- the leases with this one for its file
 abbrev pub put_lease : Lease → List Lease → List Lease
-put_lease lease leases = lease ∷ drop_lease lease.file leases
+put_lease lease leases = insert_by file_of_lease lease (drop_lease lease.file leases)
 
 -- the notice that waits for a file
 abbrev pub notice_on : ℕ → List Notice → Option Notice
 notice_on file notices = find (λ n. n.file == file) notices
 
+-- the file of a notice
+abbrev pub file_of_notice : Notice → ℕ
+file_of_notice n = n.file
+
 -- the notices without that for a file
 abbrev pub drop_notice : ℕ → List Notice → List Notice
 drop_notice file notices = filter (λ n. not (n.file == file)) notices
+
+-- the notices with this one for its file
+abbrev pub put_notice : Notice → List Notice → List Notice
+put_notice notice notices = insert_by file_of_notice notice (drop_notice notice.file notices)
 
 -- the losses of a file
 abbrev pub losses_of : ℕ → List Loss → List Loss
@@ -138,6 +153,14 @@ losses_of file losses = filter (λ l. l.file == file) losses
 -- the losses of other files
 abbrev pub other_losses : ℕ → List Loss → List Loss
 other_losses file losses = filter (λ l. not (l.file == file)) losses
+
+-- the file of a loss
+abbrev pub file_of_loss : Loss → ℕ
+file_of_loss l = l.file
+
+-- the losses with newly found ones of a file, which go behind those of this file that are there
+abbrev pub add_losses : (file : ℕ) → (found losses : List Loss) → List Loss
+add_losses file found losses = add_by file_of_loss file found losses
 
 -- whether delayed writes are of this file
 abbrev pub is_push_of : ℕ → Push → Bool
@@ -169,8 +192,12 @@ push_passes test None = false
 push_passes test (Some p) = test p
 
 -- whether a file has no delayed writes, neither in the list nor under way
+abbrev pub is_clean_in : (file : ℕ) → List Push → Option Push → Bool
+is_clean_in file dirty push = not (list_any (is_push_of file) dirty) && not (push_passes (is_push_of file) push)
+
+-- whether a client has no delayed writes of a file
 abbrev pub is_clean : Client → ℕ → Bool
-is_clean c file = not (list_any (is_push_of file) c.dirty) && not (push_passes (is_push_of file) c.push)
+is_clean c file = is_clean_in file c.dirty c.push
 
 -- whether a clean block is this one
 abbrev pub is_clean_at : (file block : ℕ) → Clean → Bool
@@ -197,9 +224,18 @@ put_clean file block body clean =
 abbrev pub revision_of : ℕ → List Revision → Option Revision
 revision_of file revisions = find (λ r. r.file == file) revisions
 
+-- the file of a revision
+abbrev pub file_of_revision : Revision → ℕ
+file_of_revision r = r.file
+
+-- the revisions without that of a file
+abbrev pub drop_revision : ℕ → List Revision → List Revision
+drop_revision file revisions = filter (λ r. not (r.file == file)) revisions
+
 -- the revisions with this one for a file
 abbrev pub put_revision : (file rev : ℕ) → List Revision → List Revision
-put_revision file rev revisions = record { file = file; rev = rev } ∷ filter (λ r. not (r.file == file)) revisions
+put_revision file rev revisions =
+    insert_by file_of_revision (record { file = file; rev = rev }) (drop_revision file revisions)
 
 -- whether an optional revision is this one
 abbrev pub is_revision : ℕ → Option Revision → Bool

@@ -14,7 +14,7 @@ use Rattle.nq_base.specs.declared.Tag.{Tag}
 use Rattle.nq_base.specs.declared.Value.{Value}
 use Rattle.nq_base.specs.declared.Want.{Want}
 use Rattle.nq_base.specs.declared.Who.{Who}
-use Rattle.nq_model.specs.Client.{Lease, Notice, UnderWay, Job, attaching, for_call, renewing, pushing, Ticket, Client, ClientStep, begun, in_state, lease_on, drop_lease, put_lease, notice_on, drop_notice, is_push_of, dirty_at, is_clean, other_dirty, put_clean, purge, revision_of, put_revision, is_revision, is_revision_before}
+use Rattle.nq_model.specs.Client.{Lease, Notice, UnderWay, Job, attaching, for_call, renewing, pushing, Ticket, Client, ClientStep, Clean, Revision, begun, in_state, lease_on, drop_lease, put_lease, notice_on, drop_notice, put_notice, add_losses, is_push_of, dirty_at, is_clean, other_dirty, put_clean, purge, revision_of, put_revision, is_revision, is_revision_before}
 use Rattle.nq_model.specs.Message.{Message, call, reply, error}
 use Rattle.nq_model.specs.Profile.{patience}
 use Rattle.nq_model.specs.Send.{send_next}
@@ -55,13 +55,21 @@ vacates_noticed t file (Some n) = vacates_lease t file n.tag
 abbrev pub loss_of : Push → Loss
 loss_of p = record { file = p.file; block = p.block; first = p.first; last = p.last }
 
--- all delayed writes of a file: those under way, then the others in order
+-- the push under way, if it is of this file
 abbrev pub push_of : (file : ℕ) → Option Push → List Push
 push_of file None = []
 push_of file (Some p) = if is_push_of file p then p ∷ [] else []
 
+-- all delayed writes of a file: those under way, then the others in order
+abbrev pub all_dirty_in : (file : ℕ) → List Push → Option Push → List Push
+all_dirty_in file dirty push = push_of file push ++ filter (is_push_of file) dirty
+
 abbrev pub all_dirty : Client → ℕ → List Push
-all_dirty c file = push_of file c.push ++ filter (is_push_of file) c.dirty
+all_dirty c file = all_dirty_in file c.dirty c.push
+
+-- the losses where all delayed writes of a file are lost
+abbrev pub losses_in : (file : ℕ) → List Push → Option Push → List Loss
+losses_in file dirty push = map loss_of (all_dirty_in file dirty push)
 
 -- the entry of a loss
 abbrev pub loss_entry : Who → Push → Entry
@@ -78,7 +86,7 @@ loses t file = record t {
   client = record t.client {
     dirty = other_dirty file t.client.dirty;
     push = other_push file t.client.push;
-    losses = t.client.losses ++ map loss_of (all_dirty t.client file);
+    losses = add_losses file (losses_in file t.client.dirty t.client.push) t.client.losses;
   };
   entries = reverse (map (loss_entry t.client.who) (all_dirty t.client file)) ++ t.entries;
 }
@@ -134,11 +142,16 @@ abbrev pub if_broken : ClientStep → (file : ℕ) → Grant → ClientStep
 if_broken t file g =
     if breaks g (lease_on file t.client.leases) && not (is_clean t.client file) then breaks_chain t file else t
 
+-- the cache where a file has this revision: clean blocks of another one go
+abbrev pub clean_at_revision : (file rev : ℕ) → List Revision → List Clean → List Clean
+clean_at_revision file rev revisions clean =
+    if is_revision rev (revision_of file revisions) then clean else purge file clean
+
 -- the client with a granted lease; clean blocks of another revision go
 unfoldable pub holds : ClientStep → (file : ℕ) → Grant → (sent : ℕ) → ClientStep
 holds t file g sent = in_state t (record t.client {
   leases = put_lease (granted_lease file g sent) t.client.leases;
-  clean = if is_revision g.rev (revision_of file t.client.revisions) then t.client.clean else purge file t.client.clean;
+  clean = clean_at_revision file g.rev t.client.revisions t.client.clean;
   revisions = put_revision file g.rev t.client.revisions;
 })
 
@@ -402,10 +415,14 @@ abbrev pub noticed_tag : Tag → Option Notice → Tag
 noticed_tag tag None = tag
 noticed_tag tag (Some n) = later_tag n.tag tag
 
+-- the notices with one more; of two for a file the later tag stays
+abbrev pub with_notice : (file : ℕ) → Tag → List Notice → List Notice
+with_notice file tag notices = put_notice (record { file = file; tag = noticed_tag tag (notice_on file notices) }) notices
+
 -- a notice waits until the file is clean
 unfoldable pub notes_notice : ClientStep → (file : ℕ) → Tag → ClientStep
 notes_notice t file tag = in_state t (record t.client {
-  notices = record { file = file; tag = noticed_tag tag (notice_on file t.client.notices) } ∷ drop_notice file t.client.notices;
+  notices = with_notice file tag t.client.notices;
 })
 
 -- a notice: a clean file's lease is given up at once

@@ -6,6 +6,7 @@ pub mod Message
 pub mod Server
 pub mod Decide
 pub mod ServerStep
+pub mod ByFile
 pub mod Client
 pub mod Settle
 pub mod Send

@@ -7,7 +7,7 @@ use Rattle.nq_base.specs.declared.Push.{Push}
 use Rattle.nq_base.specs.declared.PushBase.{PushBase}
 use Rattle.nq_base.specs.declared.Request.{Request}
 use Rattle.nq_base.specs.declared.Want.{Want}
-use Rattle.nq_model.specs.Client.{Lease, Notice, UnderWay, Job, for_call, renewing, pushing, Client, ClientStep, in_state, lease_on, drop_lease, notice_on, first_dirty, drop_dirty, is_clean, purge, revision_of, revision_or_zero, is_live, renew_due}
+use Rattle.nq_model.specs.Client.{Lease, Notice, UnderWay, Job, for_call, renewing, pushing, Client, ClientStep, Revision, in_state, file_of_lease, file_of_notice, lease_on, drop_lease, notice_on, first_dirty, drop_dirty, is_clean_in, is_clean, purge, revision_of, revision_or_zero, is_live, renew_due}
 use Rattle.nq_model.specs.Message.{call}
 use Rattle.nq_model.specs.Profile.{renewal}
 use Rattle.nq_model.specs.Table.{caches, is_writing}
@@ -41,12 +41,15 @@ abbrev pub boot_of : Option Lease → ℕ
 boot_of None = 0
 boot_of (Some lease) = lease.tag.boot
 
--- what a push of a file rests on: the boot of the held lease and the revision that the client knows
-abbrev pub base_of : Client → ℕ → PushBase
-base_of c file = record {
-  boot = boot_of (lease_on file c.leases);
-  base = revision_or_zero (revision_of file c.revisions);
+-- what a push of a file rests on: the boot of the held lease and the revision that is known
+abbrev pub base_in : ℕ → List Lease → List Revision → PushBase
+base_in file leases revisions = record {
+  boot = boot_of (lease_on file leases);
+  base = revision_or_zero (revision_of file revisions);
 }
+
+abbrev pub base_of : Client → ℕ → PushBase
+base_of c file = base_in file c.leases c.revisions
 
 -- delayed writes are taken from the list, and are under way
 unfoldable pub takes_push : ClientStep → Push → ClientStep
@@ -82,32 +85,41 @@ abbrev pub least : List ℕ → Option ℕ
 least [] = None
 least (n ∷ ns) = least_with n (least ns)
 
--- the file of a notice, and of a lease
-abbrev pub file_of_notice : Notice → ℕ
-file_of_notice n = n.file
-
-abbrev pub file_of_lease : Lease → ℕ
-file_of_lease l = l.file
-
 -- the least file for which a notice waits
+abbrev pub noticed_in : List Notice → Option ℕ
+noticed_in notices = least (map file_of_notice notices)
+
 abbrev pub noticed_file : Client → Option ℕ
-noticed_file c = least (map file_of_notice c.notices)
+noticed_file c = noticed_in c.notices
 
 -- whether a lease is a writing one that is about to end over a file with delayed writes
+abbrev pub is_to_push_in : (now : ℕ) → List Push → Option Push → Lease → Bool
+is_to_push_in now dirty push l = is_writing l.mode && not (is_clean_in l.file dirty push) && nat_le l.expiry (now + renewal)
+
 abbrev pub is_to_push : Client → Lease → Bool
-is_to_push c l = is_writing l.mode && not (is_clean c l.file) && nat_le l.expiry (c.now + renewal)
+is_to_push c l = is_to_push_in c.now c.dirty c.push l
 
 -- the least file whose delayed writes are to be pushed before its lease ends
+abbrev pub ending_in : (now : ℕ) → List Lease → List Push → Option Push → Option ℕ
+ending_in now leases dirty push = least (map file_of_lease (filter (is_to_push_in now dirty push) leases))
+
 abbrev pub ending_file : Client → Option ℕ
-ending_file c = least (map file_of_lease (filter (is_to_push c) c.leases))
+ending_file c = ending_in c.now c.leases c.dirty c.push
 
 -- whether a lease is to be renewed: its file is clean and no notice waits for it
+abbrev pub is_to_renew_in : (now : ℕ) → List Notice → List Push → Option Push → Lease → Bool
+is_to_renew_in now notices dirty push l =
+    renew_due now l && is_clean_in l.file dirty push && not (is_some (notice_on l.file notices))
+
 abbrev pub is_to_renew : Client → Lease → Bool
-is_to_renew c l = renew_due c.now l && is_clean c l.file && not (is_some (notice_on l.file c.notices))
+is_to_renew c l = is_to_renew_in c.now c.notices c.dirty c.push l
 
 -- the lease to renew: that on the least file
+abbrev pub renewed_in : (now : ℕ) → List Lease → List Notice → List Push → Option Push → Option ℕ
+renewed_in now leases notices dirty push = least (map file_of_lease (filter (is_to_renew_in now notices dirty push) leases))
+
 abbrev pub renewed_file : Client → Option ℕ
-renewed_file c = least (map file_of_lease (filter (is_to_renew c) c.leases))
+renewed_file c = renewed_in c.now c.leases c.notices c.dirty c.push
 
 -- a want of this kind, with the term that the client wants
 abbrev pub want_of : Client → Mode → Want
@@ -118,7 +130,7 @@ abbrev pub shares_live : ℕ → Option Lease → Bool
 shares_live now None = false
 shares_live now (Some lease) = not (caches lease.mode) && is_live now lease
 
--- the lease that a read wants: none where a non-caching lease runs
+-- what a read wants: a reading lease, and none where a non-caching lease runs
 abbrev pub read_want : Client → ℕ → Option Want
 read_want c file = if shares_live c.now (lease_on file c.leases) then None else Some (want_of c Mode.Reading)
 

@@ -73,26 +73,46 @@ held_body (Some p) pushed clean = Some p.body
 held_body None (Some body) clean = Some body
 held_body None None clean = clean
 
--- the body that a client has of a block: of the delayed writes, else of the push under way, else of the cache
+-- the body that delayed writes have of a block: those of the list, else the push under way
+abbrev pub dirty_body : (file block : ℕ) → List Push → Option Push → Option (List ℕ)
+dirty_body file block dirty push = held_body (dirty_at file block dirty) (pushed_body file block push) None
+
+-- the body that is there of a block: of the delayed writes, else of the push under way, else of the cache
+abbrev pub body_in : (file block : ℕ) → List Push → Option Push → List Clean → Option (List ℕ)
+body_in file block dirty push clean =
+    held_body (dirty_at file block dirty) (pushed_body file block push) (clean_body (clean_at file block clean))
+
+-- the body that a client has of a block
 abbrev pub cached_body : Client → (file block : ℕ) → Option (List ℕ)
-cached_body c file block =
-    held_body (dirty_at file block c.dirty) (pushed_body file block c.push) (clean_body (clean_at file block c.clean))
+cached_body c file block = body_in file block c.dirty c.push c.clean
 
 -- the cache after a block was read: a clean block comes to the front
 abbrev pub touched : (file block : ℕ) → Option Clean → List Clean → List Clean
 touched file block None clean = clean
 touched file block (Some k) clean = k ∷ drop_clean file block clean
 
+-- the cache after a look for a block: it comes to the front if it is there
+abbrev pub looked_up : (file block : ℕ) → List Clean → List Clean
+looked_up file block clean = touched file block (clean_at file block clean) clean
+
 -- whether a block is read from the cache, and not from delayed writes
+abbrev pub reads_clean_in : (file block : ℕ) → List Push → Option Push → Bool
+reads_clean_in file block dirty push =
+    not (is_some (dirty_at file block dirty)) && not (push_passes (is_push_at file block) push)
+
 abbrev pub reads_clean : Client → (file block : ℕ) → Bool
-reads_clean c file block =
-    not (is_some (dirty_at file block c.dirty)) && not (push_passes (is_push_at file block) c.push)
+reads_clean c file block = reads_clean_in file block c.dirty c.push
+
+-- the cache after a block was read
+abbrev pub clean_after_read : (file block : ℕ) → List Push → Option Push → List Clean → List Clean
+clean_after_read file block dirty push clean =
+    if reads_clean_in file block dirty push then looked_up file block clean else clean
 
 -- the client after a block was read from what it has: the lease was used
 unfoldable pub after_read : Client → (file block : ℕ) → Client
 after_read c file block = record c {
   leases = used_lease file c.leases;
-  clean = if reads_clean c file block then touched file block (clean_at file block c.clean) c.clean else c.clean;
+  clean = clean_after_read file block c.dirty c.push c.clean;
 }
 
 -- a read is answered from what the client has
@@ -132,13 +152,24 @@ with_write file block number body dirty (Some p) = map (overwritten_at file bloc
 with_write file block number body dirty None =
     dirty ++ record { file = file; block = block; first = number; last = number; body = body } ∷ []
 
+-- the delayed writes after one more
+abbrev pub write_in : (file block number : ℕ) (body : List ℕ) → List Push → List Push
+write_in file block number body dirty = with_write file block number body dirty (dirty_at file block dirty)
+
+-- how many blocks are delayed or under way
+abbrev pub pending_in : List Push → Option Push → ℕ
+pending_in dirty push = length dirty + (if is_some push then 1 else 0)
+
 -- whether a write finds no room: as many blocks as there may be are delayed or under way, and this is not one of those
 -- that are delayed
+abbrev pub is_full_in : (file block : ℕ) → List Push → Option Push → Bool
+is_full_in file block dirty push = nat_le most_dirty (pending_in dirty push) && not (is_some (dirty_at file block dirty))
+
 abbrev pub pending : Client → ℕ
-pending c = length c.dirty + (if is_some c.push then 1 else 0)
+pending c = pending_in c.dirty c.push
 
 abbrev pub is_full : Client → (file block : ℕ) → Bool
-is_full c file block = nat_le most_dirty (pending c) && not (is_some (dirty_at file block c.dirty))
+is_full c file block = is_full_in file block c.dirty c.push
 
 -- the client after a write was delayed
 unfoldable pub after_write : Client → (file block : ℕ) (body : List ℕ) → Client
@@ -146,7 +177,7 @@ after_write c file block body = record c {
   number = c.number + 1;
   leases = used_lease file c.leases;
   clean = drop_clean file block c.clean;
-  dirty = with_write file block c.number body c.dirty (dirty_at file block c.dirty);
+  dirty = write_in file block c.number body c.dirty;
 }
 
 -- the step after a write was delayed

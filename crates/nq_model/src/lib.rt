@@ -7,7 +7,7 @@ mod cached;
 mod clocks;
 mod journals;
 
-pub use cached::cached_at_once;
+pub use cached::{cached_at_once, has_cached_is_exact};
 pub use clocks::skew_test_is_sound;
 pub use journals::{
     accounted_test_is_exact, excused_test_is_exact, legal_test_is_exact,
