@@ -1,5 +1,5 @@
 -- In every run the calls and what they make stand in order.
-use Rattle.law_calls.specs.CallsInRuns.{OrderedInEveryRun, ReadsAreOfTheirCallInEveryRun}
+use Rattle.nq_promises.specs.CallsAreOrdered.{OrderedInEveryRun, ReadsAreOfTheirCallInEveryRun}
 use Rattle.walk_calls.proofs.Placed.{ordered, of-their-call}
 use Rattle.law_calls.proofs.RunCalls.{calls-known}
 use Rattle.nq_model.specs.World.{run}

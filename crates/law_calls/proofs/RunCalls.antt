@@ -12,15 +12,16 @@ use Rattle.nq_base.specs.declared.Reply.{Reply}
 use Rattle.nq_base.specs.declared.Request.{Request}
 use Rattle.nq_base.specs.declared.Row.{Row}
 use Rattle.walk_calls.proofs.CallFacts.{JournalFits, journal-more}
-use Rattle.law_calls.proofs.CallsFit.{CallsFitInEveryRun}
-use Rattle.law_calls.proofs.CallWorlds.{IsRefused, CallsKnown, client-known}
+use Rattle.walk_calls.proofs.CallsFit.{CallsFitInEveryRun}
+use Rattle.walk_calls.proofs.CallWorlds.{IsRefused, CallsKnown, client-known}
 use Rattle.walk_calls.proofs.ClientEvents.{CallsOf, called-does, ticked-does, heard-does, restarted-does}
 use Rattle.walk_calls.proofs.ClientMoves.{IsBelow}
-use Rattle.law_calls.proofs.ServerCalls.{IsStill, line_same, ServerDoes, server-known}
-use Rattle.law_calls.proofs.ServerDecides.{received-does}
+use Rattle.walk_calls.proofs.ServerCalls.{IsStill, line_same, ServerDoes, server-known}
+use Rattle.walk_calls.proofs.ServerDecides.{received-does}
 use Rattle.walk_client.proofs.ClientMoves.{some-same, none-some}
-use Rattle.law_leases.proofs.LeaseIntervals.{Runs, run-runs, none-served}
-use Rattle.law_leases.specs.LeaseIntervalInRuns.{KeepsBounds}
+use Rattle.walk_leases.proofs.Runs.{Runs, none-served}
+use Rattle.law_leases.proofs.LeaseIntervals.{run-runs}
+use Rattle.nq_promises.specs.Bounds.{KeepsBounds}
 use Rattle.nq_model.specs.Client.{Client, ClientStep}
 use Rattle.nq_model.specs.ClientStep.{client_call, client_tick, restart, next_incarnation, fresh_client, attached_client}
 use Rattle.nq_model.specs.Hear.{hear}
@@ -31,14 +32,15 @@ use Rattle.nq_model.specs.ServerStep.{receive, tick, crash, boot, booted, at_tim
 use Rattle.nq_model.specs.Skew.{IsWithinSkew}
 use Rattle.nq_model.specs.Table.{find_row, with_rows}
 use Rattle.nq_model.specs.World.{Head, World, after_server, after_client, sending_host, first_row, start, run}
-use Rattle.law_requests.proofs.OpenRequests.{Opens, run-opens}
-use Rattle.law_requests.proofs.Sequences.{DrewIf, call-draws, tick-draws, restart-draws, hear-draws}
+use Rattle.walk_run.proofs.OpenAt.{Opens}
+use Rattle.law_requests.proofs.OpenRequests.{run-opens}
+use Rattle.walk_run.proofs.Sequences.{DrewIf, call-draws, tick-draws, restart-draws, hear-draws}
 use Rattle.law_requests.proofs.WorldSequences.{run-draws}
-use Rattle.law_leases.proofs.RunCases.{Keeps, run-keeps}
+use Rattle.walk_run.proofs.RunCases.{Keeps, run-keeps}
 use Rattle.walk_run.proofs.Packets.{In, in-get, Asked, Told}
 use Rattle.walk_run.proofs.Worlds.{run-holds, to-server, to-told, received-said, tick-said, crash-said, first-client}
 use Rattle.law_servers.proofs.KeptTags.{own-keys}
-use Rattle.law_servers.proofs.ServerFacts.{IncsFit, fence-lines}
+use Rattle.walk_tables.proofs.ServerFacts.{IncsFit, fence-lines}
 use Rattle.walk_server.proofs.RowChanges.{HasUniqueKeys, unique-filtered, found-any, found-kept}
 use Rattle.walk_server.proofs.ServerCases.{server-ticks}
 

@@ -1,1 +1,1 @@
-pub mod CallsInRuns
+pub mod Met

@@ -1,12 +1,2 @@
-pub mod ServerChains
-pub mod ChainAfter
-pub mod PushAfter
-pub mod RowMoves
-pub mod LineMoves
-pub mod RowsReceived
-pub mod FilesReceived
-pub mod RepliesReceived
-pub mod ChainTicks
-pub mod ChainIdle
 pub mod ChainWorlds
 pub mod SomeChained

@@ -11,16 +11,16 @@ use Rattle.nq_base.specs.declared.Request.{Request}
 use Rattle.nq_base.specs.declared.Row.{Row}
 use Rattle.nq_base.specs.declared.Tag.{Tag}
 use Rattle.nq_base.specs.declared.Who.{Who}
-use Rattle.walk_chains.specs.Chained.{has_done_write}
-use Rattle.law_chains.specs.ChainsInRuns.{ChainsAreMet}
-use Rattle.law_leases.proofs.NoCrash.{no-crash-within}
+use Rattle.nq_promises.specs.Chained.{has_done_write}
+use Rattle.law_chains.specs.Met.{ChainsAreMet}
+use Rattle.walk_run.proofs.NoCrash.{no-crash-within}
 use Rattle.law_leases.proofs.SomeLease.{two-hosts}
-use Rattle.law_leases.specs.LeaseIntervalInRuns.{BootsWithin}
+use Rattle.nq_promises.specs.Bounds.{BootsWithin}
 use Rattle.nq_model.proofs.SkewTest.{skew-test-is-sound}
 use Rattle.nq_model.specs.Client.{Client, Lease, Ticket, for_call, lease_on}
 use Rattle.nq_model.specs.Message.{reply}
 use Rattle.nq_model.specs.Skew.{is_within_skew}
-use Rattle.nq_model.specs.Server.{standing, to_host}
+use Rattle.nq_model.specs.Server.{standing, to_host, quiet, drops, says, after_notices, keeping, keeping_with, with_table}
 use Rattle.nq_model.specs.Ask.{grant_of, sharing_row, caching_row, shared_again, renewed_row, put_off, free, put_off_by_own, granted, no_lease}
 use Rattle.nq_model.specs.ClientStep.{begins_call, is_called, says_busy, at_time, sends_again, fresh_client, attached_client, starts}
 use Rattle.nq_model.specs.Decide.{decides, creates, writes_through, stores, wrote, stores_recovering, resizes, removes, puts_off, commits}
@@ -29,7 +29,6 @@ use Rattle.nq_model.specs.Send.{sends_request, after_seq, after_number, takes_pu
 use Rattle.nq_model.specs.ServerStep.{attaches, tells_later, serves, leases, vacates, ends_writing, opens, boot, crash}
 use Rattle.nq_model.specs.Settle.{answers, after_read, reads_cached, after_write, marks_written}
 use Rattle.nq_model.specs.Kept.{new_file, written_file, resized_file, fenced_file, with_row, with_files, with_new_file, host_row}
-use Rattle.nq_model.specs.Server.{quiet, drops, says, after_notices, keeping, keeping_with, with_table}
 use Rattle.nq_model.specs.Table.{empty_table, with_rows, after_draw, find_row}
 use Rattle.nq_model.specs.World.{after_server, after_client, start, run}
 use Rattle.walk_server.proofs.Tests.{some-is}

@@ -1,1 +1,1 @@
-pub mod ChainsInRuns
+pub mod Met

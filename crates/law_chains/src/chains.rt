@@ -1,6 +1,7 @@
 //! What a chained lease tells of its file.
 
-ghost use Rattle.law_chains.specs.ChainsInRuns.{ChainedLeasesKnowTheFile, ChainsAreMet};
+ghost use Rattle.nq_promises.specs.ChainedLeasesKnow.{ChainedLeasesKnowTheFile};
+ghost use Rattle.law_chains.specs.Met.{ChainsAreMet};
 
 /// After every schedule within skew: where a client holds a caching lease, and the row of its incarnation stands with a chain
 /// that began no later than the lease's tag, the row is of at least that kind, the file is kept with the lease's length, and

@@ -12,9 +12,9 @@ use Rattle.walk_contents.proofs.ClientParts.{IsOverKnown}
 use Rattle.walk_contents.proofs.Facts.{History, SetsBlock, Changed, GrantTells, Tells, LineTells}
 use Rattle.law_contents.proofs.RunContents.{run-fits}
 use Rattle.law_contents.proofs.WorldFacts.{history_now, Fits}
-use Rattle.walk_contents.specs.Told.{GrantFits, SetsOne, TellsContents, HasChanged, IsDoneAs}
-use Rattle.law_contents.specs.ContentsInRuns.{first_length, FilesAreTheirHistoryInEveryRun, CleanBlocksHaveTheirRevisionInEveryRun, DoneRequestsAreChangesInEveryRun, PushesCarryTheirLastWriteInEveryRun}
-use Rattle.walk_contents.specs.Contents.{delayed_value}
+use Rattle.nq_promises.specs.Told.{GrantFits, SetsOne, TellsContents, HasChanged, IsDoneAs}
+use Rattle.nq_promises.specs.RevisionsHaveOneContent.{first_length, FilesAreTheirHistoryInEveryRun, CleanBlocksHaveTheirRevisionInEveryRun, DoneRequestsAreChangesInEveryRun, PushesCarryTheirLastWriteInEveryRun}
+use Rattle.nq_promises.specs.Contents.{delayed_value}
 use Rattle.nq_model.specs.Client.{Client, Ticket, is_push_at}
 use Rattle.nq_model.specs.Kept.{host_row}
 use Rattle.nq_model.specs.Message.{call, reply, sequence_of}

@@ -19,9 +19,11 @@ use Rattle.walk_contents.proofs.ServerContents.{IsFirst, Hearing, hears}
 use Rattle.walk_contents.proofs.ServerDelays.{receive-never, tick-never, crash-never}
 use Rattle.walk_contents.proofs.ServerTimes.{Standing, ticks, crashes}
 use Rattle.law_contents.proofs.WorldFacts.{ClientFits, begun-mid, fits-follows, history_now, Fits, client-fits, server-fits}
-use Rattle.law_contents.specs.ContentsInRuns.{length_of, first_length}
-use Rattle.law_leases.proofs.LeaseIntervals.{Runs, run-runs, bounds-before}
-use Rattle.law_leases.specs.LeaseIntervalInRuns.{KeepsBounds}
+use Rattle.nq_promises.specs.RevisionsHaveOneContent.{length_of, first_length}
+use Rattle.walk_leases.proofs.Runs.{Runs}
+use Rattle.law_leases.proofs.LeaseIntervals.{run-runs}
+use Rattle.walk_run.proofs.NoCrash.{bounds-before}
+use Rattle.nq_promises.specs.Bounds.{KeepsBounds}
 use Rattle.nq_model.specs.Client.{Client, ClientStep, attaching, Ticket, begun}
 use Rattle.nq_model.specs.ClientStep.{client_call, client_tick, restart, starts, fresh_client, attached_client, next_incarnation}
 use Rattle.nq_model.specs.Hear.{hear}

@@ -9,8 +9,8 @@ use Rattle.nq_base.specs.declared.Reply.{Reply}
 use Rattle.nq_base.specs.declared.Request.{Request}
 use Rattle.nq_base.specs.declared.Verdict.{Verdict}
 use Rattle.nq_base.specs.declared.Who.{Who}
-use Rattle.law_contents.specs.ContentsInRuns.{IsContentSometime}
-use Rattle.law_leases.proofs.NoCrash.{no-crash-within}
+use Rattle.law_contents.specs.Met.{IsContentSometime}
+use Rattle.walk_run.proofs.NoCrash.{no-crash-within}
 use Rattle.nq_model.proofs.SkewTest.{skew-test-is-sound}
 use Rattle.nq_model.specs.Ask.{grant_of, sharing_row, caching_row, shared_again, renewed_row, put_off, free, put_off_by_own, granted, no_lease}
 use Rattle.nq_model.specs.Client.{Clean, Client, Job, Ticket, clean_at, revision_of}

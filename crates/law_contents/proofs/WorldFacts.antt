@@ -13,18 +13,18 @@ use Rattle.walk_contents.proofs.Facts.{History, Follows, follows, Tells, tells-f
 use Rattle.walk_contents.proofs.FileMoves.{files-idle, unused-idle}
 use Rattle.walk_contents.proofs.ServerDelays.{Never, never-delayed}
 use Rattle.walk_contents.proofs.ServerDoes.{history_after, Shows}
-use Rattle.walk_contents.specs.Contents.{delayed_value}
+use Rattle.nq_promises.specs.Contents.{delayed_value}
 use Rattle.nq_model.specs.Client.{Clean, Client, ClientStep, Revision, Ticket, begun, clean_at, dirty_at, revision_of}
 use Rattle.nq_model.specs.Hear.{inc_of}
 use Rattle.nq_model.specs.Kept.{host_row}
 use Rattle.nq_model.specs.Message.{Message, Packet, call, reply}
 use Rattle.nq_model.specs.Server.{ServerStep, to_host}
 use Rattle.nq_model.specs.World.{World, from_host, after_server, after_client}
-use Rattle.law_leases.proofs.RunCases.{clients-after}
+use Rattle.walk_run.proofs.RunCases.{clients-after}
 use Rattle.walk_run.proofs.Mail.{packets_with, old-told}
 use Rattle.walk_run.proofs.Packets.{In, in-left, in-append, Asked, Told, message-same, Mail}
 use Rattle.walk_run.proofs.ServerSays.{AllSaid}
-use Rattle.law_requests.proofs.WorldSequences.{asked-before-server}
+use Rattle.walk_run.proofs.Sequences.{asked-before-server}
 
 -- what a client knows of contents
 pub record ClientFits (h : History) (c : Client) (ps : List Packet) : Type 0 where

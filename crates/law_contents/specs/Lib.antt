@@ -1,1 +1,1 @@
-pub mod ContentsInRuns
+pub mod Met

@@ -1,6 +1,7 @@
 //! One content for each revision.
 
-ghost use Rattle.law_contents.specs.ContentsInRuns.{CleanBlocksHaveTheirRevisionInEveryRun, DoneRequestsAreChangesInEveryRun, FilesAreTheirHistoryInEveryRun, IsContentSometime, PushesCarryTheirLastWriteInEveryRun};
+ghost use Rattle.nq_promises.specs.RevisionsHaveOneContent.{CleanBlocksHaveTheirRevisionInEveryRun, DoneRequestsAreChangesInEveryRun, FilesAreTheirHistoryInEveryRun, PushesCarryTheirLastWriteInEveryRun};
+ghost use Rattle.law_contents.specs.Met.{IsContentSometime};
 
 /// After every schedule within skew, over all crashes, the revision of each kept file is the number of its changes in the
 /// journal, and its blocks are what the changes made of zeros of its first length: a write that goes through sets its block,

@@ -6,13 +6,14 @@ use Rattle.nq_base.specs.declared.Entry.{Entry}
 use Rattle.nq_base.specs.declared.Event.{Event}
 use Rattle.nq_base.specs.declared.Row.{Row}
 use Rattle.nq_base.specs.declared.Who.{Who}
-use Rattle.law_endings.specs.EndingsInRuns.{boot_opened, was_caching, IsLate, EndingsComeLate}
+use Rattle.nq_promises.specs.EndingsComeLate.{boot_opened, was_caching, IsLate, EndingsComeLate}
 use Rattle.walk_endings.proofs.LateEndings.{late-end, long-wait, all-over}
 use Rattle.walk_endings.proofs.LogRuns.{Alone as ServerAlone, LogRuns, IsShortGrant, runs-start, runs-receive, runs-tick, runs-crash}
 use Rattle.walk_endings.proofs.UntimedSteps.{call-untimed, tick-untimed, hear-untimed, restart-untimed}
-use Rattle.law_leases.proofs.LeaseIntervals.{Served, run-runs}
-use Rattle.law_leases.proofs.ServerLives.{HasServed}
-use Rattle.law_leases.specs.LeaseIntervalInRuns.{KeepsBounds}
+use Rattle.walk_leases.proofs.Runs.{Served}
+use Rattle.law_leases.proofs.LeaseIntervals.{run-runs}
+use Rattle.walk_leases.proofs.ServerLives.{HasServed}
+use Rattle.nq_promises.specs.Bounds.{KeepsBounds}
 use Rattle.nq_model.specs.Client.{ClientStep}
 use Rattle.nq_model.specs.ClientStep.{client_call, client_tick, restart}
 use Rattle.nq_model.specs.CutOff.{Given, last_grant, IsLateEnd, IsLongWait, IsLateOpening}
@@ -26,15 +27,15 @@ use Rattle.nq_model.specs.ServerStep.{boot, is_over, attaches, vacates, tells_la
 use Rattle.nq_model.specs.Skew.{IsWithinSkew}
 use Rattle.nq_model.specs.Table.{Table, caches, is_writing, find_row, with_rows}
 use Rattle.nq_model.specs.World.{Head, World, after_server, after_client, sending_host, start, run}
-use Rattle.law_leases.proofs.RunCases.{Keeps, run-keeps}
+use Rattle.walk_run.proofs.RunCases.{Keeps, run-keeps}
 use Rattle.walk_run.proofs.Worlds.{run-holds}
-use Rattle.law_servers.proofs.LogFits.{timed-append}
-use Rattle.law_servers.proofs.LogGrants.{fence-opened}
-use Rattle.law_servers.proofs.LogMoves.{timed}
-use Rattle.law_servers.proofs.LogRows.{RowsGranted, RowsHear}
-use Rattle.law_servers.proofs.LogTimes.{HeardAll, IsHeard, ToldBoot, is_boot}
-use Rattle.law_servers.proofs.ServerNumbers.{Waits, PhaseWaits}
-use Rattle.law_servers.proofs.ServerTables.{StandingFits}
+use Rattle.walk_tables.proofs.LogFits.{timed-append}
+use Rattle.walk_tables.proofs.LogGrants.{fence-opened}
+use Rattle.walk_tables.proofs.LogMoves.{timed}
+use Rattle.walk_tables.proofs.LogRows.{RowsGranted, RowsHear}
+use Rattle.walk_tables.proofs.LogTimes.{HeardAll, IsHeard, ToldBoot, is_boot}
+use Rattle.walk_tables.proofs.ServerNumbers.{Waits, PhaseWaits}
+use Rattle.walk_tables.proofs.ServerTables.{StandingFits}
 use Rattle.walk_server.proofs.Modes.{writing-caches}
 use Rattle.walk_server.proofs.RowChanges.{HasUniqueKeys, found-any, found-kept, unique-filtered}
 use Rattle.walk_server.proofs.Rows.{find-passes, same-number}

@@ -4,7 +4,7 @@ use Rattle.nq_base.specs.declared.Mode.TheVariants.{Writing}
 use Rattle.nq_base.specs.declared.Push.{Push}
 use Rattle.walk_client.proofs.ClientMoves.{some-same, none-some}
 use Rattle.law_endings.proofs.ExcuseWorlds.{ChainsInEveryRun, run-excused}
-use Rattle.law_endings.specs.ExcusesInRuns.{LossesAreExcused, IsUnsaved, listed, under_way, IsBoundAt, IsExcusedLoss, UnsavedFilesAreBoundOrExcused}
+use Rattle.nq_promises.specs.LossesAreExcused.{LossesAreExcused, IsUnsaved, listed, under_way, IsBoundAt, IsExcusedLoss, UnsavedFilesAreBoundOrExcused}
 use Rattle.walk_endings.proofs.BoundRows.{bound-fitting}
 use Rattle.walk_endings.proofs.Cuts.{IsExcusedIn, cut-excused}
 use Rattle.walk_endings.proofs.Holdings.{IsHeldBound}

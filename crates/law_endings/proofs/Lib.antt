@@ -1,10 +1,5 @@
 pub mod EndingWorlds
 pub mod SomeEnding
-pub mod FromChains
-pub mod RefusedPushes
-pub mod BoundOrExcused
-pub mod RunFacts
-pub mod ServerExcuses
 pub mod ExcuseWorlds
 pub mod ExcusesInRuns
 pub mod SomeLost

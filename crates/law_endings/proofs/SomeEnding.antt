@@ -5,12 +5,13 @@ use Rattle.std.specs.Prelude.{All}
 use Rattle.nq_base.specs.Block.{zeros}
 use Rattle.nq_base.specs.declared.Call.{Call}
 use Rattle.nq_base.specs.declared.Event.{Event}
-use Rattle.law_endings.specs.EndingsInRuns.{was_caching, is_silent_end, is_opening, EndsSometime}
-use Rattle.law_leases.proofs.NoCrash.{one-first, no-crash-within, no-crash-after}
-use Rattle.law_leases.specs.LeaseIntervalInRuns.{BootsWithin}
+use Rattle.nq_promises.specs.EndingsComeLate.{was_caching}
+use Rattle.law_endings.specs.EndingsMet.{is_silent_end, is_opening, EndsSometime}
+use Rattle.walk_run.proofs.NoCrash.{one-first, no-crash-within, no-crash-after}
+use Rattle.nq_promises.specs.Bounds.{BootsWithin}
 use Rattle.nq_model.proofs.SkewTest.{skew-test-is-sound}
 use Rattle.nq_model.specs.Skew.{is_within_skew}
-use Rattle.nq_model.specs.World.{Head}
+use Rattle.nq_model.specs.World.{Head, after_server, after_client, start, run}
 use Rattle.nq_model.specs.Ask.{grant_of, sharing_row, caching_row, shared_again, renewed_row, put_off, free, put_off_by_own, granted, no_lease}
 use Rattle.nq_model.specs.ClientStep.{begins_call, is_called, says_busy, at_time, sends_again, fresh_client, attached_client, starts}
 use Rattle.nq_model.specs.Decide.{decides, creates, writes_through, stores, wrote, stores_recovering, resizes, removes, puts_off, commits}
@@ -22,7 +23,6 @@ use Rattle.nq_model.specs.ServerStep.{attaches, tells_later, serves, leases, vac
 use Rattle.nq_model.specs.ServerStep as server
 use Rattle.nq_model.specs.Settle.{answers, after_read, reads_cached, after_write, marks_written}
 use Rattle.nq_model.specs.Table.{empty_table, with_rows, after_draw}
-use Rattle.nq_model.specs.World.{after_server, after_client, start, run}
 
 -- one host that wants terms of five ticks, and one file of one block
 abbrev one-host : Head

@@ -5,13 +5,13 @@ use Rattle.std.specs.Prelude.{slice_get, unwrap_or, is_some, All}
 use Rattle.nq_base.specs.Block.{zeros}
 use Rattle.nq_base.specs.declared.Call.{Call}
 use Rattle.nq_base.specs.declared.Event.{Event}
-use Rattle.law_endings.specs.ExcusesInRuns.{is_loss, IsLostSometime}
-use Rattle.law_leases.proofs.NoCrash.{no-crash-within}
-use Rattle.law_leases.specs.LeaseIntervalInRuns.{BootsWithin}
+use Rattle.law_endings.specs.ExcusesMet.{is_loss, IsLostSometime}
+use Rattle.walk_run.proofs.NoCrash.{no-crash-within}
+use Rattle.nq_promises.specs.Bounds.{BootsWithin}
 use Rattle.nq_model.proofs.SkewTest.{skew-test-is-sound}
 use Rattle.nq_model.specs.Client.{Client, is_clean}
 use Rattle.nq_model.specs.Skew.{is_within_skew}
-use Rattle.nq_model.specs.World.{Head}
+use Rattle.nq_model.specs.World.{Head, after_server, after_client, start, run}
 use Rattle.nq_model.specs.Ask.{grant_of, sharing_row, caching_row, shared_again, renewed_row, put_off, free, put_off_by_own, granted, no_lease}
 use Rattle.nq_model.specs.ClientStep.{begins_call, is_called, says_busy, at_time, sends_again, fresh_client, attached_client, starts}
 use Rattle.nq_model.specs.Decide.{decides, creates, writes_through, stores, wrote, stores_recovering, resizes, removes, puts_off, commits}
@@ -23,7 +23,6 @@ use Rattle.nq_model.specs.ServerStep.{attaches, tells_later, serves, leases, vac
 use Rattle.nq_model.specs.ServerStep as server
 use Rattle.nq_model.specs.Settle.{answers, after_read, reads_cached, after_write, marks_written}
 use Rattle.nq_model.specs.Table.{empty_table, with_rows, after_draw}
-use Rattle.nq_model.specs.World.{after_server, after_client, start, run}
 use Rattle.walk_server.proofs.Tests.{some-is}
 
 -- one host that wants terms of five ticks, and one file of one block

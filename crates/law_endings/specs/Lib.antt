@@ -1,2 +1,2 @@
-pub mod EndingsInRuns
-pub mod ExcusesInRuns
+pub mod EndingsMet
+pub mod ExcusesMet

@@ -1,6 +1,7 @@
 //! The ends of writing leases.
 
-ghost use Rattle.law_endings.specs.EndingsInRuns.{EndingsComeLate, EndsSometime};
+ghost use Rattle.nq_promises.specs.EndingsComeLate.{EndingsComeLate};
+ghost use Rattle.law_endings.specs.EndingsMet.{EndsSometime};
 
 /// After every schedule within skew each end of a writing lease in silence comes late enough in the journal: write slack after
 /// the lease's end, after the last write that was heard and after each store, and skew and slack after the term of the last

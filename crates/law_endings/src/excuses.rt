@@ -1,6 +1,7 @@
 //! Losses of delayed writes.
 
-ghost use Rattle.law_endings.specs.ExcusesInRuns.{IsLostSometime, LossesAreExcused, UnsavedFilesAreBoundOrExcused};
+ghost use Rattle.law_endings.specs.ExcusesMet.{IsLostSometime};
+ghost use Rattle.nq_promises.specs.LossesAreExcused.{LossesAreExcused, UnsavedFilesAreBoundOrExcused};
 
 /// After every schedule within skew each loss is excused: an entry that ends its client's writing lease on the file, a silent end
 /// of it or the end of a recovery, stands after every write that the loss covers and before the loss, and comes late enough

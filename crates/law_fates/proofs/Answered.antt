@@ -22,7 +22,7 @@ use Rattle.nq_model.specs.Message.{Message, Packet, call, reply, error, sequence
 use Rattle.nq_model.specs.Server.{Server, ServerStep, to_host}
 use Rattle.nq_model.specs.Table.{same_who}
 use Rattle.nq_model.specs.World.{from_host}
-use Rattle.law_requests.proofs.Sequences.{Seqs}
+use Rattle.walk_run.proofs.Sequences.{Seqs}
 use Rattle.walk_run.proofs.Mail.{packets_with, packets-last, spent-mail, cancelled-fewer, same-fewer}
 use Rattle.walk_run.proofs.Packets.{In, in-append, Asked, Told, not-both, Mail, IsFewer}
 use Rattle.walk_run.proofs.ServerKnows.{NoneHeard, NoneGiven}

@@ -5,7 +5,7 @@ use Rattle.nq_base.specs.declared.Entry.TheVariants.{W}
 use Rattle.walk_fates.proofs.JournalMoves.{accounts, covers-write}
 use Rattle.law_fates.proofs.WorldWrites.{WritesAt, writes-fit}
 use Rattle.walk_fates.proofs.WritesFit.{CoversNumber, LiesWithin, in_list, under_way}
-use Rattle.law_fates.specs.FatesInRuns.{AccountedInEveryRun, Encloses, UnderWayEncloses, IsUnsaved, IsDelayedBy, WaitingAreUnsavedInEveryRun}
+use Rattle.nq_promises.specs.WritesAreAccounted.{AccountedInEveryRun, Encloses, UnderWayEncloses, IsUnsaved, IsDelayedBy, WaitingAreUnsavedInEveryRun}
 use Rattle.nq_model.specs.Client.{Client}
 use Rattle.nq_model.specs.Journal.{Exists, Covers}
 use Rattle.nq_model.specs.World.{World, run}

@@ -9,8 +9,9 @@ use Rattle.nq_base.specs.declared.Mode.{Mode}
 use Rattle.nq_base.specs.declared.Said.{Said}
 use Rattle.nq_base.specs.declared.Told.{Told}
 use Rattle.nq_base.specs.declared.Who.{Who}
-use Rattle.law_fates.specs.FatesInRuns.{Encloses, HasEachFate}
-use Rattle.law_leases.proofs.NoCrash.{no-crash-within}
+use Rattle.nq_promises.specs.WritesAreAccounted.{Encloses}
+use Rattle.law_fates.specs.Met.{HasEachFate}
+use Rattle.walk_run.proofs.NoCrash.{no-crash-within}
 use Rattle.nq_model.proofs.SkewTest.{skew-test-is-sound}
 use Rattle.nq_model.specs.Ask.{grant_of, sharing_row, caching_row, shared_again, renewed_row, put_off, free, put_off_by_own, granted, no_lease}
 use Rattle.nq_model.specs.Client.{Client}

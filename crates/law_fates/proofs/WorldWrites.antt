@@ -22,7 +22,7 @@ use Rattle.walk_fates.proofs.ServerTells.{Effects, without, goes_through, pushes
 use Rattle.walk_fates.proofs.StepFates.{Replies, mid-begins, mid-hears, mid-call-step, mid-tick-step}
 use Rattle.walk_fates.proofs.WritesFit.{JournalFits, HaveWrites, IsOpenPush, Facts, CoversNumber, IsClear, WritesFit}
 use Rattle.law_leases.proofs.LeaseIntervals.{run-runs}
-use Rattle.law_leases.specs.LeaseIntervalInRuns.{KeepsBounds}
+use Rattle.nq_promises.specs.Bounds.{KeepsBounds}
 use Rattle.nq_model.specs.Client.{Client, ClientStep, attaching, pushing, Ticket, begun}
 use Rattle.nq_model.specs.ClientStep.{client_call, client_tick, restart, starts, next_incarnation, attached_client, fresh_client}
 use Rattle.nq_model.specs.Hear.{hear, inc_of, reply_counts}
@@ -31,15 +31,17 @@ use Rattle.nq_model.specs.Message.{Message, Packet, call, reply, sequence_of}
 use Rattle.nq_model.specs.Server.{ServerStep}
 use Rattle.nq_model.specs.Skew.{IsWithinSkew}
 use Rattle.nq_model.specs.World.{Head, World, from_host, after_server, after_client, start, run}
-use Rattle.law_requests.proofs.OpenRequests.{OneOpenAt, run-opens}
-use Rattle.law_requests.proofs.WorldSequences.{run-draws, asked-before-server}
-use Rattle.law_leases.proofs.RunCases.{client_at, Keeps, run-keeps, OfClients, clients-after}
+use Rattle.walk_run.proofs.OpenAt.{OneOpenAt}
+use Rattle.law_requests.proofs.OpenRequests.{run-opens}
+use Rattle.law_requests.proofs.WorldSequences.{run-draws}
+use Rattle.walk_run.proofs.Sequences.{asked-before-server}
+use Rattle.walk_run.proofs.RunCases.{client_at, Keeps, run-keeps, OfClients, clients-after}
 use Rattle.walk_run.proofs.HostLine.{IsSettled}
-use Rattle.walk_run.proofs.KnownWorlds.{Known, first-there, first-line}
+use Rattle.walk_leases.proofs.KnownWorlds.{Known, first-there, first-line}
 use Rattle.walk_run.proofs.Mail.{packets_with, other-asked}
 use Rattle.walk_run.proofs.Packets.{In, in-get, Asked, Told, Mail}
 use Rattle.walk_run.proofs.ServerSays.{AllSaid}
-use Rattle.walk_run.proofs.WorldClocks.{StillIf, call-still, tick-still, hear-still}
+use Rattle.walk_leases.proofs.WorldClocks.{StillIf, call-still, tick-still, hear-still}
 use Rattle.walk_run.proofs.Worlds.{IsAt, Holds, to-told, first-client, run-holds, received-said, tick-said, crash-said}
 
 -- of each client, and of the journal

@@ -1,1 +1,1 @@
-pub mod FatesInRuns
+pub mod Met

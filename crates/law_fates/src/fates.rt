@@ -1,6 +1,7 @@
 //! What becomes of delayed writes.
 
-ghost use Rattle.law_fates.specs.FatesInRuns.{AccountedInEveryRun, HasEachFate, WaitingAreUnsavedInEveryRun};
+ghost use Rattle.nq_promises.specs.WritesAreAccounted.{AccountedInEveryRun, WaitingAreUnsavedInEveryRun};
+ghost use Rattle.law_fates.specs.Met.{HasEachFate};
 
 /// After every schedule within skew the journal accounts for its delayed writes: no delayed write is covered by two entries,
 /// so none is both stored and lost and none is stored twice, and each loss is of one write at least.

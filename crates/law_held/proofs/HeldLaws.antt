@@ -1,6 +1,6 @@
 -- The law: in every run kept blocks are held.
 use Rattle.law_held.proofs.HeldRuns.{run-held}
-use Rattle.law_held.specs.HeldInRuns.{KeptBlocksAreHeldInEveryRun}
+use Rattle.nq_promises.specs.BlocksAreHeld.{KeptBlocksAreHeldInEveryRun}
 use Rattle.law_undisturbed.proofs.KnownRuns.{run-known}
 
 pub held-in-every-run : KeptBlocksAreHeldInEveryRun

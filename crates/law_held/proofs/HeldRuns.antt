@@ -5,19 +5,19 @@ use Rattle.std.specs.Prelude.{slice_get}
 use Rattle.nq_base.specs.Block.{value_of}
 use Rattle.nq_base.specs.declared.Event.{Event}
 use Rattle.law_contents.proofs.RunContents.{run-fits}
-use Rattle.law_contents.specs.ContentsInRuns.{first_length}
+use Rattle.nq_promises.specs.RevisionsHaveOneContent.{first_length}
 use Rattle.walk_contents.proofs.ServerDoes.{get-mapped}
-use Rattle.walk_contents.specs.Contents.{content_at}
-use Rattle.law_leases.specs.LeaseIntervalInRuns.{KeepsBounds}
+use Rattle.nq_promises.specs.Contents.{content_at}
+use Rattle.nq_promises.specs.Bounds.{KeepsBounds}
 use Rattle.law_held.proofs.RestingRuns.{rests-on}
-use Rattle.law_held.specs.HeldInRuns.{KeptBlocksAreHeld}
+use Rattle.nq_promises.specs.BlocksAreHeld.{KeptBlocksAreHeld}
 use Rattle.walk_legal.proofs.Held.{HasHeld, held-is}
 use Rattle.walk_legal.proofs.HeldContents.{HeldBlocks, content}
 use Rattle.walk_legal.proofs.HeldFiles.{held-contents, content-length}
 use Rattle.nq_model.specs.Kept.{File, blocks_of, find_file}
 use Rattle.nq_model.specs.Skew.{IsWithinSkew}
 use Rattle.nq_model.specs.World.{Head, run}
-use Rattle.law_undisturbed.proofs.Holders.{KnownOf}
+use Rattle.walk_undisturbed.proofs.Holders.{KnownOf}
 
 module _ (most : ℕ) (head : Head) (known : (events : List Event) → KeepsBounds most head events → IsWithinSkew head.hosts most events → KnownOf head.hosts most (run head events) events) (events : List Event) (b : KeepsBounds most head events) (within : IsWithinSkew head.hosts most events) where
   -- a kept file has the content of its changes

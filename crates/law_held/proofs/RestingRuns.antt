@@ -11,18 +11,18 @@ use Rattle.walk_client.proofs.ClientCases.{core_of}
 use Rattle.walk_client.proofs.ClientFacts.{push_in}
 use Rattle.walk_client.proofs.ClientMoves.{attached-with-ticket}
 use Rattle.law_contents.proofs.RunContents.{lengths-first, run-fits}
-use Rattle.law_contents.specs.ContentsInRuns.{first_length}
-use Rattle.walk_contents.specs.Contents.{content_at}
+use Rattle.nq_promises.specs.RevisionsHaveOneContent.{first_length}
+use Rattle.nq_promises.specs.Contents.{content_at}
 use Rattle.law_fates.proofs.AnsweredWorlds.{received-tells, tick-tells, crash-tells}
 use Rattle.law_fates.proofs.WorldWrites.{no-attach}
 use Rattle.walk_fates.proofs.ServerTells.{Moves}
 use Rattle.walk_fates.proofs.WritesFit.{IsOpenPush, WritesFit, JournalFits}
-use Rattle.law_leases.specs.LeaseIntervalInRuns.{KeepsBounds}
-use Rattle.law_held.proofs.EarlierServer.{Around, earlier-server}
-use Rattle.law_held.proofs.EarlierStores.{Earlier, Goes, goes_on, begins, earlier-own, earlier-other}
-use Rattle.law_held.proofs.Entries.{IsIdle, accesses-idle, rests-idle, IsInsideAt, inside-idle, inside-is, inside-later, throughout-weaker, throughout-idle}
-use Rattle.law_held.proofs.ServerMakes.{Makes, MakesStore, idle, writes, stored, receive-makes, tick-makes, crash-makes}
-use Rattle.law_held.proofs.Steps.{ClientActs, called, ticked, restarted, heard, ServerActs, received, ticks, crashes, Changes, nothing, by_client, by_server, run-goes}
+use Rattle.nq_promises.specs.Bounds.{KeepsBounds}
+use Rattle.walk_legal.proofs.EarlierServer.{Around, earlier-server}
+use Rattle.walk_legal.proofs.EarlierStores.{Earlier, Goes, goes_on, begins, earlier-own, earlier-other}
+use Rattle.walk_legal.proofs.Entries.{IsIdle, accesses-idle, rests-idle, IsInsideAt, inside-idle, inside-is, inside-later, throughout-weaker, throughout-idle}
+use Rattle.walk_legal.proofs.ServerMakes.{Makes, MakesStore, idle, writes, stored, receive-makes, tick-makes, crash-makes}
+use Rattle.walk_run.proofs.Steps.{ClientActs, called, ticked, restarted, heard, ServerActs, received, ticks, crashes, Changes, nothing, by_client, by_server, run-goes}
 use Rattle.walk_legal.proofs.HeldContents.{content}
 use Rattle.walk_legal.proofs.HeldFiles.{RestsOn}
 use Rattle.walk_legal.proofs.Stores.{StoreFits, Rests}
@@ -36,17 +36,19 @@ use Rattle.nq_model.specs.Server.{Server, ServerStep, quiet, drops, says, keepin
 use Rattle.nq_model.specs.ServerStep.{attaches, vacates, tells_later, serves, leases, receive, tick, at_time, opens, ends_writing, fence, crash, boot, booted}
 use Rattle.nq_model.specs.Skew.{IsWithinSkew}
 use Rattle.nq_model.specs.World.{Head, World, from_host, after_server, after_client, sending_host, start, run}
-use Rattle.law_requests.proofs.OpenRequests.{OneOpenAt, run-opens}
-use Rattle.law_requests.proofs.WorldSequences.{asked-before-server, run-draws}
-use Rattle.law_leases.proofs.RunCases.{During, clients-after}
+use Rattle.walk_run.proofs.OpenAt.{OneOpenAt}
+use Rattle.law_requests.proofs.OpenRequests.{run-opens}
+use Rattle.walk_run.proofs.Sequences.{asked-before-server}
+use Rattle.law_requests.proofs.WorldSequences.{run-draws}
+use Rattle.walk_run.proofs.RunCases.{During, clients-after}
 use Rattle.walk_run.proofs.Packets.{In, in-get, Asked, call-same}
 use Rattle.walk_run.proofs.ServerSays.{AllSaid}
 use Rattle.walk_run.proofs.HostLine.{LineFits}
 use Rattle.walk_run.proofs.Worlds.{IsAt, Holds, to-server, to-told, received-said, tick-said, crash-said, set-there}
 use Rattle.walk_server.proofs.ServerCases.{server-hears, server-ticks}
-use Rattle.law_undisturbed.proofs.Accesses.{call-accesses, tick-accesses, hear-accesses, restart-accesses}
-use Rattle.law_undisturbed.proofs.Holders.{KnownOf}
-use Rattle.law_undisturbed.proofs.OwnSends.{OwnSends, call-own, tick-own, hear-own}
+use Rattle.walk_undisturbed.proofs.Accesses.{call-accesses, tick-accesses, hear-accesses, restart-accesses}
+use Rattle.walk_undisturbed.proofs.Holders.{KnownOf}
+use Rattle.walk_undisturbed.proofs.OwnSends.{OwnSends, call-own, tick-own, hear-own}
 use Rattle.law_undisturbed.proofs.UndisturbedRuns.{run-still}
 
 -- ---- the next id does not fall

@@ -1,7 +1,7 @@
 -- A client delays a write, stores it, and gives its file another length.
 use Rattle.std.proofs.Common.{◌≡◌, true, List, [], ◌∷◌, refl, arith}
 use Rattle.nq_base.specs.Block.{filled, zeros}
-use Rattle.law_leases.proofs.NoCrash.{no-crash-within}
+use Rattle.walk_run.proofs.NoCrash.{no-crash-within}
 use Rattle.nq_model.specs.Ask.{grant_of, sharing_row, caching_row, shared_again, renewed_row, put_off, free, put_off_by_own, granted, no_lease}
 use Rattle.nq_model.specs.ClientStep.{begins_call, is_called, says_busy, at_time, sends_again, fresh_client, attached_client, starts}
 use Rattle.nq_model.specs.Decide.{decides, creates, writes_through, stores, wrote, stores_recovering, resizes, removes, puts_off, commits}
@@ -12,12 +12,11 @@ use Rattle.nq_model.specs.Server.{quiet, drops, says, after_notices, keeping, ke
 use Rattle.nq_model.specs.ServerStep.{attaches, tells_later, serves, leases, vacates, ends_writing, opens, at_time as at_time_of_serverstep, boot, crash}
 use Rattle.nq_model.specs.Settle.{answers, after_read, reads_cached, after_write, marks_written}
 use Rattle.nq_model.specs.Table.{empty_table, with_rows, after_draw}
-use Rattle.nq_model.specs.World.{after_server, after_client, start}
+use Rattle.nq_model.specs.World.{after_server, after_client, start, Head, run}
 use Rattle.nq_base.specs.declared.Call.{Call}
 use Rattle.nq_base.specs.declared.Event.{Event}
 use Rattle.nq_model.proofs.SkewTest.{skew-test-is-sound}
-use Rattle.nq_model.specs.World.{Head, run}
-use Rattle.law_held.specs.HeldInRuns.{HeldAreMet, has_held}
+use Rattle.law_held.specs.Met.{HeldAreMet, has_held}
 
 -- one host, one file of one block
 abbrev pub one-host : Head

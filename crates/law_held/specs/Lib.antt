@@ -1,1 +1,1 @@
-pub mod HeldInRuns
+pub mod Met

@@ -1,6 +1,7 @@
 //! Kept blocks are held.
 
-ghost use Rattle.law_held.specs.HeldInRuns.{HeldAreMet, KeptBlocksAreHeldInEveryRun};
+ghost use Rattle.law_held.specs.Met.{HeldAreMet};
+ghost use Rattle.nq_promises.specs.BlocksAreHeld.{KeptBlocksAreHeldInEveryRun};
 
 /// After every schedule within skew, over all crashes, each block of each kept file has the value of the last write on it, by
 /// place, that went through or was stored and that no change of the length cut after it, or 0; and a file has the length that

@@ -1,5 +1,5 @@
 -- In every run within skew the lease interval is kept.
-use Rattle.std.proofs.Common.{◌≡◌, ◌≢◌, ◌<◌, ◌≤◌, ℕ, zero, suc, ◌+◌, Bool, true, false, ◌==◌, List, [], ◌∷◌, ◌++◌, Option, Some, None, if◌then◌else◌, length, refl, sym, subst, ap, ◌∙◌, arith, append-nil}
+use Rattle.std.proofs.Common.{◌≡◌, ◌≢◌, ◌≤◌, ℕ, zero, suc, ◌+◌, Bool, true, false, ◌==◌, List, [], ◌∷◌, ◌++◌, Option, Some, None, if◌then◌else◌, length, refl, sym, subst, ap, ◌∙◌, arith, append-nil}
 use Rattle.std.specs.Prelude.{slice_get, slice_set}
 use Rattle.nq_base.specs.declared.Event.{Event}
 use Rattle.nq_base.specs.declared.Party.{Party}
@@ -10,24 +10,25 @@ use Rattle.walk_client.proofs.ClientFacts.{fits_job}
 use Rattle.walk_client.proofs.ClientMoves.{some-same, none-some}
 use Rattle.walk_run.proofs.ClientSteps.{KnowsOf}
 use Rattle.walk_run.proofs.Clocks.{within-before}
-use Rattle.law_leases.proofs.Hearing.{Hearing}
-use Rattle.walk_run.proofs.KnownWorlds.{Known, at-clock, timely, to-client-known, call-known, tick-known, restart-known, server-known, known-covers, start-known, first-there, ignored-known}
-use Rattle.law_servers.proofs.LogFits.{fits-start}
+use Rattle.walk_leases.proofs.Hearing.{Hearing}
+use Rattle.walk_leases.proofs.KnownWorlds.{Known, at-clock, timely, to-client-known, call-known, tick-known, restart-known, server-known, known-covers, start-known, first-there, ignored-known}
+use Rattle.walk_tables.proofs.LogFits.{fits-start}
 use Rattle.walk_run.proofs.Packets.{In, in-get, Told}
 use Rattle.walk_server.proofs.Rows.{same-number, number-same}
-use Rattle.law_servers.proofs.ServerFacts.{IncsFit, IncsFitOf, incs-receive, incs-tick, incs-crash}
-use Rattle.law_leases.proofs.ServerHears.{hears-effect}
+use Rattle.walk_tables.proofs.ServerFacts.{IncsFit, incs-receive, incs-tick, incs-crash}
+use Rattle.walk_leases.proofs.ServerHears.{hears-effect}
 use Rattle.walk_run.proofs.ClientKnows.{Knows}
 use Rattle.walk_server.proofs.ServerCases.{server-ticks}
 use Rattle.walk_run.proofs.ServerKnows.{NoneHeard, NoneGiven}
-use Rattle.law_leases.proofs.ServerLives.{HasServed, knows-tick, knows-crash}
+use Rattle.walk_leases.proofs.ServerLives.{HasServed, knows-tick, knows-crash}
 use Rattle.walk_server.proofs.ServerMoves.{server-moves, tick-moves}
-use Rattle.law_servers.proofs.ServerNumbers.{TermsFitOf, terms-receive, terms-tick, terms-crash, LinesFitOf, lines-receive, lines-tick, lines-crash}
-use Rattle.law_servers.proofs.ServerTables.{BootsFitOf, boots-receive, boots-tick, boots-crash, StandingFitsOf, stands-receive, stands-tick, stands-crash, NoneRecovering, NoneRecoveringOf, none-of-boots}
-use Rattle.law_leases.proofs.Unrowed.{IsUnrowed, unrowed-receive, unrowed-tick, unrowed-crash}
-use Rattle.walk_run.proofs.WorldClocks.{Clocked, StillOf, StillIf, call-still, tick-still, hear-still, run-clocked}
+use Rattle.walk_tables.proofs.ServerNumbers.{terms-receive, terms-tick, terms-crash, lines-receive, lines-tick, lines-crash}
+use Rattle.walk_tables.proofs.ServerTables.{boots-receive, boots-tick, boots-crash, stands-receive, stands-tick, stands-crash, NoneRecovering}
+use Rattle.walk_leases.proofs.Unrowed.{IsUnrowed, unrowed-receive, unrowed-tick, unrowed-crash}
+use Rattle.walk_leases.proofs.WorldClocks.{Clocked, StillOf, StillIf, call-still, tick-still, hear-still, run-clocked}
 use Rattle.walk_run.proofs.Worlds.{IsAt, Holds, get-set-same, get-set-other, to-server, to-told, run-holds, first-client}
-use Rattle.law_leases.specs.LeaseIntervalInRuns.{BootsWithin, KeepsBounds, LeaseIntervalInEveryRun}
+use Rattle.nq_promises.specs.Bounds.{BootsWithin, KeepsBounds}
+use Rattle.nq_promises.specs.LeaseIntervals.{LeaseIntervalInEveryRun}
 use Rattle.nq_model.specs.Client.{Client, ClientStep, attaching, Ticket}
 use Rattle.nq_model.specs.ClientStep.{client_call, client_tick, restart, starts, fresh_client, attached_client, next_incarnation}
 use Rattle.nq_model.specs.Hear.{hear}
@@ -40,20 +41,10 @@ use Rattle.nq_model.specs.ServerStep.{receive, tick, crash, boot, booted, fence,
 use Rattle.nq_model.specs.Skew.{IsWithinSkew}
 use Rattle.nq_model.specs.Table.{find_row}
 use Rattle.nq_model.specs.World.{Head, World, after_server, after_client, at_client, after_hearing, sending_host, deliver_to_client, deliver_to, deliver, step, start, run}
+use Rattle.walk_leases.proofs.Runs.{Served, none-served, Runs}
+use Rattle.walk_run.proofs.NoCrash.{bounds-before}
 
 -- ---- the server alone
-
--- what holds of the server alone: some boot served, terms are no longer than this
-pub record Served (most : ℕ) (s : Server) : Type 0 where
-  pub boots : BootsFitOf s
-  pub stood : StandingFitsOf s
-  pub incs : IncsFitOf s
-  pub terms : TermsFitOf most s
-  pub lines : LinesFitOf s
-  pub opened : HasServed s.kept
-
-pub none-served : (most : ℕ) (s : Server) → Served most s → NoneRecoveringOf s
-none-served most s f = none-of-boots s.kept.boot s.kept.opened s.phase s.table f.boots
 
 -- the boots of a kept state are those of another
 same-boots : (kept after : Kept) → after.opened ≡ kept.opened → after.boot ≡ kept.boot → HasServed kept → HasServed after
@@ -140,12 +131,6 @@ start-served most head events b =
     record { boots = f.boots; stood = f.stands; incs = f.incs; terms = f.terms; lines = f.lines; opened = start-opened head }
 
 -- ---- what holds in a run
-
-pub record Runs (hosts most : ℕ) (w : World) (events : List Event) : Type 0 where
-  pub served : Served most w.server
-  pub few : (host : ℕ) (c : Client) → slice_get w.clients host ≡ Some c → host < hosts
-  pub known : Known w events
-  pub unrowed : (host : ℕ) (c : Client) → slice_get w.clients host ≡ Some c → c.attached ≡ false → IsUnrowed c.who w.server.table.rows
 
 -- a host's client is one that was there, or one that stepped there
 client-there : (w : World) (host other : ℕ) (t : ClientStep) (c : Client) → slice_get (after_client w host t).clients other ≡ Some c → (d : Client) × (slice_get w.clients other ≡ Some d)
@@ -359,10 +344,6 @@ start-runs most head b = record {
   known = start-known head;
   unrowed = λ host c is e. let yes : c.attached ≡ true = ap (λ z. z.attached) (first-client head.term 0 head.hosts host c is) ∙ start-attached _ head.term in absurd (cc);
 }
-
--- a schedule within bounds was so before its last event
-pub bounds-before : (most : ℕ) (head : Head) (e : Event) (earlier : List Event) → KeepsBounds most head (e ∷ earlier) → KeepsBounds most head earlier
-bounds-before most head e earlier b = record { hosts = b.hosts; first_long = b.first_long; first_short = b.first_short; boots = λ k d below. b.boots (suc k) d (omega arith) }
 
 pub run-runs : (most : ℕ) (head : Head) (events : List Event) → KeepsBounds most head events → IsWithinSkew head.hosts most events → Runs head.hosts most (run head events) events
 run-runs most head [] b within = start-runs most head b

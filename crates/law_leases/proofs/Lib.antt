@@ -1,11 +1,2 @@
-pub mod Covers
-pub mod Hearing
-pub mod ServerEffects
-pub mod ServerChanges
-pub mod ServerHears
-pub mod ServerLives
-pub mod Unrowed
 pub mod LeaseIntervals
-pub mod NoCrash
 pub mod SomeLease
-pub mod RunCases

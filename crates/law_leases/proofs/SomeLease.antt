@@ -3,8 +3,8 @@ use Rattle.std.proofs.Common.{◌≡◌, true, List, [], ◌∷◌, refl, arith}
 use Rattle.nq_base.specs.Block.{filled, zeros}
 use Rattle.nq_base.specs.declared.Call.{Call}
 use Rattle.nq_base.specs.declared.Event.{Event}
-use Rattle.law_leases.proofs.NoCrash.{no-crash-within}
-use Rattle.law_leases.specs.LeaseIntervalInRuns.{IsMet, holds_running}
+use Rattle.walk_run.proofs.NoCrash.{no-crash-within}
+use Rattle.law_leases.specs.Met.{IsMet, holds_running}
 use Rattle.std.specs.Prelude.{slice_get}
 use Rattle.nq_model.proofs.SkewTest.{skew-test-is-sound}
 use Rattle.nq_model.specs.Ask.{grant_of, sharing_row, caching_row, shared_again, renewed_row, put_off, free, put_off_by_own, granted, no_lease}

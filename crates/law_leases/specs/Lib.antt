@@ -1,1 +1,1 @@
-pub mod LeaseIntervalInRuns
+pub mod Met

@@ -1,6 +1,7 @@
 //! The lease interval.
 
-ghost use Rattle.law_leases.specs.LeaseIntervalInRuns.{IsMet, LeaseIntervalInEveryRun};
+ghost use Rattle.law_leases.specs.Met.{IsMet};
+ghost use Rattle.nq_promises.specs.LeaseIntervals.{LeaseIntervalInEveryRun};
 
 /// The lease interval is kept after every schedule that is within skew over the longest term of all boots: while a caching
 /// lease runs by the clock of its holder, the server has a row that fits it and that ends later by the server's clock, in

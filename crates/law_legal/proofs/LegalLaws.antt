@@ -1,6 +1,6 @@
 -- The law: in every run reads are legal.
 use Rattle.law_legal.proofs.LegalRuns.{run-legal}
-use Rattle.law_legal.specs.LegalInRuns.{ReadsAreLegalInEveryRun}
+use Rattle.nq_promises.specs.ReadsAreLegal.{ReadsAreLegalInEveryRun}
 use Rattle.law_undisturbed.proofs.KnownRuns.{run-known}
 
 pub legal-in-every-run : ReadsAreLegalInEveryRun

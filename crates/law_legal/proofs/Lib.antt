@@ -1,9 +1,4 @@
 pub mod CachedReads
-pub mod ReadFacts
-pub mod ReadClient
-pub mod ReadAdds
-pub mod ServerReads
-pub mod ReadServer
 pub mod ReadRuns
 pub mod LegalRuns
 pub mod LegalLaws

@@ -1,1 +1,1 @@
-pub mod LegalInRuns
+pub mod Met

@@ -11,7 +11,7 @@ use Rattle.nq_base.specs.declared.Who.{Who}
 use Rattle.walk_client.proofs.ClientMoves.{some-same, none-some}
 use Rattle.nq_model.proofs.Lists.{exists-append, each-append}
 use Rattle.walk_server.proofs.Rows.{choice, same-number}
-use Rattle.law_reports.specs.LossesInRuns.{cleans}
+use Rattle.nq_promises.specs.LossesAreReported.{cleans}
 use Rattle.law_reports.proofs.Books.{Book, unsaved_on, after_loss, after_names, after_report, after_call, Closed}
 use Rattle.law_reports.proofs.Tallies.{IsOne, one-passed, one-mapped, each-mapped, each-reverse}
 use Rattle.nq_model.specs.Client.{UnderWay, losses_of, is_push_of, span_list}

@@ -14,7 +14,7 @@ use Rattle.nq_base.specs.declared.Who.{Who}
 use Rattle.nq_model.proofs.Lists.{exists-map}
 use Rattle.walk_server.proofs.Incarnations.{who-same}
 use Rattle.walk_server.proofs.Rows.{same-number, number-same}
-use Rattle.law_reports.specs.LossesInRuns.{IsLossOf}
+use Rattle.nq_promises.specs.LossesAreReported.{IsLossOf}
 use Rattle.law_reports.proofs.Tallies.{IsOne, one-passed, one-passes, tally, tally-cons, tally-split}
 use Rattle.law_reports.proofs.Told.{IsExcused, IsNamedIn, IsToldAt, IsCalled, Grows, grows, some-names-back}
 use Rattle.law_reports.proofs.Journals.{same-who, IsPast, Journals, journals-add, told-none, call-numbered, call-begun}

@@ -9,7 +9,7 @@ use Rattle.nq_base.specs.declared.Who.{Who}
 use Rattle.nq_model.proofs.Lists.{exists-left, exists-right, exists-append, each-map, each-append}
 use Rattle.walk_server.proofs.Incarnations.{who-same}
 use Rattle.walk_server.proofs.Rows.{same-number, number-same}
-use Rattle.law_reports.specs.LossesInRuns.{IsLossOf}
+use Rattle.nq_promises.specs.LossesAreReported.{IsLossOf}
 use Rattle.law_reports.proofs.Tallies.{IsOne}
 use Rattle.law_reports.proofs.Told.{IsToldAt, IsCalled, Grows, grows, called-more, some-names-back, GoesOn, told-more}
 use Rattle.nq_model.specs.Journal.{Each, Exists, AtEachPlace, same_who, call_of, told_by}

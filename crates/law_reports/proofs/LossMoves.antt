@@ -12,7 +12,7 @@ use Rattle.nq_base.specs.declared.Told.{Told}
 use Rattle.nq_base.specs.declared.Who.{Who}
 use Rattle.nq_model.proofs.Lists.{exists-left, exists-right, exists-append}
 use Rattle.walk_server.proofs.Rows.{number-same}
-use Rattle.law_reports.specs.LossesInRuns.{IsLossOf}
+use Rattle.nq_promises.specs.LossesAreReported.{IsLossOf}
 use Rattle.law_reports.proofs.Tallies.{IsOne, tally, tally-cons}
 use Rattle.law_reports.proofs.Told.{IsToldAt, Grows, grows, some-names-back}
 use Rattle.law_reports.proofs.Journals.{same-who, Journals, journals-add, told-none}

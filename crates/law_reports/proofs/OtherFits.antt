@@ -7,7 +7,7 @@ use Rattle.nq_base.specs.declared.Push.{Push}
 use Rattle.nq_base.specs.declared.Said.TheVariants.{Lost}
 use Rattle.nq_base.specs.declared.Who.{Who}
 use Rattle.nq_model.proofs.Lists.{exists-right, exists-append, each-map, each-append}
-use Rattle.law_reports.specs.LossesInRuns.{IsLossOf}
+use Rattle.nq_promises.specs.LossesAreReported.{IsLossOf}
 use Rattle.law_reports.proofs.Books.{Book}
 use Rattle.law_reports.proofs.BookFits.{Counted, Fits, counted-entry, still-called}
 use Rattle.law_reports.proofs.BookNone.{IsBy}

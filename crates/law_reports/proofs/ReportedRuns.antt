@@ -11,7 +11,7 @@ use Rattle.nq_base.specs.declared.Who.{Who}
 use Rattle.walk_client.proofs.ClientMoves.{none-some}
 use Rattle.walk_server.proofs.Rows.{same-number, number-same}
 use Rattle.walk_run.proofs.Worlds.{get-set-same, get-set-other, Holds, run-holds, first-client}
-use Rattle.law_reports.specs.LossesInRuns.{IsLossOf, IsOneOf, LossesFitInEveryRun, ReportedInEveryRun}
+use Rattle.nq_promises.specs.LossesAreReported.{IsLossOf, IsOneOf, LossesFitInEveryRun, ReportedInEveryRun}
 use Rattle.law_reports.proofs.Books.{book_of, book_at}
 use Rattle.law_reports.proofs.BookFits.{Fits, fits-closed}
 use Rattle.law_reports.proofs.BookHear.{hear-keeps, tick-keeps, call-keeps}

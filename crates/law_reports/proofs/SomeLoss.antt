@@ -5,8 +5,9 @@ use Rattle.nq_base.specs.Block.{filled, zeros}
 use Rattle.nq_base.specs.declared.Call.{Call}
 use Rattle.nq_base.specs.declared.Event.{Event}
 use Rattle.nq_base.specs.declared.Loss.{Loss}
-use Rattle.law_leases.proofs.NoCrash.{no-crash-within}
-use Rattle.law_reports.specs.LossesInRuns.{IsLossOf, untold, IsLostAndNamed}
+use Rattle.walk_run.proofs.NoCrash.{no-crash-within}
+use Rattle.nq_promises.specs.LossesAreReported.{IsLossOf}
+use Rattle.law_reports.specs.Met.{untold, IsLostAndNamed}
 use Rattle.nq_model.proofs.SkewTest.{skew-test-is-sound}
 use Rattle.nq_model.specs.Ask.{grant_of, sharing_row, caching_row, shared_again, renewed_row, put_off, free, put_off_by_own, granted, no_lease}
 use Rattle.nq_model.specs.ClientStep.{begins_call, is_called, says_busy, at_time, sends_again, fresh_client, attached_client, starts}

@@ -1,1 +1,1 @@
-pub mod LossesInRuns
+pub mod Met

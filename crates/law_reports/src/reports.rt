@@ -1,6 +1,7 @@
 //! Losses and the answers that name them.
 
-ghost use Rattle.law_reports.specs.LossesInRuns.{IsLostAndNamed, LossesFitInEveryRun, ReportedInEveryRun};
+ghost use Rattle.law_reports.specs.Met.{IsLostAndNamed};
+ghost use Rattle.nq_promises.specs.LossesAreReported.{LossesFitInEveryRun, ReportedInEveryRun};
 
 /// After every schedule the losses that a client has not told yet are the L of its incarnation that no A names, in their
 /// order, and none is on the file of a `sync`, `resize` or `remove` under way.

@@ -1,4 +1,3 @@
-pub mod Sequences
 pub mod Places
 pub mod WorldSequences
 pub mod OpenRequests

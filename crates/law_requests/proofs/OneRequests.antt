@@ -7,14 +7,15 @@ use Rattle.nq_base.specs.declared.Request.{Request}
 use Rattle.nq_base.specs.declared.Who.{Who}
 use Rattle.walk_client.proofs.ClientMoves.{none-some}
 use Rattle.walk_run.proofs.HostLine.{IsSettled}
-use Rattle.walk_run.proofs.KnownWorlds.{Known}
+use Rattle.walk_leases.proofs.KnownWorlds.{Known}
 use Rattle.law_leases.proofs.LeaseIntervals.{run-runs}
-use Rattle.law_requests.proofs.OpenRequests.{IsOpenAt, Opens, run-opens}
+use Rattle.walk_run.proofs.OpenAt.{IsOpenAt, Opens}
+use Rattle.law_requests.proofs.OpenRequests.{run-opens}
 use Rattle.walk_run.proofs.Packets.{Asked, in-get}
 use Rattle.law_requests.proofs.SentTimes.{sent-in-order}
 use Rattle.law_requests.proofs.WorldSequences.{Draws, run-draws}
 use Rattle.walk_run.proofs.Worlds.{Holds, run-holds}
-use Rattle.law_requests.specs.OneRequests.{Asks, AsksOnce, OneRequestPerSequence, IsUnderWay, IsOpen, OpensOne, OneOpenInEveryRun, IsAnswer, WasSentBefore, RepliesComeAfter}
+use Rattle.nq_promises.specs.OneRequestPerSequence.{Asks, AsksOnce, OneRequestPerSequence, IsUnderWay, IsOpen, OpensOne, OneOpenInEveryRun, IsAnswer, WasSentBefore, RepliesComeAfter}
 use Rattle.nq_model.specs.Client.{Client, Ticket}
 use Rattle.nq_model.specs.Hear.{inc_of}
 use Rattle.nq_model.specs.Kept.{host_row}

@@ -5,59 +5,41 @@ use Rattle.nq_base.specs.declared.Event.{Event}
 use Rattle.nq_base.specs.declared.HostRow.{HostRow}
 use Rattle.nq_base.specs.declared.Party.{Party}
 use Rattle.nq_base.specs.declared.Request.{Request}
-use Rattle.nq_base.specs.declared.Row.{Row}
-use Rattle.nq_base.specs.declared.Who.{Who}
 use Rattle.walk_client.proofs.ClientMoves.{some-same, none-some}
 use Rattle.walk_run.proofs.Clocks.{within-before}
 use Rattle.walk_run.proofs.HostLine.{IsSettled}
-use Rattle.walk_run.proofs.KnownWorlds.{Known}
-use Rattle.law_leases.proofs.LeaseIntervals.{Runs, run-runs, hearing, bounds-before}
+use Rattle.walk_leases.proofs.KnownWorlds.{Known}
+use Rattle.walk_leases.proofs.Runs.{Runs}
+use Rattle.law_leases.proofs.LeaseIntervals.{run-runs, hearing}
+use Rattle.walk_run.proofs.NoCrash.{bounds-before}
 use Rattle.walk_run.proofs.Mail.{packets_with, other-asked}
 use Rattle.walk_run.proofs.Packets.{In, in-get, Asked, Told}
 use Rattle.walk_server.proofs.KeptChanges.{booted-line}
 use Rattle.walk_server.proofs.Rows.{same-number, number-same}
-use Rattle.law_requests.proofs.Sequences.{Seqs, Drew, DrewIf, call-draws, tick-draws, restart-draws, hear-draws}
-use Rattle.walk_server.proofs.ServerCases.{server-ticks}
-use Rattle.law_servers.proofs.ServerFacts.{fence-lines}
-use Rattle.law_leases.proofs.ServerHears.{hears-effect}
+use Rattle.walk_run.proofs.Sequences.{Seqs, Drew, DrewIf, call-draws, tick-draws, restart-draws, hear-draws, asked-before-server}
+use Rattle.walk_leases.proofs.ServerHears.{hears-effect}
 use Rattle.walk_run.proofs.ServerKnows.{LineMoves, line_stays, line_decides, line_attaches}
 use Rattle.walk_run.proofs.ServerSays.{AllSaid}
-use Rattle.law_requests.proofs.WorldSequences.{Draws, asked-before-server, run-draws}
+use Rattle.law_requests.proofs.WorldSequences.{Draws, run-draws}
 use Rattle.walk_run.proofs.Worlds.{IsAt, Holds, get-set-same, get-set-other, to-told, received-said, tick-said, crash-said, run-holds}
-use Rattle.law_leases.specs.LeaseIntervalInRuns.{KeepsBounds}
+use Rattle.nq_promises.specs.Bounds.{KeepsBounds}
 use Rattle.nq_model.specs.Client.{Client, ClientStep, Ticket}
 use Rattle.nq_model.specs.ClientStep.{client_call, client_tick, restart}
 use Rattle.nq_model.specs.Hear.{hear}
-use Rattle.nq_model.specs.Kept.{find_file, host_row}
-use Rattle.nq_model.specs.Message.{Message, Packet, asker, datagram_of, sequence_of}
-use Rattle.nq_model.specs.Server.{Server, ServerStep, quiet, with_table, keeping_with}
-use Rattle.nq_model.specs.ServerStep.{receive, tick, crash, boot, opens, ends_writing, at_time}
+use Rattle.nq_model.specs.Kept.{host_row}
+use Rattle.nq_model.specs.Message.{Message, Packet, datagram_of, sequence_of}
+use Rattle.nq_model.specs.Server.{Server, ServerStep}
+use Rattle.nq_model.specs.ServerStep.{receive, tick, crash, boot, opens}
 use Rattle.nq_model.specs.Skew.{IsWithinSkew}
-use Rattle.nq_model.specs.Table.{with_rows}
 use Rattle.nq_model.specs.World.{Head, World, after_server, after_client, at_client, after_hearing, sending_host, deliver_to_client, deliver_to, deliver, step, start, run}
+use Rattle.walk_run.proofs.OpenAt.{IsOpenAt, OneOpenAt, Opens}
+use Rattle.walk_leases.proofs.TickLines.{tick-line}
 
 -- ---- one open request of a host
-
--- a request of the kept incarnation has a sequence above the kept one
-pub record IsOpenAt (line : HostRow) (ps : List Packet) (host x : ℕ) (r : Request) : Type 0 where
-  pub who : Who
-  pub seq : ℕ
-  pub asked : Asked ps host x r
-  pub by : asker r ≡ Some who
-  pub kept : line.inc ≡ who.inc
-  pub draws : sequence_of r ≡ Some seq
-  pub above : line.seq < seq
-
-abbrev pub OneOpenAt : HostRow → List Packet → (host : ℕ) → Type 0
-OneOpenAt line ps host = (x y : ℕ) (r s : Request) → IsOpenAt line ps host x r → IsOpenAt line ps host y s → (x ≡ y) × (r ≡ s)
 
 -- where all that is open was open
 open-fewer : {line after : HostRow} {ps qs : List Packet} {host : ℕ} → ((x : ℕ) (r : Request) → IsOpenAt after qs host x r → IsOpenAt line ps host x r) → OneOpenAt line ps host → OneOpenAt after qs host
 open-fewer old h x y r s a b = h x y r s (old x r a) (old y s b)
-
--- of each host with a client
-pub record Opens (w : World) : Type 0 where
-  pub one : (host : ℕ) (c : Client) → slice_get w.clients host ≡ Some c → OneOpenAt (host_row w.server.kept host) w.packets host
 
 -- where the kept incarnation runs, it is the request under way
 open-runs : (w : World) (events : List Event) → Holds w → Known w events → (host : ℕ) (c : Client) → slice_get w.clients host ≡ Some c → (host_row w.server.kept host).inc ≡ c.who.inc → OneOpenAt (host_row w.server.kept host) w.packets host
@@ -145,30 +127,6 @@ received-moves : (hosts most : ℕ) (w : World) (events : List Event) (p : Packe
 received-moves hosts most w events p i to held h host c is =
     subst (λ n. LineMoves w.packets n (host_row w.server.kept n) (host_row (receive w.server (sending_host p.sender) (length w.packets) (datagram_of p.message)).server.kept n)) (held.clients host c is).here
     (hears-effect w.packets w.server most (sending_host p.sender) (length w.packets) (datagram_of p.message) events c.who c.now c.xid c.attached c.ticket c.leases c.notices (hearing hosts most w events p host c is i to held h)).line
-
-waits-line : (s : Server) (now host : ℕ) → host_row (quiet (at_time s now)).server.kept host ≡ host_row s.kept host
-unfolding quiet at_time
-waits-line s now host = refl
-
-opens-line : (s : Server) (now until heard host : ℕ) → host_row (opens (at_time s now) until heard).server.kept host ≡ host_row s.kept host
-unfolding opens at_time
-opens-line s now until heard host = refl
-
-ends-line : (s : Server) (now host : ℕ) (rows : List Row) → host_row (quiet (with_table (at_time s now) (with_rows s.table rows))).server.kept host ≡ host_row s.kept host
-unfolding quiet at_time with_table with_rows
-ends-line s now host rows = refl
-
-ends-writing-line : (s : Server) (now host : ℕ) (rows : List Row) (row : Row) → host_row (ends_writing (at_time s now) rows row).server.kept host ≡ host_row s.kept host
-unfolding ends_writing at_time keeping_with with_rows
-ends-writing-line s now host rows row = fence-lines s.kept (find_file row.file s.kept.files) host
-
-pub tick-line : (s : Server) (now host : ℕ) → host_row (tick s now).server.kept host ≡ host_row s.kept host
-tick-line s now host = server-ticks s now (λ t. host_row t.server.kept host ≡ host_row s.kept host) (record {
-  waits = λ until heard last p goes_on. waits-line s now host;
-  opening = λ until heard last p over. opens-line s now until heard host;
-  ends_reading = λ p none. ends-line s now host _;
-  ending_writing = λ row p due. ends-writing-line s now host _ row;
-})
 
 crash-line : (s : Server) (longest host : ℕ) → host_row (crash s longest).server.kept host ≡ host_row s.kept host
 unfolding crash boot

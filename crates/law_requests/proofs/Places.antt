@@ -5,7 +5,7 @@ use Rattle.nq_base.specs.declared.Reply.{Reply}
 use Rattle.walk_client.proofs.ClientMoves.{none-some}
 use Rattle.walk_run.proofs.Packets.{In, in-get}
 use Rattle.walk_run.proofs.ServerSays.{IsReplyTo}
-use Rattle.law_requests.specs.OneRequests.{IsAnswer}
+use Rattle.nq_promises.specs.OneRequestPerSequence.{IsAnswer}
 use Rattle.nq_model.specs.Message.{Packet, call, reply}
 use Rattle.nq_model.specs.Server.{to_host}
 use Rattle.nq_model.specs.World.{from_host}

@@ -3,8 +3,8 @@ use Rattle.std.proofs.Common.{◌≤◌, ℕ, List, [], ◌∷◌, arith, length
 use Rattle.nq_base.specs.declared.Event.{Event}
 use Rattle.walk_server.proofs.Rows.{choice}
 use Rattle.walk_server.proofs.Tests.{is-below, is-not-below}
-use Rattle.walk_run.proofs.WorldClocks.{run-clocked}
-use Rattle.law_requests.specs.OneRequests.{sent_time}
+use Rattle.walk_leases.proofs.WorldClocks.{run-clocked}
+use Rattle.nq_promises.specs.OneRequestPerSequence.{sent_time}
 use Rattle.nq_model.specs.World.{Head, run}
 
 -- the server's clock never goes back

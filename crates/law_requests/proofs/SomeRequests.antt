@@ -6,8 +6,9 @@ use Rattle.nq_base.specs.declared.Call.{Call}
 use Rattle.nq_base.specs.declared.Event.{Event}
 use Rattle.nq_base.specs.declared.Reply.{Reply}
 use Rattle.nq_base.specs.declared.Request.{Request}
-use Rattle.law_leases.proofs.NoCrash.{no-crash-within}
-use Rattle.law_requests.specs.OneRequests.{IsOpen, IsAskedTwice}
+use Rattle.walk_run.proofs.NoCrash.{no-crash-within}
+use Rattle.nq_promises.specs.OneRequestPerSequence.{IsOpen}
+use Rattle.law_requests.specs.Met.{IsAskedTwice}
 use Rattle.nq_model.proofs.SkewTest.{skew-test-is-sound}
 use Rattle.nq_model.specs.Client.{Client, Job, Ticket}
 use Rattle.nq_model.specs.ClientStep.{begins_call, is_called, at_time, sends_again, fresh_client, attached_client, starts}

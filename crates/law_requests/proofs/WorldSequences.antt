@@ -1,5 +1,5 @@
 -- In every run: the sequences that each client drew, who asks, and the places of replies.
-use Rattle.std.proofs.Common.{◌≡◌, ◌≢◌, ◌⊎◌, ℕ, ◌+◌, Bool, true, false, ◌==◌, List, [], ◌∷◌, ◌++◌, Option, Some, None, map, refl, sym, subst, ◌∙◌, inl, inr, length}
+use Rattle.std.proofs.Common.{◌≡◌, ◌≢◌, ℕ, ◌+◌, Bool, true, false, ◌==◌, List, [], ◌∷◌, Option, Some, None, map, refl, sym, subst, ◌∙◌, length}
 use Rattle.std.specs.Prelude.{slice_get, slice_set}
 use Rattle.nq_base.specs.declared.Event.{Event}
 use Rattle.nq_base.specs.declared.Party.{Party}
@@ -7,10 +7,10 @@ use Rattle.nq_base.specs.declared.Reply.{Reply}
 use Rattle.nq_base.specs.declared.Request.{Request}
 use Rattle.walk_client.proofs.ClientMoves.{none-some}
 use Rattle.walk_run.proofs.Mail.{packets_with, none-to-host, other-asked}
-use Rattle.walk_run.proofs.Packets.{In, in-append, in-get, Asked, Told, told-same, not-both, reply-same}
+use Rattle.walk_run.proofs.Packets.{In, in-get, Asked, Told, told-same, reply-same}
 use Rattle.law_requests.proofs.Places.{Answers, answers-more}
 use Rattle.walk_server.proofs.Rows.{same-number, number-same}
-use Rattle.law_requests.proofs.Sequences.{Seqs, seqs-more, Drew, DrewIf, call-draws, tick-draws, restart-draws, hear-draws}
+use Rattle.walk_run.proofs.Sequences.{Seqs, seqs-more, Drew, DrewIf, call-draws, tick-draws, restart-draws, hear-draws, asked-before-server}
 use Rattle.walk_run.proofs.ServerSays.{IsReplyTo, IsSaid, said_reply, said_error, said_notice, AllSaid}
 use Rattle.walk_run.proofs.Worlds.{IsAt, Holds, get-set-same, get-set-other, to-told, received-said, tick-said, crash-said, run-holds, set-there}
 use Rattle.nq_model.specs.Client.{Client, ClientStep}
@@ -71,19 +71,6 @@ to-client-draws w k host m None is sent held h = h
 to-client-draws w k host m (Some c) is sent held h = hearing-draws w host c (hear c k m) is (hear-draws host c w.packets k m sent (held.clients host c is) (h.clients host c is)) held h
 
 -- ---- a step of the server
-
--- it sends no request of a host
-not-said : (ps : List Packet) (host xid : ℕ) (r : Request) → IsSaid ps (from_host host (call xid r)) → ⊥
-not-said ps host xid r (said_reply other y a e k) = not-both host other (call xid r) (reply y a) e
-not-said ps host xid r (said_error other y er e) = not-both host other (call xid r) (error y er) e
-not-said ps host xid r (said_notice y row e) = not-both host row.who.host (call xid r) (call y (Request.Evicted row.who row.file row.tag)) e
-
-pub asked-before-server : (ps sends : List Packet) → AllSaid ps sends → (host xid : ℕ) (r : Request) → Asked (ps ++ sends) host xid r → Asked ps host xid r
-asked-before-server ps sends said host xid r asked = case (in-append ps sends (from_host host (call xid r)) asked)
-  where
-    case : Asked ps host xid r ⊎ In sends (from_host host (call xid r)) → Asked ps host xid r
-    case (inl old) = old
-    case (inr new) = absurd (not-said ps host xid r (said (from_host host (call xid r)) new))
 
 -- and each reply that it sends is to a request
 said-reply : (ps : List Packet) (host xid : ℕ) (a : Reply) → IsSaid ps (to_host host (reply xid a)) → IsReplyTo ps host xid a

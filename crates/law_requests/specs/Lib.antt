@@ -1,1 +1,1 @@
-pub mod OneRequests
+pub mod Met

@@ -8,9 +8,9 @@ use Rattle.nq_model.specs.Message.{Datagram}
 use Rattle.nq_model.specs.Server.{Phase, serving, recovering, Server, quiet, drops, says, after_notices, keeping, keeping_with, with_table}
 use Rattle.nq_model.specs.ServerStep.{attaches, vacates, tells_later, serves, leases, receive, tick, at_time, opens, ends_writing}
 use Rattle.nq_model.specs.Table.{Table}
-use Rattle.law_servers.specs.RecoveryWaits.{WasStoredAt}
+use Rattle.nq_promises.specs.RecoveriesWait.{WasStoredAt}
 use Rattle.walk_server.proofs.ServerCases.{server-hears, server-ticks}
-use Rattle.law_servers.proofs.ServerNumbers.{PhaseWaits, PhaseWaitsOf, Waits}
+use Rattle.walk_tables.proofs.ServerNumbers.{PhaseWaits, PhaseWaitsOf, Waits}
 use Rattle.walk_server.proofs.ServerOutcomes.{ServerCases}
 
 -- each delayed write that was stored was stored by this time

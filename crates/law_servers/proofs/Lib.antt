@@ -1,14 +1,4 @@
-pub mod ServerNumbers
-pub mod ServerTables
 pub mod KeptTags
-pub mod RowTimes
-pub mod ServerFacts
-pub mod ServerFits
 pub mod HeardWrites
 pub mod ServerAlone
-pub mod LogMoves
-pub mod LogTimes
-pub mod LogGrants
-pub mod LogRows
-pub mod LogFits
 pub mod SomeRecovery

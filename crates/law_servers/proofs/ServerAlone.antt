@@ -8,15 +8,15 @@ use Rattle.nq_model.specs.Message.{Datagram}
 use Rattle.nq_model.specs.Server.{Phase, serving, recovering, Server}
 use Rattle.nq_model.specs.ServerStep.{boot}
 use Rattle.nq_model.specs.Table.{Table, is_row_of, find_row, empty_table}
-use Rattle.law_servers.specs.RecoveryWaits.{WaitsLong, RecoveryWaits}
-use Rattle.law_servers.specs.RowsApart.{AreOfKeptIncarnations, WritesAlone, KeepsTags, StandApart, RowsStandApart}
-use Rattle.law_servers.specs.ServerAlone.{Coming, datagram, ticks, crashes, step_for, server_after, first_boot, booted_last, entries_since_boot}
+use Rattle.nq_promises.specs.RecoveriesWait.{WaitsLong, RecoveryWaits}
+use Rattle.nq_promises.specs.RowsStandApart.{AreOfKeptIncarnations, WritesAlone, KeepsTags, StandApart, RowsStandApart}
+use Rattle.nq_promises.specs.ServerAlone.{Coming, datagram, ticks, crashes, step_for, server_after, first_boot, booted_last, entries_since_boot}
 use Rattle.law_servers.proofs.HeardWrites.{HeardWrites, StoredBy, hears-writes, writes-receive, writes-tick}
 use Rattle.law_servers.proofs.KeptTags.{own-keys, keeps-receive, keeps-tick, keeps-crash}
 use Rattle.walk_server.proofs.RowChanges.{HasUniqueKeys, of-key}
-use Rattle.law_servers.proofs.ServerFacts.{IncsFit, IncsFitOf, incs-receive, incs-tick, incs-boot, incs-crash}
-use Rattle.law_servers.proofs.ServerNumbers.{Waits, PhaseWaits, PhaseWaitsOf, waits-receive, waits-tick, waits-boot, waits-crash}
-use Rattle.law_servers.proofs.ServerTables.{StandingFits, StandingFitsOf, NoneRecovering, NoneRecoveringOf, stands-receive, stands-tick, stands-boot, stands-crash, none-receive, none-tick, none-boot, none-crash}
+use Rattle.walk_tables.proofs.ServerFacts.{IncsFit, IncsFitOf, incs-receive, incs-tick, incs-boot, incs-crash}
+use Rattle.walk_tables.proofs.ServerNumbers.{Waits, PhaseWaits, PhaseWaitsOf, waits-receive, waits-tick, waits-boot, waits-crash}
+use Rattle.walk_tables.proofs.ServerTables.{StandingFits, StandingFitsOf, NoneRecovering, NoneRecoveringOf, stands-receive, stands-tick, stands-boot, stands-crash, none-receive, none-tick, none-boot, none-crash}
 use Rattle.walk_server.proofs.TableFits.{no-rows-fit}
 
 -- what is kept of the rows whatever comes

@@ -1,4 +1,1 @@
 pub mod RecoveriesAreMet
-pub mod RecoveryWaits
-pub mod RowsApart
-pub mod ServerAlone

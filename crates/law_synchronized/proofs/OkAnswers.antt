@@ -17,7 +17,7 @@ use Rattle.nq_model.specs.ClientStep.{told}
 use Rattle.nq_model.specs.Journal.{Each, Exists, Somewhere, Stores, IsStored}
 use Rattle.nq_model.specs.Reported.{Names, loss_told}
 use Rattle.nq_model.specs.Synchronized.{IsNamedLoss, IsSettled, IsPutKept, IsKept}
-use Rattle.law_reports.specs.LossesInRuns.{IsLossOf, IsOneOf}
+use Rattle.nq_promises.specs.LossesAreReported.{IsLossOf, IsOneOf}
 use Rattle.walk_run.proofs.Members.{each-in, in-exists}
 use Rattle.walk_run.proofs.Packets.{In}
 use Rattle.walk_server.proofs.Rows.{number-same}

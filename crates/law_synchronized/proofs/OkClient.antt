@@ -10,7 +10,7 @@ use Rattle.nq_base.specs.declared.Loss.{Loss}
 use Rattle.nq_base.specs.declared.Reply.{Reply}
 use Rattle.nq_base.specs.declared.Said.{Said}
 use Rattle.nq_base.specs.declared.Who.{Who}
-use Rattle.law_calls.proofs.CallsFit.{entry_who, entry_call}
+use Rattle.walk_calls.proofs.CallsFit.{entry_who, entry_call}
 use Rattle.walk_client.proofs.StepCases.{call-cases, unless-cached-cases, tick-cases, heard-cases}
 use Rattle.walk_client.proofs.ClientFacts.{Alone}
 use Rattle.walk_client.proofs.ClientMoves.{some-same, none-some}
@@ -22,7 +22,7 @@ use Rattle.nq_model.specs.Journal.{Exists, Throughout, IsAnswer, IsOpen, call_of
 use Rattle.nq_model.specs.Message.{Message, reply, sequence_of}
 use Rattle.nq_model.specs.Send.{send_next}
 use Rattle.nq_model.specs.Settle.{settle}
-use Rattle.law_reports.specs.LossesInRuns.{cleans}
+use Rattle.nq_promises.specs.LossesAreReported.{cleans}
 use Rattle.walk_run.proofs.Packets.{In}
 use Rattle.walk_server.proofs.Incarnations.{who-same}
 use Rattle.walk_server.proofs.Rows.{same-number, number-same}

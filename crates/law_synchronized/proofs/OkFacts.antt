@@ -10,7 +10,7 @@ use Rattle.nq_base.specs.declared.Push.{Push}
 use Rattle.nq_base.specs.declared.Request.{Request}
 use Rattle.nq_base.specs.declared.Verdict.{Verdict}
 use Rattle.nq_base.specs.declared.Who.{Who}
-use Rattle.law_calls.proofs.CallsFit.{entry_who}
+use Rattle.walk_calls.proofs.CallsFit.{entry_who}
 use Rattle.walk_client.proofs.SettleCases.{IsRead}
 use Rattle.walk_client.proofs.ClientFacts.{is_clean_in}
 use Rattle.walk_client.proofs.ClientMoves.{none-some}
@@ -21,7 +21,7 @@ use Rattle.nq_model.specs.Message.{sequence_of}
 use Rattle.nq_model.specs.Reported.{Names}
 use Rattle.nq_model.specs.Settle.{ticket_is_for_call, is_for_call}
 use Rattle.nq_model.specs.Synchronized.{IsSettledResize}
-use Rattle.law_reports.specs.LossesInRuns.{IsLossOf, IsOneOf, cleans}
+use Rattle.nq_promises.specs.LossesAreReported.{IsLossOf, IsOneOf, cleans}
 use Rattle.walk_run.proofs.Packets.{In}
 use Rattle.law_synchronized.proofs.KeptPlaces.{KeptHere}
 

@@ -8,12 +8,12 @@ use Rattle.nq_base.specs.declared.HostRow.{HostRow}
 use Rattle.nq_base.specs.declared.Loss.{Loss}
 use Rattle.nq_base.specs.declared.Push.{Push}
 use Rattle.nq_base.specs.declared.Who.{Who}
-use Rattle.law_calls.proofs.CallsFit.{entry_who}
+use Rattle.walk_calls.proofs.CallsFit.{entry_who}
 use Rattle.walk_client.proofs.ClientMoves.{some-same, none-some}
 use Rattle.nq_model.specs.Client.{Client, ClientStep, Ticket, UnderWay, losses_of, is_push_of, other_dirty}
 use Rattle.nq_model.specs.Hear.{loss_of, loss_entry, all_dirty, other_push, loses, waits_for, with_through, marks_through}
 use Rattle.nq_model.specs.Journal.{Throughout}
-use Rattle.law_reports.specs.LossesInRuns.{cleans}
+use Rattle.nq_promises.specs.LossesAreReported.{cleans}
 use Rattle.walk_run.proofs.Members.{in-filtered}
 use Rattle.walk_run.proofs.Packets.{In, in-append}
 use Rattle.walk_server.proofs.Rows.{same-number, number-same}

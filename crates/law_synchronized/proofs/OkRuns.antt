@@ -5,11 +5,11 @@ use Rattle.nq_base.specs.declared.Entry.{Entry}
 use Rattle.nq_base.specs.declared.Event.{Event}
 use Rattle.nq_base.specs.declared.Party.{Party}
 use Rattle.nq_base.specs.declared.Who.{Who}
-use Rattle.law_calls.proofs.CallsFit.{entry_who, entry_call}
+use Rattle.walk_calls.proofs.CallsFit.{entry_who, entry_call}
 use Rattle.walk_client.proofs.ClientMoves.{none-some}
 use Rattle.law_fates.proofs.AnsweredWorlds.{run-answered}
 use Rattle.law_leases.proofs.LeaseIntervals.{run-runs}
-use Rattle.law_leases.specs.LeaseIntervalInRuns.{KeepsBounds}
+use Rattle.nq_promises.specs.Bounds.{KeepsBounds}
 use Rattle.nq_model.specs.Client.{Client, ClientStep, UnderWay}
 use Rattle.nq_model.specs.ClientStep.{client_call, client_tick, restart, attached_client, fresh_client}
 use Rattle.nq_model.specs.Hear.{hear}
@@ -19,7 +19,7 @@ use Rattle.nq_model.specs.Message.{Packet, reply, datagram_of}
 use Rattle.nq_model.specs.Server.{ServerStep}
 use Rattle.nq_model.specs.Skew.{IsWithinSkew}
 use Rattle.nq_model.specs.World.{Head, World, after_server, after_client, at_client, after_hearing, sending_host, deliver_to_client, deliver_to, deliver, start, run}
-use Rattle.law_leases.proofs.RunCases.{During, client_at, Keeps, run-keeps, OfClients, clients-after}
+use Rattle.walk_run.proofs.RunCases.{During, client_at, Keeps, run-keeps, OfClients, clients-after}
 use Rattle.walk_run.proofs.Packets.{In, in-get, Told}
 use Rattle.walk_run.proofs.Worlds.{to-server, to-told, first-client, run-holds, set-there}
 use Rattle.law_synchronized.proofs.KeptPlaces.{KeptHere, synchronized}
@@ -29,7 +29,7 @@ use Rattle.law_synchronized.proofs.OkMoves.{foreign-mild}
 use Rattle.law_synchronized.proofs.OkServer.{Standing, all-mild, all-kept, server-keeps}
 use Rattle.law_synchronized.proofs.OkSettle.{End}
 use Rattle.law_synchronized.proofs.ServerMakes.{ServerMakes, LineMoves, hears-makes, tick-makes, crash-makes}
-use Rattle.law_synchronized.specs.SynchronizedInRuns.{SynchronizedInEveryRun}
+use Rattle.nq_promises.specs.OksAreKept.{SynchronizedInEveryRun}
 
 -- what is known of the delayed writes and losses of each client, in every run
 abbrev pub StandingInEveryRun : Type 0

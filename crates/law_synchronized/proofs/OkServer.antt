@@ -14,7 +14,7 @@ use Rattle.nq_model.specs.Journal.{Exists, Throughout, Somewhere}
 use Rattle.nq_model.specs.Message.{Packet, sequence_of}
 use Rattle.nq_model.specs.Reported.{Names}
 use Rattle.nq_model.specs.Synchronized.{IsSettledResize}
-use Rattle.law_reports.specs.LossesInRuns.{IsLossOf, IsOneOf, cleans}
+use Rattle.nq_promises.specs.LossesAreReported.{IsLossOf, IsOneOf, cleans}
 use Rattle.walk_run.proofs.HostLine.{LineFits, IsSettled}
 use Rattle.walk_run.proofs.Packets.{In, Mail}
 use Rattle.walk_server.proofs.Rows.{number-same}

@@ -12,7 +12,7 @@ use Rattle.nq_base.specs.declared.Request.{Request}
 use Rattle.nq_base.specs.declared.Said.{Said}
 use Rattle.nq_base.specs.declared.Value.{Value}
 use Rattle.nq_base.specs.declared.Who.{Who}
-use Rattle.law_calls.proofs.CallsFit.{entry_who}
+use Rattle.walk_calls.proofs.CallsFit.{entry_who}
 use Rattle.walk_client.proofs.SendCases.{pushed, send-cases}
 use Rattle.walk_client.proofs.SettleCases.{IsSettling, IsRead, IsSync, of_sync, of_put, settle-cases}
 use Rattle.walk_client.proofs.ClientMoves.{some-same, none-some}
@@ -21,7 +21,7 @@ use Rattle.nq_model.specs.Journal.{Throughout}
 use Rattle.nq_model.specs.Message.{sequence_of}
 use Rattle.nq_model.specs.Send.{sends_request, after_seq, after_number, takes_push, sends_write, gives_up, send_next}
 use Rattle.nq_model.specs.Settle.{said, answers, names_losses, reads_cached, after_read, delays, after_write, marks_written, settle, ticket_is_for_call}
-use Rattle.law_reports.specs.LossesInRuns.{cleans}
+use Rattle.nq_promises.specs.LossesAreReported.{cleans}
 use Rattle.walk_run.proofs.Members.{in-filtered, find-in}
 use Rattle.walk_run.proofs.Packets.{In}
 use Rattle.walk_server.proofs.Rows.{number-same}

@@ -20,8 +20,8 @@ use Rattle.nq_model.specs.Server.{Server, ServerStep, quiet, drops, says, after_
 use Rattle.nq_model.specs.ServerStep.{attaches, vacates, tells_later, serves, leases, grants, receive, tick, crash, boot, opens, ends_writing, at_time}
 use Rattle.nq_model.specs.Table.{Table, with_rows}
 use Rattle.walk_run.proofs.Packets.{In, Asked}
-use Rattle.law_servers.proofs.ServerFacts.{fence-lines}
-use Rattle.law_servers.proofs.ServerNumbers.{LinesFitOf}
+use Rattle.walk_tables.proofs.ServerFacts.{fence-lines}
+use Rattle.walk_tables.proofs.ServerNumbers.{LinesFitOf}
 use Rattle.walk_server.proofs.KeptChanges.{other-line, own-line, same-lines, booted-line}
 use Rattle.walk_server.proofs.Rows.{same-number, number-same}
 use Rattle.walk_server.proofs.ServerCases.{server-hears, server-ticks}

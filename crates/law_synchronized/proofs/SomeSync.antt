@@ -4,7 +4,7 @@ use Rattle.nq_base.specs.Block.{filled, zeros}
 use Rattle.nq_base.specs.declared.Call.{Call}
 use Rattle.nq_base.specs.declared.Event.{Event}
 use Rattle.nq_base.specs.declared.Told.{Told}
-use Rattle.law_leases.proofs.NoCrash.{no-crash-within}
+use Rattle.walk_run.proofs.NoCrash.{no-crash-within}
 use Rattle.nq_model.proofs.SkewTest.{skew-test-is-sound}
 use Rattle.nq_model.specs.Journal.{Exists, call_of}
 use Rattle.nq_model.specs.Ask.{grant_of, sharing_row, caching_row, shared_again, renewed_row, put_off, free, put_off_by_own, granted, no_lease}
@@ -18,7 +18,7 @@ use Rattle.nq_model.specs.ServerStep.{attaches, tells_later, serves, leases, vac
 use Rattle.nq_model.specs.Settle.{answers, after_read, reads_cached, after_write, marks_written}
 use Rattle.nq_model.specs.Table.{empty_table, with_rows, after_draw}
 use Rattle.nq_model.specs.World.{Head, after_server, after_client, start, run}
-use Rattle.law_synchronized.specs.SynchronizedInRuns.{IsOk, IsDelayedAndStored, IsSyncedOnce}
+use Rattle.law_synchronized.specs.Met.{IsOk, IsDelayedAndStored, IsSyncedOnce}
 
 -- one host, one file of one block
 abbrev one-host : Head

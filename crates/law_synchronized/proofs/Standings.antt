@@ -12,7 +12,7 @@ use Rattle.nq_model.specs.World.{run}
 use Rattle.law_reports.proofs.ReportedRuns.{losses-fit}
 use Rattle.law_synchronized.proofs.OkFacts.{CoversNumber, by_store, by_loss, LiesWithin, in_list, under_way}
 use Rattle.law_synchronized.proofs.OkRuns.{StandingInEveryRun, CountedInEveryRun, synchronized-runs}
-use Rattle.law_synchronized.specs.SynchronizedInRuns.{SynchronizedInEveryRun}
+use Rattle.nq_promises.specs.OksAreKept.{SynchronizedInEveryRun}
 
 more-covers : (e : Entry) (journal : List Entry) (who : Who) (file block n : ℕ) → CoversNumber journal who file block n → CoversNumber (e ∷ journal) who file block n
 more-covers e journal who file block n (by_store first last now i from to) = by_store first last now (inr i) from to

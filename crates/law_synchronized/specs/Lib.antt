@@ -1,1 +1,1 @@
-pub mod SynchronizedInRuns
+pub mod Met

@@ -1,6 +1,7 @@
 //! What an ok says.
 
-ghost use Rattle.law_synchronized.specs.SynchronizedInRuns.{IsSyncedOnce, SynchronizedInEveryRun};
+ghost use Rattle.law_synchronized.specs.Met.{IsSyncedOnce};
+ghost use Rattle.nq_promises.specs.OksAreKept.{SynchronizedInEveryRun};
 
 /// After every schedule within skew each ok is kept. To a put: its write is through, or an S before the answer covers it. To a
 /// sync: each delayed write of the incarnation on the file before the answer is covered by an S, or by an L that an A before

@@ -10,28 +10,26 @@ use Rattle.nq_base.specs.declared.Reply.{Reply}
 use Rattle.nq_base.specs.declared.Request.{Request}
 use Rattle.nq_base.specs.declared.Tag.{Tag}
 use Rattle.nq_base.specs.declared.Who.{Who}
-use Rattle.law_leases.proofs.NoCrash.{no-crash-within}
+use Rattle.walk_run.proofs.NoCrash.{no-crash-within}
 use Rattle.law_leases.proofs.SomeLease.{two-hosts}
-use Rattle.law_leases.specs.LeaseIntervalInRuns.{BootsWithin}
+use Rattle.nq_promises.specs.Bounds.{BootsWithin}
 use Rattle.walk_server.proofs.Tests.{some-is}
-use Rattle.law_tags.specs.TagsInRuns.{IsPastSometime}
+use Rattle.law_tags.specs.Met.{IsPastSometime}
 use Rattle.nq_model.proofs.SkewTest.{skew-test-is-sound}
 use Rattle.nq_model.specs.Client.{Client, Lease, Ticket, for_call, lease_on}
 use Rattle.nq_model.specs.Message.{call, reply}
 use Rattle.nq_model.specs.Skew.{is_within_skew}
-use Rattle.nq_model.specs.Server.{to_host}
-use Rattle.nq_model.specs.World.{from_host}
+use Rattle.nq_model.specs.Server.{to_host, quiet, drops, says, after_notices, keeping, keeping_with, with_table}
+use Rattle.nq_model.specs.World.{from_host, after_server, after_client, start, run}
 use Rattle.nq_model.specs.Ask.{grant_of, sharing_row, caching_row, shared_again, renewed_row, put_off, free, put_off_by_own, granted, no_lease}
 use Rattle.nq_model.specs.ClientStep.{begins_call, is_called, says_busy, at_time, sends_again, fresh_client, attached_client, starts}
 use Rattle.nq_model.specs.Decide.{decides, creates, writes_through, stores, wrote, stores_recovering, resizes, removes, puts_off, commits}
 use Rattle.nq_model.specs.Hear.{is_reply_to, vacates_lease, loses, without_lease, granted_lease, holds, caches_block, purges, knows_revision, marks_through, ends_push, spends, attached, pauses, cancels, notes_notice}
 use Rattle.nq_model.specs.Kept.{new_file, written_file, resized_file, fenced_file, with_row, with_files, with_new_file}
 use Rattle.nq_model.specs.Send.{sends_request, after_seq, after_number, takes_push, gives_up}
-use Rattle.nq_model.specs.Server.{quiet, drops, says, after_notices, keeping, keeping_with, with_table}
 use Rattle.nq_model.specs.ServerStep.{attaches, tells_later, serves, leases, vacates, ends_writing, opens, boot, crash}
 use Rattle.nq_model.specs.Settle.{answers, after_read, reads_cached, after_write, marks_written}
 use Rattle.nq_model.specs.Table.{empty_table, with_rows, after_draw}
-use Rattle.nq_model.specs.World.{after_server, after_client, start, run}
 
 -- host 0 reads; host 1 wants to cut the file, so host 0 is told to give its lease up, and does; it reads again, and then
 -- wants to write; the newest event first

@@ -1,1 +1,1 @@
-pub mod TagsInRuns
+pub mod Met

@@ -1,6 +1,7 @@
 //! The tags of leases.
 
-ghost use Rattle.law_tags.specs.TagsInRuns.{IsPastSometime, StandingTableGrows, TagsAreDrawnInOrder, VacatedTagsArePast};
+ghost use Rattle.law_tags.specs.Met.{IsPastSometime};
+ghost use Rattle.nq_promises.specs.TagsAreInOrder.{StandingTableGrows, TagsAreDrawnInOrder, VacatedTagsArePast};
 
 /// After every schedule that is within skew, each tag of a lease that is held, of a notice that waits, of a packet or of a
 /// row that stands was drawn: at some moment the table of the boot that it names stood, and had drawn it. That boot is no

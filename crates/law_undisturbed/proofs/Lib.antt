@@ -1,15 +1,3 @@
-pub mod Journals
-pub mod PlainParts
-pub mod Accesses
-pub mod Tags
-pub mod ServerLeaves
-pub mod Fences
-pub mod Holders
-pub mod Marks
-pub mod StillFits
-pub mod OwnSends
-pub mod StillClients
-pub mod StillServer
 pub mod UndisturbedRuns
 pub mod KnownRuns
 pub mod BoundOrFenced

@@ -6,9 +6,9 @@ use Rattle.nq_base.specs.declared.Entry.TheVariants.{W}
 use Rattle.nq_base.specs.declared.Push.{Push}
 use Rattle.walk_client.proofs.ClientMoves.{none-some}
 use Rattle.law_endings.proofs.SomeLost.{one-host, delayed, rounds, writer, there, unsaved, bounds-delayed, within}
-use Rattle.law_endings.specs.ExcusesInRuns.{listed, under_way}
-use Rattle.law_leases.proofs.NoCrash.{no-crash-within}
-use Rattle.law_leases.specs.LeaseIntervalInRuns.{BootsWithin}
+use Rattle.nq_promises.specs.LossesAreExcused.{listed, under_way}
+use Rattle.walk_run.proofs.NoCrash.{no-crash-within}
+use Rattle.nq_promises.specs.Bounds.{BootsWithin}
 use Rattle.nq_model.proofs.JournalTests.{tells_exists, tells_covers}
 use Rattle.nq_model.proofs.SkewTest.{skew-test-is-sound}
 use Rattle.nq_model.specs.Ask.{grant_of, sharing_row, caching_row, shared_again, renewed_row, put_off, free, put_off_by_own, granted, no_lease}
@@ -28,7 +28,8 @@ use Rattle.nq_model.specs.Table.{empty_table, with_rows, after_draw, find_row}
 use Rattle.nq_model.specs.World.{after_server, after_client, start, run}
 use Rattle.walk_server.proofs.Tests.{some-is}
 use Rattle.law_undisturbed.proofs.BoundOrFenced.{bound-or-fenced-in-every-run}
-use Rattle.law_undisturbed.specs.UndisturbedInRuns.{IsBoundAndDue, IsFencedAt, IsUncovered, BoundAndFencedAreMet}
+use Rattle.nq_promises.specs.WritesAreUndisturbed.{IsBoundAndDue, IsFencedAt, IsUncovered}
+use Rattle.law_undisturbed.specs.Met.{BoundAndFencedAreMet}
 
 -- the delayed write
 abbrev push : Push

@@ -11,11 +11,11 @@ use Rattle.nq_base.specs.declared.Who.{Who}
 use Rattle.walk_chains.proofs.ChainFacts.{IsFenced, gone, ahead, earlier}
 use Rattle.walk_client.proofs.ClientCases.{core_of}
 use Rattle.walk_client.proofs.ClientMoves.{none-some, some-same}
-use Rattle.walk_endings.proofs.BoundBefore.{StandsWriting, only-stood, stood-receive, stood-tick}
+use Rattle.walk_leases.proofs.BoundBefore.{StandsWriting, only-stood, stood-receive, stood-tick}
 use Rattle.walk_endings.proofs.BoundRows.{crash-standing}
 use Rattle.law_fates.proofs.AnsweredWorlds.{received-tells, tick-tells, crash-tells}
-use Rattle.law_leases.proofs.LeaseIntervals.{none-served}
-use Rattle.law_leases.specs.LeaseIntervalInRuns.{KeepsBounds}
+use Rattle.walk_leases.proofs.Runs.{none-served}
+use Rattle.nq_promises.specs.Bounds.{KeepsBounds}
 use Rattle.nq_model.specs.Client.{Client, ClientStep, Lease, lease_on}
 use Rattle.nq_model.specs.ClientStep.{client_call, client_tick, restart, starts, fresh_client, attached_client, next_incarnation}
 use Rattle.nq_model.specs.Hear.{hear}
@@ -26,24 +26,24 @@ use Rattle.nq_model.specs.Server.{Server, ServerStep, standing}
 use Rattle.nq_model.specs.ServerStep.{receive, tick, crash, boot}
 use Rattle.nq_model.specs.Skew.{IsWithinSkew}
 use Rattle.nq_model.specs.World.{Head, World, after_server, after_client, at_client, after_hearing, sending_host, deliver_to_client, deliver_to, deliver, start, run, from_host}
-use Rattle.law_requests.proofs.WorldSequences.{asked-before-server}
-use Rattle.law_leases.proofs.RunCases.{During, Keeps, client_at, OfClients, run-keeps, clients-after}
+use Rattle.walk_run.proofs.Sequences.{asked-before-server}
+use Rattle.walk_run.proofs.RunCases.{During, Keeps, client_at, OfClients, run-keeps, clients-after}
 use Rattle.walk_run.proofs.Packets.{In, in-append, in-get, Asked, Told, message-same, call-same}
 use Rattle.walk_run.proofs.ServerSays.{AllSaid}
 use Rattle.walk_run.proofs.Worlds.{Holds, get-set-other, first-client, to-server, to-told, received-said, tick-said, crash-said, set-there}
 use Rattle.walk_server.proofs.Rows.{same-number, number-same}
-use Rattle.law_undisturbed.proofs.Accesses.{Accesses, call-accesses, tick-accesses, hear-accesses}
-use Rattle.law_undisturbed.proofs.Fences.{fenced-receive, fenced-tick, fenced-crash}
-use Rattle.law_undisturbed.proofs.Holders.{KnownOf}
-use Rattle.law_undisturbed.proofs.Journals.{undisturbed-more}
-use Rattle.law_undisturbed.proofs.Marks.{clear-less}
-use Rattle.law_undisturbed.proofs.OwnSends.{OwnSends, call-own, tick-own, hear-own}
-use Rattle.law_undisturbed.proofs.ServerLeaves.{receive-alone, tick-alone, crash-alone}
-use Rattle.law_undisturbed.proofs.StillClients.{F, step-still}
-use Rattle.law_undisturbed.proofs.StillFits.{StillFits, Takes, push-writes}
-use Rattle.law_undisturbed.proofs.StillServer.{Served, served-still}
-use Rattle.law_undisturbed.proofs.Tags.{IsEntry, Follows, call-follows, tick-follows, hear-follows}
-use Rattle.law_undisturbed.specs.Undisturbed.{LeavesAlone}
+use Rattle.walk_undisturbed.proofs.Accesses.{Accesses, call-accesses, tick-accesses, hear-accesses}
+use Rattle.walk_undisturbed.proofs.Fences.{fenced-receive, fenced-tick, fenced-crash}
+use Rattle.walk_undisturbed.proofs.Holders.{KnownOf}
+use Rattle.walk_undisturbed.proofs.Journals.{undisturbed-more}
+use Rattle.walk_undisturbed.proofs.Marks.{clear-less}
+use Rattle.walk_undisturbed.proofs.OwnSends.{OwnSends, call-own, tick-own, hear-own}
+use Rattle.walk_undisturbed.proofs.ServerLeaves.{receive-alone, tick-alone, crash-alone}
+use Rattle.walk_undisturbed.proofs.StillClients.{F, step-still}
+use Rattle.walk_undisturbed.proofs.StillFits.{StillFits, Takes, push-writes}
+use Rattle.walk_undisturbed.proofs.StillServer.{Served, served-still}
+use Rattle.walk_undisturbed.proofs.Tags.{IsEntry, Follows, call-follows, tick-follows, hear-follows}
+use Rattle.nq_promises.specs.Undisturbed.{LeavesAlone}
 
 -- each host that sent a packet has a client
 abbrev pub SendersAreThere : World → Type 0

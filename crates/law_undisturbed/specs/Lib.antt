@@ -1,2 +1,1 @@
-pub mod Undisturbed
-pub mod UndisturbedInRuns
+pub mod Met

@@ -9,8 +9,8 @@ use Rattle.nq_laws.proofs.CachedReads.{cached-in-every-run}
 use Rattle.walk_client.proofs.ClientLists.{used-lease-found, number-other, lease-file}
 use Rattle.walk_server.proofs.Rows.{find-passes, find-filter, same-number, number-same, choice}
 use Rattle.walk_run.proofs.Worlds.{get-set-other, set-there}
-use Rattle.nq_laws.specs.CachedChanges.{ReadsBlock, IsAsItWas, ChangesNothingElse, CachedReadsChangeNothingElse}
-use Rattle.nq_laws.specs.CachedInRuns.{IsReady}
+use Rattle.nq_promises.specs.CachedReadsChangeLittle.{ReadsBlock, IsAsItWas, ChangesNothingElse, CachedReadsChangeNothingElse}
+use Rattle.nq_promises.specs.CachedReadsAreAtOnce.{IsReady}
 use Rattle.nq_model.specs.CachedAtOnce.{AnswersAtOnce, after_cached}
 use Rattle.nq_model.specs.Client.{Client, Clean, Lease, lease_on, clean_at, drop_clean, is_clean_at, marked_used, used_lease}
 use Rattle.nq_model.specs.ClientStep.{client_call}

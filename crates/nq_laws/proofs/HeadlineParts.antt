@@ -11,9 +11,9 @@ use Rattle.law_endings.proofs.ExcusesInRuns.{losses-excused}
 use Rattle.law_fates.proofs.FateLaws.{accounted, waiting}
 use Rattle.law_held.proofs.HeldLaws.{held-in-every-run}
 use Rattle.nq_laws.proofs.CachedReads.{cached-in-every-run}
-use Rattle.nq_laws.specs.Headline.{HeadlineHolds, AtEveryMoment}
-use Rattle.law_leases.proofs.LeaseIntervals.{bounds-before}
-use Rattle.law_leases.specs.LeaseIntervalInRuns.{KeepsBounds}
+use Rattle.nq_promises.specs.Headline.{HeadlineHolds, AtEveryMoment}
+use Rattle.walk_run.proofs.NoCrash.{bounds-before}
+use Rattle.nq_promises.specs.Bounds.{KeepsBounds}
 use Rattle.law_legal.proofs.LegalLaws.{legal-in-every-run}
 use Rattle.nq_model.specs.Client.{Client, ClientStep}
 use Rattle.nq_model.specs.Hear.{hear}

@@ -3,7 +3,7 @@ use Rattle.std.proofs.Common.{false, refl, arith}
 use Rattle.std.specs.Prelude.{slice_get, unwrap_or}
 use Rattle.nq_base.specs.declared.Mode.{Mode}
 use Rattle.law_leases.proofs.SomeLease.{two-hosts, one-read}
-use Rattle.nq_laws.specs.CachedChanges.{IsReadySometime}
+use Rattle.nq_laws.specs.CachedReadsMet.{IsReadySometime}
 use Rattle.nq_model.specs.Client.{Client, Lease}
 use Rattle.nq_base.specs.Block.{filled, zeros}
 use Rattle.nq_model.specs.Ask.{grant_of, sharing_row, caching_row, shared_again, renewed_row, put_off, free, put_off_by_own, granted, no_lease}

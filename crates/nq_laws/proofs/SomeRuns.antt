@@ -7,8 +7,8 @@ use Rattle.nq_base.specs.declared.Event.{Event}
 use Rattle.nq_base.specs.declared.Loss.{Loss}
 use Rattle.nq_base.specs.declared.Who.{Who}
 use Rattle.nq_laws.specs.LawsAreMet.{in_order, is_delayed, is_lost_write, is_loss, is_store, is_silence, is_silence_of, is_crash, is_opening, is_start, is_read, is_cut, is_growth, is_write, is_refusal, LosesAfterSilence, LosesAfterRecovery, StoresAfterRestart, CutsAndGrows, LawsAreMet}
-use Rattle.law_leases.proofs.NoCrash.{one-first, no-crash-within, no-crash-after}
-use Rattle.law_leases.specs.LeaseIntervalInRuns.{BootsWithin, KeepsBounds}
+use Rattle.walk_run.proofs.NoCrash.{one-first, no-crash-within, no-crash-after}
+use Rattle.nq_promises.specs.Bounds.{BootsWithin, KeepsBounds}
 use Rattle.nq_model.proofs.SkewTest.{skew-test-is-sound}
 use Rattle.nq_model.specs.Ask.{grant_of, sharing_row, caching_row, shared_again, renewed_row, put_off, free, put_off_by_own, granted, no_lease}
 use Rattle.nq_model.specs.ClientStep.{begins_call, is_called, says_busy, at_time, sends_again, fresh_client, attached_client, starts, next_incarnation}

@@ -8,7 +8,7 @@ use Rattle.nq_base.specs.declared.Party.{Party}
 use Rattle.nq_base.specs.declared.Refusal.TheVariants.{Fenced}
 use Rattle.nq_base.specs.declared.Reply.TheVariants.{Refused}
 use Rattle.nq_base.specs.declared.Who.{Who}
-use Rattle.law_leases.specs.LeaseIntervalInRuns.{KeepsBounds}
+use Rattle.nq_promises.specs.Bounds.{KeepsBounds}
 use Rattle.nq_model.specs.ClientStep.{next_incarnation}
 use Rattle.nq_model.specs.Journal.{exists, same_who, is_counted, is_through, is_within, is_write_on, value_written}
 use Rattle.nq_model.specs.Message.{Message, Packet, reply}

@@ -1,4 +1,2 @@
-pub mod CachedChanges
-pub mod CachedInRuns
 pub mod LawsAreMet
-pub mod Headline
+pub mod CachedReadsMet

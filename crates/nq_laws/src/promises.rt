@@ -1,14 +1,14 @@
 //! The headline.
 
-ghost use Rattle.law_calls.specs.CallsInRuns.{OrderedInEveryRun, ReadsAreOfTheirCallInEveryRun};
-ghost use Rattle.law_endings.specs.ExcusesInRuns.{LossesAreExcused};
-ghost use Rattle.law_fates.specs.FatesInRuns.{AccountedInEveryRun, WaitingAreUnsavedInEveryRun};
-ghost use Rattle.law_held.specs.HeldInRuns.{KeptBlocksAreHeldInEveryRun};
-ghost use Rattle.nq_laws.specs.CachedInRuns.{CachedAtOnceInEveryRun};
-ghost use Rattle.nq_laws.specs.Headline.{AtEveryMoment};
-ghost use Rattle.law_legal.specs.LegalInRuns.{ReadsAreLegalInEveryRun};
-ghost use Rattle.law_reports.specs.LossesInRuns.{ReportedInEveryRun};
-ghost use Rattle.law_synchronized.specs.SynchronizedInRuns.{SynchronizedInEveryRun};
+ghost use Rattle.nq_promises.specs.CallsAreOrdered.{OrderedInEveryRun, ReadsAreOfTheirCallInEveryRun};
+ghost use Rattle.nq_promises.specs.LossesAreExcused.{LossesAreExcused};
+ghost use Rattle.nq_promises.specs.WritesAreAccounted.{AccountedInEveryRun, WaitingAreUnsavedInEveryRun};
+ghost use Rattle.nq_promises.specs.BlocksAreHeld.{KeptBlocksAreHeldInEveryRun};
+ghost use Rattle.nq_promises.specs.CachedReadsAreAtOnce.{CachedAtOnceInEveryRun};
+ghost use Rattle.nq_promises.specs.Headline.{AtEveryMoment};
+ghost use Rattle.nq_promises.specs.ReadsAreLegal.{ReadsAreLegalInEveryRun};
+ghost use Rattle.nq_promises.specs.LossesAreReported.{ReportedInEveryRun};
+ghost use Rattle.nq_promises.specs.OksAreKept.{SynchronizedInEveryRun};
 
 /// For every schedule of calls, losses, repeats, reorderings, ticks within skew, restarts and crashes, the journal keeps each
 /// client's order; every successful read gives the latest standing write before it; missing are only delayed writes of clients

@@ -7,7 +7,7 @@ use Rattle.nq_base.specs.declared.Event.{Event}
 use Rattle.nq_io.specs.Told.{with_end}
 use Rattle.nq_journal.specs.Text.{journal_text}
 use Rattle.nq_laws.proofs.HeadlineParts.{at-every-moment}
-use Rattle.law_leases.specs.LeaseIntervalInRuns.{BootsWithin, KeepsBounds}
+use Rattle.nq_promises.specs.Bounds.{BootsWithin, KeepsBounds}
 use Rattle.nq_model.specs.Skew.{IsWithinSkew, is_server_tick, server_ticks}
 use Rattle.nq_model.specs.World.{World, Head as Beginning, start, run, steps}
 use Rattle.nq_run.specs.Ending.{Ends, status_of}

@@ -3,7 +3,7 @@ use Rattle.std.specs.Prelude.{◌≡◌, ℕ, List, ◌++◌, Option, reverse}
 use Rattle.nq_base.specs.declared.Event.{Event}
 use Rattle.nq_io.specs.Told.{with_end}
 use Rattle.nq_journal.specs.Text.{journal_text}
-use Rattle.nq_laws.specs.Headline.{HoldsAt}
+use Rattle.nq_promises.specs.Headline.{HoldsAt}
 use Rattle.nq_model.specs.World.{run}
 use Rattle.nq_run.specs.Playing.{AllRun, SpellsEvents, beginning, first_world, head_lengths}
 use Rattle.nq_script.specs.declared.heads.Head.{Head}

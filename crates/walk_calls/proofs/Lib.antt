@@ -7,3 +7,10 @@ pub mod ClientMoves
 pub mod ClientParts
 pub mod ClientCalls
 pub mod ClientEvents
+pub mod CallWorlds
+pub mod CallsFit
+pub mod Refusals
+pub mod ServerAnswers
+pub mod ServerCalls
+pub mod ServerDecides
+pub mod ServerHears

@@ -12,7 +12,7 @@ use Rattle.walk_chains.proofs.ChainFacts.{line_for, ChainFits}
 use Rattle.walk_chains.proofs.ChainMoves.{mid-calls, mid-again, mid-passes}
 use Rattle.walk_chains.proofs.ChainReplies.{Answered, mid-replied, mid-evicted}
 use Rattle.walk_chains.proofs.ChainSends.{view_of, MidOf, mid-settles, mid-goes-on}
-use Rattle.walk_chains.specs.Chained.{IsChained}
+use Rattle.nq_promises.specs.Chained.{IsChained}
 use Rattle.walk_client.proofs.StepCases.{call-cases, unless-cached-cases, tick-cases, heard-cases}
 use Rattle.walk_client.proofs.ClientCases.{Closed}
 use Rattle.walk_client.proofs.ClientFacts.{DelayingOf}

@@ -14,7 +14,7 @@ use Rattle.nq_base.specs.declared.Tag.{Tag}
 use Rattle.nq_base.specs.declared.Verdict.{Verdict}
 use Rattle.nq_base.specs.declared.Want.{Want}
 use Rattle.nq_base.specs.declared.Who.{Who}
-use Rattle.walk_chains.specs.Chained.{OwnRow, IsChained, has_done_write, due, KnowsFile}
+use Rattle.nq_promises.specs.Chained.{OwnRow, IsChained, has_done_write, due, KnowsFile}
 use Rattle.walk_client.proofs.ClientFacts.{is_clean_in}
 use Rattle.nq_model.specs.Client.{Client, for_call, Lease, Revision, Ticket, UnderWay, lease_on, revision_of, revision_or_zero}
 use Rattle.nq_model.specs.Decide.{verdict_reply}

@@ -11,7 +11,7 @@ use Rattle.nq_base.specs.declared.Who.{Who}
 use Rattle.walk_chains.proofs.ChainFacts.{line_for, done_at, rev_at, GoesOnAs, IsFenced, gone, ahead, earlier, IsBoundOrFenced, bound, fenced}
 use Rattle.walk_chains.proofs.ChainLists.{rev-put, known-put, known-put-other, some-put, unclean-wrote, unclean-lost}
 use Rattle.walk_chains.proofs.ChainMoves.{View, Mid, Ready, mid-uses, mid-spends}
-use Rattle.walk_chains.specs.Chained.{OwnRow, IsChained, due, KnowsFile}
+use Rattle.nq_promises.specs.Chained.{OwnRow, IsChained, due, KnowsFile}
 use Rattle.walk_client.proofs.ClientFacts.{is_clean_in}
 use Rattle.walk_client.proofs.ClientLists.{lease-after-put, put-lease-found, other-lease-put}
 use Rattle.walk_client.proofs.ClientMoves.{some-same, none-some}

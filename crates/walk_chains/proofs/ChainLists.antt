@@ -5,7 +5,7 @@ use Rattle.nq_base.specs.declared.HostRow.{HostRow}
 use Rattle.nq_base.specs.declared.Push.{Push}
 use Rattle.nq_base.specs.declared.Request.{Request}
 use Rattle.walk_chains.proofs.ChainFacts.{rev_at}
-use Rattle.walk_chains.specs.Chained.{is_done, has_done}
+use Rattle.nq_promises.specs.Chained.{is_done, has_done}
 use Rattle.walk_client.proofs.ClientFacts.{is_clean_in}
 use Rattle.walk_client.proofs.ClientLists.{marked-before, marked-tag, marked-mode, marked-expiry, lease-before-drop, other-lease-dropped, used-lease-found, marked-blocks, any-overwritten, other-revision-put}
 use Rattle.walk_client.proofs.ClientMoves.{some-same, none-some}

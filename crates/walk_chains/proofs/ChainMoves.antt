@@ -10,7 +10,7 @@ use Rattle.nq_base.specs.declared.Want.{Want}
 use Rattle.nq_base.specs.declared.Who.{Who}
 use Rattle.walk_chains.proofs.ChainFacts.{VerdictFits, line_for, done_at, rev_at, HeldChains, GrantFits, GivenChains, IsBoundOrFenced, IsPushed, file_written, WriteChains, LineChains}
 use Rattle.walk_chains.proofs.ChainLists.{WasLease, was-used, was-dropped, StillLease, still-used, still-dropped}
-use Rattle.walk_chains.specs.Chained.{IsChained, has_done, due, KnowsFile}
+use Rattle.nq_promises.specs.Chained.{IsChained, has_done, due, KnowsFile}
 use Rattle.walk_client.proofs.ClientFacts.{is_clean_in}
 use Rattle.walk_client.proofs.ClientMoves.{some-same, none-some}
 use Rattle.walk_client.proofs.ClientWrites.{writes-under-way}

@@ -17,7 +17,7 @@ use Rattle.walk_chains.proofs.ChainHears.{mid-holds, mid-loses, mid-tells}
 use Rattle.walk_chains.proofs.ChainLists.{was-dropped, clean-lost, unclean-ended, plain-undone}
 use Rattle.walk_chains.proofs.ChainMoves.{Mid, Ready, grant-leases, mid-drops, mid-calls, NotDone, mid-spent, mid-cancels}
 use Rattle.walk_chains.proofs.ChainSends.{view_of, MidOf, mid-answers}
-use Rattle.walk_chains.specs.Chained.{is_done, has_done, due}
+use Rattle.nq_promises.specs.Chained.{is_done, has_done, due}
 use Rattle.walk_client.proofs.PartCases.{answers-call-cases, vacates-noticed-cases, reports-cases, if-broken-cases, takes-optional-cases, lease-done-cases, then-caches-cases, caches-write-cases, caches-push-cases, vacates-if-clean-cases}
 use Rattle.walk_client.proofs.RepliedCases.{OfCall, IsNamed, looked_up, created, attributes, replied-cases}
 use Rattle.walk_client.proofs.StepCases.{evicted-cases}

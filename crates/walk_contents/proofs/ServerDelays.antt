@@ -3,7 +3,7 @@ use Rattle.std.proofs.Common.{◌≡◌, ℕ, List, [], ◌∷◌, ◌++◌, Opt
 use Rattle.std.specs.Option.{option_or}
 use Rattle.nq_base.specs.declared.Entry.{Entry}
 use Rattle.nq_base.specs.declared.Who.{Who}
-use Rattle.walk_contents.specs.Contents.{delayed_by, delayed_value}
+use Rattle.nq_promises.specs.Contents.{delayed_by, delayed_value}
 use Rattle.nq_model.specs.Decide.{decides, creates, writes_through, stores, stores_recovering, resizes, removes, puts_off, commits}
 use Rattle.nq_model.specs.Message.{Datagram}
 use Rattle.nq_model.specs.Server.{Server, quiet, drops, says}

@@ -16,7 +16,7 @@ use Rattle.nq_model.specs.Server.{serving, Server, ServerStep, to_host, quiet, k
 use Rattle.nq_model.specs.ServerStep.{at_time, opens, is_over, is_due, end_reading, fence, ends_writing, tick, booted, boot, crash}
 use Rattle.nq_model.specs.Table.{find_row, with_rows}
 use Rattle.walk_run.proofs.Packets.{In}
-use Rattle.law_servers.proofs.ServerTables.{StandingFits, StandingFitsOf}
+use Rattle.walk_tables.proofs.ServerTables.{StandingFits, StandingFitsOf}
 use Rattle.walk_server.proofs.Rows.{number-same}
 use Rattle.walk_server.proofs.RowChanges.{found-kept, unique-filtered, found-any}
 use Rattle.walk_server.proofs.TableFits.{TableFits}

@@ -10,8 +10,8 @@ use Rattle.nq_base.specs.declared.Tag.{Tag}
 use Rattle.nq_base.specs.declared.Who.{Who}
 use Rattle.walk_client.proofs.ClientMoves.{some-same}
 use Rattle.walk_endings.proofs.LateEndings.{late-end, late-opening}
-use Rattle.law_leases.proofs.ServerChanges.{same-cover-table}
-use Rattle.law_leases.proofs.ServerLives.{HasServed, booted-kept, booted-phase, between}
+use Rattle.walk_leases.proofs.ServerChanges.{same-cover-table}
+use Rattle.walk_leases.proofs.ServerLives.{HasServed, booted-kept, booted-phase, between}
 use Rattle.nq_model.specs.CutOff.{Ends, IsLateEnd, IsLateOpening}
 use Rattle.nq_model.specs.Journal.{Each}
 use Rattle.nq_model.specs.Kept.{host_row}
@@ -21,11 +21,11 @@ use Rattle.nq_model.specs.Server.{Phase, serving, recovering, Server, ServerStep
 use Rattle.nq_model.specs.ServerStep.{is_over, is_due, end_reading, at_time, opens, ends_writing, tick, crash, boot}
 use Rattle.nq_model.specs.Table.{Table, is_writing, find_row, with_rows}
 use Rattle.walk_endings.proofs.LogRuns.{Alone, LogRuns}
-use Rattle.law_servers.proofs.LogMoves.{timed}
-use Rattle.law_servers.proofs.LogRows.{WasGranted, IsHeardOf, RowsHear, RowsGranted}
-use Rattle.law_servers.proofs.LogTimes.{HeardAll, IsHeard, ToldBoot}
-use Rattle.law_servers.proofs.ServerNumbers.{Waits, PhaseWaits}
-use Rattle.law_servers.proofs.ServerTables.{BootsFit, BootsFitOf, RecoversBoot, StandingFits, StandingFitsOf}
+use Rattle.walk_tables.proofs.LogMoves.{timed}
+use Rattle.walk_tables.proofs.LogRows.{WasGranted, IsHeardOf, RowsHear, RowsGranted}
+use Rattle.walk_tables.proofs.LogTimes.{HeardAll, IsHeard, ToldBoot}
+use Rattle.walk_tables.proofs.ServerNumbers.{Waits, PhaseWaits}
+use Rattle.walk_tables.proofs.ServerTables.{BootsFit, BootsFitOf, RecoversBoot, StandingFits, StandingFitsOf}
 use Rattle.walk_server.proofs.Modes.{writing-caches}
 use Rattle.walk_server.proofs.RowChanges.{HasUniqueKeys, kept_if, find-kept, found-any, unique-filtered, find-other-dropped}
 use Rattle.walk_server.proofs.Rows.{number-same, same-number, find-passes}

@@ -17,7 +17,7 @@ use Rattle.nq_model.specs.Journal.{Loses, Each}
 use Rattle.nq_model.specs.Server.{Server}
 use Rattle.nq_model.specs.Settle.{with_write}
 use Rattle.walk_run.proofs.Packets.{In}
-use Rattle.law_servers.proofs.LogMoves.{timed}
+use Rattle.walk_tables.proofs.LogMoves.{timed}
 use Rattle.walk_server.proofs.Rows.{same-number}
 use Rattle.walk_server.proofs.Tests.{is-other}
 

@@ -21,7 +21,7 @@ use Rattle.nq_model.specs.Server.{Server}
 use Rattle.nq_model.specs.Table.{is_writing}
 use Rattle.walk_run.proofs.Packets.{In}
 use Rattle.walk_server.proofs.Rows.{same-number}
-use Rattle.law_servers.proofs.LogMoves.{is_timed, timed}
+use Rattle.walk_tables.proofs.LogMoves.{is_timed, timed}
 use Rattle.walk_server.proofs.Tests.{is-other}
 
 -- what of a client's step its delayed writes rest on

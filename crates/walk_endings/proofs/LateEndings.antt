@@ -14,9 +14,9 @@ use Rattle.nq_model.specs.Journal.{Each, Exists}
 use Rattle.nq_model.specs.Profile.{skew, write_slack}
 use Rattle.nq_model.specs.Table.{same_who, caches}
 use Rattle.walk_endings.proofs.LogRuns.{IsShortGrant}
-use Rattle.law_servers.proofs.LogMoves.{timed}
-use Rattle.law_servers.proofs.LogRows.{is_grant_to, WasGranted, IsHeardOf}
-use Rattle.law_servers.proofs.LogTimes.{IsHeard, is_boot}
+use Rattle.walk_tables.proofs.LogMoves.{timed}
+use Rattle.walk_tables.proofs.LogRows.{is_grant_to, WasGranted, IsHeardOf}
+use Rattle.walk_tables.proofs.LogTimes.{IsHeard, is_boot}
 
 -- ---- the last grant
 

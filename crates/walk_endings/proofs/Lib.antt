@@ -8,7 +8,11 @@ pub mod HoldingWrites
 pub mod HoldingSteps
 pub mod HoldingReplies
 pub mod HoldingCalls
-pub mod BoundBefore
 pub mod LinesAfter
 pub mod ServerPlain
 pub mod UntimedSteps
+pub mod BoundOrExcused
+pub mod FromChains
+pub mod RefusedPushes
+pub mod RunFacts
+pub mod ServerExcuses

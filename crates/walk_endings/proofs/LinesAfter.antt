@@ -10,7 +10,7 @@ use Rattle.nq_model.specs.Message.{Datagram, asker, request, sequence_of}
 use Rattle.nq_model.specs.Profile.{most_hosts}
 use Rattle.nq_model.specs.Server.{Server, ServerStep, quiet, drops, says, after_notices, keeping, keeping_with, with_table}
 use Rattle.nq_model.specs.ServerStep.{attaches, vacates, tells_later, serves, leases, receive}
-use Rattle.law_servers.proofs.ServerNumbers.{LinesFitOf}
+use Rattle.walk_tables.proofs.ServerNumbers.{LinesFitOf}
 use Rattle.walk_server.proofs.KeptChanges.{other-line, own-line}
 use Rattle.walk_server.proofs.Rows.{same-number}
 use Rattle.walk_server.proofs.ServerCases.{server-hears}

@@ -14,15 +14,15 @@ use Rattle.nq_model.specs.Server.{Phase, serving, recovering, Server}
 use Rattle.nq_model.specs.ServerStep.{to_read, receive, fence, tick, booted, boot, crash}
 use Rattle.nq_model.specs.Table.{Table, caches, empty_table}
 use Rattle.nq_model.specs.World.{Head, start}
-use Rattle.law_servers.proofs.LogFits.{crash-now}
-use Rattle.law_servers.proofs.LogGrants.{granted-tag}
-use Rattle.law_servers.proofs.LogMoves.{timed, LogMoves, log-moves, tick-log-moves}
-use Rattle.law_servers.proofs.LogRows.{RowsGranted, granted-receive, granted-tick, granted-crash, RowsHear, hear-receive, hear-tick, hear-crash}
-use Rattle.law_servers.proofs.LogTimes.{LogBy, by-receive, by-tick, by-crash, HeardAll, heard-receive, heard-tick, heard-crash, ToldBoot, told-receive, told-tick, told-crash}
-use Rattle.law_servers.proofs.RowTimes.{term-bounds}
-use Rattle.law_servers.proofs.ServerFacts.{IncsFitOf}
-use Rattle.law_servers.proofs.ServerNumbers.{TermsFitOf, PhaseWaitsOf, waits-receive, waits-tick, waits-crash}
-use Rattle.law_servers.proofs.ServerTables.{BootsFit, BootsFitOf, ServesBoot, RecoversBoot, StandingFitsOf, NoneRecoveringOf, none-of-boots}
+use Rattle.walk_tables.proofs.LogFits.{crash-now}
+use Rattle.walk_tables.proofs.LogGrants.{granted-tag}
+use Rattle.walk_tables.proofs.LogMoves.{timed, LogMoves, log-moves, tick-log-moves}
+use Rattle.walk_tables.proofs.LogRows.{RowsGranted, granted-receive, granted-tick, granted-crash, RowsHear, hear-receive, hear-tick, hear-crash}
+use Rattle.walk_tables.proofs.LogTimes.{LogBy, by-receive, by-tick, by-crash, HeardAll, heard-receive, heard-tick, heard-crash, ToldBoot, told-receive, told-tick, told-crash}
+use Rattle.walk_tables.proofs.RowTimes.{term-bounds}
+use Rattle.walk_tables.proofs.ServerFacts.{IncsFitOf}
+use Rattle.walk_tables.proofs.ServerNumbers.{TermsFitOf, PhaseWaitsOf, waits-receive, waits-tick, waits-crash}
+use Rattle.walk_tables.proofs.ServerTables.{BootsFit, BootsFitOf, ServesBoot, RecoversBoot, StandingFitsOf, NoneRecoveringOf, none-of-boots}
 use Rattle.walk_server.proofs.AskCases.{IsGranted, shares_again, begins_sharing, begins_caching, renews_row}
 use Rattle.walk_server.proofs.ServerMoves.{receive-keeps, tick-keeps}
 

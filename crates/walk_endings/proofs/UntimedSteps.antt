@@ -22,7 +22,7 @@ use Rattle.nq_model.specs.Hear.{vacates_lease, vacates_noticed, loses, reports, 
 use Rattle.nq_model.specs.Message.{Message}
 use Rattle.nq_model.specs.Send.{sends_request, after_seq, after_number, takes_push, sends_write, gives_up, read_want, want_of, send_next}
 use Rattle.nq_model.specs.Settle.{answers, reads_cached, after_read, delays, marks_written, names_losses, settle}
-use Rattle.law_servers.proofs.LogMoves.{timed}
+use Rattle.walk_tables.proofs.LogMoves.{timed}
 
 abbrev pub IsUntimed : ClientStep → Type 0
 IsUntimed t = timed t.entries ≡ []

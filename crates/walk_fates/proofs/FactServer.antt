@@ -20,7 +20,7 @@ use Rattle.nq_model.specs.Journal.{Covers}
 use Rattle.nq_model.specs.Kept.{host_row}
 use Rattle.nq_model.specs.Message.{Packet, asker, sequence_of}
 use Rattle.nq_model.specs.Server.{Server, ServerStep}
-use Rattle.law_requests.proofs.OpenRequests.{IsOpenAt, OneOpenAt}
+use Rattle.walk_run.proofs.OpenAt.{IsOpenAt, OneOpenAt}
 use Rattle.walk_run.proofs.HostLine.{IsSettled}
 use Rattle.walk_run.proofs.Packets.{In, Asked, Mail}
 use Rattle.walk_server.proofs.Incarnations.{one-who}

@@ -15,7 +15,7 @@ use Rattle.nq_base.specs.declared.Verdict.{Verdict}
 use Rattle.nq_base.specs.declared.Who.{Who}
 use Rattle.walk_client.proofs.ClientFacts.{push_in}
 use Rattle.walk_client.proofs.ClientMoves.{some-same, none-some}
-use Rattle.law_leases.proofs.ServerEffects.{reads-no-seq, asks-no-seq}
+use Rattle.walk_run.proofs.Sequences.{reads-no-seq, asks-no-seq}
 use Rattle.nq_model.specs.Decide.{Decision, decides, creates, writes_through, stores, wrote, stores_recovering, resizes, removes, puts_off as puts_off_change, verdict_reply, commits, row_after}
 use Rattle.nq_model.specs.Hear.{inc_of, puts_off}
 use Rattle.nq_model.specs.Kept.{File, Kept, host_row, with_row, with_files, with_new_file}
@@ -26,7 +26,7 @@ use Rattle.nq_model.specs.ServerStep.{attaches, vacates, tells_later, serves, le
 use Rattle.nq_model.specs.Table.{Table, with_rows}
 use Rattle.walk_run.proofs.Packets.{In, in-append, Asked, told-same, reply-same}
 use Rattle.walk_run.proofs.ServerSays.{verdict-inc, plain-inc, notices-no-reply}
-use Rattle.law_servers.proofs.ServerNumbers.{LinesFitOf}
+use Rattle.walk_tables.proofs.ServerNumbers.{LinesFitOf}
 use Rattle.walk_server.proofs.KeptChanges.{other-line, own-line, same-lines}
 use Rattle.walk_server.proofs.ServerCases.{server-hears}
 use Rattle.walk_server.proofs.ServerOutcomes.{error_for, base_in, line_of, IsFrom, IsFresh, IsPlain, unattached, attached_again, not_yet, no_entry, entry, no_attributes, attributes, no_file, no_block, decided_again, is_old, IsDeclined, bad_length, name_taken, no_room, not_kept, outside, no_row, not_under, not_over, not_while_recovering, bad_size, no_room_to_grow}

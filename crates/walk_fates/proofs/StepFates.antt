@@ -32,7 +32,7 @@ use Rattle.nq_model.specs.Hear.{wants_of, cancelled, cancels, evicted, goes_on, 
 use Rattle.nq_model.specs.Message.{Message, Packet, call, reply, sequence_of}
 use Rattle.nq_model.specs.Settle.{settle}
 use Rattle.nq_model.specs.World.{from_host}
-use Rattle.law_requests.proofs.Sequences.{Seqs}
+use Rattle.walk_run.proofs.Sequences.{Seqs}
 use Rattle.walk_run.proofs.Mail.{packets_with}
 use Rattle.walk_run.proofs.Packets.{In, in-last, Asked}
 

@@ -6,3 +6,12 @@ pub mod HeldFiles
 pub mod ReaderValues
 pub mod ReadParts
 pub mod ReadSteps
+pub mod EarlierServer
+pub mod EarlierStores
+pub mod Entries
+pub mod ReadAdds
+pub mod ReadClient
+pub mod ReadFacts
+pub mod ReadServer
+pub mod ServerMakes
+pub mod ServerReads

@@ -1,3 +1,3 @@
-//! What the journal says of values: which stores leave the reads before them legal, and what the server holds of each block.
-//! It has no code.
+//! What the journal says of values: what the server holds of each block, which reads are legal, and that each step keeps it. It
+//! has no code.
 #![tactic(auto)]

@@ -10,6 +10,8 @@ pub mod ClientKnows
 pub mod Clocks
 pub mod ServerKnows
 pub mod ClientSteps
-pub mod ClientRestarts
-pub mod WorldClocks
-pub mod KnownWorlds
+pub mod NoCrash
+pub mod OpenAt
+pub mod RunCases
+pub mod Sequences
+pub mod Steps

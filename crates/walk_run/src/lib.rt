@@ -1,3 +1,2 @@
-//! What each step keeps of what is known in a run: of packets, of clocks, and of what a client and the server know of each
-//! other. It has no code.
+//! What each step keeps of packets, mail, lines and clocks, and the frame in which a fact is shown of every run. It has no code.
 #![tactic(auto)]

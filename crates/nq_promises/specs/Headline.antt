@@ -1,0 +1,66 @@
+-- The headline: what is promised to people who share files, of every run of the protocol.
+use Rattle.std.specs.Prelude.{◌≡◌, ◌++◌, ℕ, List, Some, slice_get}
+use Rattle.nq_base.specs.declared.Call.{Call}
+use Rattle.nq_base.specs.declared.Entry.{Entry}
+use Rattle.nq_base.specs.declared.Event.{Event}
+use Rattle.nq_promises.specs.WritesAreAccounted.{WaitingAreUnsaved}
+use Rattle.nq_promises.specs.BlocksAreHeld.{KeptBlocksAreHeld}
+use Rattle.nq_promises.specs.CachedReadsAreAtOnce.{IsReady}
+use Rattle.nq_promises.specs.Bounds.{KeepsBounds}
+use Rattle.nq_model.specs.CachedAtOnce.{AnswersAtOnce}
+use Rattle.nq_model.specs.Client.{Client, Lease}
+use Rattle.nq_model.specs.ClientStep.{client_call}
+use Rattle.nq_model.specs.CutOff.{IsExcused}
+use Rattle.nq_model.specs.Fate.{IsAccounted}
+use Rattle.nq_model.specs.Legal.{IsLegal}
+use Rattle.nq_model.specs.OfTheirCall.{AreOfTheirCall}
+use Rattle.nq_model.specs.Ordered.{IsOrdered}
+use Rattle.nq_model.specs.Reported.{IsReported}
+use Rattle.nq_model.specs.Skew.{IsWithinSkew}
+use Rattle.nq_model.specs.Synchronized.{IsSynchronized}
+use Rattle.nq_model.specs.World.{Head, World, run}
+
+-- a read or fetch of what a client has, under a lease that runs by its own clock, is answered in its own step and sends nothing
+abbrev pub CachedReadsAreAtOnce : World → Type 0
+CachedReadsAreAtOnce w =
+    (host : ℕ) (c : Client) (file block : ℕ) (lease : Lease) (body : List ℕ)
+    → slice_get w.clients host ≡ Some c
+    → IsReady c file block lease body
+    → AnswersAtOnce c (Call.Read file block) file block body (client_call c (Call.Read file block))
+    × AnswersAtOnce c (Call.Fetch file block) file block body (client_call c (Call.Fetch file block))
+
+-- the headline, of a world that a schedule leads to
+pub record HeadlineHolds (w : World) : Type 0 where
+  -- the journal keeps each client's order, and each counted read is of its call
+  pub ordered : IsOrdered w.journal
+  pub of_their_call : AreOfTheirCall w.journal
+  -- every successful read gives the latest standing write before it
+  pub legal : IsLegal w.journal
+  -- missing are only delayed writes that are lost, or whose client started again: no write is covered twice, no loss is of
+  -- nothing, and what is neither stored nor lost nor ended is at its client still
+  pub accounted : IsAccounted w.journal
+  pub waiting : WaitingAreUnsaved w
+  -- what is lost was cut off beyond write slack
+  pub excused : IsExcused w.journal
+  -- survivors report it by name
+  pub reported : IsReported w.journal
+  -- synchronized writes that were answered ok are never missing, and the server has what was written
+  pub synchronized : IsSynchronized w.journal
+  pub kept : KeptBlocksAreHeld w
+  -- a cached read under a live lease is answered at once
+  pub cached : CachedReadsAreAtOnce w
+
+-- at a moment of a schedule: the headline holds, and from there on the journal only grows
+pub record HoldsAt (head : Head) (later earlier : List Event) : Type 0 where
+  pub holds : HeadlineHolds (run head earlier)
+  pub more : List Entry
+  pub grows : (run head (later ++ earlier)).journal ≡ more ++ (run head earlier).journal
+
+-- for every schedule of calls, deliveries, ticks, restarts and crashes that keeps to bounds and is within skew, at each of its
+-- moments, since each beginning of such a schedule is one
+abbrev pub AtEveryMoment : Type 0
+AtEveryMoment =
+    (most : ℕ) (head : Head) (later earlier : List Event)
+    → KeepsBounds most head (later ++ earlier)
+    → IsWithinSkew head.hosts most (later ++ earlier)
+    → HoldsAt head later earlier

@@ -1,0 +1,30 @@
+-- the words in which the laws are told
+pub mod Bounds
+pub mod ServerAlone
+pub mod Chained
+pub mod Contents
+pub mod Told
+pub mod Undisturbed
+-- the headline
+pub mod Headline
+-- journals
+pub mod CallsAreOrdered
+pub mod ReadsAreLegal
+pub mod WritesAreAccounted
+pub mod LossesAreExcused
+pub mod LossesAreReported
+pub mod OksAreKept
+pub mod EndingsComeLate
+-- what the server and the clients have
+pub mod BlocksAreHeld
+pub mod WritesAreUndisturbed
+pub mod RevisionsHaveOneContent
+pub mod ChainedLeasesKnow
+pub mod LeaseIntervals
+pub mod CachedReadsAreAtOnce
+pub mod CachedReadsChangeLittle
+-- tags, requests, and a server alone
+pub mod TagsAreInOrder
+pub mod OneRequestPerSequence
+pub mod RowsStandApart
+pub mod RecoveriesWait

@@ -1,0 +1,10 @@
+pub mod ChainAfter
+pub mod ChainIdle
+pub mod ChainTicks
+pub mod FilesReceived
+pub mod LineMoves
+pub mod PushAfter
+pub mod RepliesReceived
+pub mod RowMoves
+pub mod RowsReceived
+pub mod ServerChains

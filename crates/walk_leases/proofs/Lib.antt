@@ -1,0 +1,13 @@
+pub mod ClientRestarts
+pub mod Covers
+pub mod Hearing
+pub mod KnownWorlds
+pub mod Runs
+pub mod ServerChanges
+pub mod ServerEffects
+pub mod ServerHears
+pub mod ServerLives
+pub mod TickLines
+pub mod Unrowed
+pub mod WorldClocks
+pub mod BoundBefore

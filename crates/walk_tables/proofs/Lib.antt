@@ -1,0 +1,10 @@
+pub mod LogFits
+pub mod LogGrants
+pub mod LogMoves
+pub mod LogRows
+pub mod LogTimes
+pub mod RowTimes
+pub mod ServerFacts
+pub mod ServerFits
+pub mod ServerNumbers
+pub mod ServerTables

@@ -1,0 +1,12 @@
+pub mod Accesses
+pub mod Fences
+pub mod Holders
+pub mod Journals
+pub mod Marks
+pub mod OwnSends
+pub mod PlainParts
+pub mod ServerLeaves
+pub mod StillClients
+pub mod StillFits
+pub mod StillServer
+pub mod Tags
