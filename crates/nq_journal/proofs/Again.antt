@@ -13,7 +13,7 @@ use Rattle.nq_base.specs.declared.Span.{Span}
 use Rattle.nq_base.specs.declared.Tag.{Tag}
 use Rattle.nq_base.specs.declared.Told.{Told}
 use Rattle.nq_base.specs.declared.Who.{Who}
-use Rattle.nq_journal.specs.Items.{plain, plain_said}
+use Rattle.nq_base.specs.Plain.{plain, plain_said}
 use Rattle.nq_journal.specs.Reading.{u64_at, u32_at, name_at, who_at, place_at, tag_at}
 use Rattle.nq_journal.specs.ReadingCalls.{create_at, lookup_at, attr_at, read_at, fetch_at, write_at, put_at, sync_at, resize_at, remove_at, verb_of, told_at}
 use Rattle.nq_journal.specs.ReadingAnswers.{span_of, spans_of, lost_at, by_at, value_at, ok_at, bare_of, bare_at, said_at}

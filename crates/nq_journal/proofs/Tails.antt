@@ -4,7 +4,7 @@ use Rattle.std.specs.Fmt.{decimal}
 use Rattle.std.specs.List.{AllByRecursion, flat_map}
 use Rattle.nq_base.specs.declared.Entry.{Entry}
 use Rattle.nq_journal.specs.Fault.{ended, IsJournal}
-use Rattle.nq_journal.specs.Items.{plain}
+use Rattle.nq_base.specs.Plain.{plain}
 use Rattle.nq_journal.specs.Parsing.{AreEntries}
 use Rattle.nq_journal.specs.Reading.{words_of}
 use Rattle.nq_journal.specs.ReadingEntries.{entry_of}

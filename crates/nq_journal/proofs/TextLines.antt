@@ -6,7 +6,7 @@ use Rattle.std.proofs.lemmas.Fmt.{decimal_digit}
 use Rattle.std.proofs.lemmas.List.Elements.{recursion_from_All}
 use Rattle.nq_base.specs.declared.Entry.{Entry}
 use Rattle.nq_journal.specs.Fault.{ended}
-use Rattle.nq_journal.specs.Items.{plain}
+use Rattle.nq_base.specs.Plain.{plain}
 use Rattle.nq_journal.specs.Parsing.{AreEntries}
 use Rattle.nq_journal.specs.Reading.{cut, words_of}
 use Rattle.nq_journal.specs.ReadingEntries.{kind_of, entry_of}

@@ -9,7 +9,7 @@ use Rattle.nq_journal.specs.declared.journal.Journal.{Journal}
 use Rattle.nq_journal.specs.declared.parsing.JournalFault.{JournalFault}
 use Rattle.nq_journal.specs.declared.parsing.JournalFault.TheVariants as fault
 use Rattle.nq_journal.specs.Fault.{ended, IsJournal, IsFaultyAt}
-use Rattle.nq_journal.specs.Items.{plain, plain_said}
+use Rattle.nq_base.specs.Plain.{plain, plain_said}
 use Rattle.nq_journal.specs.Parsing.{named, IsFault, Parses, GivesEntries, GivesFault, ParsesRest}
 use Rattle.nq_journal.specs.Reading.{cut}
 use Rattle.nq_journal.specs.Text.{said_words, entry_words, entry_line, journal_text, of_who, IsText, IsVersion, head_line, end_line}

@@ -6,7 +6,7 @@ use Rattle.nq_journal.specs.declared.journal.Journal.{Journal}
 use Rattle.nq_journal.specs.declared.parsing.JournalFault.{JournalFault}
 use Rattle.nq_journal.specs.declared.parsing.JournalFault.TheVariants as fault
 use Rattle.nq_journal.specs.Fault.{IsFaultyAt, IsUnbroken, ended}
-use Rattle.nq_journal.specs.Items.{plain}
+use Rattle.nq_base.specs.Plain.{plain}
 use Rattle.nq_journal.specs.Text.{Has, Fits, entry_line, end_line, IsText}
 
 -- the number of a line as a fault names it: it stands still at the end of its type

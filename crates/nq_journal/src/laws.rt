@@ -3,7 +3,7 @@
 ghost use Rattle.std.specs.Prelude.{◌≡◌, ℕ, List, map};
 ghost use Rattle.nq_base.specs.declared.Entry.{Entry};
 ghost use Rattle.nq_journal.specs.Fault.{IsFaultyAt};
-ghost use Rattle.nq_journal.specs.Items.{plain};
+ghost use Rattle.nq_base.specs.Plain.{plain};
 ghost use Rattle.nq_journal.specs.Text.{IsText, journal_text};
 
 /// A text is that of one version and of one journal, up to room that is reserved in its entries.

@@ -1,7 +1,7 @@
 // Reading answers.
 ghost use Rattle.std.specs.Prelude.{◌≡◌, [], ◌∷◌, ◌++◌, codes, option_map, IfSome, IfOk};
 ghost use Rattle.std.specs.Fmt.{decimal};
-ghost use Rattle.nq_journal.specs.Items.{plain_said};
+ghost use Rattle.nq_base.specs.Plain.{plain_said};
 ghost use Rattle.nq_journal.specs.Reading.{Takes};
 ghost use Rattle.nq_journal.specs.ReadingAnswers.{span_of, lost_at, by_at, value_at, ok_at, bare_of, bare_at, said_at};
 ghost use Rattle.nq_journal.specs.Text.{span_word, said_words, FitsSpan, FitsSaid};

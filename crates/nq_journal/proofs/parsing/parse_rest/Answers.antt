@@ -2,7 +2,7 @@ use Rattle.std.proofs.Common.{[], ◌∷◌, ap, sym, ◌∙◌, arith}
 use Rattle.std.specs.Option.{option_map}
 use Rattle.std.proofs.lemmas.Bool.{true≢false}
 use Rattle.std.proofs.lemmas.List.{length-append}
-use Rattle.nq_journal.specs.Items.{plain}
+use Rattle.nq_base.specs.Plain.{plain}
 use Rattle.nq_journal.proofs.Rests.{emptied, not_emptied, shorter, ends_here, goes_on, not_read, unfinished, one_more, entries_more}
 use Rattle.nq_journal.proofs.parsing.parse_rest.Goals as goal
 
