@@ -143,7 +143,7 @@ module _ (most booted : ℕ) (s : Server) (journal : List Entry) (fits : ServerA
   unfolding quiet at_time
   waits = record { opened = λ e. e; late = λ e l. l }
 
-  opening : (until heard : ℕ) (last : Table) → s.phase ≡ recovering until heard last → until ≤ now → Shows s journal (opens (at_time s now) until heard)
+  opening : (until heard : ℕ) (last : Option Table) → s.phase ≡ recovering until heard last → until ≤ now → Shows s journal (opens (at_time s now) until heard)
   unfolding opens at_time
   opening until heard last p over = record { opened = λ e. refl; late = λ e l. (late e, l) }
     where

@@ -80,7 +80,7 @@ stores-quiet : (s : Server) (who : Who) (f : File) (row : Row) (block first last
 unfolding stores
 stores-quiet s who f row block first last body = (tt, tt)
 
-recovering-quiet : (s : Server) (until : ℕ) (last : Table) (who : Who) (f : File) (block first final : ℕ) (body : List ℕ) → AllQuiet (stores_recovering s until last who f block first final body).entries
+recovering-quiet : (s : Server) (until : ℕ) (last : Option Table) (who : Who) (f : File) (block first final : ℕ) (body : List ℕ) → AllQuiet (stores_recovering s until last who f block first final body).entries
 unfolding stores_recovering
 recovering-quiet s until last who f block first final body = (tt, tt)
 

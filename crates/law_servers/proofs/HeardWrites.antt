@@ -1,5 +1,5 @@
 -- While a server recovers, each write that it stored since it booted was heard by the time that it has for that.
-use Rattle.std.proofs.Common.{◌≡◌, ◌≤◌, ℕ, zero, suc, List, [], ◌∷◌, ◌++◌, Some, sym, subst, arith}
+use Rattle.std.proofs.Common.{◌≡◌, ◌≤◌, ℕ, zero, suc, List, [], ◌∷◌, ◌++◌, Some, sym, subst, arith, Option}
 use Rattle.std.specs.List.{slice_get}
 use Rattle.nq_base.specs.declared.Entry.{Entry}
 use Rattle.nq_base.specs.declared.Who.{Who}
@@ -44,7 +44,7 @@ served-writes : (phase : Phase) (entries : List Entry) → phase ≡ serving →
 served-writes phase entries p = subst (λ p. HeardWrites p entries) (sym p) tt
 
 module _ (booted : ℕ) (s : Server) (before : List Entry) (h : HeardWrites s.phase before) (w : PhaseWaitsOf booted s) where
-  more-writes : (until heard : ℕ) (last : Table) → s.phase ≡ recovering until heard last → StoredBy s.now before
+  more-writes : (until heard : ℕ) (last : Option Table) → s.phase ≡ recovering until heard last → StoredBy s.now before
   more-writes until heard last p =
       let waits : Waits booted s.now s.kept.longest until heard = subst (PhaseWaits booted s.now s.kept.longest) p w in
       stored-later heard s.now before waits.heard_by_now (subst (λ p. HeardWrites p before) p h)

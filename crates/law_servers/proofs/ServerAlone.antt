@@ -1,5 +1,5 @@
 -- The laws of a server alone, by induction over all that comes to it.
-use Rattle.std.proofs.Common.{◌≡◌, ◌≤◌, ℕ, ◌+◌, Bool, true, false, List, [], ◌∷◌, ◌++◌, Some, None, if◌then◌else◌, length, refl, sym, subst, arith}
+use Rattle.std.proofs.Common.{◌≡◌, ◌≤◌, ℕ, ◌+◌, Bool, true, false, List, [], ◌∷◌, ◌++◌, Some, None, if◌then◌else◌, length, refl, sym, subst, arith, Option}
 use Rattle.std.specs.List.{find, filter}
 use Rattle.nq_base.specs.declared.Entry.{Entry}
 use Rattle.nq_base.specs.declared.Row.{Row}
@@ -45,9 +45,9 @@ apart-after s (crashes longest) a = record {
 apart-first : (kept : Kept) (longest now : ℕ) → Apart (first_boot kept longest now)
 unfolding empty_table
 apart-first kept longest now = record {
-  none = none-boot kept longest now (empty_table kept.opened);
-  stands = stands-boot kept longest now (empty_table kept.opened) (no-rows-fit kept.files kept.opened 0);
-  incs = incs-boot kept longest now (empty_table kept.opened) (λ file host row found. absurd (cc));
+  none = none-boot kept longest now None;
+  stands = stands-boot kept longest now None (no-rows-fit kept.files 0 0);
+  incs = incs-boot kept longest now None (λ file host row found. absurd (cc));
 }
 
 apart : (kept : Kept) (longest now : ℕ) (came : List Coming) → Apart (server_after (first_boot kept longest now) came)
@@ -117,7 +117,7 @@ no-writes (recovering until heard last) = tt
 waiting-first : (kept : Kept) (longest now : ℕ) → Waiting (first_boot kept longest now).now (first_boot kept longest now) []
 unfolding boot
 waiting-first kept longest now = record {
-  waits = waits-boot kept longest now (empty_table kept.opened);
+  waits = waits-boot kept longest now None;
   heard = no-writes (first_boot kept longest now).phase;
 }
 
@@ -142,7 +142,7 @@ waiting s w (datagram sender next d ∷ earlier) = waiting-datagram (booted_last
 waiting s w (ticks passed ∷ earlier) = waiting-ticks (booted_last s earlier) (server_after s earlier) (entries_since_boot s earlier) passed (waiting s w earlier)
 waiting s w (crashes longest ∷ earlier) = waiting-crash (server_after s earlier) longest
 
-waits-long : (booted : ℕ) (s : Server) (entries : List Entry) (until heard : ℕ) (last : Table) → Waiting booted s entries → s.phase ≡ recovering until heard last → WaitsLong booted s.kept.longest until heard entries
+waits-long : (booted : ℕ) (s : Server) (entries : List Entry) (until heard : ℕ) (last : Option Table) → Waiting booted s entries → s.phase ≡ recovering until heard last → WaitsLong booted s.kept.longest until heard entries
 waits-long booted s entries until heard last w p =
     let waits : Waits booted s.now s.kept.longest until heard = subst (PhaseWaits booted s.now s.kept.longest) p w.waits in
     let stored : StoredBy heard entries = subst (λ p. HeardWrites p entries) p w.heard in

@@ -2,7 +2,7 @@
 use Rattle.std.specs.Prelude.{◌≡◌, ℕ, Bool, true, false, ◌&&◌, List, ◌++◌, Option, Some, None}
 use Rattle.nq_base.specs.declared.Row.{Row}
 use Rattle.nq_model.specs.Kept.{Kept}
-use Rattle.nq_model.specs.Server.{recovering}
+use Rattle.nq_model.specs.Server.{recovering, last_table}
 use Rattle.nq_model.specs.Table.{Table, is_writing, find_row}
 use Rattle.nq_promises.specs.RecoveriesWait.{WasStoredAt}
 use Rattle.nq_promises.specs.ServerAlone.{Coming, server_after, first_boot, entries_since_boot}
@@ -24,9 +24,9 @@ pub record RecoveriesAreMet : Type 0 where
   pub host : ℕ
   pub until : ℕ
   pub heard : ℕ
-  pub last : Table
+  pub last : Option Table
   pub at : ℕ
   pub to_go : is_writer_to_go (find_row file host (server_after (first_boot kept longest now) came).table.rows) ≡ true
   pub recovers : (server_after (first_boot kept longest now) (later ++ came)).phase ≡ recovering until heard last
-  pub in_mind : is_writer_to_go (find_row file host last.rows) ≡ true
+  pub in_mind : is_writer_to_go (find_row file host (last_table last).rows) ≡ true
   pub stored : WasStoredAt (entries_since_boot (first_boot kept longest now) (later ++ came)) at

@@ -205,7 +205,7 @@ module _ (ps : List Packet) (s : Server) (sender next : ℕ) (d : Datagram) (was
       (one-mild _ (λ who. record { no_answer = λ q a. a; no_loss = λ f b m n e. cc; no_write = λ f b n v e. cc }))
       (λ done. tt)
 
-  storing-recovering : (xid : ℕ) (w : Who) (seq block first final : ℕ) (base : PushBase) (body : List ℕ) (f : File) (until : ℕ) (last : Table) → d ≡ request xid (Request.Write w seq f.id block first final (Some base) body) → IsFresh s sender w seq → ServerMakes ps s (commits w seq xid (Request.Write w seq f.id block first final (Some base) body) (stores_recovering s until last w f block first final body))
+  storing-recovering : (xid : ℕ) (w : Who) (seq block first final : ℕ) (base : PushBase) (body : List ℕ) (f : File) (until : ℕ) (last : Option Table) → d ≡ request xid (Request.Write w seq f.id block first final (Some base) body) → IsFresh s sender w seq → ServerMakes ps s (commits w seq xid (Request.Write w seq f.id block first final (Some base) body) (stores_recovering s until last w f block first final body))
   unfolding stores_recovering keeping wrote with_files
   storing-recovering xid w seq block first final base body f until last e fresh =
       committed xid w seq (Request.Write w seq f.id block first final (Some base) body) (stores_recovering s until last w f block first final body) e refl refl fresh refl

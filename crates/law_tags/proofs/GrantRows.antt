@@ -1,5 +1,5 @@
 -- Each grant that the server sends is of a row that stands after the step.
-use Rattle.std.proofs.Common.{◌≡◌, ◌⊎◌, ℕ, ◌+◌, ◌%◌, List, [], ◌∷◌, ◌++◌, Some, None, refl, sym, subst, ap, ◌∙◌, inl, inr}
+use Rattle.std.proofs.Common.{◌≡◌, ◌⊎◌, ℕ, ◌+◌, ◌%◌, List, [], ◌∷◌, ◌++◌, Some, None, refl, sym, subst, ap, ◌∙◌, inl, inr, Option}
 use Rattle.nq_base.specs.declared.Grant.{Grant}
 use Rattle.nq_base.specs.declared.Question.{Question}
 use Rattle.nq_base.specs.declared.Refusal.{Refusal}
@@ -181,7 +181,7 @@ module _ (s : Server) (sender next : ℕ) (d : Datagram) where
   unfolding stores
   stores-sends who f row block first last body = refl
 
-  recovering-sends : (until : ℕ) (last : Table) (who : Who) (f : File) (block first final : ℕ) (body : List ℕ) → (stores_recovering s until last who f block first final body).sends ≡ []
+  recovering-sends : (until : ℕ) (last : Option Table) (who : Who) (f : File) (block first final : ℕ) (body : List ℕ) → (stores_recovering s until last who f block first final body).sends ≡ []
   unfolding stores_recovering
   recovering-sends until last who f block first final body = refl
 

@@ -17,7 +17,7 @@ use Rattle.law_tags.proofs.TagOrder.{steps-server}
 use Rattle.nq_model.specs.Ask.{conflicts, marked, sharing_row, caching_row, shared_again, renewed_row, term_of}
 use Rattle.nq_model.specs.Kept.{Kept}
 use Rattle.nq_model.specs.Message.{Datagram}
-use Rattle.nq_model.specs.Server.{Phase, serving, recovering, Server, standing, standing_in}
+use Rattle.nq_model.specs.Server.{Phase, serving, recovering, Server, standing, standing_in, last_table, last_in}
 use Rattle.nq_model.specs.ServerStep.{vacated_rows, to_read, receive, is_over, tick, boot, crash}
 use Rattle.nq_model.specs.Table.{Table, same_tag, is_row_of, find_row, row_before, insert_row, drop_row, put_row, with_rows, after_draw, empty_table}
 use Rattle.nq_model.specs.World.{Head, start, run, first_kept}
@@ -140,7 +140,7 @@ numbered-tick s now h = tick-moves s now (λ kept phase table. Numbered phase ta
   ending_writing = λ row p due. numbered-after s.phase s.table _ (λ r i. h.own r (in-filtered (λ z. not (is_over now z)) s.table.rows r (in-filtered (λ z. not (is_row_of row.file row.who.host z)) _ r i))) h;
 })
 
-numbered-boot : (kept : Kept) (longest now : ℕ) (last : Table) → AllNumbered last.rows → Numbered (boot kept longest now last).phase (boot kept longest now last).table
+numbered-boot : (kept : Kept) (longest now : ℕ) (last : Option Table) → AllNumbered (last_table last).rows → Numbered (boot kept longest now last).phase (boot kept longest now last).table
 unfolding boot empty_table
 numbered-boot kept longest now last h = by (kept.opened == 0)
   where
@@ -150,11 +150,11 @@ numbered-boot kept longest now last h = by (kept.opened == 0)
 
 numbered-crash : (s : Server) (longest : ℕ) → Numbered s.phase s.table → Numbered (crash s longest).server.phase (crash s longest).server.table
 unfolding crash
-numbered-crash s longest h = numbered-boot s.kept longest s.now (standing s) h.stands
+numbered-crash s longest h = numbered-boot s.kept longest s.now (last_in s.phase s.table) h.stands
 
 start-numbered : (head : Head) → Numbered (start head).server.phase (start head).server.table
 unfolding start empty_table
-start-numbered head = numbered-boot (first_kept head) head.longest 0 (empty_table 0) none-numbered
+start-numbered head = numbered-boot (first_kept head) head.longest 0 None none-numbered
 
 -- in every run
 pub run-numbered : (head : Head) (events : List Event) → Numbered (run head events).server.phase (run head events).server.table

@@ -13,7 +13,7 @@ use Rattle.nq_model.specs.ClientStep.{client_call, client_tick, restart}
 use Rattle.nq_model.specs.Hear.{hear}
 use Rattle.nq_model.specs.Kept.{Kept}
 use Rattle.nq_model.specs.Message.{Message, Packet, Datagram, datagram_of}
-use Rattle.nq_model.specs.Server.{Phase, serving, recovering, Server, standing, standing_in}
+use Rattle.nq_model.specs.Server.{Phase, serving, recovering, Server, standing, standing_in, last_table, last_in}
 use Rattle.nq_model.specs.ServerStep.{receive, tick, crash, boot}
 use Rattle.nq_model.specs.Table.{Table, tag_below, next_tag, with_rows, after_draw, empty_table}
 use Rattle.nq_model.specs.World.{Head, World, after_server, after_client, at_client, after_hearing, deliver_to_client, deliver_to, deliver, step, start, run, sending_host, first_kept}
@@ -47,14 +47,14 @@ grows-receive s sender next d = server-moves s sender next d (λ kept phase tabl
   creating = λ name blocks serves can. same-table (standing s);
   changing = λ who f file serves current found same c. same-table (standing s);
   storing = λ who f file base row serves current found same can. rows _ refl (omega arith);
-  storing_recovering = λ f file until heard last p found same. subst (λ n. IsNoEarlier (standing_in n s.table) last) (sym p) (same-table last);
+  storing_recovering = λ f file until heard last p found same. subst (λ n. IsNoEarlier (standing_in n s.table) (last_table last)) (sym p) (same-table (last_table last));
   removing = λ who f serves current found c. rows _ refl (omega arith);
 })
   where
     rows : (after : Table) → after.boot ≡ s.table.boot → s.table.drawn ≤ after.drawn → IsNoEarlier (standing s) (standing_in s.phase after)
     rows after same more = grows-rows (standing s) s.phase s.table after same more (same-table (standing s))
 
-opens-later : (s : Server) (until heard : ℕ) (last : Table) → s.phase ≡ recovering until heard last → BootsFitOf s → IsNoEarlier (standing s) s.table
+opens-later : (s : Server) (until heard : ℕ) (last : Option Table) → s.phase ≡ recovering until heard last → BootsFitOf s → IsNoEarlier (standing s) s.table
 opens-later s until heard last p b =
     let r : RecoversBoot s.kept.boot s.kept.opened s.table last = subst (λ p. BootsFit s.kept.boot s.kept.opened p s.table) p b in
     subst (λ n. IsNoEarlier (standing_in n s.table) s.table) (sym p) (let a = r.opened_before in let c = r.table_boot in let e = r.last_boot in inl (omega arith))
@@ -68,17 +68,17 @@ grows-tick s now b = tick-moves s now (λ kept phase table. IsNoEarlier (standin
   ending_writing = λ row p due. grows-rows (standing s) s.phase s.table _ refl (omega arith) (same-table (standing s));
 })
 
-grows-boot : (kept : Kept) (longest now : ℕ) (last : Table) → kept.opened ≤ kept.boot → last.boot ≡ kept.opened → IsNoEarlier last (standing (boot kept longest now last))
+grows-boot : (kept : Kept) (longest now : ℕ) (last : Option Table) → kept.opened ≤ kept.boot → (last_table last).boot ≡ kept.opened → IsNoEarlier (last_table last) (standing (boot kept longest now last))
 unfolding boot empty_table
 grows-boot kept longest now last before same = by (kept.opened == 0)
   where
-    by : (b : Bool) → IsNoEarlier last (standing_in (if b then serving else recovering (now + kept.longest + 8) now last) (empty_table (kept.boot + 1)))
+    by : (b : Bool) → IsNoEarlier (last_table last) (standing_in (if b then serving else recovering (now + kept.longest + 8) now last) (empty_table (kept.boot + 1)))
     by true = inl (omega arith)
-    by false = same-table last
+    by false = same-table (last_table last)
 
 grows-crash : (s : Server) (longest : ℕ) → BootsFitOf s → IsNoEarlier (standing s) (standing (crash s longest).server)
 unfolding crash
-grows-crash s longest b = grows-boot s.kept longest s.now (standing s) (opened-before _ _ s.phase s.table b) (standing-boot _ _ s.phase s.table b)
+grows-crash s longest b = grows-boot s.kept longest s.now (last_in s.phase s.table) (opened-before _ _ s.phase s.table b) (standing-boot _ _ s.phase s.table b)
 
 -- ---- each event does to the server one of these
 
@@ -123,7 +123,7 @@ steps-server w (Event.Crash longest) Q m = m.crashes longest
 
 start-boots : (head : Head) → BootsFitOf (start head).server
 unfolding start empty_table
-start-boots head = boots-boot (first_kept head) head.longest 0 (empty_table 0) (omega arith) refl
+start-boots head = boots-boot (first_kept head) head.longest 0 None (omega arith) refl
 
 run-boots : (head : Head) (events : List Event) → BootsFitOf (run head events).server
 run-boots head [] = start-boots head

@@ -1,11 +1,13 @@
 pub mod Profile
 pub mod Kept
+pub mod Change
 pub mod Table
 pub mod Ask
 pub mod Message
 pub mod Server
 pub mod Decide
 pub mod ServerStep
+pub mod Decided
 pub mod ByFile
 pub mod Client
 pub mod Settle

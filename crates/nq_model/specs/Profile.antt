@@ -13,6 +13,10 @@ write_slack = 5
 abbrev pub shortest_term : ℕ
 shortest_term = 5
 
+-- the longest term that a server can be told to grant
+abbrev pub longest_term : ℕ
+longest_term = 600
+
 -- from so long before its end a lease is renewed
 abbrev pub renewal : ℕ
 renewal = 3

@@ -1,10 +1,11 @@
 -- The lease table of one boot: rows in order of files, then hosts (Gray and Cheriton 1989).
-use Rattle.std.specs.Prelude.{ℕ, ◌+◌, ◌==◌, Bool, true, false, not, ◌&&◌, ◌||◌, List, [], ◌∷◌, Option, find, filter, nat_lt, if◌then◌else◌}
+use Rattle.std.specs.Prelude.{ℕ, ◌+◌, ◌==◌, Bool, true, false, not, ◌&&◌, ◌||◌, List, [], ◌∷◌, Option, find, filter, max, nat_lt, if◌then◌else◌}
 use Rattle.nq_base.specs.declared.Row.{Row}
 use Rattle.nq_base.specs.declared.Tag.{Tag}
 use Rattle.nq_base.specs.declared.Who.{Who}
 use Rattle.nq_base.specs.declared.Mode.{Mode}
 use Rattle.nq_base.specs.declared.Mode.TheVariants.{NonCaching, Reading, Writing}
+use Rattle.nq_model.specs.Profile.{write_slack}
 
 -- the boot, how many tags it has drawn, and the rows
 pub record Table : Type 0 where
@@ -53,6 +54,10 @@ abbrev pub greater_mode : Mode → Mode → Mode
 greater_mode NonCaching other = other
 greater_mode Reading other = if is_writing other then Writing else Reading
 greater_mode Writing other = Writing
+
+-- when a row ends: a writing one not before the write slack has passed since its end and since a write was last heard
+abbrev pub row_end : Row → ℕ
+row_end row = if is_writing row.mode then max row.until row.heard + write_slack else row.until
 
 -- whether a row is of this file and host
 abbrev pub is_row_of : (file host : ℕ) → Row → Bool

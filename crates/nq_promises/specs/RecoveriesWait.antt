@@ -1,5 +1,5 @@
 -- A recovery waits: for the leases of the boot that served last, and after each write that it hears (Macklem 1994).
-use Rattle.std.specs.Prelude.{◌≡◌, ◌≤◌, ℕ, ◌+◌, List, Some, slice_get}
+use Rattle.std.specs.Prelude.{◌≡◌, ◌≤◌, ℕ, ◌+◌, List, Some, slice_get, Option}
 use Rattle.nq_base.specs.declared.Entry.{Entry}
 use Rattle.nq_base.specs.declared.Who.{Who}
 use Rattle.nq_model.specs.Kept.{Kept}
@@ -29,7 +29,7 @@ pub record WaitsLong (booted longest until heard : ℕ) (entries : List Entry) :
 -- from whatever kept state a server boots and whatever comes to it: while it recovers, it waits so long
 abbrev pub RecoveryWaits : Type 0
 RecoveryWaits =
-    (kept : Kept) (longest now : ℕ) (came : List Coming) (until heard : ℕ) (last : Table)
+    (kept : Kept) (longest now : ℕ) (came : List Coming) (until heard : ℕ) (last : Option Table)
     → (server_after (first_boot kept longest now) came).phase ≡ recovering until heard last
     → WaitsLong
     (booted_last (first_boot kept longest now) came)

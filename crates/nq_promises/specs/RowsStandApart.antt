@@ -1,5 +1,5 @@
 -- The rows of the lease table stand apart, whatever comes to the server (Gray and Cheriton 1989; Macklem 1994).
-use Rattle.std.specs.Prelude.{◌≡◌, ◌≢◌, ◌≤◌, ℕ, true, false, List, [], Some, filter, length}
+use Rattle.std.specs.Prelude.{◌≡◌, ◌≢◌, ◌≤◌, ℕ, true, false, List, [], Some, filter, length, Option}
 use Rattle.nq_base.specs.declared.Row.{Row}
 use Rattle.nq_model.specs.Kept.{Kept, host_row}
 use Rattle.nq_model.specs.Server.{recovering, Server}
@@ -39,7 +39,7 @@ pub record StandApart (s : Server) : Type 0 where
   pub one_each : HasOneRowEach s.table.rows
   pub current : AreOfKeptIncarnations s.kept s.table.rows
   pub alone : WritesAlone s.table.rows
-  pub none_recovering : (until heard : ℕ) (last : Table) → s.phase ≡ recovering until heard last → s.table.rows ≡ []
+  pub none_recovering : (until heard : ℕ) (last : Option Table) → s.phase ≡ recovering until heard last → s.table.rows ≡ []
   pub keeps_tags : (c : Coming) → KeepsTags s.table.rows (step_for s c).server.table.rows
 
 -- from whatever kept state a server boots, at whatever time and with whatever longest term, and whatever comes to it: its

@@ -1,11 +1,10 @@
 -- A server alone: whatever comes to it, in any order.
-use Rattle.std.specs.Prelude.{ℕ, ◌+◌, List, [], ◌∷◌, ◌++◌}
+use Rattle.std.specs.Prelude.{ℕ, ◌+◌, List, [], ◌∷◌, ◌++◌, None}
 use Rattle.nq_base.specs.declared.Entry.{Entry}
 use Rattle.nq_model.specs.Kept.{Kept}
 use Rattle.nq_model.specs.Message.{Datagram}
 use Rattle.nq_model.specs.Server.{Server, ServerStep}
 use Rattle.nq_model.specs.ServerStep.{receive, tick, boot, crash}
-use Rattle.nq_model.specs.Table.{empty_table}
 
 -- what may come to a server: a datagram of any content from any host, when the packet of this number is sent next; ticks
 -- of its clock, which goes on by so much; or a crash, after which it boots with this longest term
@@ -25,9 +24,9 @@ abbrev pub server_after : Server → List Coming → Server
 server_after s [] = s
 server_after s (c ∷ earlier) = (step_for (server_after s earlier) c).server
 
--- a server that boots over any kept state
+-- a server that boots over any kept state, and knows no last table
 abbrev pub first_boot : Kept → (longest now : ℕ) → Server
-first_boot kept longest now = boot kept longest now (empty_table kept.opened)
+first_boot kept longest now = boot kept longest now None
 
 -- when it booted last
 abbrev pub booted_last : Server → List Coming → ℕ

@@ -1,6 +1,6 @@
 -- Decisions of the server do to the calls what is said of them, and so does each datagram.
 use Rattle.std.proofs.Common.{◌≡◌, ◌≢◌, ◌<◌, ◌≤◌, ◌⊎◌, ℕ, Bool, true, false, ◌==◌, List, [], ◌∷◌, ◌++◌, Some, None, length, refl, sym, subst, ap, ◌∙◌, arith, inl, inr}
-use Rattle.std.specs.Prelude.{slice_get}
+use Rattle.std.specs.Prelude.{slice_get, Option}
 use Rattle.nq_base.specs.Block.{value_of}
 use Rattle.nq_base.specs.declared.Entry.{Entry}
 use Rattle.nq_base.specs.declared.Entry.TheVariants.{W, S, Z}
@@ -230,7 +230,7 @@ module _ (w : World) (events : List Event) (held : Holds w) (known : Known w eve
     unfolding stores keeping_with with_files with_rows
     stores-decides xid who seq block first last base body f row e fresh = stored xid who seq (Request.Write who seq f.id block first last (Some base) body) e refl refl fresh (stores s who f row block first last body) f.id block first last refl refl refl
 
-    recovering-decides : (xid : ℕ) (who : Who) (seq block first final : ℕ) (base : PushBase) (body : List ℕ) (f : File) (until : ℕ) (last : Table) → d ≡ request xid (Request.Write who seq f.id block first final (Some base) body) → IsFresh s sender who seq → Decides who (Request.Write who seq f.id block first final (Some base) body) (stores_recovering s until last who f block first final body)
+    recovering-decides : (xid : ℕ) (who : Who) (seq block first final : ℕ) (base : PushBase) (body : List ℕ) (f : File) (until : ℕ) (last : Option Table) → d ≡ request xid (Request.Write who seq f.id block first final (Some base) body) → IsFresh s sender who seq → Decides who (Request.Write who seq f.id block first final (Some base) body) (stores_recovering s until last who f block first final body)
     unfolding stores_recovering keeping wrote with_files
     recovering-decides xid who seq block first final base body f until last e fresh = stored xid who seq (Request.Write who seq f.id block first final (Some base) body) e refl refl fresh (stores_recovering s until last who f block first final body) f.id block first final refl refl refl
 

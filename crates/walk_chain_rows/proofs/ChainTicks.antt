@@ -15,7 +15,7 @@ use Rattle.walk_leases.proofs.ServerLives.{HasServed}
 use Rattle.nq_model.specs.Client.{Ticket}
 use Rattle.nq_model.specs.Kept.{File, Kept, find_file, replace_file, fenced_file, with_files}
 use Rattle.nq_model.specs.Message.{Packet}
-use Rattle.nq_model.specs.Server.{serving, recovering, Server, standing, standing_in, quiet, keeping_with, with_table}
+use Rattle.nq_model.specs.Server.{serving, recovering, Server, standing, standing_in, quiet, keeping_with, with_table, last_in}
 use Rattle.nq_model.specs.ServerStep.{at_time, is_due, is_over, end_reading, fence, ends_writing, opens, tick, booted, boot, crash}
 use Rattle.nq_model.specs.Table.{Table, caches, is_writing, find_row, drop_row, with_rows, empty_table}
 use Rattle.walk_tables.proofs.ServerTables.{BootsFit, BootsFitOf, RecoversBoot, NoneRecoveringOf, none-opened, StandingFits, StandingFitsOf}
@@ -79,7 +79,7 @@ module _ (ps : List Packet) (s : Server) (now : ℕ) (host : ℕ) (stood : Stand
   ended-kept : (row : Row) (f : File) → find_file row.file s.kept.files ≡ Some f → fence s.kept (find_file row.file s.kept.files) ≡ with_files s.kept (replace_file (fenced_file f) s.kept.files)
   ended-kept row f found = ap (fence s.kept) found
 
-  opened-later : (until heard : ℕ) (last : Table) → s.phase ≡ recovering until heard last → s.kept.opened < s.kept.boot
+  opened-later : (until heard : ℕ) (last : Option Table) → s.phase ≡ recovering until heard last → s.kept.opened < s.kept.boot
   opened-later until heard last p =
       let r : RecoversBoot s.kept.boot s.kept.opened s.table last = subst (λ q. BootsFit s.kept.boot s.kept.opened q s.table) p boots in
       r.opened_before
@@ -160,7 +160,7 @@ crashed-stands : (s : Server) (longest : ℕ) → HasServed s.kept → (standing
 unfolding crash boot
 crashed-stands s longest served = step (s.kept.opened == 0) refl
   where
-    step : (b : Bool) → (s.kept.opened == 0) ≡ b → (standing_in (if b then serving else recovering (s.now + s.kept.longest + 8) s.now (standing s)) (empty_table (s.kept.boot + 1))).rows ≡ (standing s).rows
+    step : (b : Bool) → (s.kept.opened == 0) ≡ b → (standing_in (if b then serving else recovering (s.now + s.kept.longest + 8) s.now (last_in s.phase s.table)) (empty_table (s.kept.boot + 1))).rows ≡ (standing s).rows
     step true e = let some = served.opened in let zero : s.kept.opened ≡ 0 = same-number s.kept.opened 0 e in absurd (omega arith)
     step false e = refl
 

@@ -1,5 +1,5 @@
 -- What a step of the server does to the rows of a host.
-use Rattle.std.proofs.Common.{◌≡◌, ◌≢◌, ◌<◌, ◌⊎◌, ℕ, Bool, true, false, not, ◌&&◌, ◌==◌, List, [], Some, None, option_map, refl, sym, subst, ap, ◌∙◌, inl, inr}
+use Rattle.std.proofs.Common.{◌≡◌, ◌≢◌, ◌<◌, ◌⊎◌, ℕ, Bool, true, false, not, ◌&&◌, ◌==◌, List, [], Some, None, option_map, refl, sym, subst, ap, ◌∙◌, inl, inr, Option}
 use Rattle.std.specs.List.{find}
 use Rattle.std.proofs.lemmas.Bool.{and_parts}
 use Rattle.nq_base.specs.declared.Access.{Access}
@@ -219,10 +219,10 @@ module _ (ps : List Packet) (s t : Server) (host : ℕ) (p : s.phase ≡ serving
 -- ---- steps in both phases
 
 -- while the server recovers the table that stands is the last one
-last-stands : (s t : Server) (until heard until' heard' : ℕ) (last : Table) → s.phase ≡ recovering until heard last → t.phase ≡ recovering until' heard' last → (standing t).rows ≡ (standing s).rows
+last-stands : (s t : Server) (until heard until' heard' : ℕ) (last : Option Table) → s.phase ≡ recovering until heard last → t.phase ≡ recovering until' heard' last → (standing t).rows ≡ (standing s).rows
 last-stands s t until heard until' heard' last p q = rw (p, q) refl
 
-pub rows-recovering : (ps : List Packet) (s t : Server) (host until heard until' heard' : ℕ) (last : Table) → s.phase ≡ recovering until heard last → t.phase ≡ recovering until' heard' last → RowsMove ps s t host
+pub rows-recovering : (ps : List Packet) (s t : Server) (host until heard until' heard' : ℕ) (last : Option Table) → s.phase ≡ recovering until heard last → t.phase ≡ recovering until' heard' last → RowsMove ps s t host
 rows-recovering ps s t host until heard until' heard' last p q = rows-same ps s t host (last-stands s t until heard until' heard' last p q)
 
 -- a lease was given up

@@ -332,7 +332,7 @@ module _ (journal : List Entry) (first after : ℕ → ℕ) (ps : List Packet) (
         change = (ap (λ n. n + 1) (sym over), delayed-more (w ∷ []) journal who f.id block b (value_of body) value, record { some = s.now; change = is-change before w after is.same f (h.files f.id f found) only });
       })
 
-  storing-recovering : (xid : ℕ) (who : Who) (seq block a b : ℕ) (base : PushBase) (body : List ℕ) (f : File) (until : ℕ) (last : Table) → d ≡ request xid (Request.Write who seq f.id block a b (Some base) body) → who.host ≡ sender → find_file f.id s.kept.files ≡ Some f → block < blocks_of f → base.base ≡ f.rev → ShowsIf (commits who seq xid (Request.Write who seq f.id block a b (Some base) body) (stores_recovering s until last who f block a b body))
+  storing-recovering : (xid : ℕ) (who : Who) (seq block a b : ℕ) (base : PushBase) (body : List ℕ) (f : File) (until : ℕ) (last : Option Table) → d ≡ request xid (Request.Write who seq f.id block a b (Some base) body) → who.host ≡ sender → find_file f.id s.kept.files ≡ Some f → block < blocks_of f → base.base ≡ f.rev → ShowsIf (commits who seq xid (Request.Write who seq f.id block a b (Some base) body) (stores_recovering s until last who f block a b body))
   unfolding stores_recovering wrote keeping with_files written_file
   storing-recovering xid who seq block a b base body f until last e from found below over =
       let w : Entry = Entry.S who f.id block a b s.now in

@@ -1,6 +1,6 @@
 -- A file is bound while the row of its holder stands, lets him write, and began its chain no later than the tag that he
 -- holds. A tick of the server's clock keeps it bound, or ends it late enough; a crash keeps it bound.
-use Rattle.std.proofs.Common.{◌≡◌, ◌≢◌, ◌≤◌, ◌⊎◌, ℕ, ◌+◌, ◌==◌, ◌&&◌, Bool, true, false, not, List, [], ◌∷◌, Some, None, if◌then◌else◌, max, nat_le, refl, sym, subst, ap, ◌∙◌, arith, inl, inr}
+use Rattle.std.proofs.Common.{◌≡◌, ◌≢◌, ◌≤◌, ◌⊎◌, ℕ, ◌+◌, ◌==◌, ◌&&◌, Bool, true, false, not, List, [], ◌∷◌, Some, None, if◌then◌else◌, max, nat_le, refl, sym, subst, ap, ◌∙◌, arith, inl, inr, Option}
 use Rattle.std.specs.List.{find}
 use Rattle.std.proofs.lemmas.Bool.{and_parts, and_from}
 use Rattle.nq_base.specs.declared.Entry.{Entry}
@@ -17,7 +17,7 @@ use Rattle.nq_model.specs.Journal.{Each}
 use Rattle.nq_model.specs.Kept.{host_row}
 use Rattle.nq_model.specs.LeaseInterval.{is_at_least, HasFitting, OutlivedBy, IsCovered}
 use Rattle.nq_model.specs.Profile.{skew, write_slack}
-use Rattle.nq_model.specs.Server.{Phase, serving, recovering, Server, ServerStep, standing, standing_in, quiet, with_table, keeping_with}
+use Rattle.nq_model.specs.Server.{Phase, serving, recovering, Server, ServerStep, standing, standing_in, quiet, with_table, keeping_with, last_table, last_in}
 use Rattle.nq_model.specs.ServerStep.{is_over, is_due, end_reading, at_time, opens, ends_writing, tick, crash, boot}
 use Rattle.nq_model.specs.Table.{Table, is_writing, find_row, with_rows}
 use Rattle.walk_endings.proofs.LogRuns.{Alone, LogRuns}
@@ -48,7 +48,7 @@ covered-bound s serving who file tag until c = fitting s.table c
   where
     fitting : (table : Table) → HasFitting who file Writing tag until table → HasFitting who file Writing tag 0 table
     fitting table c = record { row = c.row; stands = c.stands; fits = record { holder = c.fits.holder; of_file = c.fits.of_file; kind = c.fits.kind; began = c.fits.began; goes_on = c.fits.goes_on; ends = omega arith } }
-covered-bound s (recovering end heard last) who file tag until c = record { of_last_boot = c.of_last_boot; fitting = fitting last c.fitting; waits = omega arith }
+covered-bound s (recovering end heard last) who file tag until c = record { of_last_boot = c.of_last_boot; fitting = fitting (last_table last) c.fitting; waits = omega arith }
   where
     fitting : (table : Table) → HasFitting who file Writing tag until table → HasFitting who file Writing tag 0 table
     fitting table c = record { row = c.row; stands = c.stands; fits = record { holder = c.fits.holder; of_file = c.fits.of_file; kind = c.fits.kind; began = c.fits.began; goes_on = c.fits.goes_on; ends = omega arith } }
@@ -77,13 +77,13 @@ module _ (most booted : ℕ) (s : Server) (journal : List Entry) (fits : Alone m
   waits now b = inl (same-cover-table s (quiet (at_time s now)).server s.phase who file Writing tag 0 refl refl b)
 
   -- the recovery ends
-  opening : (now until heard : ℕ) (last : Table) → s.phase ≡ recovering until heard last → until ≤ now → IsBound s s.phase who file tag → StaysOrEnds (opens (at_time s now) until heard)
+  opening : (now until heard : ℕ) (last : Option Table) → s.phase ≡ recovering until heard last → until ≤ now → IsBound s s.phase who file tag → StaysOrEnds (opens (at_time s now) until heard)
   unfolding opens at_time
   opening now until heard last p late b =
       let o : OutlivedBy who file Writing tag 0 s.kept.opened until last = subst (λ q. IsBound s q who file tag) p b in
       let row : Row = o.fitting.row in
       let r : RecoversBoot s.kept.boot s.kept.opened s.table last = subst (λ q. BootsFit s.kept.boot s.kept.opened q s.table) p fits.boots in
-      let stood : TableFits s.kept.files last.boot last.drawn last.rows = subst (λ q. StandingFits s.kept.files q s.table) p fits.stands in
+      let stood : TableFits s.kept.files (last_table last).boot (last_table last).drawn (last_table last).rows = subst (λ q. StandingFits s.kept.files q s.table) p fits.stands in
       let k = stood.fits file who.host row o.fitting.stands in
       let granted : WasGranted (timed journal) row = (subst (λ q. RowsGranted q s.table (timed journal)) p log.granted) file who.host row o.fitting.stands (writing-caches row.mode o.fitting.fits.kind) in
       let told : find _ (timed journal) ≡ Some (Entry.X s.kept.boot booted s.kept.longest) = subst (λ q. ToldBoot booted s.kept.boot s.kept.longest q (timed journal)) p log.told in
@@ -180,7 +180,7 @@ unfolding crash boot
 crash-bound s longest who file tag boots stood served b =
     let t : Server = (crash s longest).server in
     let kept : t.kept ≡ record s.kept { boot = s.kept.boot + 1 } = booted-kept s.kept longest served in
-    let p : t.phase ≡ recovering (s.now + s.kept.longest + (skew + write_slack)) s.now (standing s) = booted-phase s.kept.opened s.kept.longest s.now (standing s) served.opened in
+    let p : t.phase ≡ recovering (s.now + s.kept.longest + (skew + write_slack)) s.now (last_in s.phase s.table) = booted-phase s.kept.opened s.kept.longest s.now (last_in s.phase s.table) served.opened in
     let same : t.kept.opened ≡ s.kept.opened = ap (λ k. k.opened) kept in
     subst (λ n. IsBound t n who file tag) (sym p)
     (record {
@@ -195,7 +195,7 @@ fitting-bound s serving who file tag boots stood k = k
 fitting-bound s (recovering end heard last) who file tag boots stood k =
     let fits = stood.fits file who.host k.row k.stands in
     record {
-      of_last_boot = between last.boot k.row.since tag k.row.tag fits.since_boot fits.tag_boot k.fits.began k.fits.goes_on ∙ boots.last_boot;
+      of_last_boot = between (last_table last).boot k.row.since tag k.row.tag fits.since_boot fits.tag_boot k.fits.began k.fits.goes_on ∙ boots.last_boot;
       fitting = k;
       waits = omega arith;
     }
@@ -203,7 +203,7 @@ fitting-bound s (recovering end heard last) who file tag boots stood k =
 -- a crash leaves the standing table
 pub crash-standing : (s : Server) (longest : ℕ) → HasServed s.kept → standing (crash s longest).server ≡ standing s
 unfolding crash boot
-crash-standing s longest served = ap (λ p. standing_in p (crash s longest).server.table) (booted-phase s.kept.opened s.kept.longest s.now (standing s) served.opened)
+crash-standing s longest served = ap (λ p. standing_in p (crash s longest).server.table) (booted-phase s.kept.opened s.kept.longest s.now (last_in s.phase s.table) served.opened)
 
 -- and the kept lines
 pub crash-line : (s : Server) (longest : ℕ) (host : ℕ) → HasServed s.kept → host_row (crash s longest).server.kept host ≡ host_row s.kept host

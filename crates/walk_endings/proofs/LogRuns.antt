@@ -83,7 +83,7 @@ unfolding with_files
 short-fenced kept None log g = g
 short-fenced kept (Some f) log g = g
 
-short-opened : (s : Server) (until heard : ℕ) (last : Table) (log : List Entry) → s.phase ≡ recovering until heard last → BootsFitOf s → GrantsShort s.kept log → Each (IsShortGrant s.kept.boot s.longest) log
+short-opened : (s : Server) (until heard : ℕ) (last : Option Table) (log : List Entry) → s.phase ≡ recovering until heard last → BootsFitOf s → GrantsShort s.kept log → Each (IsShortGrant s.kept.boot s.longest) log
 short-opened s until heard last log p b g =
     let r : RecoversBoot s.kept.boot s.kept.opened s.table last = subst (λ p. BootsFit s.kept.boot s.kept.opened p s.table) p b in
     each-map (IsShortGrant s.kept.opened s.kept.longest) (IsShortGrant s.kept.boot s.longest) log (later-opened s.kept.opened s.kept.longest s.kept.boot s.longest r.opened_before) g

@@ -308,7 +308,7 @@ module _ (ps : List Packet) (s : Server) (sender next : ℕ) (d : Datagram) (was
   storing xid w seq block first last base body f row e fresh =
       committed xid w seq (Request.Write w seq f.id block first last (Some base) body) (stores s w f row block first last body) e refl refl fresh refl (λ host x a i. i) (pushes seq f.id block first last s.now base body refl refl refl)
 
-  storing-recovering : (xid : ℕ) (w : Who) (seq block first final : ℕ) (base : PushBase) (body : List ℕ) (f : File) (until : ℕ) (last : Table) → d ≡ request xid (Request.Write w seq f.id block first final (Some base) body) → IsFresh s sender w seq → ServerTells ps s (commits w seq xid (Request.Write w seq f.id block first final (Some base) body) (stores_recovering s until last w f block first final body))
+  storing-recovering : (xid : ℕ) (w : Who) (seq block first final : ℕ) (base : PushBase) (body : List ℕ) (f : File) (until : ℕ) (last : Option Table) → d ≡ request xid (Request.Write w seq f.id block first final (Some base) body) → IsFresh s sender w seq → ServerTells ps s (commits w seq xid (Request.Write w seq f.id block first final (Some base) body) (stores_recovering s until last w f block first final body))
   unfolding stores_recovering keeping wrote with_files
   storing-recovering xid w seq block first final base body f until last e fresh =
       committed xid w seq (Request.Write w seq f.id block first final (Some base) body) (stores_recovering s until last w f block first final body) e refl refl fresh refl (λ host x a i. i) (pushes seq f.id block first final s.now base body refl refl refl)

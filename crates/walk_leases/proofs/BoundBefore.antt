@@ -12,7 +12,7 @@ use Rattle.walk_client.proofs.ClientMoves.{none-some}
 use Rattle.nq_model.specs.Ask.{term_of, sharing_row, caching_row, shared_again, renewed_row, marked}
 use Rattle.nq_model.specs.Kept.{Kept}
 use Rattle.nq_model.specs.Message.{Datagram}
-use Rattle.nq_model.specs.Server.{Phase, serving, recovering, Server, standing, standing_in}
+use Rattle.nq_model.specs.Server.{Phase, serving, recovering, Server, standing, standing_in, last_table}
 use Rattle.nq_model.specs.ServerStep.{to_read, receive, is_over, end_reading, tick, boot}
 use Rattle.nq_model.specs.Table.{Table, is_writing, tag_below, next_tag, is_row_of, find_row, with_rows, after_draw, put_row}
 use Rattle.walk_run.proofs.TagFacts.{IsDrawn}
@@ -58,7 +58,7 @@ module _ (s : Server) (who : Who) (file : ℕ) (tag : Tag) (stands : StandingFit
   -- in a phase that goes on the rows of the table count while the server serves
   moved : (phase : Phase) (table after : Table) → (phase ≡ serving → StandsWriting who file tag after.rows → Stood who file tag table.rows) → StandsWriting who file tag (standing_in phase after).rows → Stood who file tag (standing_in phase table).rows
   moved serving table after was w = was refl w
-  moved (recovering until heard last) table after was w = only-stood who file tag last.rows w
+  moved (recovering until heard last) table after was w = only-stood who file tag (last_table last).rows w
 
   fewer : (rows : List Row) → (s.phase ≡ serving → (row : Row) → find_row file who.host rows ≡ Some row → find_row file who.host s.table.rows ≡ Some row) → StandsWriting who file tag (standing_in s.phase (with_rows s.table rows)).rows → Stood who file tag (standing_in s.phase s.table).rows
   unfolding with_rows
@@ -154,7 +154,7 @@ module _ (s : Server) (who : Who) (file : ℕ) (tag : Tag) (stands : StandingFit
     creating = λ name blocks serves can. only-stood who file tag (standing_in s.phase s.table).rows;
     changing = λ w f changed serves current found same c. only-stood who file tag (standing_in s.phase s.table).rows;
     storing = λ w f changed base row serves current found same can. heard-row row s.now serves w.host f.id can.row_found;
-    storing_recovering = λ f changed until heard last p found same w. subst (λ q. Stood who file tag (standing_in q s.table).rows) (sym p) (only-stood who file tag last.rows w);
+    storing_recovering = λ f changed until heard last p found same w. subst (λ q. Stood who file tag (standing_in q s.table).rows) (sym p) (only-stood who file tag (last_table last).rows w);
     removing = λ w f serves current found c. fewer _ (λ p row stood. (found-kept (λ r. not (r.file == f.id)) file who.host s.table.rows row (own-unique p) stood).0);
   }
 

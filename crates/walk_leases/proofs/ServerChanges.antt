@@ -169,7 +169,7 @@ module _ (ps : List Packet) (s : Server) (most sender next : ℕ) (d : Datagram)
       (commit-said w seq x r k e refl refl changing.fresh refl (nothing-said t.server))
 
   -- delayed writes are stored while the server recovers
-  pub stores-recovering-effect : (x : ℕ) (w : Who) (seq block first final : ℕ) (base : PushBase) (body : List ℕ) (f : File) (until heard : ℕ) (last : Table) → d ≡ request x (Request.Write w seq f.id block first final (Some base) body) → IsFresh s sender w seq → s.phase ≡ recovering until heard last → Effect ps s (commits w seq x (Request.Write w seq f.id block first final (Some base) body) (stores_recovering s until last w f block first final body)) who ticket leased
+  pub stores-recovering-effect : (x : ℕ) (w : Who) (seq block first final : ℕ) (base : PushBase) (body : List ℕ) (f : File) (until heard : ℕ) (last : Option Table) → d ≡ request x (Request.Write w seq f.id block first final (Some base) body) → IsFresh s sender w seq → s.phase ≡ recovering until heard last → Effect ps s (commits w seq x (Request.Write w seq f.id block first final (Some base) body) (stores_recovering s until last w f block first final body)) who ticket leased
   unfolding commits keeping stores_recovering wrote with_row with_files
   stores-recovering-effect x w seq block first final base body f until heard last e fresh p =
       let r : Request = Request.Write w seq f.id block first final (Some base) body in

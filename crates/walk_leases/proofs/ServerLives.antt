@@ -30,7 +30,7 @@ use Rattle.nq_model.specs.Kept.{File, Kept, host_row, find_file, with_files}
 use Rattle.nq_model.specs.LeaseInterval.{HasFitting, OutlivedBy, IsCovered, cover_end}
 use Rattle.nq_model.specs.Message.{Packet}
 use Rattle.nq_model.specs.Profile.{skew, write_slack}
-use Rattle.nq_model.specs.Server.{Phase, serving, recovering, Server, standing, standing_in, quiet, keeping_with, with_table}
+use Rattle.nq_model.specs.Server.{Phase, serving, recovering, Server, standing, standing_in, quiet, keeping_with, with_table, last_table, last_in}
 use Rattle.nq_model.specs.ServerStep.{is_over, is_due, end_reading, fence, at_time, opens, ends_writing, tick, boot, booted, boot_phase, crash}
 use Rattle.nq_model.specs.Skew.{server_ticks, ticks_of, IsWithinSkew}
 use Rattle.nq_model.specs.Table.{Table, caches, is_writing, tag_below, find_row, drop_row, with_rows}
@@ -151,7 +151,7 @@ module _ (s : Server) (hosts most : ℕ) (events : List Event) (who : Who) (now 
       (drawn-more s.table.boot s.table.drawn t.table.boot t.table.drawn boot (omega arith) tag (subst (λ n. IsDrawn (standing_in n s.table).boot (standing_in n s.table).drawn tag) p k))
 
   -- the recovery goes on
-  waits-lives : (until heard : ℕ) (last : Table) → s.phase ≡ recovering until heard last → Lives s (quiet (at_time s (s.now + 1))).server Event.ServerTick events who now
+  waits-lives : (until heard : ℕ) (last : Option Table) → s.phase ≡ recovering until heard last → Lives s (quiet (at_time s (s.now + 1))).server Event.ServerTick events who now
   unfolding quiet at_time
   waits-lives until heard last p = record {
     line = refl;
@@ -167,14 +167,14 @@ module _ (s : Server) (hosts most : ℕ) (events : List Event) (who : Who) (now 
   earlier-boot boot opened drawn tag before (inl earlier) same = absurd (omega arith)
   earlier-boot boot opened drawn tag before (inr of_last) same = let k = of_last.0 in absurd (omega arith)
 
-  opens-lives : (until heard : ℕ) (last : Table) → s.phase ≡ recovering until heard last → until ≤ s.now + 1 → Lives s (opens (at_time s (s.now + 1)) until heard).server Event.ServerTick events who now
+  opens-lives : (until heard : ℕ) (last : Option Table) → s.phase ≡ recovering until heard last → until ≤ s.now + 1 → Lives s (opens (at_time s (s.now + 1)) until heard).server Event.ServerTick events who now
   unfolding opens at_time
   opens-lives until heard last p over =
       let r : RecoversBoot s.kept.boot s.kept.opened s.table last = subst (λ n. BootsFit s.kept.boot s.kept.opened n s.table) p boots in
       record {
         line = refl;
         grows = λ tag k. grown tag (of-last tag k r);
-        short = λ tag term k short same. absurd (earlier-boot s.kept.boot s.kept.opened last.drawn tag r.opened_before (of-last tag k r) same);
+        short = λ tag term k short same. absurd (earlier-boot s.kept.boot s.kept.opened (last_table last).drawn tag r.opened_before (of-last tag k r) same);
         covers = λ file mode tag asked term caching past runs short c.
             let o : OutlivedBy who file mode tag (cover_end who.host asked term events) s.kept.opened until last = subst (λ n. IsCovered s n who file mode tag (cover_end who.host asked term events)) p c in
             let later : s.now + 1 < cover_end who.host asked term events = live tag asked term past runs short o.of_last_boot in
@@ -182,15 +182,15 @@ module _ (s : Server) (hosts most : ℕ) (events : List Event) (who : Who) (now 
             absurd (omega arith);
       }
     where
-      of-last : (tag : Tag) → IsDrawn (standing s).boot (standing s).drawn tag → RecoversBoot s.kept.boot s.kept.opened s.table last → IsDrawn s.kept.opened last.drawn tag
-      of-last tag k r = subst (λ n. IsDrawn n last.drawn tag) r.last_boot (subst (λ n. IsDrawn (standing_in n s.table).boot (standing_in n s.table).drawn tag) p k)
+      of-last : (tag : Tag) → IsDrawn (standing s).boot (standing s).drawn tag → RecoversBoot s.kept.boot s.kept.opened s.table last → IsDrawn s.kept.opened (last_table last).drawn tag
+      of-last tag k r = subst (λ n. IsDrawn n (last_table last).drawn tag) r.last_boot (subst (λ n. IsDrawn (standing_in n s.table).boot (standing_in n s.table).drawn tag) p k)
 
-      grown : (tag : Tag) → IsDrawn s.kept.opened last.drawn tag → IsDrawn s.table.boot s.table.drawn tag
+      grown : (tag : Tag) → IsDrawn s.kept.opened (last_table last).drawn tag → IsDrawn s.table.boot s.table.drawn tag
       grown tag k =
           let r : RecoversBoot s.kept.boot s.kept.opened s.table last = subst (λ n. BootsFit s.kept.boot s.kept.opened n s.table) p boots in
           earlier k r.opened_before r.table_boot
         where
-          earlier : IsDrawn s.kept.opened last.drawn tag → s.kept.opened < s.kept.boot → s.table.boot ≡ s.kept.boot → IsDrawn s.table.boot s.table.drawn tag
+          earlier : IsDrawn s.kept.opened (last_table last).drawn tag → s.kept.opened < s.kept.boot → s.table.boot ≡ s.kept.boot → IsDrawn s.table.boot s.table.drawn tag
           earlier (inl before) a b = inl (omega arith)
           earlier (inr same) a b = let e = same.0 in inl (omega arith)
 
@@ -245,7 +245,7 @@ booted-kept kept longest served = by (kept.opened == 0) refl
     by true e = let some = served.opened in let none : kept.opened ≡ 0 = same-number kept.opened 0 e in absurd (omega arith)
     by false e = refl
 
-pub booted-phase : (opened longest now : ℕ) (last : Table) → 0 < opened → boot_phase opened longest now last ≡ recovering (now + longest + (skew + write_slack)) now last
+pub booted-phase : (opened longest now : ℕ) (last : Option Table) → 0 < opened → boot_phase opened longest now last ≡ recovering (now + longest + (skew + write_slack)) now last
 booted-phase opened longest now last served = by (opened == 0) refl
   where
     by : (b : Bool) → (opened == 0) ≡ b → (if b then serving else recovering (now + longest + (skew + write_slack)) now last) ≡ recovering (now + longest + (skew + write_slack)) now last
@@ -258,7 +258,7 @@ module _ (s : Server) (longest : ℕ) (events : List Event) (who : Who) (now : �
   standing-fitting serving file mode tag until c = c
   standing-fitting (recovering end heard last) file mode tag until c = c.fitting
 
-  outlived : (t : Server) (file : ℕ) (mode : Mode) (tag : Tag) (until : ℕ) → t.phase ≡ recovering (s.now + s.kept.longest + (skew + write_slack)) s.now (standing s) → t.kept.opened ≡ s.kept.opened → until ≤ s.now + s.kept.longest + (skew + write_slack) → IsCovered s s.phase who file mode tag until → IsCovered t t.phase who file mode tag until
+  outlived : (t : Server) (file : ℕ) (mode : Mode) (tag : Tag) (until : ℕ) → t.phase ≡ recovering (s.now + s.kept.longest + (skew + write_slack)) s.now (last_in s.phase s.table) → t.kept.opened ≡ s.kept.opened → until ≤ s.now + s.kept.longest + (skew + write_slack) → IsCovered s s.phase who file mode tag until → IsCovered t t.phase who file mode tag until
   outlived t file mode tag until p same waits c =
       subst (λ n. IsCovered t n who file mode tag until) (sym p)
       (record {
@@ -272,7 +272,7 @@ module _ (s : Server) (longest : ℕ) (events : List Event) (who : Who) (now : �
   crash-lives =
       let t : Server = (crash s longest).server in
       let kept : t.kept ≡ record s.kept { boot = s.kept.boot + 1 } = booted-kept s.kept longest served in
-      let p : t.phase ≡ recovering (s.now + s.kept.longest + (skew + write_slack)) s.now (standing s) = booted-phase s.kept.opened s.kept.longest s.now (standing s) served.opened in
+      let p : t.phase ≡ recovering (s.now + s.kept.longest + (skew + write_slack)) s.now (last_in s.phase s.table) = booted-phase s.kept.opened s.kept.longest s.now (last_in s.phase s.table) served.opened in
       let same : t.kept.opened ≡ s.kept.opened = ap (λ k. k.opened) kept in
       let terms : t.kept.longest ≡ s.kept.longest = ap (λ k. k.longest) kept in
       record {

@@ -201,7 +201,7 @@ module _ (ps : List Packet) (s : Server) (sender next : ℕ) (d : Datagram) (was
   unfolding stores
   stores-said who f row block first last body = none-said ps
 
-  recovering-said : (until : ℕ) (last : Table) (who : Who) (f : File) (block first final : ℕ) (body : List ℕ) → AllSaid ps (stores_recovering s until last who f block first final body).sends
+  recovering-said : (until : ℕ) (last : Option Table) (who : Who) (f : File) (block first final : ℕ) (body : List ℕ) → AllSaid ps (stores_recovering s until last who f block first final body).sends
   unfolding stores_recovering
   recovering-said until last who f block first final body = none-said ps
 

@@ -136,7 +136,7 @@ module _ (s : Server) (sender next : ℕ) (d : Datagram) (Q : ServerStep → Typ
       e
       found
 
-  pushes-recovering : (xid : ℕ) (who : Who) (seq block first final : ℕ) (base : PushBase) (body : List ℕ) (until heard : ℕ) (last : Table) (f : File) → IsFresh s sender who seq → s.phase ≡ recovering until heard last → d ≡ request xid (Request.Write who seq f.id block first final (Some base) body) → find_file f.id s.kept.files ≡ Some f → Q (commits who seq xid (Request.Write who seq f.id block first final (Some base) body) (decide_push_recovering s until last who (Some f) block first final base body))
+  pushes-recovering : (xid : ℕ) (who : Who) (seq block first final : ℕ) (base : PushBase) (body : List ℕ) (until heard : ℕ) (last : Option Table) (f : File) → IsFresh s sender who seq → s.phase ≡ recovering until heard last → d ≡ request xid (Request.Write who seq f.id block first final (Some base) body) → find_file f.id s.kept.files ≡ Some f → Q (commits who seq xid (Request.Write who seq f.id block first final (Some base) body) (decide_push_recovering s until last who (Some f) block first final base body))
   pushes-recovering xid who seq block first final base body until heard last f fresh recovers e found =
       let R = λ (c : Decision). Q (commits who seq xid (Request.Write who seq f.id block first final (Some base) body) c) in
       choice
@@ -156,7 +156,7 @@ module _ (s : Server) (sender next : ℕ) (d : Datagram) (Q : ServerStep → Typ
       cases.storing_recovering xid who seq block first final base body f until heard last e fresh recovers found (is-not-at-most _ _ within) (same-number _ _ a.0) (same-number _ _ a.1))
       (λ bars. cases.declining xid who seq _ Verdict.Fenced e refl refl fresh (not_over seq f.id block first final base body f (record { until = until; heard = heard; last = last; phase = recovers }) refl found bars refl)))
 
-  pushes-recovering-found : (xid : ℕ) (who : Who) (seq file block first final : ℕ) (base : PushBase) (body : List ℕ) (until heard : ℕ) (last : Table) → IsFresh s sender who seq → s.phase ≡ recovering until heard last → d ≡ request xid (Request.Write who seq file block first final (Some base) body) → (found : Option File) → find_file file s.kept.files ≡ found → Q (commits who seq xid (Request.Write who seq file block first final (Some base) body) (decide_push_recovering s until last who found block first final base body))
+  pushes-recovering-found : (xid : ℕ) (who : Who) (seq file block first final : ℕ) (base : PushBase) (body : List ℕ) (until heard : ℕ) (last : Option Table) → IsFresh s sender who seq → s.phase ≡ recovering until heard last → d ≡ request xid (Request.Write who seq file block first final (Some base) body) → (found : Option File) → find_file file s.kept.files ≡ found → Q (commits who seq xid (Request.Write who seq file block first final (Some base) body) (decide_push_recovering s until last who found block first final base body))
   pushes-recovering-found xid who seq file block first final base body until heard last fresh recovers e None found = cases.declining xid who seq _ Verdict.Stale e refl refl fresh (not_kept file refl found refl)
   pushes-recovering-found xid who seq file block first final base body until heard last fresh recovers e (Some f) found =
       subst
@@ -166,7 +166,7 @@ module _ (s : Server) (sender next : ℕ) (d : Datagram) (Q : ServerStep → Typ
       e
       found
 
-  writes-recovering : (xid : ℕ) (who : Who) (seq file block first final : ℕ) (push : Option PushBase) (body : List ℕ) (until heard : ℕ) (last : Table) → IsFresh s sender who seq → s.phase ≡ recovering until heard last → d ≡ request xid (Request.Write who seq file block first final push body) → Q (commits who seq xid (Request.Write who seq file block first final push body) (decide_write_recovering s until last who file block first final push body))
+  writes-recovering : (xid : ℕ) (who : Who) (seq file block first final : ℕ) (push : Option PushBase) (body : List ℕ) (until heard : ℕ) (last : Option Table) → IsFresh s sender who seq → s.phase ≡ recovering until heard last → d ≡ request xid (Request.Write who seq file block first final push body) → Q (commits who seq xid (Request.Write who seq file block first final push body) (decide_write_recovering s until last who file block first final push body))
   writes-recovering xid who seq file block first final None body until heard last fresh recovers e = cases.declining xid who seq _ Verdict.TryLater e refl refl fresh (not_while_recovering (record { until = until; heard = heard; last = last; phase = recovers }) refl refl)
   writes-recovering xid who seq file block first final (Some base) body until heard last fresh recovers e =
       pushes-recovering-found xid who seq file block first final base body until heard last fresh recovers e (find_file file s.kept.files) refl

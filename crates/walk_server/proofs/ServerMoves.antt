@@ -1,5 +1,5 @@
 -- What a datagram or a tick does to what the server keeps, its phase and its lease table.
-use Rattle.std.proofs.Common.{◌≡◌, ◌<◌, ◌≤◌, ℕ, ◌+◌, true, List, Some, None, max, refl}
+use Rattle.std.proofs.Common.{◌≡◌, ◌<◌, ◌≤◌, ℕ, ◌+◌, true, List, Some, None, max, refl, Option}
 use Rattle.std.specs.List.{find}
 use Rattle.nq_base.specs.declared.Access.{Access}
 use Rattle.nq_base.specs.declared.HostRow.{HostRow}
@@ -53,7 +53,7 @@ pub record ServerMoves (s : Server) (d : Datagram) (Q : Kept → Phase → Table
   -- delayed writes are stored, while their row goes on
   pub storing : (who : Who) (f file : File) (base : PushBase) (row : Row) → s.phase ≡ serving → IsKeptInc s who → find_file f.id s.kept.files ≡ Some f → file.id ≡ f.id → CanStore s who f base row → Q (with_files s.kept (replace_file file s.kept.files)) s.phase (with_rows s.table (put_row (record row { heard = s.now }) s.table.rows))
   -- delayed writes are stored while the server recovers
-  pub storing_recovering : (f file : File) (until heard : ℕ) (last : Table) → s.phase ≡ recovering until heard last → find_file f.id s.kept.files ≡ Some f → file.id ≡ f.id → Q (with_files s.kept (replace_file file s.kept.files)) (recovering (max until (s.now + write_slack)) s.now last) s.table
+  pub storing_recovering : (f file : File) (until heard : ℕ) (last : Option Table) → s.phase ≡ recovering until heard last → find_file f.id s.kept.files ≡ Some f → file.id ≡ f.id → Q (with_files s.kept (replace_file file s.kept.files)) (recovering (max until (s.now + write_slack)) s.now last) s.table
   -- a file is taken away
   pub removing : (who : Who) (f : File) → s.phase ≡ serving → IsKeptInc s who → find_file f.id s.kept.files ≡ Some f → clash_with s f.id who.host ≡ None → Q (with_files s.kept (drop_file f.id s.kept.files)) s.phase (with_rows s.table (drop_rows_of f.id s.table.rows))
 
@@ -125,9 +125,9 @@ receive-keeps s sender next d =
 -- the changes that a tick may make
 pub record TickMoves (s : Server) (now : ℕ) (Q : Kept → Phase → Table → Type 0) : Type 0 where
   -- the recovery goes on
-  pub waits : (until heard : ℕ) (last : Table) → s.phase ≡ recovering until heard last → now < until → Q s.kept s.phase s.table
+  pub waits : (until heard : ℕ) (last : Option Table) → s.phase ≡ recovering until heard last → now < until → Q s.kept s.phase s.table
   -- the recovery ends
-  pub opening : (until heard : ℕ) (last : Table) → s.phase ≡ recovering until heard last → until ≤ now → Q (record s.kept { opened = s.kept.boot; longest = s.longest }) serving s.table
+  pub opening : (until heard : ℕ) (last : Option Table) → s.phase ≡ recovering until heard last → until ≤ now → Q (record s.kept { opened = s.kept.boot; longest = s.longest }) serving s.table
   -- rows that do not let their holders write end
   pub ends_reading : s.phase ≡ serving → Q s.kept s.phase (with_rows s.table (end_reading now s.table.rows))
   -- and a writing row ends in silence, while its file is fenced

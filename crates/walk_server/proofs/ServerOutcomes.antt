@@ -95,7 +95,7 @@ pub record IsFresh (s : Server) (sender : ℕ) (who : Who) (seq : ℕ) : Type 0 
 pub record IsRecovering (s : Server) : Type 0 where
   pub until : ℕ
   pub heard : ℕ
-  pub last : Table
+  pub last : Option Table
   pub phase : s.phase ≡ recovering until heard last
 
 -- a reply that brings no lease and changes nothing, by the request that it answers
@@ -208,7 +208,7 @@ pub record ServerCases (s : Server) (sender next : ℕ) (d : Datagram) (Q : Serv
   -- delayed writes are stored
   pub storing : (xid : ℕ) (who : Who) (seq block first last : ℕ) (base : PushBase) (body : List ℕ) (f : File) (row : Row) → d ≡ request xid (Request.Write who seq f.id block first last (Some base) body) → IsChanging s sender who seq f → block < blocks_of f → CanStore s who f base row → Q (commits who seq xid (Request.Write who seq f.id block first last (Some base) body) (stores s who f row block first last body))
   -- delayed writes are stored while the server recovers
-  pub storing_recovering : (xid : ℕ) (who : Who) (seq block first final : ℕ) (base : PushBase) (body : List ℕ) (f : File) (until heard : ℕ) (last : Table) → d ≡ request xid (Request.Write who seq f.id block first final (Some base) body) → IsFresh s sender who seq → s.phase ≡ recovering until heard last → find_file f.id s.kept.files ≡ Some f → block < blocks_of f → base.boot ≡ s.kept.opened → base.base ≡ f.rev → Q (commits who seq xid (Request.Write who seq f.id block first final (Some base) body) (stores_recovering s until last who f block first final body))
+  pub storing_recovering : (xid : ℕ) (who : Who) (seq block first final : ℕ) (base : PushBase) (body : List ℕ) (f : File) (until heard : ℕ) (last : Option Table) → d ≡ request xid (Request.Write who seq f.id block first final (Some base) body) → IsFresh s sender who seq → s.phase ≡ recovering until heard last → find_file f.id s.kept.files ≡ Some f → block < blocks_of f → base.boot ≡ s.kept.opened → base.base ≡ f.rev → Q (commits who seq xid (Request.Write who seq f.id block first final (Some base) body) (stores_recovering s until last who f block first final body))
   -- a file gets another length
   pub resizing : (xid : ℕ) (who : Who) (seq q blocks : ℕ) (f : File) → d ≡ request xid (Request.Resize who seq q f.id blocks) → IsChanging s sender who seq f → CanResize s f blocks → clash_with s f.id who.host ≡ None → Q (commits who seq xid (Request.Resize who seq q f.id blocks) (resizes s who q f blocks))
   -- a file is taken away
@@ -217,9 +217,9 @@ pub record ServerCases (s : Server) (sender next : ℕ) (d : Datagram) (Q : Serv
 -- the outcomes of a tick of the server's clock
 pub record TickCases (s : Server) (now : ℕ) (Q : ServerStep → Type 0) : Type 0 where
   -- the recovery goes on
-  pub waits : (until heard : ℕ) (last : Table) → s.phase ≡ recovering until heard last → now < until → Q (quiet (at_time s now))
+  pub waits : (until heard : ℕ) (last : Option Table) → s.phase ≡ recovering until heard last → now < until → Q (quiet (at_time s now))
   -- the recovery ends
-  pub opening : (until heard : ℕ) (last : Table) → s.phase ≡ recovering until heard last → until ≤ now → Q (opens (at_time s now) until heard)
+  pub opening : (until heard : ℕ) (last : Option Table) → s.phase ≡ recovering until heard last → until ≤ now → Q (opens (at_time s now) until heard)
   -- no writing row ends
   pub ends_reading : s.phase ≡ serving → find (is_due now) (end_reading now s.table.rows) ≡ None → Q (quiet (with_table (at_time s now) (with_rows s.table (end_reading now s.table.rows))))
   -- a writing row ends in silence

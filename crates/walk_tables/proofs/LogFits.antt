@@ -83,7 +83,7 @@ first-lines head few = omega (arith, length-append {A = HostRow}, length-replica
 
 pub fits-start : (most : ℕ) (head : Head) → head.hosts ≤ most_hosts → shortest_term ≤ head.longest → head.longest ≤ most → ServerFits most 0 (start head).server
 unfolding start
-fits-start most head few long most_long = fits-boot most (first_kept head) head.longest 0 (omega arith) long most_long long most_long (subst (IdsFit (first_kept head).files) (next head) (first-ids 1 head.files)) (first-lines head few)
+fits-start most head few long most_long = fits-boot most (first_kept head) head.longest 0 refl long most_long long most_long (subst (IdsFit (first_kept head).files) (next head) (first-ids 1 head.files)) (first-lines head few)
   where
     next : (head : Head) → 1 + length head.files ≡ (first_kept head).next
     next head = omega arith

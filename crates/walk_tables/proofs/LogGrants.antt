@@ -10,7 +10,7 @@ use Rattle.nq_model.specs.Journal.{Each}
 use Rattle.nq_model.specs.Kept.{File, Kept, find_file, with_files, with_new_file, with_row}
 use Rattle.nq_model.specs.Message.{Datagram}
 use Rattle.nq_model.specs.Profile.{shortest_term}
-use Rattle.nq_model.specs.Server.{Phase, serving, recovering, Server, standing_in, standing}
+use Rattle.nq_model.specs.Server.{Phase, serving, recovering, Server, standing_in, standing, last_in}
 use Rattle.nq_model.specs.ServerStep.{to_read, receive, fence, tick, booted, boot, crash}
 use Rattle.nq_model.specs.Table.{Table, next_tag, put_row, with_rows, after_draw, empty_table}
 use Rattle.walk_tables.proofs.ServerNumbers.{fence-longest}
@@ -113,7 +113,7 @@ fence-opened kept (Some f) = refl
 grants-fenced : (kept : Kept) (o : Option File) (drawn : ℕ) (log : List Entry) → Each (IsOfGrants kept.opened kept.longest drawn) log → Each (IsOfGrants (fence kept o).opened (fence kept o).longest drawn) log
 grants-fenced kept o drawn log g = subst (λ opened. Each (IsOfGrants opened (fence kept o).longest drawn) log) (sym (fence-opened kept o)) (subst (λ longest. Each (IsOfGrants kept.opened longest drawn) log) (sym (fence-longest kept o)) g)
 
-grants-opened : (s : Server) (until heard : ℕ) (last : Table) (log : List Entry) → s.phase ≡ recovering until heard last → BootsFitOf s → GrantsFitOf s log → Each (IsOfGrants s.kept.boot s.longest s.table.drawn) log
+grants-opened : (s : Server) (until heard : ℕ) (last : Option Table) (log : List Entry) → s.phase ≡ recovering until heard last → BootsFitOf s → GrantsFitOf s log → Each (IsOfGrants s.kept.boot s.longest s.table.drawn) log
 grants-opened s until heard last log p b g =
     let r : RecoversBoot s.kept.boot s.kept.opened s.table last = subst (λ p. BootsFit s.kept.boot s.kept.opened p s.table) p b in
     each-map (IsOfGrants s.kept.opened s.kept.longest (standing s).drawn) (IsOfGrants s.kept.boot s.longest s.table.drawn) log (later-opened s.kept.opened s.kept.longest (standing s).drawn s.kept.boot s.longest s.table.drawn r.opened_before) g
@@ -137,6 +137,6 @@ grants-crash s longest log b g = (tt, in-phase (s.kept.opened == 0) refl)
     opened-before serving b = omega (arith, b.opened_now)
     opened-before (recovering until heard last) b = omega (arith, b.opened_before)
 
-    in-phase : (z : Bool) → (s.kept.opened == 0) ≡ z → GrantsFit (if z then record s.kept { boot = s.kept.boot + 1; opened = s.kept.boot + 1; longest = longest } else record s.kept { boot = s.kept.boot + 1 }) (if z then serving else recovering (s.now + s.kept.longest + 8) s.now (standing s)) (empty_table (s.kept.boot + 1)) log
+    in-phase : (z : Bool) → (s.kept.opened == 0) ≡ z → GrantsFit (if z then record s.kept { boot = s.kept.boot + 1; opened = s.kept.boot + 1; longest = longest } else record s.kept { boot = s.kept.boot + 1 }) (if z then serving else recovering (s.now + s.kept.longest + 8) s.now (last_in s.phase s.table)) (empty_table (s.kept.boot + 1)) log
     in-phase true e = each-map (IsOfGrants s.kept.opened s.kept.longest (standing s).drawn) (IsOfGrants (s.kept.boot + 1) longest 0) log (later-opened s.kept.opened s.kept.longest (standing s).drawn (s.kept.boot + 1) longest 0 (opened-before s.phase b)) g
     in-phase false e = g

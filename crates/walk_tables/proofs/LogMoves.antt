@@ -1,6 +1,6 @@
 -- What a step of the server does to its state and to the entries that tell a time: grants, stored writes, silent ends, and
 -- the ends and the beginnings of recoveries.
-use Rattle.std.proofs.Common.{◌≡◌, ◌<◌, ◌≤◌, ℕ, ◌+◌, Bool, true, false, List, ◌∷◌, ◌++◌, Some, None, max, refl}
+use Rattle.std.proofs.Common.{◌≡◌, ◌<◌, ◌≤◌, ℕ, ◌+◌, Bool, true, false, List, ◌∷◌, ◌++◌, Some, None, max, refl, Option}
 use Rattle.std.specs.List.{find, filter}
 use Rattle.nq_base.specs.declared.Access.{Access}
 use Rattle.nq_base.specs.declared.Entry.{Entry}
@@ -60,7 +60,7 @@ pub record LogMoves (s : Server) (d : Datagram) (log : List Entry) (Q : Kept →
   -- delayed writes are stored, while their row goes on
   pub storing : (who : Who) (f file : File) (base : PushBase) (row : Row) (block first last : ℕ) → s.phase ≡ serving → IsKeptInc s who → find_file f.id s.kept.files ≡ Some f → file.id ≡ f.id → CanStore s who f base row → Q (with_files s.kept (replace_file file s.kept.files)) s.phase (with_rows s.table (put_row (record row { heard = s.now }) s.table.rows)) (Entry.S who f.id block first last s.now ∷ log)
   -- delayed writes are stored while the server recovers
-  pub storing_recovering : (who : Who) (f file : File) (block first final until heard : ℕ) (last : Table) → IsKeptInc s who → s.phase ≡ recovering until heard last → find_file f.id s.kept.files ≡ Some f → file.id ≡ f.id → Q (with_files s.kept (replace_file file s.kept.files)) (recovering (max until (s.now + write_slack)) s.now last) s.table (Entry.S who f.id block first final s.now ∷ log)
+  pub storing_recovering : (who : Who) (f file : File) (block first final until heard : ℕ) (last : Option Table) → IsKeptInc s who → s.phase ≡ recovering until heard last → find_file f.id s.kept.files ≡ Some f → file.id ≡ f.id → Q (with_files s.kept (replace_file file s.kept.files)) (recovering (max until (s.now + write_slack)) s.now last) s.table (Entry.S who f.id block first final s.now ∷ log)
   -- a file is taken away
   pub removing : (who : Who) (f : File) → s.phase ≡ serving → IsKeptInc s who → find_file f.id s.kept.files ≡ Some f → clash_with s f.id who.host ≡ None → Q (with_files s.kept (drop_file f.id s.kept.files)) s.phase (with_rows s.table (drop_rows_of f.id s.table.rows)) log
 
@@ -110,9 +110,9 @@ log-moves s sender next d log Q moves = server-hears s sender next d (λ t. Q t.
 -- the changes that a tick may make
 pub record TickLogMoves (s : Server) (now : ℕ) (log : List Entry) (Q : Kept → Phase → Table → List Entry → Type 0) : Type 0 where
   -- the recovery goes on
-  pub waits : (until heard : ℕ) (last : Table) → s.phase ≡ recovering until heard last → now < until → Q s.kept s.phase s.table log
+  pub waits : (until heard : ℕ) (last : Option Table) → s.phase ≡ recovering until heard last → now < until → Q s.kept s.phase s.table log
   -- the recovery ends
-  pub opening : (until heard : ℕ) (last : Table) → s.phase ≡ recovering until heard last → until ≤ now → Q (record s.kept { opened = s.kept.boot; longest = s.longest }) serving s.table (Entry.O s.kept.boot until heard now ∷ log)
+  pub opening : (until heard : ℕ) (last : Option Table) → s.phase ≡ recovering until heard last → until ≤ now → Q (record s.kept { opened = s.kept.boot; longest = s.longest }) serving s.table (Entry.O s.kept.boot until heard now ∷ log)
   -- rows that do not let their holders write end
   pub ends_reading : s.phase ≡ serving → Q s.kept s.phase (with_rows s.table (end_reading now s.table.rows)) log
   -- and a writing row ends in silence, while its file is fenced

@@ -18,7 +18,7 @@ use Rattle.nq_model.specs.Journal.{Each}
 use Rattle.nq_model.specs.Kept.{Kept, host_row}
 use Rattle.nq_model.specs.Message.{Datagram}
 use Rattle.nq_model.specs.Profile.{skew}
-use Rattle.nq_model.specs.Server.{Phase, serving, recovering, Server, standing_in, standing}
+use Rattle.nq_model.specs.Server.{Phase, serving, recovering, Server, standing_in, standing, last_in}
 use Rattle.nq_model.specs.ServerStep.{to_read, is_over, end_reading, receive, tick, booted, boot, crash}
 use Rattle.nq_model.specs.Table.{Table, caches, is_writing, greater_mode, same_who, is_row_of, find_row, drop_row, put_row, with_rows, after_draw, empty_table}
 use Rattle.walk_server.proofs.AskCases.{with_marked, IsGranted, shares_again, begins_sharing, begins_caching, renews_row}
@@ -191,7 +191,7 @@ ended-row s now t p file host row found = (found-kept (λ r. not (is_over now r)
 left-row : (s : Server) (now : ℕ) (row : Row) → StandingFitsOf s → s.phase ≡ serving → (file host : ℕ) (r : Row) → find_row file host (drop_row row.file row.who.host (end_reading now s.table.rows)) ≡ Some r → find_row file host s.table.rows ≡ Some r
 left-row s now row t p file host r found = ended-row s now t p file host r (found-kept (λ x. not (is_row_of row.file row.who.host x)) file host (end_reading now s.table.rows) r (unique-filtered _ s.table.rows (keys-served s t p)) found).0
 
-no-rows : (P : Row → Type 0) (s : Server) (until heard : ℕ) (last : Table) → s.phase ≡ recovering until heard last → NoneRecoveringOf s → EachRow P s.table.rows
+no-rows : (P : Row → Type 0) (s : Server) (until heard : ℕ) (last : Option Table) → s.phase ≡ recovering until heard last → NoneRecoveringOf s → EachRow P s.table.rows
 no-rows P s until heard last p none = subst (EachRow P) (sym (none-opened s until heard last p none)) (λ file host row found. absurd (cc))
 
 -- and after a tick
@@ -209,7 +209,7 @@ pub granted-crash : (s : Server) (longest : ℕ) (log : List Entry) → RowsGran
 unfolding crash boot empty_table
 granted-crash s longest log g = in-phase (s.kept.opened == 0)
   where
-    in-phase : (b : Bool) → RowsGranted (if b then serving else recovering (s.now + s.kept.longest + 8) s.now (standing s)) (empty_table (s.kept.boot + 1)) (Entry.X (s.kept.boot + 1) s.now (booted s.kept longest).longest ∷ log)
+    in-phase : (b : Bool) → RowsGranted (if b then serving else recovering (s.now + s.kept.longest + 8) s.now (last_in s.phase s.table)) (empty_table (s.kept.boot + 1)) (Entry.X (s.kept.boot + 1) s.now (booted s.kept longest).longest ∷ log)
     in-phase true = λ file host row found. absurd (cc)
     in-phase false = granted-more _ log (standing s).rows (λ r. refl) g
 
@@ -331,6 +331,6 @@ pub hear-crash : (s : Server) (longest : ℕ) (log : List Entry) → RowsHear (c
 unfolding crash boot empty_table
 hear-crash s longest log = in-phase (s.kept.opened == 0)
   where
-    in-phase : (b : Bool) → RowsHear (if b then serving else recovering (s.now + s.kept.longest + 8) s.now (standing s)) (empty_table (s.kept.boot + 1)) (Entry.X (s.kept.boot + 1) s.now (booted s.kept longest).longest ∷ log)
+    in-phase : (b : Bool) → RowsHear (if b then serving else recovering (s.now + s.kept.longest + 8) s.now (last_in s.phase s.table)) (empty_table (s.kept.boot + 1)) (Entry.X (s.kept.boot + 1) s.now (booted s.kept longest).longest ∷ log)
     in-phase true = λ file host row found. absurd (cc)
     in-phase false = tt

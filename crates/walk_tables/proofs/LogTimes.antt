@@ -6,7 +6,7 @@ use Rattle.nq_model.proofs.Lists.{each-map}
 use Rattle.nq_model.specs.Journal.{Each}
 use Rattle.nq_model.specs.Kept.{with_files, with_new_file, with_row}
 use Rattle.nq_model.specs.Message.{Datagram}
-use Rattle.nq_model.specs.Server.{Phase, serving, recovering, Server, standing}
+use Rattle.nq_model.specs.Server.{Phase, serving, recovering, Server, last_in}
 use Rattle.nq_model.specs.ServerStep.{receive, tick, booted, boot, crash}
 use Rattle.walk_tables.proofs.LogMoves.{timed, LogMoves, log-moves, tick-log-moves}
 
@@ -124,7 +124,7 @@ pub heard-crash : (s : Server) (longest : ℕ) (log : List Entry) → LogBy s.no
 unfolding crash boot
 heard-crash s longest log by = in-phase (s.kept.opened == 0)
   where
-    in-phase : (b : Bool) → HeardAll (if b then serving else recovering (s.now + s.kept.longest + 8) s.now (standing s)) (Entry.X (s.kept.boot + 1) s.now (booted s.kept longest).longest ∷ log)
+    in-phase : (b : Bool) → HeardAll (if b then serving else recovering (s.now + s.kept.longest + 8) s.now (last_in s.phase s.table)) (Entry.X (s.kept.boot + 1) s.now (booted s.kept longest).longest ∷ log)
     in-phase true = tt
     in-phase false = (tt, heard-by s.now log by)
 
@@ -173,6 +173,6 @@ pub told-crash : (s : Server) (longest : ℕ) (log : List Entry) → ToldBoot s.
 unfolding crash boot
 told-crash s longest log = in-phase (s.kept.opened == 0)
   where
-    in-phase : (b : Bool) → ToldBoot s.now (if b then record s.kept { boot = s.kept.boot + 1; opened = s.kept.boot + 1; longest = longest } else record s.kept { boot = s.kept.boot + 1 }).boot (if b then record s.kept { boot = s.kept.boot + 1; opened = s.kept.boot + 1; longest = longest } else record s.kept { boot = s.kept.boot + 1 }).longest (if b then serving else recovering (s.now + s.kept.longest + 8) s.now (standing s)) (Entry.X (s.kept.boot + 1) s.now (if b then record s.kept { boot = s.kept.boot + 1; opened = s.kept.boot + 1; longest = longest } else record s.kept { boot = s.kept.boot + 1 }).longest ∷ log)
+    in-phase : (b : Bool) → ToldBoot s.now (if b then record s.kept { boot = s.kept.boot + 1; opened = s.kept.boot + 1; longest = longest } else record s.kept { boot = s.kept.boot + 1 }).boot (if b then record s.kept { boot = s.kept.boot + 1; opened = s.kept.boot + 1; longest = longest } else record s.kept { boot = s.kept.boot + 1 }).longest (if b then serving else recovering (s.now + s.kept.longest + 8) s.now (last_in s.phase s.table)) (Entry.X (s.kept.boot + 1) s.now (if b then record s.kept { boot = s.kept.boot + 1; opened = s.kept.boot + 1; longest = longest } else record s.kept { boot = s.kept.boot + 1 }).longest ∷ log)
     in-phase true = tt
     in-phase false = refl

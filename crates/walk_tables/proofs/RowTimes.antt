@@ -1,6 +1,6 @@
 -- The times of the rows that stand: no row was heard later than now, and while the server serves none runs that is over.
 use Rattle.std.proofs.Common.{◌≡◌, ◌<◌, ◌≤◌, ◌⊎◌, ℕ, ◌+◌, ◌==◌, Bool, true, false, not, ◌&&◌, List, Some, if◌then◌else◌, refl, sym, subst, ap, ◌∙◌, arith, inl, inr}
-use Rattle.std.specs.Prelude.{nat_le}
+use Rattle.std.specs.Prelude.{nat_le, Option}
 use Rattle.nq_base.specs.declared.Access.{Access}
 use Rattle.nq_base.specs.declared.Question.{Question}
 use Rattle.nq_base.specs.declared.Request.{Request}
@@ -10,7 +10,7 @@ use Rattle.nq_model.specs.Ask.{term_of, marked, sharing_row, caching_row, shared
 use Rattle.nq_model.specs.Kept.{Kept, with_files, with_new_file, with_row}
 use Rattle.nq_model.specs.Message.{Datagram, request}
 use Rattle.nq_model.specs.Profile.{shortest_term, granted_term}
-use Rattle.nq_model.specs.Server.{Phase, serving, recovering, Server, standing_in, standing}
+use Rattle.nq_model.specs.Server.{Phase, serving, recovering, Server, standing_in, last_table, last_in}
 use Rattle.nq_model.specs.ServerStep.{to_read, receive, is_over, end_reading, tick, boot, crash}
 use Rattle.nq_model.specs.Table.{Table, caches, is_writing, greater_mode, is_row_of, find_row, drop_row, put_row, with_rows, after_draw, empty_table}
 use Rattle.walk_server.proofs.AskCases.{with_marked, IsGranted, shares_again, begins_sharing, begins_caching, renews_row}
@@ -50,7 +50,7 @@ each-put P rows row holds each = λ file host r found. by file host r (found-put
 -- the times of the rows that stand
 abbrev pub TimesFit : (longest now : ℕ) → Phase → Table → Type 0
 TimesFit longest now serving table = EachRow (RowRuns longest now) table.rows
-TimesFit longest now (recovering until heard last) table = EachRow (λ row. row.heard ≤ now) last.rows
+TimesFit longest now (recovering until heard last) table = EachRow (λ row. row.heard ≤ now) (last_table last).rows
 
 abbrev pub TimesFitOf : Server → Type 0
 TimesFitOf s = TimesFit s.longest s.now s.phase s.table
@@ -156,7 +156,7 @@ left-runs longest before now row later left r = record {
     by false e true g h = cc
     by false e false g h = is-not-at-most row.until now g
 
-times-later : (longest before now : ℕ) (phase : Phase) (table : Table) (until heard : ℕ) (last : Table) → phase ≡ recovering until heard last → before ≤ now → TimesFit longest before phase table → TimesFit longest now phase table
+times-later : (longest before now : ℕ) (phase : Phase) (table : Table) (until heard : ℕ) (last : Option Table) → phase ≡ recovering until heard last → before ≤ now → TimesFit longest before phase table → TimesFit longest now phase table
 times-later longest before now phase table until heard last p later f =
     subst (λ p. TimesFit longest now p table) (sym p) (λ file host row found. heard-still file host row (subst (λ p. TimesFit longest before p table) p f file host row found))
   where
@@ -168,7 +168,7 @@ times-ended longest before now rows unique later each = λ file host row found.
     let k = found-kept (λ r. not (is_over now r)) file host rows row unique found in
     left-runs longest before now row later k.1 (each file host row k.0)
 
-times-opened : (s : Server) (now : ℕ) (until heard : ℕ) (last : Table) → s.phase ≡ recovering until heard last → NoneRecoveringOf s → EachRow (RowRuns s.longest now) s.table.rows
+times-opened : (s : Server) (now : ℕ) (until heard : ℕ) (last : Option Table) → s.phase ≡ recovering until heard last → NoneRecoveringOf s → EachRow (RowRuns s.longest now) s.table.rows
 times-opened s now until heard last p b = subst (EachRow (RowRuns s.longest now)) (sym (none-opened s until heard last p b)) (λ file host row found. absurd (cc))
 
 ticked : (s : Server) (now : ℕ) → s.now ≤ now → NoneRecoveringOf s → StandingFitsOf s → TimesFitOf s → TickMoves s now (λ kept phase table. TimesFit s.longest now phase table)
@@ -195,7 +195,7 @@ times-tick s now later b t f =
     (tick-moves s now (λ kept phase table. TimesFit s.longest now phase table) (ticked s now later b t f)))
 
 -- and after a boot with a table in mind whose rows were heard by now
-pub times-boot : (kept : Kept) (longest now : ℕ) (last : Table) → EachRow (λ row. row.heard ≤ now) last.rows → TimesFitOf (boot kept longest now last)
+pub times-boot : (kept : Kept) (longest now : ℕ) (last : Option Table) → EachRow (λ row. row.heard ≤ now) (last_table last).rows → TimesFitOf (boot kept longest now last)
 unfolding boot empty_table
 times-boot kept longest now last f = by (kept.opened == 0)
   where
@@ -210,4 +210,4 @@ standing-times longest now (recovering until heard last) table f = f
 -- and after a crash
 pub times-crash : (s : Server) (longest : ℕ) → TimesFitOf s → TimesFitOf (crash s longest).server
 unfolding crash
-times-crash s longest f = times-boot s.kept longest s.now (standing s) (standing-times s.longest s.now s.phase s.table f)
+times-crash s longest f = times-boot s.kept longest s.now (last_in s.phase s.table) (standing-times s.longest s.now s.phase s.table f)

@@ -10,7 +10,7 @@ use Rattle.nq_model.specs.Ask.{term_of, marked, sharing_row, caching_row, shared
 use Rattle.nq_model.specs.Kept.{File, Kept, find_file, replace_file, drop_file, with_files, with_new_file, with_row, host_row}
 use Rattle.nq_model.specs.Message.{Datagram, too_long}
 use Rattle.nq_model.specs.Profile.{write_slack}
-use Rattle.nq_model.specs.Server.{Phase, serving, recovering, Server, standing_in, standing}
+use Rattle.nq_model.specs.Server.{Phase, serving, recovering, Server, standing_in, last_table, last_in}
 use Rattle.nq_model.specs.ServerStep.{to_read, receive, is_over, end_reading, fence, tick, boot, crash}
 use Rattle.nq_model.specs.Table.{Table, is_row_of, find_row, put_row, drop_host, with_rows, after_draw, empty_table}
 use Rattle.walk_server.proofs.AskCases.{own_in, with_marked, IsGranted, shares_again, begins_sharing, begins_caching, renews_row}
@@ -33,7 +33,7 @@ AreNoLater kept rows = (file host : ℕ) (row : Row) → find_row file host rows
 -- whose rows stand: those of kept incarnations, and while the server recovers of kept ones at most
 abbrev pub IncsFit : Kept → Phase → Table → Type 0
 IncsFit kept serving table = AreCurrent kept table.rows
-IncsFit kept (recovering until heard last) table = AreNoLater kept last.rows
+IncsFit kept (recovering until heard last) table = AreNoLater kept (last_table last).rows
 
 abbrev pub IncsFitOf : Server → Type 0
 IncsFitOf s = IncsFit s.kept s.phase s.table
@@ -127,7 +127,7 @@ unfolding with_files
 fence-lines kept None host = refl
 fence-lines kept (Some f) host = refl
 
-incs-opened : (s : Server) (until heard : ℕ) (last : Table) → s.phase ≡ recovering until heard last → NoneRecoveringOf s → (kept : Kept) → AreCurrent kept s.table.rows
+incs-opened : (s : Server) (until heard : ℕ) (last : Option Table) → s.phase ≡ recovering until heard last → NoneRecoveringOf s → (kept : Kept) → AreCurrent kept s.table.rows
 incs-opened s until heard last p b kept = subst (AreCurrent kept) (sym (none-opened s until heard last p b)) (λ file host row found. absurd (cc))
 
 -- and after a tick
@@ -144,7 +144,7 @@ incs-tick s now b t f = tick-moves s now IncsFit (record {
     ended p file host row found = (found-kept (λ r. not (is_over now r)) file host s.table.rows row (own-unique s too_long t f p) found).0
 
 -- and after a boot with a table in mind that has such rows at most
-pub incs-boot : (kept : Kept) (longest now : ℕ) (last : Table) → AreNoLater kept last.rows → IncsFitOf (boot kept longest now last)
+pub incs-boot : (kept : Kept) (longest now : ℕ) (last : Option Table) → AreNoLater kept (last_table last).rows → IncsFitOf (boot kept longest now last)
 unfolding boot empty_table
 incs-boot kept longest now last f = by (kept.opened == 0)
   where
@@ -159,4 +159,4 @@ standing-incs kept (recovering until heard last) table f = f
 -- and after a crash
 pub incs-crash : (s : Server) (longest : ℕ) → IncsFitOf s → IncsFitOf (crash s longest).server
 unfolding crash
-incs-crash s longest f = incs-boot s.kept longest s.now (standing s) (standing-incs s.kept s.phase s.table f)
+incs-crash s longest f = incs-boot s.kept longest s.now (last_in s.phase s.table) (standing-incs s.kept s.phase s.table f)

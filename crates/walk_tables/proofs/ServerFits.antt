@@ -1,5 +1,5 @@
 -- All facts about a server alone, and each of its steps keeps them.
-use Rattle.std.proofs.Common.{◌≤◌, ℕ, refl}
+use Rattle.std.proofs.Common.{◌≡◌, ◌≤◌, ℕ, None, sym, arith}
 use Rattle.nq_model.specs.Kept.{Kept}
 use Rattle.nq_model.specs.Message.{Datagram}
 use Rattle.nq_model.specs.Profile.{shortest_term}
@@ -64,16 +64,16 @@ fits-crash most booted s longest long few f = record {
   waits = waits-crash s longest;
 }
 
--- a boot over a fitting kept state, with no row in mind
-pub fits-boot : (most : ℕ) (kept : Kept) (longest now : ℕ) → kept.opened ≤ kept.boot → shortest_term ≤ longest → longest ≤ most → shortest_term ≤ kept.longest → kept.longest ≤ most → IdsFit kept.files kept.next → LinesFit kept.hosts → ServerFits most now (boot kept longest now (empty_table kept.opened))
+-- a first boot over a fitting kept state, which knows no last table
+pub fits-boot : (most : ℕ) (kept : Kept) (longest now : ℕ) → kept.opened ≡ 0 → shortest_term ≤ longest → longest ≤ most → shortest_term ≤ kept.longest → kept.longest ≤ most → IdsFit kept.files kept.next → LinesFit kept.hosts → ServerFits most now (boot kept longest now None)
 unfolding empty_table
-fits-boot most kept longest now before long few kept_long kept_few ids lines = record {
-  boots = boots-boot kept longest now (empty_table kept.opened) before refl;
-  stands = stands-boot kept longest now (empty_table kept.opened) (no-rows-fit kept.files kept.opened 0);
-  incs = incs-boot kept longest now (empty_table kept.opened) (λ file host row found. absurd (cc));
-  times = times-boot kept longest now (empty_table kept.opened) (λ file host row found. absurd (cc));
-  terms = terms-boot most kept longest now (empty_table kept.opened) long few kept_long kept_few;
-  ids = ids-boot kept longest now (empty_table kept.opened) ids;
-  lines = lines-boot kept longest now (empty_table kept.opened) lines;
-  waits = waits-boot kept longest now (empty_table kept.opened);
+fits-boot most kept longest now first long few kept_long kept_few ids lines = record {
+  boots = boots-boot kept longest now None (omega arith) (sym first);
+  stands = stands-boot kept longest now None (no-rows-fit kept.files 0 0);
+  incs = incs-boot kept longest now None (λ file host row found. absurd (cc));
+  times = times-boot kept longest now None (λ file host row found. absurd (cc));
+  terms = terms-boot most kept longest now None long few kept_long kept_few;
+  ids = ids-boot kept longest now None ids;
+  lines = lines-boot kept longest now None lines;
+  waits = waits-boot kept longest now None;
 }

@@ -5,7 +5,7 @@ use Rattle.nq_base.specs.declared.HostRow.{HostRow}
 use Rattle.nq_model.specs.Kept.{File, Kept, find_file, replace_file, drop_file, new_file, fenced_file, with_files, with_new_file, with_row}
 use Rattle.nq_model.specs.Message.{Datagram}
 use Rattle.nq_model.specs.Profile.{skew, write_slack, shortest_term, most_hosts}
-use Rattle.nq_model.specs.Server.{Phase, serving, recovering, Server, standing}
+use Rattle.nq_model.specs.Server.{Phase, serving, recovering, Server, last_in}
 use Rattle.nq_model.specs.ServerStep.{receive, fence, tick, booted, boot, crash}
 use Rattle.nq_model.specs.Table.{Table}
 use Rattle.walk_server.proofs.KeptChanges.{length-with-row, found-replaced, find-not-removed, find-removed, found-added}
@@ -24,7 +24,7 @@ pub record TermsFit (most : ℕ) (phase : Phase) (kept_longest longest : ℕ) : 
 abbrev pub TermsFitOf : (most : ℕ) → Server → Type 0
 TermsFitOf most s = TermsFit most s.phase s.kept.longest s.longest
 
-terms-recovering : (most : ℕ) (phase : Phase) (kept_longest longest until heard : ℕ) (last : Table) → TermsFit most phase kept_longest longest → TermsFit most (recovering until heard last) kept_longest longest
+terms-recovering : (most : ℕ) (phase : Phase) (kept_longest longest until heard : ℕ) (last : Option Table) → TermsFit most phase kept_longest longest → TermsFit most (recovering until heard last) kept_longest longest
 terms-recovering most phase kept_longest longest until heard last f = record { long = f.long; few = f.few; kept_long = f.kept_long; kept_few = f.kept_few; same = λ e. absurd (cc) }
 
 terms-moves : (most : ℕ) (s : Server) (d : Datagram) → TermsFitOf most s → ServerMoves s d (λ kept phase table. TermsFit most phase kept.longest s.longest)
@@ -63,7 +63,7 @@ terms-tick most s now f =
     }))
 
 -- the terms fit after a boot with a fitting term
-pub terms-boot : (most : ℕ) (kept : Kept) (longest now : ℕ) (last : Table) → shortest_term ≤ longest → longest ≤ most → shortest_term ≤ kept.longest → kept.longest ≤ most → TermsFitOf most (boot kept longest now last)
+pub terms-boot : (most : ℕ) (kept : Kept) (longest now : ℕ) (last : Option Table) → shortest_term ≤ longest → longest ≤ most → shortest_term ≤ kept.longest → kept.longest ≤ most → TermsFitOf most (boot kept longest now last)
 unfolding boot
 terms-boot most kept longest now last long few kept_long kept_few = by (kept.opened == 0)
   where
@@ -73,7 +73,7 @@ terms-boot most kept longest now last long few kept_long kept_few = by (kept.ope
 
 pub terms-crash : (most : ℕ) (s : Server) (longest : ℕ) → shortest_term ≤ longest → longest ≤ most → TermsFitOf most s → TermsFitOf most (crash s longest).server
 unfolding crash
-terms-crash most s longest long few f = terms-boot most s.kept longest s.now (standing s) long few f.kept_long f.kept_few
+terms-crash most s longest long few f = terms-boot most s.kept longest s.now (last_in s.phase s.table) long few f.kept_long f.kept_few
 
 -- the ids of kept files are below the next one
 abbrev pub IdsFit : List File → (next : ℕ) → Type 0
@@ -137,7 +137,7 @@ ids-tick s now f = tick-moves s now (λ kept phase table. IdsFit kept.files kept
   ending_writing = λ row p due. ids-fenced s.kept row.file (find_file row.file s.kept.files) refl f;
 })
 
-pub ids-boot : (kept : Kept) (longest now : ℕ) (last : Table) → IdsFit kept.files kept.next → IdsFitOf (boot kept longest now last)
+pub ids-boot : (kept : Kept) (longest now : ℕ) (last : Option Table) → IdsFit kept.files kept.next → IdsFitOf (boot kept longest now last)
 unfolding boot
 ids-boot kept longest now last f = by (kept.opened == 0)
   where
@@ -147,7 +147,7 @@ ids-boot kept longest now last f = by (kept.opened == 0)
 
 pub ids-crash : (s : Server) (longest : ℕ) → IdsFitOf s → IdsFitOf (crash s longest).server
 unfolding crash
-ids-crash s longest f = ids-boot s.kept longest s.now (standing s) f
+ids-crash s longest f = ids-boot s.kept longest s.now (last_in s.phase s.table) f
 
 -- the server keeps a line for each of the hosts that there can be
 abbrev pub LinesFit : List HostRow → Type 0
@@ -189,7 +189,7 @@ lines-tick s now f = tick-moves s now (λ kept phase table. LinesFit kept.hosts)
   ending_writing = λ row p due. ap length (fence-hosts s.kept (find_file row.file s.kept.files)) ∙ f;
 })
 
-pub lines-boot : (kept : Kept) (longest now : ℕ) (last : Table) → LinesFit kept.hosts → LinesFitOf (boot kept longest now last)
+pub lines-boot : (kept : Kept) (longest now : ℕ) (last : Option Table) → LinesFit kept.hosts → LinesFitOf (boot kept longest now last)
 unfolding boot
 lines-boot kept longest now last f = by (kept.opened == 0)
   where
@@ -199,7 +199,7 @@ lines-boot kept longest now last f = by (kept.opened == 0)
 
 pub lines-crash : (s : Server) (longest : ℕ) → LinesFitOf s → LinesFitOf (crash s longest).server
 unfolding crash
-lines-crash s longest f = lines-boot s.kept longest s.now (standing s) f
+lines-crash s longest f = lines-boot s.kept longest s.now (last_in s.phase s.table) f
 
 -- a recovery that began when the server booted at this time waits for the longest term of the boot that served last, the
 -- skew and the write slack, and for the write slack after it last heard a write
@@ -257,7 +257,7 @@ waits-tick booted s now later f =
     }))
 
 -- a boot begins its wait
-pub waits-boot : (kept : Kept) (longest now : ℕ) (last : Table) → PhaseWaitsOf now (boot kept longest now last)
+pub waits-boot : (kept : Kept) (longest now : ℕ) (last : Option Table) → PhaseWaitsOf now (boot kept longest now last)
 unfolding boot
 waits-boot kept longest now last = by (kept.opened == 0)
   where
@@ -267,4 +267,4 @@ waits-boot kept longest now last = by (kept.opened == 0)
 
 pub waits-crash : (s : Server) (longest : ℕ) → PhaseWaitsOf s.now (crash s longest).server
 unfolding crash
-waits-crash s longest = waits-boot s.kept longest s.now (standing s)
+waits-crash s longest = waits-boot s.kept longest s.now (last_in s.phase s.table)

@@ -6,7 +6,7 @@ use Rattle.nq_base.specs.declared.Who.{Who}
 use Rattle.nq_model.specs.Kept.{File, Kept, find_file, replace_file, drop_file, new_file, fenced_file, with_files, with_new_file, with_row}
 use Rattle.nq_model.specs.Message.{Datagram}
 use Rattle.nq_model.specs.Profile.{write_slack}
-use Rattle.nq_model.specs.Server.{Phase, serving, recovering, Server, standing_in, standing}
+use Rattle.nq_model.specs.Server.{Phase, serving, recovering, Server, standing_in, standing, last_table, last_in}
 use Rattle.nq_model.specs.ServerStep.{vacated_rows, to_read, receive, is_over, end_reading, fence, tick, boot_phase, booted, boot, crash}
 use Rattle.nq_model.specs.Table.{Table, is_row_of, find_row, drop_row, put_row, drop_host, drop_rows_of, with_rows, after_draw, empty_table}
 use Rattle.walk_server.proofs.KeptChanges.{is-kept-replaced, find-added, find-not-removed}
@@ -22,12 +22,12 @@ pub record ServesBoot (boot opened : ℕ) (table : Table) : Type 0 where
 
 -- a server that recovers comes after the boot that served last, with the table of that boot in mind; its own table is of
 -- this boot, empty, and has drawn no tag
-pub record RecoversBoot (boot opened : ℕ) (table last : Table) : Type 0 where
+pub record RecoversBoot (boot opened : ℕ) (table : Table) (last : Option Table) : Type 0 where
   pub opened_before : opened < boot
   pub table_boot : table.boot ≡ boot
   pub none_drawn : table.drawn ≡ 0
   pub empty : table.rows ≡ []
-  pub last_boot : last.boot ≡ opened
+  pub last_boot : (last_table last).boot ≡ opened
 
 -- the phase and the tables fit the boots
 abbrev pub BootsFit : (boot opened : ℕ) → Phase → Table → Type 0
@@ -54,7 +54,7 @@ boots-served : (boot opened : ℕ) (phase : Phase) (table after : Table) → pha
 boots-served boot opened phase table after p same b =
     subst (λ p. BootsFit boot opened p table → BootsFit boot opened p after) (sym p) (λ (b : ServesBoot boot opened table). record { opened_now = b.opened_now; table_boot = same ∙ b.table_boot }) b
 
-boots-recovered : (boot opened : ℕ) (phase : Phase) (table : Table) (until heard until' heard' : ℕ) (last : Table) → phase ≡ recovering until heard last → BootsFit boot opened phase table → BootsFit boot opened (recovering until' heard' last) table
+boots-recovered : (boot opened : ℕ) (phase : Phase) (table : Table) (until heard until' heard' : ℕ) (last : Option Table) → phase ≡ recovering until heard last → BootsFit boot opened phase table → BootsFit boot opened (recovering until' heard' last) table
 boots-recovered boot opened phase table until heard until' heard' last p b = subst (λ p. BootsFit boot opened p table) p b
 
 boots-moves : (s : Server) (d : Datagram) → BootsFitOf s → ServerMoves s d (λ kept phase table. BootsFit kept.boot kept.opened phase table)
@@ -83,7 +83,7 @@ unfolding with_files
 boots-fenced kept None phase table b = b
 boots-fenced kept (Some f) phase table b = b
 
-boots-opened : (s : Server) (until heard : ℕ) (last : Table) → s.phase ≡ recovering until heard last → BootsFitOf s → ServesBoot s.kept.boot s.kept.boot s.table
+boots-opened : (s : Server) (until heard : ℕ) (last : Option Table) → s.phase ≡ recovering until heard last → BootsFitOf s → ServesBoot s.kept.boot s.kept.boot s.table
 boots-opened s until heard last p b =
     let r : RecoversBoot s.kept.boot s.kept.opened s.table last = subst (λ p. BootsFit s.kept.boot s.kept.opened p s.table) p b in
     record { opened_now = refl; table_boot = r.table_boot }
@@ -100,7 +100,7 @@ boots-tick s now b = tick-moves s now (λ kept phase table. BootsFit kept.boot k
 
 -- the boots fit after a boot over a kept state whose last boot that served is no later than its last boot, with that
 -- boot's table in mind
-pub boots-boot : (kept : Kept) (longest now : ℕ) (last : Table) → kept.opened ≤ kept.boot → last.boot ≡ kept.opened → BootsFitOf (boot kept longest now last)
+pub boots-boot : (kept : Kept) (longest now : ℕ) (last : Option Table) → kept.opened ≤ kept.boot → (last_table last).boot ≡ kept.opened → BootsFitOf (boot kept longest now last)
 unfolding boot empty_table
 boots-boot kept longest now last before same = by (kept.opened == 0) refl
   where
@@ -121,7 +121,7 @@ standing-boot boot opened (recovering until heard last) table b = b.last_boot
 -- the boots fit after a crash
 pub boots-crash : (s : Server) (longest : ℕ) → BootsFitOf s → BootsFitOf (crash s longest).server
 unfolding crash
-boots-crash s longest b = boots-boot s.kept longest s.now (standing s) (opened-before _ _ s.phase s.table b) (standing-boot _ _ s.phase s.table b)
+boots-crash s longest b = boots-boot s.kept longest s.now (last_in s.phase s.table) (opened-before _ _ s.phase s.table b) (standing-boot _ _ s.phase s.table b)
 
 -- while the server recovers its own table is empty
 abbrev pub NoneRecovering : Phase → Table → Type 0
@@ -170,7 +170,7 @@ none-tick s now b = tick-moves s now (λ kept phase table. NoneRecovering phase 
   ending_writing = λ row p due. none-served s.phase _ p;
 })
 
-pub none-boot : (kept : Kept) (longest now : ℕ) (last : Table) → NoneRecoveringOf (boot kept longest now last)
+pub none-boot : (kept : Kept) (longest now : ℕ) (last : Option Table) → NoneRecoveringOf (boot kept longest now last)
 unfolding boot empty_table
 none-boot kept longest now last = by (kept.opened == 0)
   where
@@ -180,10 +180,10 @@ none-boot kept longest now last = by (kept.opened == 0)
 
 pub none-crash : (s : Server) (longest : ℕ) → NoneRecoveringOf (crash s longest).server
 unfolding crash
-none-crash s longest = none-boot s.kept longest s.now (standing s)
+none-crash s longest = none-boot s.kept longest s.now (last_in s.phase s.table)
 
 -- where a recovery ends, the table is empty
-pub none-opened : (s : Server) (until heard : ℕ) (last : Table) → s.phase ≡ recovering until heard last → NoneRecoveringOf s → s.table.rows ≡ []
+pub none-opened : (s : Server) (until heard : ℕ) (last : Option Table) → s.phase ≡ recovering until heard last → NoneRecoveringOf s → s.table.rows ≡ []
 none-opened s until heard last p b = subst (λ p. NoneRecovering p s.table) p b
 
 -- the standing table keeps to its rules: where the server serves, that is its own
@@ -271,7 +271,7 @@ unfolding with_files
 fenced-fits kept None boot drawn rows own = own
 fenced-fits kept (Some f) boot drawn rows own = fits-files kept.files _ boot drawn rows (λ id e. is-kept-replaced id (fenced_file f) kept.files ∙ e) own
 
-stands-opened : (s : Server) (until heard : ℕ) (last : Table) → s.phase ≡ recovering until heard last → NoneRecoveringOf s → TableFits s.kept.files s.table.boot s.table.drawn s.table.rows
+stands-opened : (s : Server) (until heard : ℕ) (last : Option Table) → s.phase ≡ recovering until heard last → NoneRecoveringOf s → TableFits s.kept.files s.table.boot s.table.drawn s.table.rows
 stands-opened s until heard last p b = subst (TableFits s.kept.files s.table.boot s.table.drawn) (sym (none-opened s until heard last p b)) (no-rows-fit s.kept.files s.table.boot s.table.drawn)
 
 -- and after a tick
@@ -292,7 +292,7 @@ booted-files kept longest = by (kept.opened == 0)
     by false = refl
 
 -- and after a boot with a table in mind that keeps to them
-pub stands-boot : (kept : Kept) (longest now : ℕ) (last : Table) → TableFits kept.files last.boot last.drawn last.rows → StandingFitsOf (boot kept longest now last)
+pub stands-boot : (kept : Kept) (longest now : ℕ) (last : Option Table) → TableFits kept.files (last_table last).boot (last_table last).drawn (last_table last).rows → StandingFitsOf (boot kept longest now last)
 unfolding boot empty_table
 stands-boot kept longest now last f = subst (λ files. StandingFits files (boot_phase kept.opened kept.longest now last) (empty_table (kept.boot + 1))) (sym (booted-files kept longest)) (by (kept.opened == 0))
   where
@@ -303,4 +303,4 @@ stands-boot kept longest now last f = subst (λ files. StandingFits files (boot_
 -- and after a crash
 pub stands-crash : (s : Server) (longest : ℕ) → StandingFitsOf s → StandingFitsOf (crash s longest).server
 unfolding crash
-stands-crash s longest t = stands-boot s.kept longest s.now (standing s) t
+stands-crash s longest t = stands-boot s.kept longest s.now (last_in s.phase s.table) t

@@ -110,7 +110,7 @@ module _ (s : Server) (file boot rev : ℕ) where
     ends_reading = λ p none h. h;
     ending_writing = λ due p ends. fenced-silent due.file (find_file due.file s.kept.files) refl;
   }) where
-    open-now : (until heard : ℕ) (last : Table) → s.phase ≡ recovering until heard last → IsFenced s.kept file boot rev → IsFenced (record s.kept { opened = s.kept.boot; longest = s.longest }) file boot rev
+    open-now : (until heard : ℕ) (last : Option Table) → s.phase ≡ recovering until heard last → IsFenced s.kept file boot rev → IsFenced (record s.kept { opened = s.kept.boot; longest = s.longest }) file boot rev
     open-now until heard last p (gone none) = gone none
     open-now until heard last p (ahead g is above) = ahead g is above
     open-now until heard last p (earlier below) = let r : RecoversBoot s.kept.boot s.kept.opened s.table last = subst (λ p. BootsFit s.kept.boot s.kept.opened p s.table) p boots in earlier (let o = r.opened_before in omega arith)
