@@ -1,3 +1,5 @@
+//! Tests of the plain types.
+
 use super::*;
 
 #[test]

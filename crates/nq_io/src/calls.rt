@@ -1,4 +1,5 @@
-// The calls of an object in memory, which fails those that a test lists.
+//! The calls of an object in memory, which fails those that a test lists.
+
 ghost use Rattle.std.specs.Prelude.{◌≡◌};
 ghost use Rattle.nq_io.specs.Calls.{fresh, is_next_listed, after_call, after_fault};
 ghost use Rattle.nq_io.specs.Faults.{Rose};

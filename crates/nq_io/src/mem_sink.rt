@@ -1,4 +1,5 @@
-// A sink in memory.
+//! A sink in memory.
+
 ghost use Rattle.std.specs.Prelude.{◌≡◌, [], Some, IfOk};
 ghost use Rattle.nq_io.specs.Calls.{fresh};
 ghost use Rattle.nq_io.specs.MemSink.{answer_of, sink_after};

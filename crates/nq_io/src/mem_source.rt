@@ -1,4 +1,5 @@
-// A source in memory.
+//! A source in memory.
+
 ghost use Rattle.std.specs.Prelude.{◌≡◌, ◌<◌, ◌++◌, length, take, drop, min, Some};
 ghost use Rattle.nq_io.specs.Calls.{fresh};
 ghost use Rattle.nq_io.specs.MemSource.{answer_of, source_after, buffer_after};

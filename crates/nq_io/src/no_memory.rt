@@ -1,4 +1,5 @@
-// Want of memory.
+//! Want of memory.
+
 ghost use Rattle.std.specs.Prelude.{◌≡◌};
 ghost use Rattle.nq_io.specs.declared.no_memory.NoMemory.TheVariants.{Memory};
 

@@ -1,4 +1,5 @@
-// A sink of bytes.
+//! A sink of bytes.
+
 ghost use Rattle.std.specs.Prelude.{ℕ, List, Option};
 ghost use Rattle.nq_io.specs.Sink.{Puts, CountsPut};
 

@@ -1,4 +1,5 @@
-// A source of bytes.
+//! A source of bytes.
+
 ghost use Rattle.std.specs.Prelude.{◌<◌, ℕ, List, Option, length};
 ghost use Rattle.nq_io.specs.Source.{Reads, CountsRead};
 

@@ -1,4 +1,5 @@
-// A std writer as a sink.
+//! A std writer as a sink.
+
 ghost use Rattle.std.specs.Prelude.{◌≡◌, None};
 ghost use Rattle.nq_io.specs.Faults.{Rose, count_up};
 ghost use Rattle.nq_io.specs.Sink.{Puts, CountsPut, faults_after};

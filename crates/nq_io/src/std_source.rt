@@ -1,4 +1,5 @@
-// A std reader as a source.
+//! A std reader as a source.
+
 ghost use Rattle.std.specs.Prelude.{◌≡◌, ◌<◌, None, length};
 ghost use Rattle.nq_io.specs.Source.{Reads, CountsRead, faults_after};
 ghost use Rattle.nq_io.specs.StdSource.{PassesOn};

@@ -1,3 +1,5 @@
+//! Tests of sources and sinks.
+
 use super::*;
 use std::alloc::Global;
 use std::io;

@@ -1,4 +1,5 @@
-// Reading a source to its end.
+//! Reading a source to its end.
+
 ghost use Rattle.std.specs.Prelude.{◌≡◌, ◌≢◌, ◌+◌, ◌<◌, ◌≤◌, [], length, vec_len, vec_capacity, IfOk};
 ghost use Rattle.nq_io.specs.Whole.{ReadsWhole, CountsWhole};
 

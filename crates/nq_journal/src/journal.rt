@@ -1,4 +1,5 @@
-// The journal of a run.
+//! The journal of a run.
+
 ghost use Rattle.std.specs.Prelude.{◌≡◌, ◌≤◌, ◌+◌, [], ◌∷◌, ◌++◌, length, slice_get, Some, IsOk, IfOk, OnOk, OnErr, IfSome, IsNone, IsTrue, ◌↔◌, All};
 ghost use Rattle.nq_journal.specs.Text.{Has};
 

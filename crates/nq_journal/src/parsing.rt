@@ -1,4 +1,5 @@
-// Parsing a journal's text.
+//! Parsing a journal's text.
+
 ghost use Rattle.std.specs.Prelude.{◌≡◌, ◌≢◌, ℕ, List, IsNone, IfSome};
 ghost use Rattle.nq_base.specs.declared.Entry.{Entry};
 ghost use Rattle.nq_journal.specs.Fault.{IsFaultyAt, ended};

@@ -1,4 +1,5 @@
-// Printing a journal.
+//! Printing a journal.
+
 ghost use Rattle.std.specs.Prelude.{◌≡◌, ◌++◌, All, OnOk};
 ghost use Rattle.nq_journal.specs.Printing.{Prints, CountsPrint};
 ghost use Rattle.nq_journal.specs.Text.{Has, IsVersion, IsText, journal_text, head_line, end_line};

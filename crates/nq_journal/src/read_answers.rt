@@ -1,4 +1,5 @@
-// Reading answers.
+//! Reading answers.
+
 ghost use Rattle.std.specs.Prelude.{◌≡◌, [], ◌∷◌, ◌++◌, codes, option_map, IfSome, IfOk};
 ghost use Rattle.std.specs.Fmt.{decimal};
 ghost use Rattle.nq_base.specs.Plain.{plain_said};

@@ -1,4 +1,5 @@
-// Reading calls.
+//! Reading calls.
+
 ghost use Rattle.std.specs.Prelude.{◌≡◌, ◌∷◌, ◌++◌, IfSome};
 ghost use Rattle.nq_journal.specs.Reading.{Takes};
 ghost use Rattle.nq_journal.specs.ReadingCalls.{verb_of, verb_word, told_at, told_by};

@@ -1,4 +1,5 @@
-// Reading entries.
+//! Reading entries.
+
 ghost use Rattle.std.specs.Prelude.{◌≡◌, ◌↔◌, ℕ, ◌<◌, ◌^◌, [], ◌∷◌, ◌++◌, codes, option_map, IsTrue, IfSome, IfOk};
 ghost use Rattle.nq_base.specs.Plain.{plain};
 ghost use Rattle.nq_journal.specs.Reading.{Takes, words_of};

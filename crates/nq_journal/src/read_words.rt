@@ -1,4 +1,5 @@
-// Reading the words of a line.
+//! Reading the words of a line.
+
 ghost use Rattle.std.specs.Prelude.{◌≡◌, ◌^◌, ◌<◌, [], ◌∷◌, ◌↔◌, IsTrue, IsNone, IfSome, option_map};
 ghost use Rattle.std.specs.Fmt.{decimal};
 ghost use Rattle.std.specs.Str.{bytes_eq};

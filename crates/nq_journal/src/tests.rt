@@ -1,3 +1,5 @@
+//! Tests of the text of journals.
+
 ghost use Rattle.nq_journal.specs.Text.{IsVersion};
 
 use super::*;

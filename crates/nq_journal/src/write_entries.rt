@@ -1,4 +1,5 @@
-// Writing the entries of a journal, a line each.
+//! Writing the entries of a journal, a line each.
+
 ghost use Rattle.std.specs.Prelude.{◌≡◌, ℕ, [], ◌++◌, OnOk};
 ghost use Rattle.std.specs.List.{flat_map};
 ghost use Rattle.nq_journal.specs.Words.{joined, spaced};

@@ -1,3 +1,5 @@
+//! Want of memory.
+
 ghost use Rattle.std.specs.Prelude.{◌≡◌};
 ghost use Rattle.nq_net.specs.declared.memory.NoMemory.TheVariants.{Memory};
 

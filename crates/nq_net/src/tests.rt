@@ -1,3 +1,5 @@
+//! Tests of packets.
+
 use super::*;
 use nq_base::Host;
 use std::test::Fail;

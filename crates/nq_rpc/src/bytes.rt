@@ -1,3 +1,5 @@
+//! Bytes that a message owns.
+
 ghost use Rattle.std.specs.Prelude.{◌≡◌};
 
 use std::marker::Model;

@@ -1,3 +1,5 @@
+//! Reading messages.
+
 ghost use Rattle.std.specs.Prelude.{◌≡◌, ◌⊎◌, ℕ, List, IfOk, IsOkAnd, IfErr};
 ghost use Rattle.nq_rpc.specs.declared.fault.RpcFault.{RpcFault};
 ghost use Rattle.nq_rpc.specs.declared.message.Message.{Message};

@@ -1,3 +1,5 @@
+//! Writing messages.
+
 ghost use Rattle.std.specs.Prelude.{◌≡◌, ◌+◌, ◌≤◌, ◌++◌, IfOk, IsOk, OnOk, OnErr};
 ghost use Rattle.nq_xdr.specs.Item.{word};
 ghost use Rattle.nq_rpc.specs.Message.{auth, null, numbers, outcome, spelling, outcome_len, spelling_len};

@@ -1,3 +1,5 @@
+//! What is wrong with bytes that are no message.
+
 ghost use Rattle.std.specs.Prelude.{◌≡◌};
 ghost use Rattle.nq_rpc.specs.declared.fault.RpcFault.TheVariants.{Memory};
 

@@ -1,3 +1,5 @@
+//! Messages whose arguments or results are lent.
+
 use crate::Head;
 
 /// A message as it stands in a datagram, which lends its arguments or results (RFC 1057 section 8).

@@ -1,3 +1,5 @@
+//! Messages (RFC 1057 section 8).
+
 use crate::Bytes;
 
 /// What a call asks for, and the number by which its reply is known (RFC 1057 section 8).

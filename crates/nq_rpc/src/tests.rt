@@ -1,3 +1,5 @@
+//! Tests of messages.
+
 ghost use Rattle.std.specs.Prelude.{◌<◌};
 
 use super::*;

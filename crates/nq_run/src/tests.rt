@@ -1,3 +1,5 @@
+//! Tests of the run.
+
 use super::*;
 use crate::playing::{Outcome, play_text};
 use nq_base::{Block, Host, Party};

@@ -1,3 +1,5 @@
+//! Tests of the text of schedules.
+
 use super::*;
 use nq_base::{Block, BlockNo, Call, Event, FileId, Host, NoMemory};
 use std::alloc::AllocError;

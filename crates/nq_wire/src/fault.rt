@@ -1,3 +1,5 @@
+//! What is wrong with arguments and results.
+
 ghost use Rattle.std.specs.Prelude.{◌≡◌};
 ghost use Rattle.nq_wire.specs.declared.fault.WireFault.TheVariants as fault;
 ghost use Rattle.nq_wire.specs.Garbage.{garbage};

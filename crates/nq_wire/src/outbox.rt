@@ -1,3 +1,5 @@
+//! Datagrams to be sent.
+
 ghost use Rattle.std.specs.Prelude.{◌≡◌, ◌+◌, ◌-◌, ◌≤◌, [], ◌∷◌, ◌++◌, length, take, min, slice_get, IsOk, IfOk, OnOk, OnErr, IsNone, IfSome, IsTrue, ◌↔◌};
 
 use crate::{NoMemory, Party};

@@ -1,3 +1,5 @@
+//! The procedures and their numbers.
+
 ghost use Rattle.std.specs.Prelude.{◌≡◌, ◌<◌, ◌↔◌, IsNone, IfSome};
 ghost use Rattle.nq_wire.specs.Procedure.{number_of};
 ghost use Rattle.nq_wire.specs.Request.{procedure_of};

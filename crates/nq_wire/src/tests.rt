@@ -1,3 +1,5 @@
+//! Tests of arguments and results.
+
 ghost use Rattle.nq_wire.specs.Request.{HasSpelling};
 
 use super::*;

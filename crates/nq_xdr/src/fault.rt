@@ -1,3 +1,5 @@
+//! What is wrong with bytes that are no item.
+
 use thiserror::Error;
 
 /// What is wrong with bytes that are not spelled as the item that was asked for.

@@ -1,3 +1,5 @@
+//! Reading items.
+
 ghost use Rattle.std.specs.Prelude.{◌≡◌, ◌≢◌, ℕ, ◌+◌, ◌<◌, ◌≤◌, ◌^◌, ◌↔◌, ◌==◌, Bool, List, [], ◌++◌, length, IfOk, IsOkAnd, IfErr, OnErr, IsOk};
 ghost use Rattle.std.specs.List.{list_all};
 ghost use Rattle.nq_xdr.specs.declared.fault.XdrFault.{XdrFault};

@@ -1,3 +1,5 @@
+//! Tests of items.
+
 use super::*;
 use std::test::Fail;
 

@@ -1,3 +1,5 @@
+//! Writing items.
+
 ghost use Rattle.std.specs.Prelude.{◌≡◌, ◌+◌, ◌-◌, ◌<◌, ◌≤◌, ◌^◌, [], ◌++◌, length, vec_len, vec_capacity, IfOk, IsOk, OnOk, OnErr};
 ghost use Rattle.nq_xdr.specs.Item.{word, hyper, boolean, residual, padding, opaque, opaque_len};
 

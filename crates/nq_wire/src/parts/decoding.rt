@@ -1,3 +1,5 @@
+//! Reading the parts of arguments and results.
+
 ghost use Rattle.std.specs.Prelude.{◌≡◌, ◌↔◌, [], length, IfSome, IfOk, IsOk};
 ghost use Rattle.nq_base.specs.Name.{IsName};
 ghost use Rattle.nq_xdr.specs.Item.{opaque};

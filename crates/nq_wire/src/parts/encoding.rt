@@ -1,3 +1,5 @@
+//! Writing the parts of arguments and results.
+
 ghost use Rattle.std.specs.Prelude.{◌≡◌, ◌+◌, ◌≤◌, ◌++◌, length, IfSome, OnOk, IsOk};
 ghost use Rattle.nq_base.specs.Name.{IsName};
 ghost use Rattle.nq_xdr.specs.Item.{opaque, opaque_len};

@@ -1,3 +1,5 @@
+//! Writing results.
+
 ghost use Rattle.std.specs.Prelude.{◌≡◌, ◌+◌, ◌≤◌, ◌^◌, ◌<◌, ◌++◌, length, IfOk, OnOk, OnErr, IsOk};
 ghost use Rattle.nq_xdr.specs.Item.{word};
 ghost use Rattle.nq_wire.specs.declared.procedure.Procedure.{Procedure};

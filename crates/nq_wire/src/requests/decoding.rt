@@ -1,3 +1,5 @@
+//! Reading arguments.
+
 ghost use Rattle.std.specs.Prelude.{◌≡◌, ◌≢◌, ◌<◌, ◌≤◌, ◌++◌, ◌↔◌, IfOk, IfSome};
 ghost use Rattle.nq_base.specs.declared.Request.{Request};
 ghost use Rattle.nq_xdr.specs.Reading.{Gives};

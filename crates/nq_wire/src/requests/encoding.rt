@@ -1,3 +1,5 @@
+//! Writing arguments.
+
 ghost use Rattle.std.specs.Prelude.{◌≡◌, ◌⊎◌, ◌+◌, ◌≤◌, ◌++◌, length, IfSome, IfOk, OnOk, OnErr, IsOk};
 ghost use Rattle.nq_xdr.specs.Item.{word, hyper};
 ghost use Rattle.nq_wire.specs.Parts.{head, base_bytes, optional, optional_len, IsWho, IsPushBase};
