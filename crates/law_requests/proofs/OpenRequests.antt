@@ -29,7 +29,7 @@ use Rattle.nq_model.specs.Hear.{hear}
 use Rattle.nq_model.specs.Kept.{host_row}
 use Rattle.nq_model.specs.Message.{Message, Packet, datagram_of, sequence_of}
 use Rattle.nq_model.specs.Server.{Server, ServerStep}
-use Rattle.nq_model.specs.ServerStep.{receive, tick, crash, boot, opens}
+use Rattle.nq_model.specs.ServerStep.{receive, tick, crash, boot}
 use Rattle.nq_model.specs.Skew.{IsWithinSkew}
 use Rattle.nq_model.specs.World.{Head, World, after_server, after_client, at_client, after_hearing, sending_host, deliver_to_client, deliver_to, deliver, step, start, run}
 use Rattle.walk_run.proofs.OpenAt.{IsOpenAt, OneOpenAt, Opens}

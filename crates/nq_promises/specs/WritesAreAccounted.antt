@@ -8,7 +8,7 @@ use Rattle.nq_base.specs.declared.Who.{Who}
 use Rattle.nq_promises.specs.Bounds.{KeepsBounds}
 use Rattle.nq_model.specs.Client.{Client}
 use Rattle.nq_model.specs.Fate.{IsAccounted}
-use Rattle.nq_model.specs.Journal.{Each, Exists, Covers, covers}
+use Rattle.nq_model.specs.Journal.{Each, Exists, Covers}
 use Rattle.nq_model.specs.Skew.{IsWithinSkew}
 use Rattle.nq_model.specs.World.{Head, World, run}
 

@@ -19,7 +19,7 @@ use Rattle.walk_run.proofs.Worlds.{Going, going-closed, IsAt, begun-going, timed
 use Rattle.nq_model.specs.Client.{Client, ClientStep, begun, Ticket, lease_on}
 use Rattle.nq_model.specs.ClientStep.{client_call, client_tick, at_time, restart, starts, fresh_client, next_incarnation}
 use Rattle.nq_model.specs.Hear.{inc_of, is_reply_to, reply_counts, hear, hear_reply, hear_notice, hear_call, goes_on, replied, holds_later, evicted, cancels}
-use Rattle.nq_model.specs.Message.{Message, Packet, call, reply, error, asker, sequence_of, request}
+use Rattle.nq_model.specs.Message.{Message, Packet, call, reply, error, asker, sequence_of}
 use Rattle.nq_model.specs.Table.{same_who}
 use Rattle.nq_model.specs.World.{from_host}
 use Rattle.walk_run.proofs.ServerSays.{IsSaid, said_reply, said_error, said_notice, AllSaid}
