@@ -10,8 +10,7 @@ use Rattle.walk_client.proofs.ClientLists.{used-lease-found, number-other, lease
 use Rattle.walk_server.proofs.Rows.{find-passes, find-filter, same-number, number-same, choice}
 use Rattle.walk_run.proofs.Worlds.{get-set-other, set-there}
 use Rattle.nq_promises.specs.CachedReadsChangeLittle.{ReadsBlock, IsAsItWas, ChangesNothingElse, CachedReadsChangeNothingElse}
-use Rattle.nq_promises.specs.CachedReadsAreAtOnce.{IsReady}
-use Rattle.nq_model.specs.CachedAtOnce.{AnswersAtOnce, after_cached}
+use Rattle.nq_model.specs.CachedAtOnce.{HasCached, AnswersAtOnce, after_cached}
 use Rattle.nq_model.specs.Client.{Client, Clean, Lease, lease_on, clean_at, drop_clean, is_clean_at, marked_used, used_lease}
 use Rattle.nq_model.specs.ClientStep.{client_call}
 use Rattle.nq_model.specs.Settle.{after_read, touched, reads_clean}
@@ -81,7 +80,7 @@ as-it-was c file block lease free held = record {
   clean = λ other b. choice (λ z. clean_at other b z ≡ clean_at other b c.clean) (reads_clean c file block) (touched file block (clean_at file block c.clean) c.clean) c.clean (λ reads. touched-finds other b file block c.clean (clean_at file block c.clean) refl) (λ dirty. refl);
 }
 
-changes : (w : World) (host : ℕ) (c : Client) (op : Call) (file block : ℕ) (lease : Lease) (body : List ℕ) → slice_get w.clients host ≡ Some c → IsReady c file block lease body → AnswersAtOnce c op file block body (client_call c op) → ChangesNothingElse w (after_client w host (client_call c op)) host c op file block lease body
+changes : (w : World) (host : ℕ) (c : Client) (op : Call) (file block : ℕ) (lease : Lease) (body : List ℕ) → slice_get w.clients host ≡ Some c → HasCached c file block lease body → AnswersAtOnce c op file block body (client_call c op) → ChangesNothingElse w (after_client w host (client_call c op)) host c op file block lease body
 unfolding after_client
 changes w host c op file block lease body is ready a = record {
   client = (client_call c op).client;

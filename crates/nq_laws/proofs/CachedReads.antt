@@ -30,12 +30,5 @@ cached-in-every-run head events host c file block lease body is ready =
     block
     lease
     body
-    (record {
-      attached = ready.attached;
-      free = ready.free;
-      idle = idle c ((run-holds head events).clients host c is).alone ready.free c.ticket refl;
-      held = ready.held;
-      runs = ready.runs;
-      within = ready.within;
-      there = ready.there;
-    })
+    ready
+    (idle c ((run-holds head events).clients host c is).alone ready.free c.ticket refl)

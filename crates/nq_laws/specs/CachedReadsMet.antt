@@ -3,7 +3,7 @@ use Rattle.std.specs.Prelude.{◌≡◌, ℕ, List, Some, slice_get}
 use Rattle.nq_base.specs.declared.Event.{Event}
 use Rattle.nq_model.specs.Client.{Client, Lease}
 use Rattle.nq_model.specs.World.{Head, run}
-use Rattle.nq_promises.specs.CachedReadsAreAtOnce.{IsReady}
+use Rattle.nq_model.specs.CachedAtOnce.{HasCached}
 
 -- the premises are met: after some schedule a client is ready to read a block that it has
 pub record IsReadySometime : Type 0 where
@@ -16,4 +16,4 @@ pub record IsReadySometime : Type 0 where
   pub lease : Lease
   pub body : List ℕ
   pub there : slice_get (run head events).clients host ≡ Some client
-  pub ready : IsReady client file block lease body
+  pub ready : HasCached client file block lease body

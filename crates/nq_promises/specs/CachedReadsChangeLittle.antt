@@ -9,7 +9,7 @@ use Rattle.nq_base.specs.declared.Said.{Said}
 use Rattle.nq_model.specs.Client.{Client, Lease, lease_on, clean_at}
 use Rattle.nq_model.specs.ClientStep.{told}
 use Rattle.nq_model.specs.World.{Head, World, run}
-use Rattle.nq_promises.specs.CachedReadsAreAtOnce.{IsReady}
+use Rattle.nq_model.specs.CachedAtOnce.{HasCached}
 
 -- a call reads a block
 abbrev pub ReadsBlock : Call → (file block : ℕ) → Type 0
@@ -44,7 +44,7 @@ abbrev pub CachedReadsChangeNothingElse : Type 0
 CachedReadsChangeNothingElse =
     (head : Head) (events : List Event) (host : ℕ) (c : Client) (op : Call) (file block : ℕ) (lease : Lease) (body : List ℕ)
     → slice_get (run head events).clients host ≡ Some c
-    → IsReady c file block lease body
+    → HasCached c file block lease body
     → ReadsBlock op file block
     → ChangesNothingElse
     (run head events)

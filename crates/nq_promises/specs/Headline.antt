@@ -3,11 +3,10 @@ use Rattle.std.specs.Prelude.{◌≡◌, ◌++◌, ℕ, List, Some, slice_get}
 use Rattle.nq_base.specs.declared.Call.{Call}
 use Rattle.nq_base.specs.declared.Entry.{Entry}
 use Rattle.nq_base.specs.declared.Event.{Event}
-use Rattle.nq_promises.specs.WritesAreAccounted.{WaitingAreUnsaved}
+use Rattle.nq_promises.specs.WritesAreAccounted.{WaitingAreUnsaved, EachHasItsFate}
 use Rattle.nq_promises.specs.BlocksAreHeld.{KeptBlocksAreHeld}
-use Rattle.nq_promises.specs.CachedReadsAreAtOnce.{IsReady}
+use Rattle.nq_model.specs.CachedAtOnce.{HasCached, AnswersAtOnce}
 use Rattle.nq_promises.specs.Bounds.{KeepsBounds}
-use Rattle.nq_model.specs.CachedAtOnce.{AnswersAtOnce}
 use Rattle.nq_model.specs.Client.{Client, Lease}
 use Rattle.nq_model.specs.ClientStep.{client_call}
 use Rattle.nq_model.specs.CutOff.{IsExcused}
@@ -25,7 +24,7 @@ abbrev pub CachedReadsAreAtOnce : World → Type 0
 CachedReadsAreAtOnce w =
     (host : ℕ) (c : Client) (file block : ℕ) (lease : Lease) (body : List ℕ)
     → slice_get w.clients host ≡ Some c
-    → IsReady c file block lease body
+    → HasCached c file block lease body
     → AnswersAtOnce c (Call.Read file block) file block body (client_call c (Call.Read file block))
     × AnswersAtOnce c (Call.Fetch file block) file block body (client_call c (Call.Fetch file block))
 
@@ -36,10 +35,11 @@ pub record HeadlineHolds (w : World) : Type 0 where
   pub of_their_call : AreOfTheirCall w.journal
   -- every successful read gives the latest standing write before it
   pub legal : IsLegal w.journal
-  -- missing are only delayed writes that are lost, or whose client started again: no write is covered twice, no loss is of
-  -- nothing, and what is neither stored nor lost nor ended is at its client still
+  -- missing are only delayed writes that are lost, or whose host started again after them: each other one is stored, or is
+  -- unsaved at the running client of its very incarnation. No write is covered twice, and no loss is of nothing
   pub accounted : IsAccounted w.journal
   pub waiting : WaitingAreUnsaved w
+  pub fates : EachHasItsFate w
   -- what is lost was cut off beyond write slack
   pub excused : IsExcused w.journal
   -- survivors report it by name

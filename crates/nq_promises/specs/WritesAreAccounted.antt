@@ -1,5 +1,5 @@
 -- What becomes of delayed writes, in every run.
-use Rattle.std.specs.Prelude.{◌≡◌, ◌≤◌, ◌⊎◌, ℕ, List, Option, Some, None, false, slice_get}
+use Rattle.std.specs.Prelude.{◌≡◌, ◌≤◌, ◌⊎◌, ℕ, List, [], Option, Some, None, false, slice_get}
 use Rattle.nq_base.specs.declared.Entry.{Entry}
 use Rattle.nq_base.specs.declared.Entry.TheVariants.{W}
 use Rattle.nq_base.specs.declared.Event.{Event}
@@ -7,8 +7,8 @@ use Rattle.nq_base.specs.declared.Push.{Push}
 use Rattle.nq_base.specs.declared.Who.{Who}
 use Rattle.nq_promises.specs.Bounds.{KeepsBounds}
 use Rattle.nq_model.specs.Client.{Client}
-use Rattle.nq_model.specs.Fate.{IsAccounted}
-use Rattle.nq_model.specs.Journal.{Each, Exists, Covers}
+use Rattle.nq_model.specs.Fate.{IsAccounted, IsDelayed, IsMissing, IsWaiting}
+use Rattle.nq_model.specs.Journal.{Each, Exists, AtEachPlace, Covers, IsStored}
 use Rattle.nq_model.specs.Skew.{IsWithinSkew}
 use Rattle.nq_model.specs.World.{Head, World, run}
 
@@ -39,6 +39,8 @@ abbrev pub IsDelayedBy : Who → Entry → Type 0
 IsDelayedBy who (W by file block number value false) = by ≡ who
 IsDelayedBy who other = ⊥
 
+-- ---- writes that wait
+
 -- each delayed write of a running incarnation that no S or L covers is unsaved at its client
 abbrev pub WaitingAreUnsaved : World → Type 0
 WaitingAreUnsaved w =
@@ -53,3 +55,34 @@ WaitingAreUnsavedInEveryRun =
     → KeepsBounds most head events
     → IsWithinSkew head.hosts most events
     → WaitingAreUnsaved (run head events)
+
+-- ---- the fate of each write
+
+-- a write of an incarnation is unsaved at the running client of that very incarnation
+pub record IsAtItsClient (w : World) (who : Who) (write : Entry) : Type 0 where
+  pub client : Client
+  pub runs : slice_get w.clients who.host ≡ Some client
+  pub same : client.who ≡ who
+  pub unsaved : IsUnsaved client write
+
+-- a write is unsaved at the running client of its incarnation
+abbrev pub IsStillUnsaved : World → (write : Entry) → Type 0
+IsStillUnsaved w (W who file block number value through) = IsAtItsClient w who (W who file block number value through)
+IsStillUnsaved w other = ⊥
+
+-- the fate of a delayed write: it is stored; or it is missing, since it is lost or its host started again after it; or it
+-- waits, unsaved, at the running client of its incarnation
+abbrev pub HasFate : World → (after : List Entry) → (write : Entry) → Type 0
+HasFate w after write = IsStored w.journal write ⊎ IsMissing w.journal after write ⊎ IsWaiting w.journal after write × IsStillUnsaved w write
+
+-- each delayed write has one of these fates, and there is no other
+abbrev pub EachHasItsFate : World → Type 0
+EachHasItsFate w = AtEachPlace (λ after write before. IsDelayed write → HasFate w after write) [] w.journal
+
+-- after every schedule within skew
+abbrev pub EachHasItsFateInEveryRun : Type 0
+EachHasItsFateInEveryRun =
+    (most : ℕ) (head : Head) (events : List Event)
+    → KeepsBounds most head events
+    → IsWithinSkew head.hosts most events
+    → EachHasItsFate (run head events)
