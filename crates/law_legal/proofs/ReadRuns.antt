@@ -34,7 +34,7 @@ use Rattle.walk_legal.proofs.ReaderValues.{NoneWaits}
 use Rattle.walk_legal.proofs.ReadParts.{IsDull, MadeFor}
 use Rattle.walk_legal.proofs.ReadSteps.{Done, NewRead, ValuedBy, NoneValued, IsCachedIn, call-done, tick-done, hear-done}
 use Rattle.walk_legal.proofs.Stores.{Rests}
-use Rattle.nq_model.specs.Client.{Client, ClientStep, Lease, Ticket, UnderWay, lease_on, lets_read, first_dirty, dirty_at, clean_at, is_push_of, is_push_at, push_passes, is_clean, Job}
+use Rattle.nq_model.specs.Client.{Client, ClientStep, Lease, Ticket, UnderWay, lease_on, lets_read, first_dirty, dirty_at, clean_at, is_push_of, is_push_at, push_passes, is_clean, Job, file_of_lease}
 use Rattle.nq_model.specs.ClientStep.{restart, starts, fresh_client, attached_client, next_incarnation}
 use Rattle.nq_model.specs.Journal.{Throughout}
 use Rattle.nq_model.specs.Kept.{host_row}
@@ -42,7 +42,7 @@ use Rattle.nq_model.specs.Message.{Message, call, reply, datagram_of}
 use Rattle.nq_model.specs.Server.{ServerStep, to_host}
 use Rattle.nq_model.specs.Settle.{cached_body, held_body, pushed_body, clean_body}
 use Rattle.nq_model.specs.Profile.{renewal}
-use Rattle.nq_model.specs.Send.{is_to_push, file_of_lease, least, least_with}
+use Rattle.nq_model.specs.Send.{is_to_push, least, least_with}
 use Rattle.nq_model.specs.Skew.{IsWithinSkew}
 use Rattle.nq_model.specs.Table.{caches, is_writing}
 use Rattle.nq_model.specs.Stands.{IsStandingValue}

@@ -6,10 +6,10 @@ use Rattle.nq_base.specs.declared.HostRow.{HostRow}
 use Rattle.nq_base.specs.declared.Loss.{Loss}
 use Rattle.nq_base.specs.declared.Request.{Request}
 use Rattle.nq_base.specs.declared.Who.{Who}
-use Rattle.walk_client.proofs.ClientFacts.{Alone, is_clean_in}
+use Rattle.walk_client.proofs.ClientFacts.{Alone}
 use Rattle.walk_client.proofs.ClientMoves.{some-same}
 use Rattle.nq_model.proofs.Lists.{exists-map}
-use Rattle.nq_model.specs.Client.{Client, for_call, attaching, Ticket, UnderWay}
+use Rattle.nq_model.specs.Client.{Client, for_call, attaching, Ticket, UnderWay, is_clean_in}
 use Rattle.nq_model.specs.Journal.{Exists, Throughout, Somewhere}
 use Rattle.nq_model.specs.Message.{Packet, sequence_of}
 use Rattle.nq_model.specs.Reported.{Names}

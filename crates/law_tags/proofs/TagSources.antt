@@ -9,7 +9,7 @@ use Rattle.nq_base.specs.declared.Tag.{Tag}
 use Rattle.nq_base.specs.declared.Who.{Who}
 use Rattle.walk_client.proofs.ClientCases.{Core, core_of, Closed, CanSend, Both}
 use Rattle.walk_client.proofs.ClientFacts.{Alone, fits_job}
-use Rattle.walk_client.proofs.ClientLists.{lease-after-put, notice-before-drop, notice-after-put}
+use Rattle.nq_model.proofs.ClientLists.{lease-after-put, notice-before-drop, notice-after-put}
 use Rattle.walk_client.proofs.ClientMoves.{some-same, none-some, keeps-or-cancels}
 use Rattle.walk_client.proofs.ClientWalk.{Replying, reply-keeps, notice-keeps, call-keeps, tick-keeps}
 use Rattle.walk_run.proofs.Packets.{In, in-last, Told}

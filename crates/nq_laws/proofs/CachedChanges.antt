@@ -6,7 +6,7 @@ use Rattle.std.specs.Prelude.{slice_get}
 use Rattle.std.proofs.lemmas.Bool.{and_parts, not_from_false}
 use Rattle.nq_base.specs.declared.Call.{Call}
 use Rattle.nq_laws.proofs.CachedReads.{cached-in-every-run}
-use Rattle.walk_client.proofs.ClientLists.{used-lease-found, number-other, lease-file}
+use Rattle.nq_model.proofs.ClientLists.{used-lease-found, lease-file}
 use Rattle.walk_server.proofs.Rows.{find-passes, find-filter, same-number, number-same, choice}
 use Rattle.walk_run.proofs.Worlds.{get-set-other, set-there}
 use Rattle.nq_promises.specs.CachedReadsChangeLittle.{ReadsBlock, IsAsItWas, ChangesNothingElse, CachedReadsChangeNothingElse}
@@ -15,6 +15,7 @@ use Rattle.nq_model.specs.Client.{Client, Clean, Lease, lease_on, clean_at, drop
 use Rattle.nq_model.specs.ClientStep.{client_call}
 use Rattle.nq_model.specs.Settle.{after_read, touched, reads_clean}
 use Rattle.nq_model.specs.World.{World, after_client, at_client, run}
+use Rattle.nq_model.proofs.Finding.{number-other}
 
 -- ---- the clean blocks
 

@@ -1,6 +1,8 @@
 pub mod Accounts
 pub mod ByFile
 pub mod CachedReads
+pub mod ClientLists
+pub mod Finding
 pub mod JournalTests
 pub mod LegalTest
 pub mod Lists

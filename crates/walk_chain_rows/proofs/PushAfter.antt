@@ -13,10 +13,9 @@ use Rattle.walk_chain_rows.proofs.ServerChains.{RowOn, goes_on, vacated, superse
 use Rattle.walk_chains.proofs.ChainFacts.{line_for, done_at, rev_at, IsFenced, gone, ahead, earlier, IsBoundOrFenced, bound, fenced, IsPushed, ChainFits, StandsWriting, PushFits, PushesFit}
 use Rattle.walk_chains.proofs.ChainLists.{fresh-undone}
 use Rattle.nq_promises.specs.Chained.{due}
-use Rattle.walk_client.proofs.ClientFacts.{is_clean_in}
 use Rattle.walk_client.proofs.ClientMoves.{some-same, none-some}
 use Rattle.walk_client.proofs.ClientWrites.{writes-under-way}
-use Rattle.nq_model.specs.Client.{Client, Ticket, is_push_of, push_passes}
+use Rattle.nq_model.specs.Client.{Client, Ticket, is_push_of, push_passes, is_clean_in}
 use Rattle.nq_model.specs.Kept.{File, find_file, host_row}
 use Rattle.nq_model.specs.Message.{Packet, asker, sequence_of}
 use Rattle.nq_model.specs.Server.{Server, standing}

@@ -12,10 +12,9 @@ use Rattle.walk_chains.proofs.ChainFacts.{line_for, done_at, rev_at, GoesOnAs, I
 use Rattle.walk_chains.proofs.ChainLists.{rev-put, known-put, known-put-other, some-put, unclean-wrote, unclean-lost}
 use Rattle.walk_chains.proofs.ChainMoves.{View, Mid, Ready, mid-uses, mid-spends}
 use Rattle.nq_promises.specs.Chained.{OwnRow, IsChained, due, KnowsFile}
-use Rattle.walk_client.proofs.ClientFacts.{is_clean_in}
-use Rattle.walk_client.proofs.ClientLists.{lease-after-put, put-lease-found, other-lease-put}
+use Rattle.nq_model.proofs.ClientLists.{lease-after-put, put-lease-found, other-lease-put}
 use Rattle.walk_client.proofs.ClientMoves.{some-same, none-some}
-use Rattle.nq_model.specs.Client.{for_call, Lease, Ticket, UnderWay, lease_on, put_lease, used_lease, other_dirty, revision_of, put_revision}
+use Rattle.nq_model.specs.Client.{for_call, Lease, Ticket, UnderWay, lease_on, put_lease, used_lease, other_dirty, revision_of, put_revision, is_clean_in}
 use Rattle.nq_model.specs.Hear.{other_push, granted_lease}
 use Rattle.nq_model.specs.LeaseInterval.{is_at_least}
 use Rattle.nq_model.specs.Message.{Packet}

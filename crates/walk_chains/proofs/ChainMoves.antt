@@ -11,10 +11,9 @@ use Rattle.nq_base.specs.declared.Who.{Who}
 use Rattle.walk_chains.proofs.ChainFacts.{VerdictFits, line_for, done_at, rev_at, HeldChains, GrantFits, GivenChains, IsBoundOrFenced, IsPushed, file_written, WriteChains, LineChains}
 use Rattle.walk_chains.proofs.ChainLists.{WasLease, was-used, was-dropped, StillLease, still-used, still-dropped}
 use Rattle.nq_promises.specs.Chained.{IsChained, has_done, due, KnowsFile}
-use Rattle.walk_client.proofs.ClientFacts.{is_clean_in}
 use Rattle.walk_client.proofs.ClientMoves.{some-same, none-some}
 use Rattle.walk_client.proofs.ClientWrites.{writes-under-way}
-use Rattle.nq_model.specs.Client.{Job, for_call, Lease, Revision, Ticket, UnderWay, lease_on, drop_lease, used_lease, is_push_of, push_passes, revision_of}
+use Rattle.nq_model.specs.Client.{Job, for_call, Lease, Revision, Ticket, UnderWay, lease_on, drop_lease, used_lease, is_push_of, push_passes, revision_of, is_clean_in}
 use Rattle.nq_model.specs.Decide.{verdict_reply}
 use Rattle.nq_model.specs.Hear.{wants_of, inc_of, cancelled}
 use Rattle.nq_model.specs.Kept.{Kept}

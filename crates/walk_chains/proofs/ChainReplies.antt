@@ -22,7 +22,6 @@ use Rattle.walk_client.proofs.PartCases.{answers-call-cases, vacates-noticed-cas
 use Rattle.walk_client.proofs.RepliedCases.{OfCall, IsNamed, looked_up, created, attributes, replied-cases}
 use Rattle.walk_client.proofs.StepCases.{evicted-cases}
 use Rattle.walk_client.proofs.ClientFacts.{Alone, changes_file}
-use Rattle.walk_client.proofs.ClientLists.{number-other}
 use Rattle.walk_client.proofs.ClientMoves.{some-same, none-some}
 use Rattle.nq_model.specs.Client.{Client, ClientStep, begun, Lease, Ticket, UnderWay, lease_on, drop_lease, notice_on, is_clean}
 use Rattle.nq_model.specs.Decide.{verdict_reply}
@@ -33,6 +32,7 @@ use Rattle.nq_model.specs.Server.{Server}
 use Rattle.nq_model.specs.Settle.{answers, names_losses, ticket_is_for_call}
 use Rattle.nq_model.specs.Table.{tag_below}
 use Rattle.walk_server.proofs.Rows.{number-same}
+use Rattle.nq_model.proofs.Finding.{number-other}
 
 module _ (s : Server) (ps : List Packet) where
   free-idle : (t : ClientStep) → t.client.ticket ≡ None → ticket_is_for_call t.client.ticket ≡ false

@@ -18,15 +18,15 @@ use Rattle.walk_chains.proofs.ChainLists.{any-found, none-found, unclean-pushed,
 use Rattle.walk_chains.proofs.ChainMoves.{View, Mid, mid-uses, mid-drops, mid-calls, CanAsk, mid-sends}
 use Rattle.walk_client.proofs.SendCases.{NothingToPush, IsFree, least-passes, send-cases, pushed}
 use Rattle.walk_client.proofs.SettleCases.{IsSettling, IsWrite, CanWrite, Settled, settle-cases, settle-settles}
-use Rattle.walk_client.proofs.ClientFacts.{DelayingOf, push_in, is_clean_in}
+use Rattle.walk_client.proofs.ClientFacts.{DelayingOf, push_in}
 use Rattle.walk_client.proofs.ClientMoves.{some-same, none-some}
 use Rattle.walk_client.proofs.ClientWrites.{writes-in-list, no-push}
 use Rattle.walk_client.proofs.SendWalk.{noticed-one, no-noticed, least-with-some}
-use Rattle.nq_model.specs.Client.{Client, ClientStep, Job, for_call, renewing, pushing, Lease, Notice, Ticket, UnderWay, lease_on, notice_on, is_clean, is_push_of, first_dirty, drop_dirty, is_live}
+use Rattle.nq_model.specs.Client.{Client, ClientStep, Job, for_call, renewing, pushing, Lease, Notice, Ticket, UnderWay, lease_on, notice_on, is_clean, is_push_of, first_dirty, drop_dirty, is_live, is_clean_in, file_of_lease}
 use Rattle.nq_model.specs.LeaseInterval.{requested_file}
 use Rattle.nq_model.specs.Message.{Packet, sequence_of}
 use Rattle.nq_model.specs.Profile.{renewal}
-use Rattle.nq_model.specs.Send.{boot_of, sends_request, after_seq, after_number, base_of, takes_push, noticed_file, ending_file, is_to_push, least, file_of_lease, sends_write, gives_up, want_of, shares_live, send_next}
+use Rattle.nq_model.specs.Send.{boot_of, sends_request, after_seq, after_number, base_of, takes_push, noticed_file, ending_file, is_to_push, least, sends_write, gives_up, want_of, shares_live, send_next}
 use Rattle.nq_model.specs.Server.{Server}
 use Rattle.nq_model.specs.Settle.{answers, reads_cached, after_read, after_write, delays, marks_written, settle, ticket_is_for_call}
 use Rattle.nq_model.specs.Table.{caches, is_writing}

@@ -6,7 +6,7 @@ use Rattle.nq_base.specs.declared.Tag.{Tag}
 use Rattle.nq_base.specs.declared.Who.{Who}
 use Rattle.walk_client.proofs.ClientFacts.{Alone, changes_file, fits_job}
 use Rattle.nq_model.specs.Client.{ClientStep, Job, attaching, Lease, Notice, Ticket, drop_lease, put_lease, used_lease, notice_on, drop_notice, lease_on}
-use Rattle.nq_model.specs.Hear.{wants_of, cancelled, granted_lease, noticed_tag}
+use Rattle.nq_model.specs.Hear.{wants_of, cancelled, granted_lease, with_notice}
 use Rattle.nq_model.specs.Message.{Message, call, asker, sequence_of}
 
 -- what the server and the other hosts can see of a client in the middle of a step: incarnation, time, request, numbers,
@@ -88,7 +88,7 @@ pub record Closed (Heard : ℕ → Tag → Type 0) (Given : ℕ → Grant → �
   pub again : (k : Core) (t : Ticket) → k.ticket ≡ Some t → P k → P (after_again k t)
   pub holds : (k : Core) (file : ℕ) (g : Grant) (sent : ℕ) → Given file g sent → k.ticket ≡ None → notice_on file k.notices ≡ None → P k → P (record k { leases = put_lease (granted_lease file g sent) k.leases })
   pub cancels : (k : Core) (file : ℕ) → P k → P (record k { ticket = cancelled file k.ticket })
-  pub notes : (k : Core) (file : ℕ) (tag : Tag) → Heard file tag → P k → P (record k { notices = record { file = file; tag = noticed_tag tag (notice_on file k.notices) } ∷ drop_notice file k.notices })
+  pub notes : (k : Core) (file : ℕ) (tag : Tag) → Heard file tag → P k → P (record k { notices = with_notice file tag k.notices })
 
 -- in the middle of a step: what holds of the client alone, and what is kept
 pub record Both (P : Core → Type 0) (t : ClientStep) : Type 0 where

@@ -5,7 +5,7 @@ use Rattle.nq_base.specs.declared.Push.{Push}
 use Rattle.nq_base.specs.declared.Request.{Request}
 use Rattle.nq_base.specs.declared.Request.TheVariants.{Attach, Lookup, Create, GetAttr, Read, Write, GetLease, Resize, Remove}
 use Rattle.nq_base.specs.declared.Who.{Who}
-use Rattle.nq_model.specs.Client.{Client, Job, attaching, for_call, renewing, pushing, Lease, Notice, Ticket, UnderWay, is_push_of, lease_on, notice_on, push_passes}
+use Rattle.nq_model.specs.Client.{is_clean_in, Client, Job, attaching, for_call, renewing, pushing, Lease, Notice, Ticket, UnderWay, is_push_of, lease_on, notice_on, push_passes}
 use Rattle.nq_model.specs.Hear.{wants_of}
 use Rattle.nq_model.specs.Message.{asker, sequence_of}
 
@@ -46,10 +46,6 @@ fits_job attaching request = fits_attach request
 fits_job for_call request = fits_call request
 fits_job renewing request = fits_renewal request
 fits_job pushing request = is_some (push_in request)
-
--- whether a file has no delayed writes in a list and none under way
-abbrev pub is_clean_in : ℕ → List Push → Option Push → Bool
-is_clean_in file dirty push = not (list_any (is_push_of file) dirty) && not (push_passes (is_push_of file) push)
 
 -- the request under way: its number was drawn, it was sent in the past, and it is this client's and of its job
 pub record IsTicket (who : Who) (now xid seq : ℕ) (t : Ticket) : Type 0 where

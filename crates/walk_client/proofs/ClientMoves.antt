@@ -3,8 +3,8 @@ use Rattle.std.proofs.Common.{◌≡◌, ◌≢◌, ◌<◌, ◌≤◌, ◌⊎�
 use Rattle.nq_base.specs.declared.Request.{Request}
 use Rattle.nq_base.specs.declared.Who.{Who}
 use Rattle.walk_client.proofs.ClientFacts.{changes_file, fits_job, IsTicket, IsLease, Asking}
-use Rattle.walk_client.proofs.ClientLists.{marked-before, marked-term, marked-expiry, lease-before-drop, lease-after-put, used-lease-found, notice-before-drop, notice-after-put}
-use Rattle.nq_model.specs.Client.{Job, attaching, for_call, Lease, Notice, Ticket, UnderWay, lease_on, drop_lease, put_lease, notice_on, drop_notice, marked_used, used_lease}
+use Rattle.nq_model.proofs.ClientLists.{marked-before, marked-term, marked-expiry, lease-before-drop, lease-after-put, used-lease-found, notice-before-drop, notice-after-put}
+use Rattle.nq_model.specs.Client.{Job, attaching, for_call, Lease, Notice, Ticket, UnderWay, lease_on, drop_lease, put_lease, notice_on, drop_notice, put_notice, marked_used, used_lease}
 use Rattle.nq_model.specs.Hear.{wants_of, cancelled}
 use Rattle.nq_model.specs.Message.{asker, sequence_of}
 use Rattle.nq_model.specs.Settle.{ticket_is_for_call}
@@ -218,7 +218,7 @@ cancels {attached = attached} {call = call} {ticket = ticket} {leases = leases} 
   kept t b e is not_wanted = rw (is, not_wanted) refl
 
 -- a notice waits for a file that the request under way does not want
-pub notes : {who : Who} {now xid seq : ℕ} {call : Option UnderWay} {ticket : Option Ticket} {leases : List Lease} {notices : List Notice} (n : Notice) → ((t : Ticket) → ticket ≡ Some t → wants_of n.file t.request ≡ false) → Asking who now true call ticket xid seq leases notices → Asking who now true call ticket xid seq leases (n ∷ drop_notice n.file notices)
+pub notes : {who : Who} {now xid seq : ℕ} {call : Option UnderWay} {ticket : Option Ticket} {leases : List Lease} {notices : List Notice} (n : Notice) → ((t : Ticket) → ticket ≡ Some t → wants_of n.file t.request ≡ false) → Asking who now true call ticket xid seq leases notices → Asking who now true call ticket xid seq leases (put_notice n notices)
 notes {ticket = ticket} {notices = notices} n spared h = record {
   ticketed = h.ticketed;
   waiting = λ e. absurd (cc);

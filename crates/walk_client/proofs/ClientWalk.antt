@@ -18,7 +18,7 @@ use Rattle.walk_client.proofs.HearWalk.{Brings, answers-call-keeps, pauses-keeps
 use Rattle.walk_server.proofs.Rows.{choice}
 use Rattle.walk_client.proofs.SendWalk.{at-true, from-true, send-next-keeps}
 use Rattle.walk_client.proofs.SettleWalk.{begun-call, settle-keeps}
-use Rattle.nq_model.specs.Client.{Client, ClientStep, Job, attaching, for_call, renewing, pushing, begun, Notice, Ticket, notice_on, drop_notice, is_clean, is_push_of, push_passes}
+use Rattle.nq_model.specs.Client.{Client, ClientStep, Job, attaching, for_call, renewing, pushing, begun, Notice, Ticket, notice_on, put_notice, is_clean, is_push_of, push_passes}
 use Rattle.nq_model.specs.ClientStep.{begins_call, is_called, sends_unless_cached, call_freely, tell_losses, call_past_losses, says_busy, losses_for, changed_file, client_call, at_time, sends_again, tick_asking, client_tick}
 use Rattle.nq_model.specs.Hear.{wants_of, vacates_lease, answer_of, puts_off, spends, attached, pauses, answers_call, done, refused, replied, reply_counts, refusal_counts, is_of_procedure, cancelled, cancels, noticed_tag, notes_notice, evicted, goes_on}
 use Rattle.nq_model.specs.Send.{send_next}
@@ -183,7 +183,7 @@ notes-keeps : {Heard : ℕ → Tag → Type 0} {Given : ℕ → Grant → ℕ �
 unfolding notes_notice
 notes-keeps closed t file tag heard spared unclean b = record {
   alone = record {
-    asking = from-true (λ a. Asking c.who c.now a c.call c.ticket c.xid c.seq c.leases (notice ∷ drop_notice file c.notices)) c.attached is_attached (move.notes notice spared (at-true (λ a. Asking c.who c.now a c.call c.ticket c.xid c.seq c.leases c.notices) c.attached is_attached b.alone.asking));
+    asking = from-true (λ a. Asking c.who c.now a c.call c.ticket c.xid c.seq c.leases (put_notice notice c.notices)) c.attached is_attached (move.notes notice spared (at-true (λ a. Asking c.who c.now a c.call c.ticket c.xid c.seq c.leases c.notices) c.attached is_attached b.alone.asking));
     delaying = writes.notes notice unclean b.alone.delaying;
   };
   core = closed.notes (core_of t) file tag heard b.core;

@@ -2,11 +2,11 @@
 use Rattle.std.proofs.Common.{◌≡◌, ◌≢◌, ◌⊎◌, ℕ, Bool, true, false, ◌&&◌, not, ◌==◌, List, ◌∷◌, Option, Some, None, if◌then◌else◌, refl, sym, subst, ap, ◌∙◌, inl, inr}
 use Rattle.std.specs.List.{list_any}
 use Rattle.nq_base.specs.declared.Push.{Push}
-use Rattle.walk_client.proofs.ClientFacts.{push_in, is_clean_in, Delaying}
-use Rattle.walk_client.proofs.ClientLists.{any-dropped, any-others, any-written, notice-before-drop, notice-after-put}
+use Rattle.walk_client.proofs.ClientFacts.{push_in, Delaying}
+use Rattle.nq_model.proofs.ClientLists.{any-dropped, any-others, any-written, notice-before-drop, notice-after-put}
 use Rattle.walk_client.proofs.ClientMoves.{none-some}
 use Rattle.walk_server.proofs.Rows.{same-number}
-use Rattle.nq_model.specs.Client.{pushing, Notice, Ticket, is_push_of, notice_on, drop_notice, push_passes, drop_dirty, other_dirty}
+use Rattle.nq_model.specs.Client.{pushing, Notice, Ticket, is_push_of, notice_on, drop_notice, put_notice, push_passes, drop_dirty, other_dirty, is_clean_in}
 use Rattle.nq_model.specs.Hear.{other_push}
 use Rattle.nq_model.specs.Settle.{with_write}
 use Rattle.walk_server.proofs.Tests.{is-other}
@@ -73,7 +73,7 @@ pub drops-notice : {attached : Bool} {ticket : Option Ticket} {notices : List No
 drops-notice {notices = notices} file h = record { noticed = λ f n e. h.noticed f n (notice-before-drop file f notices n e).1; under_way = h.under_way; empty = h.empty }
 
 -- a notice waits for a file that is not clean
-pub notes : {attached : Bool} {ticket : Option Ticket} {notices : List Notice} {dirty : List Push} {push : Option Push} (n : Notice) → is_clean_in n.file dirty push ≡ false → Delaying attached ticket notices dirty push → Delaying attached ticket (n ∷ drop_notice n.file notices) dirty push
+pub notes : {attached : Bool} {ticket : Option Ticket} {notices : List Notice} {dirty : List Push} {push : Option Push} (n : Notice) → is_clean_in n.file dirty push ≡ false → Delaying attached ticket notices dirty push → Delaying attached ticket (put_notice n notices) dirty push
 notes {notices = notices} {dirty = dirty} {push = push} n unclean h = record { noticed = λ f m e. case f m (notice-after-put n f notices m e); under_way = h.under_way; empty = h.empty }
   where
     case : (f : ℕ) (m : Notice) → ((f ≡ n.file) × (m ≡ n)) ⊎ ((f ≢ n.file) × (notice_on f notices ≡ Some m)) → is_clean_in f dirty push ≡ false

@@ -11,15 +11,15 @@ use Rattle.nq_base.specs.declared.Tag.{Tag}
 use Rattle.nq_base.specs.declared.Value.{Value}
 use Rattle.nq_base.specs.declared.Who.{Who}
 use Rattle.walk_client.proofs.ClientCases.{Core, core_of, Closed, Both}
-use Rattle.walk_client.proofs.ClientFacts.{Alone, Asking, Delaying, AskingOf, DelayingOf, IsLease, push_in, is_clean_in}
+use Rattle.walk_client.proofs.ClientFacts.{Alone, Asking, Delaying, AskingOf, DelayingOf, IsLease, push_in}
 use Rattle.walk_client.proofs.ClientMoves as move
 use Rattle.walk_client.proofs.ClientMoves.{some-same, none-some, attached-with-ticket}
 use Rattle.walk_client.proofs.ClientWrites as writes
-use Rattle.walk_client.proofs.ClientLists.{notice-before-drop, any-others}
+use Rattle.nq_model.proofs.ClientLists.{notice-before-drop, any-others}
 use Rattle.walk_server.proofs.Rows.{choice, number-same, same-number}
 use Rattle.walk_client.proofs.SendWalk.{at-true, from-true}
 use Rattle.walk_client.proofs.SettleWalk.{IsIdle, answers-keeps, names-keeps, begun-call}
-use Rattle.nq_model.specs.Client.{Client, ClientStep, pushing, begun, Notice, Ticket, UnderWay, lease_on, put_lease, notice_on, is_clean, is_push_of, push_passes, revision_of, is_revision_before, dirty_at}
+use Rattle.nq_model.specs.Client.{Client, ClientStep, pushing, begun, Notice, Ticket, UnderWay, lease_on, put_lease, notice_on, is_clean, is_push_of, push_passes, revision_of, is_revision_before, dirty_at, is_clean_in}
 use Rattle.nq_model.specs.Hear.{vacates_lease, vacates_noticed, loses, waits_for, reports_to, reports, without_lease, push_refused, granted_lease, breaks, breaks_chain, if_broken, holds, takes_grant, takes_optional, answers_call_of, answers_call, caches_block, purges, knows_revision, grant_caches, then_caches, read_done, with_through, marks_through, lease_done, holds_caching, caches_write, write_done, ends_push, caches_push, vacates_if_clean, push_done, spends, attached, pauses, done_for_call, done_renewal, done_push, refused_push, is_of_procedure, other_push}
 use Rattle.nq_model.specs.Settle.{answers, names_losses}
 use Rattle.nq_model.specs.LeaseInterval.{grant_in, requested_file}

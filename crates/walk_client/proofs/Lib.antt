@@ -1,6 +1,5 @@
 pub mod ClientFacts
 pub mod ClientCases
-pub mod ClientLists
 pub mod ClientMoves
 pub mod ClientWrites
 pub mod SendWalk

@@ -6,11 +6,11 @@ use Rattle.nq_base.specs.declared.Call.{Call}
 use Rattle.nq_base.specs.declared.Mode.{Mode}
 use Rattle.nq_base.specs.declared.Push.{Push}
 use Rattle.nq_base.specs.declared.Request.{Request}
-use Rattle.walk_client.proofs.ClientLists.{lease-file, first-is-of}
+use Rattle.nq_model.proofs.ClientLists.{lease-file, first-is-of}
 use Rattle.walk_client.proofs.ClientMoves.{some-same, none-some}
 use Rattle.walk_client.proofs.SendWalk.{least-with-one}
-use Rattle.nq_model.specs.Client.{Client, ClientStep, Job, for_call, renewing, pushing, Lease, Ticket, UnderWay, lease_on, notice_on, is_clean, first_dirty}
-use Rattle.nq_model.specs.Send.{sends_request, after_seq, base_of, takes_push, pushes_these, pushes, noticed_file, ending_file, read_want, want_of, sends_write, next_write, next_put, gives_up, next_change, asks, next_of_call, next_of_under_way, renews_lease, renews, renewed_file, is_to_renew, is_asking, then_renews, then_calls, pushes_due, then_pushes, then_ending, send_next, shares_live, least, file_of_lease}
+use Rattle.nq_model.specs.Client.{Client, ClientStep, Job, for_call, renewing, pushing, Lease, Ticket, UnderWay, lease_on, notice_on, is_clean, first_dirty, file_of_lease}
+use Rattle.nq_model.specs.Send.{sends_request, after_seq, base_of, takes_push, pushes_these, pushes, noticed_file, ending_file, read_want, want_of, sends_write, next_write, next_put, gives_up, next_change, asks, next_of_call, next_of_under_way, renews_lease, renews, renewed_file, is_to_renew, is_asking, then_renews, then_calls, pushes_due, then_pushes, then_ending, send_next, shares_live, least}
 use Rattle.walk_server.proofs.Rows.{choice}
 use Rattle.walk_server.proofs.Tests.{is-at-most, none-there}
 

@@ -11,15 +11,16 @@ use Rattle.nq_base.specs.declared.Tag.{Tag}
 use Rattle.nq_base.specs.declared.Who.{Who}
 use Rattle.walk_client.proofs.ClientCases.{Core, core_of, Closed, Both, CanSend}
 use Rattle.walk_client.proofs.ClientFacts.{Asking, Delaying, AskingOf, DelayingOf, changes_file, fits_job}
-use Rattle.walk_client.proofs.ClientLists.{dropped-lease, number-other}
+use Rattle.nq_model.proofs.ClientLists.{dropped-lease}
 use Rattle.walk_client.proofs.ClientMoves.{some-same, none-some, attached-with-call, IsNext, draws, sends, drops}
 use Rattle.walk_client.proofs.ClientWrites.{has-writes, pushes as pushes_write, asks as asks_delaying, no-push}
 use Rattle.walk_server.proofs.Rows.{choice, number-same, same-number, find-passes}
-use Rattle.nq_model.specs.Client.{Client, ClientStep, Job, attaching, for_call, renewing, pushing, Lease, Notice, Ticket, UnderWay, lease_on, notice_on, is_clean, is_push_of, first_dirty, drop_dirty, drop_lease, push_passes}
+use Rattle.nq_model.specs.Client.{Client, ClientStep, Job, attaching, for_call, renewing, pushing, Lease, Notice, Ticket, UnderWay, lease_on, notice_on, is_clean, is_push_of, first_dirty, drop_dirty, drop_lease, push_passes, file_of_notice, file_of_lease}
 use Rattle.nq_model.specs.Hear.{wants_of}
 use Rattle.nq_model.specs.Message.{asker, sequence_of}
-use Rattle.nq_model.specs.Send.{sends_request, after_seq, after_number, base_of, takes_push, pushes_these, pushes, least, least_with, file_of_notice, file_of_lease, is_to_renew, noticed_file, ending_file, read_want, want_of, sends_write, next_write, next_put, gives_up, next_change, asks, next_of_call, next_of_under_way, renews_lease, renews, renewed_file, is_asking, then_renews, then_calls, pushes_due, then_pushes, then_ending, send_next, shares_live}
+use Rattle.nq_model.specs.Send.{sends_request, after_seq, after_number, base_of, takes_push, pushes_these, pushes, least, least_with, is_to_renew, noticed_file, ending_file, read_want, want_of, sends_write, next_write, next_put, gives_up, next_change, asks, next_of_call, next_of_under_way, renews_lease, renews, renewed_file, is_asking, then_renews, then_calls, pushes_due, then_pushes, then_ending, send_next, shares_live}
 use Rattle.walk_server.proofs.Tests.{none-there}
+use Rattle.nq_model.proofs.Finding.{number-other}
 
 -- a fact of a flag that is known
 pub at-true : (F : Bool → Type 0) (b : Bool) → b ≡ true → F b → F true

@@ -10,7 +10,7 @@ use Rattle.nq_base.specs.declared.Reply.{Reply}
 use Rattle.nq_base.specs.declared.Request.{Request}
 use Rattle.nq_base.specs.declared.Who.{Who}
 use Rattle.walk_client.proofs.ClientFacts.{changes_file, push_in}
-use Rattle.walk_client.proofs.ClientLists.{other-revision-put}
+use Rattle.nq_model.proofs.ClientLists.{other-revision-put}
 use Rattle.walk_client.proofs.ClientMoves.{some-same, none-some}
 use Rattle.walk_contents.proofs.ClientLookups.{IsBlock, this-or-other, found-dropped, clean-dropped, in-written, IsWritten, was_there, is_new, written-elsewhere, revision-after, revision-put}
 use Rattle.walk_contents.proofs.Facts.{History, Follows, follows, HadValue, value-follows, SetsBlock, Tells, tells-follows}

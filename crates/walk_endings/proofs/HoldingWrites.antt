@@ -6,7 +6,7 @@ use Rattle.std.proofs.lemmas.Bool.{and_parts}
 use Rattle.nq_base.specs.declared.Entry.{Entry}
 use Rattle.nq_base.specs.declared.Push.{Push}
 use Rattle.nq_base.specs.declared.Who.{Who}
-use Rattle.walk_client.proofs.ClientLists.{marked-before}
+use Rattle.nq_model.proofs.ClientLists.{marked-before}
 use Rattle.walk_client.proofs.ClientMoves.{some-same}
 use Rattle.walk_endings.proofs.Cuts.{IsOf, IsExcusedIn, excused-past, AreCut, NoneLoses, cut-loss}
 use Rattle.walk_endings.proofs.Holdings.{View, IsHeldBound, IsPastLoss, Holding, uses, held-used}

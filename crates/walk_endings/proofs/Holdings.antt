@@ -7,7 +7,7 @@ use Rattle.nq_base.specs.declared.Push.{Push}
 use Rattle.nq_base.specs.declared.Verdict.{Verdict}
 use Rattle.nq_base.specs.declared.Who.{Who}
 use Rattle.walk_client.proofs.ClientFacts.{push_in}
-use Rattle.walk_client.proofs.ClientLists.{marked-before, marked-tag, marked-mode, marked-expiry, used-lease-found, lease-before-drop, other-lease-dropped, lease-after-put, put-lease-found, other-lease-put, marked-blocks}
+use Rattle.nq_model.proofs.ClientLists.{marked-before, marked-tag, marked-mode, marked-expiry, used-lease-found, lease-before-drop, other-lease-dropped, lease-after-put, put-lease-found, other-lease-put, marked-blocks}
 use Rattle.walk_client.proofs.ClientMoves.{none-some}
 use Rattle.walk_endings.proofs.BoundRows.{IsBound}
 use Rattle.walk_endings.proofs.Waiting.{IsWaiting}

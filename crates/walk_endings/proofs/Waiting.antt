@@ -7,9 +7,8 @@ use Rattle.std.proofs.lemmas.Bool.{and_parts, not-true, or_parts}
 use Rattle.nq_base.specs.declared.Entry.{Entry}
 use Rattle.nq_base.specs.declared.Push.{Push}
 use Rattle.nq_base.specs.declared.Who.{Who}
-use Rattle.walk_client.proofs.ClientFacts.{is_clean_in}
 use Rattle.walk_client.proofs.ClientMoves.{some-same, none-some}
-use Rattle.nq_model.specs.Client.{is_push_of, is_push_at, other_dirty, push_passes}
+use Rattle.nq_model.specs.Client.{is_push_of, is_push_at, other_dirty, push_passes, is_clean_in}
 use Rattle.nq_model.specs.Hear.{push_of, other_push, loss_entry}
 use Rattle.nq_model.specs.Settle.{overwritten, overwritten_at, with_write}
 use Rattle.walk_run.proofs.Members.{in-filter, in-push-of}

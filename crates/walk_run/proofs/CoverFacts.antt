@@ -6,7 +6,7 @@ use Rattle.nq_base.specs.declared.Mode.{Mode}
 use Rattle.nq_base.specs.declared.Reply.{Reply}
 use Rattle.nq_base.specs.declared.Tag.{Tag}
 use Rattle.nq_base.specs.declared.Who.{Who}
-use Rattle.walk_client.proofs.ClientLists.{marked-before, marked-tag, marked-mode, marked-term, marked-expiry, lease-before-drop, lease-after-put}
+use Rattle.nq_model.proofs.ClientLists.{marked-before, marked-tag, marked-mode, marked-term, marked-expiry, lease-before-drop, lease-after-put}
 use Rattle.walk_run.proofs.Packets.{Told}
 use Rattle.nq_model.specs.Client.{Lease, Ticket, lease_on, drop_lease, put_lease, used_lease}
 use Rattle.nq_model.specs.Hear.{inc_of}

@@ -5,7 +5,7 @@ use Rattle.nq_base.specs.declared.Reply.{Reply}
 use Rattle.nq_base.specs.declared.Request.{Request}
 use Rattle.nq_base.specs.declared.Tag.{Tag}
 use Rattle.nq_base.specs.declared.Who.{Who}
-use Rattle.walk_client.proofs.ClientLists.{marked-before, marked-tag, lease-before-drop, lease-after-put, notice-before-drop, notice-after-put}
+use Rattle.nq_model.proofs.ClientLists.{marked-before, marked-tag, lease-before-drop, lease-after-put, notice-before-drop, notice-after-put}
 use Rattle.walk_run.proofs.Packets.{In, in-last, Asked, Told, message-same, not-both, call-same}
 use Rattle.nq_model.specs.Client.{Lease, Notice, Ticket, lease_on, drop_lease, put_lease, used_lease, notice_on, drop_notice}
 use Rattle.nq_model.specs.Hear.{inc_of, noticed_tag}

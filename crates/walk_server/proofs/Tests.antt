@@ -3,6 +3,7 @@ use Rattle.std.proofs.Common.{◌≡◌, ◌≢◌, ◌<◌, ◌≤◌, ℕ, ◌
 use Rattle.std.specs.Option.{unwrap_or}
 use Rattle.std.specs.Prelude.{is_some, nat_le}
 use Rattle.std.proofs.lemmas.Bool.Decides.{nat_tests}
+pub use Rattle.nq_model.proofs.Finding.{is-other}
 
 pub is-below : (m n : ℕ) → nat_lt m n ≡ true → m < n
 is-below m n h = grind (arith, nat_tests)
@@ -15,9 +16,6 @@ is-at-most m n h = grind (arith, nat_tests)
 
 pub is-not-at-most : (m n : ℕ) → nat_le m n ≡ false → n < m
 is-not-at-most m n h = grind (arith, nat_tests)
-
-pub is-other : (m n : ℕ) → (m == n) ≡ false → m ≢ n
-is-other m n h = grind (arith, nat_tests)
 
 pub is-above : (m n : ℕ) → (m == n) ≡ false → nat_lt m n ≡ false → n < m
 is-above m n h k = grind (arith, nat_tests)

@@ -18,7 +18,7 @@ use Rattle.walk_client.proofs.SendCases.{send-cases}
 use Rattle.walk_client.proofs.SettleCases.{settle-cases, CanRead, CanWrite}
 use Rattle.walk_client.proofs.StepCases.{call-cases, unless-cached-cases, tick-cases, evicted-cases, heard-cases}
 use Rattle.walk_client.proofs.ClientFacts.{Alone, push_in}
-use Rattle.walk_client.proofs.ClientLists.{used-lease-found}
+use Rattle.nq_model.proofs.ClientLists.{used-lease-found}
 use Rattle.walk_client.proofs.ClientMoves.{none-some, some-same}
 use Rattle.walk_fates.proofs.PushLists.{is-at}
 use Rattle.nq_model.specs.Client.{Client, ClientStep, Job, Lease, Ticket, UnderWay, begun, lease_on, used_lease, marked_used, lets_read, lets_write, dirty_at, first_dirty, is_push_of, drop_dirty, is_push_at, clean_at, is_clean_at, drop_clean, Clean}

@@ -13,13 +13,13 @@ use Rattle.nq_base.specs.declared.Tag.{Tag}
 use Rattle.nq_base.specs.declared.Who.{Who}
 use Rattle.walk_chains.proofs.ChainFacts.{ChainFits, PushesFit, StandsWriting, InOrder, GrantFits, IsFenced, gone, ahead, earlier, IsBoundOrFenced, bound, fenced, done_at, rev_at}
 use Rattle.nq_promises.specs.Chained.{IsChained, KnowsFile, has_done, has_done_write, due}
-use Rattle.walk_client.proofs.ClientFacts.{is_clean_in, push_in}
+use Rattle.walk_client.proofs.ClientFacts.{push_in}
 use Rattle.walk_client.proofs.ClientMoves.{none-some, some-same}
 use Rattle.walk_fates.proofs.FactPushes.{dirty-clear}
 use Rattle.walk_fates.proofs.JournalMoves.{store-covers, covers-more}
 use Rattle.walk_fates.proofs.WritesFit.{WritesFit, CoversNumber, IsClear, IsRising, LiesWithin, in_list, under_way, PushStands, waits, stored}
 use Rattle.nq_model.proofs.Lists.{exists-left}
-use Rattle.nq_model.specs.Client.{Client, ClientStep, Lease, Ticket, lease_on}
+use Rattle.nq_model.specs.Client.{Client, ClientStep, Lease, Ticket, lease_on, is_clean_in}
 use Rattle.nq_model.specs.Journal.{Covers, Throughout, Each}
 use Rattle.nq_model.specs.Kept.{host_row}
 use Rattle.nq_model.specs.LeaseInterval.{requested_file}

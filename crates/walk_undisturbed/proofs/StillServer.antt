@@ -10,12 +10,12 @@ use Rattle.nq_base.specs.declared.Tag.{Tag}
 use Rattle.nq_base.specs.declared.Who.{Who}
 use Rattle.walk_chains.proofs.ChainFacts.{IsFenced}
 use Rattle.nq_promises.specs.Chained.{IsChained}
-use Rattle.walk_client.proofs.ClientFacts.{is_clean_in, changes_file, fits_job, fits_attach, fits_renewal, push_in}
+use Rattle.walk_client.proofs.ClientFacts.{changes_file, fits_job, fits_attach, fits_renewal, push_in}
 use Rattle.walk_client.proofs.ClientMoves.{none-some, some-same}
 use Rattle.walk_leases.proofs.BoundBefore.{Stood, StandsWriting}
 use Rattle.walk_fates.proofs.ServerTells.{ServerTells, Moves, same_lines, attaches_one, decides_one}
 use Rattle.walk_fates.proofs.WritesFit.{IsClear}
-use Rattle.nq_model.specs.Client.{Client, Job, Lease, Ticket, lease_on}
+use Rattle.nq_model.specs.Client.{Client, Job, Lease, Ticket, lease_on, is_clean_in}
 use Rattle.nq_model.specs.Journal.{Each}
 use Rattle.nq_model.specs.Kept.{host_row}
 use Rattle.nq_model.specs.Message.{call, asker, sequence_of}

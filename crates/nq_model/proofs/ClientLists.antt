@@ -1,17 +1,13 @@
 -- Look-ups in a client's lists after each change of them.
-use Rattle.std.proofs.Common.{◌≡◌, ◌≢◌, ◌⊎◌, ℕ, Bool, true, false, ◌||◌, not, ◌==◌, List, [], ◌∷◌, ◌++◌, Option, Some, None, if◌then◌else◌, map, refl, sym, ap, ◌∙◌, arith, inl, inr}
+use Rattle.std.proofs.Common.{◌≡◌, ◌≢◌, ◌⊎◌, ℕ, Bool, true, false, ◌||◌, not, ◌==◌, List, [], ◌∷◌, ◌++◌, Option, Some, None, if◌then◌else◌, map, refl, sym, subst, ap, ◌∙◌, inl, inr}
 use Rattle.std.specs.List.{filter, list_any}
 use Rattle.std.specs.Option.{option_map}
-use Rattle.std.proofs.lemmas.Bool.Decides.{nat_tests}
 use Rattle.std.proofs.lemmas.Bool.{and_parts, not_from_false}
 use Rattle.nq_base.specs.declared.Push.{Push}
-use Rattle.walk_server.proofs.Rows.{find-passes, find-filter, find-dropped, find-map, same-number, number-same}
-use Rattle.nq_model.specs.Client.{Lease, Notice, lease_on, drop_lease, put_lease, notice_on, drop_notice, is_push_of, is_push_at, first_dirty, dirty_at, drop_dirty, other_dirty, marked_used, used_lease, Revision, revision_of, put_revision}
+use Rattle.nq_model.proofs.Finding.{find-passes, find-filter, find-dropped, find-map, same-number, number-other, is-other}
+use Rattle.nq_model.proofs.ByFile.{find-inserted, find-besides}
+use Rattle.nq_model.specs.Client.{Lease, Notice, lease_on, drop_lease, put_lease, notice_on, drop_notice, put_notice, file_of_lease, file_of_notice, file_of_revision, is_push_of, is_push_at, first_dirty, dirty_at, drop_dirty, other_dirty, marked_used, used_lease, Revision, revision_of, drop_revision, put_revision}
 use Rattle.nq_model.specs.Settle.{overwritten_at, with_write}
-use Rattle.walk_server.proofs.Tests.{is-other}
-
-pub number-other : (m n : ℕ) → m ≢ n → (m == n) ≡ false
-number-other m n h = grind (arith, nat_tests)
 
 -- leases: what was dropped is not found, and the others are found as before
 pub dropped-lease : (file : ℕ) (leases : List Lease) → lease_on file (drop_lease file leases) ≡ None
@@ -30,12 +26,11 @@ lease-before-drop file other leases l h = step (other == file) refl
     step false e = let apart : other ≢ file = is-other other file e in (apart, sym (other-lease-dropped file other leases apart) ∙ h)
 
 pub put-lease-found : (lease : Lease) (file : ℕ) (leases : List Lease) → file ≡ lease.file → lease_on file (put_lease lease leases) ≡ Some lease
-put-lease-found lease file leases e = let same : (lease.file == file) ≡ true = number-same lease.file file (sym e) in rw same refl
+put-lease-found lease file leases e = find-inserted file_of_lease lease file (drop_lease lease.file leases) e (subst (λ n. lease_on n (drop_lease lease.file leases) ≡ None) (sym e) (dropped-lease lease.file leases))
 
 pub other-lease-put : (lease : Lease) (other : ℕ) (leases : List Lease) → other ≢ lease.file → lease_on other (put_lease lease leases) ≡ lease_on other leases
 other-lease-put lease other leases h =
-    let apart : (lease.file == other) ≡ false = number-other lease.file other (λ e. h (sym e)) in
-    rw apart (other-lease-dropped lease.file other leases h)
+    find-besides file_of_lease lease other (drop_lease lease.file leases) h ∙ other-lease-dropped lease.file other leases h
 
 -- what is found after a lease was put is that lease or was found before
 pub lease-after-put : (lease : Lease) (other : ℕ) (leases : List Lease) (l : Lease) → lease_on other (put_lease lease leases) ≡ Some l → ((other ≡ lease.file) × (l ≡ lease)) ⊎ ((other ≢ lease.file) × (lease_on other leases ≡ Some l))
@@ -117,13 +112,24 @@ notice-before-drop file other notices n h = step (other == file) refl
     step true e = let same : other ≡ file = same-number other file e in let gone : notice_on other (drop_notice file notices) ≡ None = rw same (dropped-notice file notices) in cc
     step false e = let apart : other ≢ file = is-other other file e in (apart, sym (other-notice-dropped file other notices apart) ∙ h)
 
--- what is found after a notice was put in front is that notice or was found before
-pub notice-after-put : (notice : Notice) (other : ℕ) (notices : List Notice) (n : Notice) → notice_on other (notice ∷ drop_notice notice.file notices) ≡ Some n → ((other ≡ notice.file) × (n ≡ notice)) ⊎ ((other ≢ notice.file) × (notice_on other notices ≡ Some n))
-notice-after-put notice other notices n h = step (notice.file == other) refl h
+pub put-notice-found : (notice : Notice) (file : ℕ) (notices : List Notice) → file ≡ notice.file → notice_on file (put_notice notice notices) ≡ Some notice
+put-notice-found notice file notices e = find-inserted file_of_notice notice file (drop_notice notice.file notices) e (subst (λ n. notice_on n (drop_notice notice.file notices) ≡ None) (sym e) (dropped-notice notice.file notices))
+
+pub other-notice-put : (notice : Notice) (other : ℕ) (notices : List Notice) → other ≢ notice.file → notice_on other (put_notice notice notices) ≡ notice_on other notices
+other-notice-put notice other notices h =
+    find-besides file_of_notice notice other (drop_notice notice.file notices) h ∙ other-notice-dropped notice.file other notices h
+
+-- what is found after a notice was put is that notice or was found before
+pub notice-after-put : (notice : Notice) (other : ℕ) (notices : List Notice) (n : Notice) → notice_on other (put_notice notice notices) ≡ Some n → ((other ≡ notice.file) × (n ≡ notice)) ⊎ ((other ≢ notice.file) × (notice_on other notices ≡ Some n))
+notice-after-put notice other notices n h = step (other == notice.file) refl
   where
-    step : (b : Bool) → (notice.file == other) ≡ b → (if b then Some notice else notice_on other (drop_notice notice.file notices)) ≡ Some n → ((other ≡ notice.file) × (n ≡ notice)) ⊎ ((other ≢ notice.file) × (notice_on other notices ≡ Some n))
-    step true e f = let one : n ≡ notice = cc in inl (sym (same-number notice.file other e), one)
-    step false e f = inr (notice-before-drop notice.file other notices n f)
+    step : (b : Bool) → (other == notice.file) ≡ b → ((other ≡ notice.file) × (n ≡ notice)) ⊎ ((other ≢ notice.file) × (notice_on other notices ≡ Some n))
+    step true e =
+        let same : other ≡ notice.file = same-number other notice.file e in
+        let found : notice_on other (put_notice notice notices) ≡ Some notice = put-notice-found notice other notices same in
+        let one : n ≡ notice = cc in
+        inl (same, one)
+    step false e = let apart : other ≢ notice.file = is-other other notice.file e in inr (apart, sym (other-notice-put notice other notices apart) ∙ h)
 
 -- delayed writes: whether a file has some, after each change of the list
 any-filter-step : (p q : Push → Bool) (y : Push) (xs : List Push) (b c : Bool) → (b ≡ true → c ≡ true) → list_any p (filter q xs) ≡ list_any p xs → p y ≡ b → list_any p (if c then y ∷ filter q xs else filter q xs) ≡ (b || list_any p xs)
@@ -191,7 +197,13 @@ marked-blocks f l = step (l.file == f)
 
 -- ---- revisions
 
+dropped-revision : (file : ℕ) (revisions : List Revision) → revision_of file (drop_revision file revisions) ≡ None
+dropped-revision file revisions = find-dropped (λ r. r.file == file) (λ r. not (r.file == file)) revisions (λ r h. rw h refl)
+
+pub put-revision-found : (file rev : ℕ) (revisions : List Revision) → revision_of file (put_revision file rev revisions) ≡ Some (record { file = file; rev = rev })
+put-revision-found file rev revisions = find-inserted file_of_revision (record { file = file; rev = rev }) file (drop_revision file revisions) refl (dropped-revision file revisions)
+
 pub other-revision-put : (file rev other : ℕ) (revisions : List Revision) → other ≢ file → revision_of other (put_revision file rev revisions) ≡ revision_of other revisions
 other-revision-put file rev other revisions apart =
-    let differs : (file == other) ≡ false = number-other file other (λ e. apart (sym e)) in
-    rw differs (find-filter (λ r. r.file == other) (λ r. not (r.file == file)) revisions (λ r e. let same : r.file ≡ other = same-number r.file other e in not_from_false (r.file == file) (number-other r.file file (λ h. apart (sym same ∙ h)))))
+    find-besides file_of_revision (record { file = file; rev = rev }) other (drop_revision file revisions) apart
+    ∙ find-filter (λ r. r.file == other) (λ r. not (r.file == file)) revisions (λ r e. let same : r.file ≡ other = same-number r.file other e in not_from_false (r.file == file) (number-other r.file file (λ h. apart (sym same ∙ h))))
