@@ -18,7 +18,7 @@ use Rattle.walk_run.proofs.TagFacts.{used-from, dropped-from}
 use Rattle.walk_run.proofs.Worlds.{IsAt}
 use Rattle.nq_model.specs.Client.{Client, ClientStep, begun, Lease, Notice, Ticket, Job, lease_on, drop_lease, put_lease, used_lease, notice_on, drop_notice}
 use Rattle.nq_model.specs.ClientStep.{client_call, client_tick, at_time, restart, starts, fresh_client}
-use Rattle.nq_model.specs.Hear.{inc_of, is_reply_to, reply_counts, hear, hear_reply, hear_notice, hear_call, goes_on, replied, holds_later, evicted, cancels, granted_lease, noticed_tag}
+use Rattle.nq_model.specs.Hear.{inc_of, is_reply_to, reply_counts, hear, hear_reply, hear_notice, hear_call, goes_on, replied, holds_later, evicted, cancels, granted_lease, noticed_tag, with_notice}
 use Rattle.nq_model.specs.LeaseInterval.{grant_in, requested_file}
 use Rattle.nq_model.specs.Message.{Message, Packet, call, reply, error}
 use Rattle.nq_model.specs.Table.{same_who, tag_below}
@@ -97,7 +97,7 @@ module _ (T : Tag → Type 0) (Heard : ℕ → Tag → Type 0) (Given : ℕ → 
   later k file tag e h None is = heard file tag e
   later k file tag e h (Some n) is = choice T (tag_below n.tag tag) tag n.tag (λ below. heard file tag e) (λ above. h.held.noticed file n is)
 
-  noting : (k : Core) (f : ℕ) (v : Tag) → Heard f v → Tagged T k → (file : ℕ) (n : Notice) → notice_on file (record { file = f; tag = noticed_tag v (notice_on f k.notices) } ∷ drop_notice f k.notices) ≡ Some n → T n.tag
+  noting : (k : Core) (f : ℕ) (v : Tag) → Heard f v → Tagged T k → (file : ℕ) (n : Notice) → notice_on file (with_notice f v k.notices) ≡ Some n → T n.tag
   noting k f v e h file n is = case (notice-after-put (record { file = f; tag = noticed_tag v (notice_on f k.notices) }) file k.notices n is)
     where
       case : ((file ≡ f) × (n ≡ record { file = f; tag = noticed_tag v (notice_on f k.notices) })) ⊎ ((file ≢ f) × (notice_on file k.notices ≡ Some n)) → T n.tag

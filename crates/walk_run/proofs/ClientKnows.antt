@@ -18,7 +18,7 @@ use Rattle.walk_run.proofs.Packets.{Asked, Told, Mail}
 use Rattle.walk_run.proofs.TagFacts.{IsDrawn, TagsFit, told-before, asked-before, tags-leases, used-from, dropped-from, tags-ticket, tags-adds, tags-vacates, tags-holds, tags-notes}
 use Rattle.walk_run.proofs.Worlds.{Going, going-closed}
 use Rattle.nq_model.specs.Client.{Lease, Notice, Ticket, Job, drop_lease, put_lease, used_lease, notice_on, drop_notice}
-use Rattle.nq_model.specs.Hear.{wants_of, inc_of, cancelled, granted_lease, noticed_tag}
+use Rattle.nq_model.specs.Hear.{wants_of, inc_of, cancelled, granted_lease, noticed_tag, with_notice}
 use Rattle.nq_model.specs.LeaseInterval.{requested_file}
 use Rattle.nq_model.specs.Message.{Packet, call, reply, asker, sequence_of}
 use Rattle.nq_model.specs.Server.{Server, standing}
@@ -142,7 +142,7 @@ knows-cancels {line = line} {who = who} {ticket = ticket} {ps = ps} f m h = reco
       inr (u.0, stays u.0 u.1 (seq-wants-none f u.0.request n (ap sequence_of same ∙ seq)), u.2)
 
 -- a notice waits
-pub knows-notes : {Heard : ℕ → Tag → Type 0} {Given : ℕ → Grant → ℕ → Type 0} {line : HostRow} {s : Server} {events : List Event} {who : Who} {now : ℕ} {attached : Bool} {ticket : Option Ticket} {leases : List Lease} {notices : List Notice} {ps : List Packet} (f : ℕ) (v : Tag) → Heard f v → Knows Heard Given line s events who now attached ticket leases notices ps → Knows Heard Given line s events who now attached ticket leases (record { file = f; tag = noticed_tag v (notice_on f notices) } ∷ drop_notice f notices) ps
+pub knows-notes : {Heard : ℕ → Tag → Type 0} {Given : ℕ → Grant → ℕ → Type 0} {line : HostRow} {s : Server} {events : List Event} {who : Who} {now : ℕ} {attached : Bool} {ticket : Option Ticket} {leases : List Lease} {notices : List Notice} {ps : List Packet} (f : ℕ) (v : Tag) → Heard f v → Knows Heard Given line s events who now attached ticket leases notices ps → Knows Heard Given line s events who now attached ticket leases (with_notice f v notices) ps
 knows-notes {attached = attached} f v heard h = record {
   lined = let l = h.lined in record { past = l.past; current = l.current; told = l.told; above = l.above; waiting = l.waiting; unnoticed = λ e. absurd (both_ways attached e (h.heard f v heard).0); evicted_past = l.evicted_past; unheard = l.unheard; settled = l.settled; answered = l.answered };
   tagged = tags-notes f v (h.heard f v heard).1 h.tagged;

@@ -8,7 +8,7 @@ use Rattle.nq_base.specs.declared.Who.{Who}
 use Rattle.nq_model.proofs.ClientLists.{marked-before, marked-tag, lease-before-drop, lease-after-put, notice-before-drop, notice-after-put}
 use Rattle.walk_run.proofs.Packets.{In, in-last, Asked, Told, message-same, not-both, call-same}
 use Rattle.nq_model.specs.Client.{Lease, Notice, Ticket, lease_on, drop_lease, put_lease, used_lease, notice_on, drop_notice}
-use Rattle.nq_model.specs.Hear.{inc_of, noticed_tag}
+use Rattle.nq_model.specs.Hear.{inc_of, noticed_tag, with_notice}
 use Rattle.nq_model.specs.LeaseInterval.{grant_in, requested_file}
 use Rattle.nq_model.specs.Message.{Message, Packet, call, reply}
 use Rattle.nq_model.specs.Server.{to_host}
@@ -149,7 +149,7 @@ later-drawn boot drawn a b x y = step (tag_below a b)
     step false = x
 
 -- a notice waits
-pub tags-notes : {who : Who} {ticket : Option Ticket} {leases : List Lease} {notices : List Notice} {boot drawn : ℕ} {ps : List Packet} (f : ℕ) (v : Tag) → IsDrawn boot drawn v → TagsFit who ticket leases notices boot drawn ps → TagsFit who ticket leases (record { file = f; tag = noticed_tag v (notice_on f notices) } ∷ drop_notice f notices) boot drawn ps
+pub tags-notes : {who : Who} {ticket : Option Ticket} {leases : List Lease} {notices : List Notice} {boot drawn : ℕ} {ps : List Packet} (f : ℕ) (v : Tag) → IsDrawn boot drawn v → TagsFit who ticket leases notices boot drawn ps → TagsFit who ticket leases (with_notice f v notices) boot drawn ps
 tags-notes {notices = notices} {boot = boot} {drawn = drawn} f v is_drawn h = record {
   held = h.held;
   noticed = λ file n e. case file n (notice-after-put (record { file = f; tag = noticed_tag v (notice_on f notices) }) file notices n e);
