@@ -6,7 +6,7 @@ use Rattle.nq_base.specs.declared.Push.{Push}
 use Rattle.nq_base.specs.declared.Request.{Request}
 use Rattle.walk_chains.proofs.ChainFacts.{rev_at}
 use Rattle.nq_promises.specs.Chained.{is_done, has_done}
-use Rattle.nq_model.proofs.ClientLists.{marked-before, marked-tag, marked-mode, marked-expiry, lease-before-drop, other-lease-dropped, used-lease-found, marked-blocks, any-overwritten, other-revision-put}
+use Rattle.nq_model.proofs.ClientLists.{marked-before, marked-tag, marked-mode, marked-expiry, lease-before-drop, other-lease-dropped, used-lease-found, marked-blocks, any-overwritten, put-revision-found, other-revision-put}
 use Rattle.walk_client.proofs.ClientMoves.{some-same, none-some}
 use Rattle.walk_client.proofs.ClientWrites.{has-writes, writes-in-list, writes-under-way}
 use Rattle.nq_model.specs.Client.{Lease, Revision, lease_on, drop_lease, used_lease, marked_used, is_push_of, is_push_at, first_dirty, push_passes, drop_dirty, other_dirty, revision_of, revision_or_zero, put_revision, is_clean_in}
@@ -58,7 +58,7 @@ still-dropped f leases file l apart e = record { after = l; found = other-lease-
 -- ---- revisions
 
 pub rev-put : (f rev : ℕ) (revisions : List Revision) → revision_of f (put_revision f rev revisions) ≡ Some (record { file = f; rev = rev })
-rev-put f rev revisions = let same : (f == f) ≡ true = number-same f f refl in rw same refl
+rev-put f rev revisions = put-revision-found f rev revisions
 
 pub known-put : (f rev : ℕ) (revisions : List Revision) → rev_at (put_revision f rev revisions) f ≡ rev
 known-put f rev revisions = ap revision_or_zero (rev-put f rev revisions)

@@ -176,7 +176,7 @@ module _ (s : Server) (hosts most : ℕ) (events : List Event) (who : Who) (now 
         grows = λ tag k. grown tag (of-last tag k r);
         short = λ tag term k short same. absurd (earlier-boot s.kept.boot s.kept.opened (last_table last).drawn tag r.opened_before (of-last tag k r) same);
         covers = λ file mode tag asked term caching past runs short c.
-            let o : OutlivedBy who file mode tag (cover_end who.host asked term events) s.kept.opened until last = subst (λ n. IsCovered s n who file mode tag (cover_end who.host asked term events)) p c in
+            let o : OutlivedBy who file mode tag (cover_end who.host asked term events) s.kept.opened until (last_table last) = subst (λ n. IsCovered s n who file mode tag (cover_end who.host asked term events)) p c in
             let later : s.now + 1 < cover_end who.host asked term events = live tag asked term past runs short o.of_last_boot in
             let ends = o.waits in
             absurd (omega arith);
