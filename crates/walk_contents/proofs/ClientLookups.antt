@@ -5,6 +5,7 @@ use Rattle.std.specs.Option.{option_map, option_or}
 use Rattle.std.proofs.lemmas.List.Folds.{find-append}
 use Rattle.std.proofs.lemmas.Bool.{and_parts, and_from, false_from_ne_true, not_from_false, not_from_true}
 use Rattle.nq_base.specs.declared.Push.{Push}
+use Rattle.nq_model.proofs.ClientLists.{put-revision-found, other-revision-put}
 use Rattle.walk_client.proofs.ClientMoves.{some-same, none-some}
 use Rattle.nq_model.specs.Client.{Clean, Revision, clean_at, is_clean_at, drop_clean, purge, put_clean, revision_of, put_revision, is_push_at, dirty_at, drop_dirty}
 use Rattle.nq_model.specs.Profile.{most_clean, at_most}
@@ -111,17 +112,19 @@ found-touched f b file block (Some n) clean k is e = case (found-front f b n k (
 
 -- ---- revisions
 
-revision-step : (f file rev : ℕ) (r : Revision) (revisions : List Revision) (x : Bool) → (file == f) ≡ x → (if x then Some (record { file = file; rev = rev }) else revision_of f (filter (λ r. not (r.file == file)) revisions)) ≡ Some r → ((f ≡ file) × (r.rev ≡ rev)) ⊎ ((f ≢ file) × (revision_of f revisions ≡ Some r))
-revision-step f file rev r revisions true is e = inl (sym (same-number _ _ is), ap (λ z. z.rev) (some-same r (record { file = file; rev = rev }) (sym e)))
-revision-step f file rev r revisions false is e =
-    let apart : f ≢ file = λ same. is-other file f is (sym same) in
-    inr (apart, sym (find-filter (λ r. r.file == f) (λ r. not (r.file == file)) revisions (λ k e. not_from_false _ (false_from_ne_true _ (λ same. apart (sym (same-number _ _ e) ∙ same-number _ _ same))))) ∙ e)
-
 pub revision-after : (f file rev : ℕ) (r : Revision) (revisions : List Revision) → revision_of f (put_revision file rev revisions) ≡ Some r → ((f ≡ file) × (r.rev ≡ rev)) ⊎ ((f ≢ file) × (revision_of f revisions ≡ Some r))
-revision-after f file rev r revisions e = revision-step f file rev r revisions (file == f) refl e
+revision-after f file rev r revisions e = step (file == f) refl
+  where
+    step : (x : Bool) → (file == f) ≡ x → ((f ≡ file) × (r.rev ≡ rev)) ⊎ ((f ≢ file) × (revision_of f revisions ≡ Some r))
+    step true is =
+        let found : revision_of f (put_revision file rev revisions) ≡ Some (record { file = file; rev = rev }) = subst (λ n. revision_of n (put_revision file rev revisions) ≡ Some (record { file = file; rev = rev })) (same-number file f is) (put-revision-found file rev revisions) in
+        inl (sym (same-number file f is), ap (λ z. z.rev) (some-same r (record { file = file; rev = rev }) (sym e ∙ found)))
+    step false is =
+        let apart : f ≢ file = λ same. is-other file f is (sym same) in
+        inr (apart, sym (other-revision-put file rev f revisions apart) ∙ e)
 
 pub revision-put : (file rev : ℕ) (revisions : List Revision) → revision_of file (put_revision file rev revisions) ≡ Some (record { file = file; rev = rev })
-revision-put file rev revisions = rw (number-same file file refl) refl
+revision-put file rev revisions = put-revision-found file rev revisions
 
 -- ---- delayed writes
 

@@ -80,7 +80,7 @@ module _ (most booted : ℕ) (s : Server) (journal : List Entry) (fits : Alone m
   opening : (now until heard : ℕ) (last : Option Table) → s.phase ≡ recovering until heard last → until ≤ now → IsBound s s.phase who file tag → StaysOrEnds (opens (at_time s now) until heard)
   unfolding opens at_time
   opening now until heard last p late b =
-      let o : OutlivedBy who file Writing tag 0 s.kept.opened until last = subst (λ q. IsBound s q who file tag) p b in
+      let o : OutlivedBy who file Writing tag 0 s.kept.opened until (last_table last) = subst (λ q. IsBound s q who file tag) p b in
       let row : Row = o.fitting.row in
       let r : RecoversBoot s.kept.boot s.kept.opened s.table last = subst (λ q. BootsFit s.kept.boot s.kept.opened q s.table) p fits.boots in
       let stood : TableFits s.kept.files (last_table last).boot (last_table last).drawn (last_table last).rows = subst (λ q. StandingFits s.kept.files q s.table) p fits.stands in
