@@ -5,7 +5,7 @@ use crate::lists::Losses;
 use crate::numbers::FileId;
 
 /// What an answer `Ok` brings.
-#[derive(Clone, Copy)]
+#[derive(Drop)]
 pub enum Value {
     /// Nothing: a write, a sync, a resize, a removal.
     Nothing,

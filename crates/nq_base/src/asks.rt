@@ -58,7 +58,7 @@ pub enum Asked {
 }
 
 /// The delayed writes from `first` to `last` of a block: its body is that of the last one.
-#[derive(Clone, Copy)]
+#[derive(Drop)]
 pub struct Push {
     /// The file.
     pub file: FileId,

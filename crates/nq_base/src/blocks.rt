@@ -6,7 +6,9 @@ ghost use Rattle.nq_base.specs.Block.{word, value_of, repeated, filled};
 use std::marker::Model;
 
 /// A block: 4096 bytes. Clauses see it as the list of its bytes.
-#[derive(Clone, Copy)]
+///
+/// A block moves. Where a second one is meant, [`Block::copied`] makes it, and [`Block::copy_from`] writes it over another.
+#[derive(Drop)]
 pub struct Block {
     bytes: [u8; Block::SIZE],
 }
@@ -60,6 +62,20 @@ impl Block {
             + u32::from(second) * 0x0001_0000
             + u32::from(third) * 0x0100
             + u32::from(fourth)
+    }
+
+    /// A second block of the same bytes.
+    pub fn copied(&self) -> Block
+        ensures { result ≡ self.now }
+    {
+        Block { bytes: self.bytes }
+    }
+
+    /// Becomes a copy of `other`.
+    pub fn copy_from(&mut self, other: &Block)
+        ensures { self.new ≡ other.now }
+    {
+        self.bytes.copy_from_slice(&other.bytes);
     }
 
     /// The 4096 bytes.

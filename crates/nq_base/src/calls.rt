@@ -5,7 +5,7 @@ use crate::names::Name;
 use crate::numbers::{BlockNo, FileId, Host};
 
 /// A call of a user at a client.
-#[derive(Clone, Copy)]
+#[derive(Drop)]
 pub enum Call {
     /// Makes a file of so many blocks of zeros.
     Create {
@@ -58,7 +58,7 @@ pub enum Call {
 }
 
 /// One atomic step at one host.
-#[derive(Clone, Copy)]
+#[derive(Drop)]
 pub enum Event {
     /// A user at a host calls.
     Call { host: Host, call: Call },

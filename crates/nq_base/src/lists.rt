@@ -4,15 +4,9 @@ ghost use Rattle.std.specs.Prelude.{◌≡◌, ◌≤◌, ◌+◌, [], ◌∷◌
 
 use crate::names::Name;
 use crate::numbers::{BlockNo, FileId, Number};
+use nq_memory::NoMemory;
 use std::alloc::Global;
 use std::marker::Model;
-
-/// Memory was wanting; nothing changed.
-#[derive(Clone, Copy, Debug, PartialEq, Eq)]
-pub enum NoMemory {
-    /// The one reason.
-    Memory,
-}
 
 /// Delayed writes of a block that were lost: those of the client with numbers from `first` to `last`.
 #[derive(Clone, Copy, PartialEq, Eq)]
@@ -54,9 +48,10 @@ impl Model for Losses {
 }
 
 impl Losses {
-    /// The empty list.
+    /// The empty list. It takes no memory.
     pub fn new(alloc: Global) -> Result<Losses, NoMemory>
-        ensures { IfOk result (λ l. l.items ≡ []) }
+        ensures made { IsOk result }
+        ensures empty { IfOk result (λ l. l.items ≡ []) }
     {
         Ok(Losses {
             losses: Vec::new(alloc),
@@ -65,13 +60,14 @@ impl Losses {
 
     /// Makes room for `more` items.
     pub fn reserve(&mut self, more: usize) -> Result<(), NoMemory>
-        ensures room { OnOk result (more ≤ self.new.spare) }
         ensures items { self.new.items ≡ self.old.items }
+        ensures room { OnOk result (more ≤ self.new.spare) }
+        ensures refused { OnErr result (self.new ≡ self.old) }
+        ensures succeeds { more ≤ self.old.spare → IsOk result }
+        ensures spare { self.old.spare ≤ self.new.spare }
     {
-        match self.losses.try_reserve(more) {
-            Ok(()) => Ok(()),
-            Err(_) => Err(NoMemory::Memory),
-        }
+        self.losses.reserve(more)?;
+        Ok(())
     }
 
     /// Adds one at the end, without memory where room is reserved.
@@ -81,10 +77,8 @@ impl Losses {
         ensures succeeds { 1 ≤ self.old.spare → IsOk result }
         ensures spare { self.old.spare ≤ self.new.spare + 1 }
     {
-        match self.losses.push(loss) {
-            Ok(()) => Ok(()),
-            Err(_) => Err(NoMemory::Memory),
-        }
+        self.losses.push(loss)?;
+        Ok(())
     }
 
     /// How many there are.
@@ -125,9 +119,10 @@ impl Model for Spans {
 }
 
 impl Spans {
-    /// The empty list.
+    /// The empty list. It takes no memory.
     pub fn new(alloc: Global) -> Result<Spans, NoMemory>
-        ensures { IfOk result (λ l. l.items ≡ []) }
+        ensures made { IsOk result }
+        ensures empty { IfOk result (λ l. l.items ≡ []) }
     {
         Ok(Spans {
             spans: Vec::new(alloc),
@@ -136,13 +131,14 @@ impl Spans {
 
     /// Makes room for `more` items.
     pub fn reserve(&mut self, more: usize) -> Result<(), NoMemory>
-        ensures room { OnOk result (more ≤ self.new.spare) }
         ensures items { self.new.items ≡ self.old.items }
+        ensures room { OnOk result (more ≤ self.new.spare) }
+        ensures refused { OnErr result (self.new ≡ self.old) }
+        ensures succeeds { more ≤ self.old.spare → IsOk result }
+        ensures spare { self.old.spare ≤ self.new.spare }
     {
-        match self.spans.try_reserve(more) {
-            Ok(()) => Ok(()),
-            Err(_) => Err(NoMemory::Memory),
-        }
+        self.spans.reserve(more)?;
+        Ok(())
     }
 
     /// Adds one at the end, without memory where room is reserved.
@@ -152,10 +148,8 @@ impl Spans {
         ensures succeeds { 1 ≤ self.old.spare → IsOk result }
         ensures spare { self.old.spare ≤ self.new.spare + 1 }
     {
-        match self.spans.push(span) {
-            Ok(()) => Ok(()),
-            Err(_) => Err(NoMemory::Memory),
-        }
+        self.spans.push(span)?;
+        Ok(())
     }
 
     /// How many there are.
@@ -195,9 +189,10 @@ impl Model for FileList {
 }
 
 impl FileList {
-    /// The empty list.
+    /// The empty list. It takes no memory.
     pub fn new(alloc: Global) -> Result<FileList, NoMemory>
-        ensures { IfOk result (λ l. l ≡ []) }
+        ensures made { IsOk result }
+        ensures empty { IfOk result (λ l. l ≡ []) }
     {
         Ok(FileList {
             files: Vec::new(alloc),
@@ -207,12 +202,10 @@ impl FileList {
     /// Adds a name with its length at the end.
     pub fn push(&mut self, name: Name, blocks: u32) -> Result<(), NoMemory>
         ensures ok { OnOk result (self.new ≡ self.old ++ (name, blocks) ∷ []) }
-        ensures err { OnErr result (self.new ≡ self.old) }
+        ensures refused { OnErr result (self.new ≡ self.old) }
     {
-        match self.files.push((name, blocks)) {
-            Ok(()) => Ok(()),
-            Err(_) => Err(NoMemory::Memory),
-        }
+        self.files.push((name, blocks))?;
+        Ok(())
     }
 
     /// How many there are.

@@ -15,7 +15,7 @@ pub struct PushBase {
 }
 
 /// A request, one variant for each procedure.
-#[derive(Clone, Copy)]
+#[derive(Drop)]
 pub enum Request {
     /// Procedure 0: asks for nothing.
     Null,
@@ -119,7 +119,7 @@ pub enum Refusal {
 }
 
 /// A reply, one variant for each procedure's result and one for a refusal. `inc` repeats the request's incarnation.
-#[derive(Clone, Copy)]
+#[derive(Drop)]
 pub enum Reply {
     /// To NULL.
     Null,

@@ -8,7 +8,6 @@
 mod calls;
 mod mem_sink;
 mod mem_source;
-mod no_memory;
 mod sink;
 mod source;
 mod std_sink;
@@ -17,7 +16,7 @@ mod whole;
 
 pub use mem_sink::MemSink;
 pub use mem_source::MemSource;
-pub use no_memory::NoMemory;
+pub use nq_memory::NoMemory;
 pub use sink::{Put, Sink};
 pub use source::{Got, Source};
 pub use std_sink::StdSink;

@@ -3,7 +3,6 @@
 
 mod journal;
 pub mod laws;
-mod no_memory;
 mod parsing;
 mod printing;
 mod read_answers;
@@ -14,7 +13,7 @@ mod write_entries;
 mod write_words;
 
 pub use journal::Journal;
-pub use no_memory::NoMemory;
+pub use nq_memory::NoMemory;
 pub use nq_base::{Entry, Said, Span, Spans, Told};
 pub use parsing::{JournalFault, parse};
 pub use printing::{Printed, print};

@@ -3,11 +3,10 @@
 //! Each datagram has a sender and a receiver; the first one that was sent has number 0.
 #![tactic(auto)]
 
-mod memory;
 mod packets;
 mod runs;
 
-pub use memory::NoMemory;
+pub use nq_memory::NoMemory;
 pub use nq_base::Party;
 pub use packets::{Packet, Packets};
 

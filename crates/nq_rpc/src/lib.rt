@@ -11,7 +11,6 @@ mod encoding;
 mod fault;
 pub mod laws;
 mod lent;
-mod memory;
 mod message;
 mod number;
 
@@ -20,7 +19,7 @@ pub use decoding::{decode, decode_in_place};
 pub use encoding::{encode, encode_into};
 pub use fault::RpcFault;
 pub use lent::{LentCall, LentMessage, LentOutcome, LentReply};
-pub use memory::NoMemory;
+pub use nq_memory::NoMemory;
 pub use message::{CallMessage, Head, Message, Outcome, ReplyMessage};
 
 #[cfg(test)]

@@ -10,7 +10,7 @@ use Rattle.nq_journal.specs.Text.{Has}
 use Rattle.nq_base.specs.Block.{filled}
 use Rattle.nq_base.specs.declared.Entry.{Entry}
 use Rattle.nq_base.specs.declared.HostRow.{HostRow}
-use Rattle.nq_base.specs.declared.NoMemory.{NoMemory}
+use Rattle.nq_memory.specs.declared.NoMemory.{NoMemory}
 use Rattle.nq_base.specs.declared.Verdict.{Verdict}
 use Rattle.nq_base.proofs.Filling.{filled-value}
 use Rattle.nq_model.specs.Decide.{commits, writes_through}

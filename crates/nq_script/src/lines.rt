@@ -14,7 +14,7 @@ use nq_base::{Event, Host, Told};
 use std::alloc::Global;
 
 /// A line after the head.
-#[derive(Clone, Copy)]
+#[derive(Drop)]
 pub enum Line {
     /// An event, so many times over.
     Events { event: Event, times: u32 },

@@ -8,7 +8,6 @@
 
 mod fault;
 pub mod laws;
-mod memory;
 mod outbox;
 mod parts;
 mod procedure;
@@ -17,7 +16,7 @@ mod requests;
 mod status;
 
 pub use fault::WireFault;
-pub use memory::NoMemory;
+pub use nq_memory::NoMemory;
 pub use nq_base::{Party, PushBase, Refusal, Reply, Request};
 pub use outbox::Outbox;
 pub use procedure::Procedure;

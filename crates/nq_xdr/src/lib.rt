@@ -7,12 +7,11 @@
 
 mod fault;
 pub mod laws;
-mod memory;
 mod reader;
 mod writer;
 
 pub use fault::XdrFault;
-pub use memory::NoMemory;
+pub use nq_memory::NoMemory;
 pub use reader::Reader;
 pub use writer::Writer;
 
