@@ -12,12 +12,12 @@ use Rattle.nq_base.specs.declared.Who.{Who}
 use Rattle.walk_client.proofs.ClientMoves.{some-same, none-some}
 use Rattle.walk_server.proofs.Rows.{choice, same-number, number-same}
 use Rattle.law_reports.proofs.Books.{Book, unsaved_on, after_loss, after_names, after_report, tells_losses, Closed}
-use Rattle.law_reports.proofs.Tallies.{IsOne, tally, tally-nil, tally-cons, tally-append, tally-reverse, tally-map, tally-split, tally-one, tally-taken, one-found}
+use Rattle.law_reports.proofs.Tallies.{IsOne, tally, tally-nil, tally-cons, tally-append, tally-reverse, tally-map, tally-split, tally-one, tally-taken, tally-added, one-added, added-one, one-found}
 use Rattle.law_reports.proofs.Told.{Grows, grows}
 use Rattle.law_reports.proofs.Journals.{Journals, call-begun}
 use Rattle.law_reports.proofs.JournalMoves.{journals-quiet, is_lost, journals-answer, journals-busy, journals-begin, loss_at, waits-speaks, journals-names, journals-tell}
-use Rattle.law_reports.proofs.LossMoves.{journals-lose, lost_at, push_at, lost-counts, loss-of-counts, named-lost}
-use Rattle.nq_model.specs.Client.{UnderWay, other_losses, dirty_at, drop_dirty, other_dirty, is_push_of, is_push_at}
+use Rattle.law_reports.proofs.LossMoves.{journals-lose, journals-same, lost_at, push_at, lost-counts, loss-of-counts, named-lost}
+use Rattle.nq_model.specs.Client.{UnderWay, file_of_loss, other_losses, add_losses, dirty_at, drop_dirty, other_dirty, is_push_of, is_push_at}
 use Rattle.nq_model.specs.ClientStep.{told}
 use Rattle.nq_model.specs.Hear.{loss_of, loss_entry, push_of, other_push, waits_for}
 use Rattle.nq_model.specs.Journal.{Exists, call_of}
@@ -136,7 +136,7 @@ unsaved-counts n file push dirty =
     let b = tally-split (push_at n) (is_push_of file) dirty in
     omega arith
 
-counted-loses : {who : Who} {number : ℕ} {dirty : List Push} {push : Option Push} {losses : List Loss} {j : List Entry} (file : ℕ) → Counted who number dirty push losses j → Counted who number (other_dirty file dirty) (other_push file push) (losses ++ map loss_of (unsaved_on file push dirty)) (reverse (map (loss_entry who) (unsaved_on file push dirty)) ++ j)
+counted-loses : {who : Who} {number : ℕ} {dirty : List Push} {push : Option Push} {losses : List Loss} {j : List Entry} (file : ℕ) → Counted who number dirty push losses j → Counted who number (other_dirty file dirty) (other_push file push) (add_losses file (map loss_of (unsaved_on file push dirty)) losses) (reverse (map (loss_entry who) (unsaved_on file push dirty)) ++ j)
 counted-loses {who = who} {dirty = dirty} {push = push} {losses = losses} {j = j} file h = record {
   once = λ n. let before = h.once n in let all = unsaved-counts n file push dirty in let more = longer n in omega arith;
   below = λ n above. let before = h.below n above in let all = unsaved-counts n file push dirty in let more = longer n in omega arith;
@@ -152,9 +152,9 @@ counted-loses {who = who} {dirty = dirty} {push = push} {losses = losses} {j = j
       let counts = tally-map (lost_at who n) (push_at n) (loss_entry who) ps (λ p. lost-counts who p n) in
       omega arith
 
-  waits : (n : ℕ) → tally (loss_at n) (losses ++ map loss_of ps) ≡ tally (loss_at n) losses + tally (push_at n) ps
+  waits : (n : ℕ) → tally (loss_at n) (add_losses file (map loss_of ps) losses) ≡ tally (loss_at n) losses + tally (push_at n) ps
   waits n =
-      let split = tally-append (loss_at n) losses (map loss_of ps) in
+      let split = tally-added (loss_at n) file_of_loss file (map loss_of ps) losses in
       let counts = tally-map (loss_at n) (push_at n) loss_of ps (loss-of-counts n) in
       omega arith
 
@@ -186,7 +186,7 @@ fits-names b u file is waits f = record {
 
 fits-loss : (b : Book) (file : ℕ) → Fits b → Fits (after_loss b file)
 fits-loss b file f = record {
-  journals = journals-lose ps new f.journals;
+  journals = journals-same (add_losses file (map loss_of ps) b.losses) (added-one file_of_loss file (map loss_of ps) b.losses) (one-added file_of_loss file (map loss_of ps) b.losses) (journals-lose ps new f.journals);
   under_way = λ u is. still-called (grows (reverse (map (loss_entry b.who) ps)) b.journal) b.who u.q (told u.call) (f.under_way u is);
   counted = counted-loses file f.counted;
 } where

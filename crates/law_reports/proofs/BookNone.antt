@@ -14,7 +14,8 @@ use Rattle.walk_server.proofs.Rows.{choice, same-number}
 use Rattle.nq_promises.specs.LossesAreReported.{cleans}
 use Rattle.law_reports.proofs.Books.{Book, unsaved_on, after_loss, after_names, after_report, after_call, Closed}
 use Rattle.law_reports.proofs.Tallies.{IsOne, one-passed, one-mapped, each-mapped, each-reverse}
-use Rattle.nq_model.specs.Client.{UnderWay, losses_of, is_push_of, span_list}
+use Rattle.nq_model.proofs.ByFile.{of-added}
+use Rattle.nq_model.specs.Client.{UnderWay, file_of_loss, losses_of, is_push_of, span_list}
 use Rattle.nq_model.specs.ClientStep.{told, changed_file, losses_for}
 use Rattle.nq_model.specs.Hear.{loss_of, loss_entry, push_of, waits_for}
 use Rattle.nq_model.specs.Journal.{Each}
@@ -37,14 +38,6 @@ cleans-changes (Resize f blocks) file h = ap Some (same-number f file h)
 cleans-changes (Remove f) file h = ap Some (same-number f file h)
 cleans-changes other file h = absurd (cc)
 
-filter-both : {X : Type 0} (p : X → Bool) (xs ys : List X) → filter p xs ≡ [] → filter p ys ≡ [] → filter p (xs ++ ys) ≡ []
-filter-both p [] ys h k = k
-filter-both p (x ∷ xs) ys h k = step (p x) h (filter-both p xs ys)
-  where
-    step : (b : Bool) → (if b then x ∷ filter p xs else filter p xs) ≡ [] → (filter p xs ≡ [] → filter p ys ≡ [] → filter p (xs ++ ys) ≡ []) → (if b then x ∷ filter p (xs ++ ys) else filter p (xs ++ ys)) ≡ []
-    step true e rest = absurd (cc)
-    step false e rest = rest e k
-
 filter-none : {X : Type 0} (p : X → Bool) (xs : List X) → ((x : X) → IsOne xs x → p x ≡ false) → filter p xs ≡ []
 filter-none p [] none = refl
 filter-none p (x ∷ xs) none = let here : p x ≡ false = none x (inl refl) in rw here (filter-none p xs (λ y one. none y (inr one)))
@@ -59,7 +52,7 @@ pushed-on file (Some q) p h = step (is_push_of file q) refl h
     step true e (inr bad) = absurd bad
     step false e bad = absurd bad
 
-unsaved-one : (file : ℕ) (push : Option Push) (dirty : List Push) (p : Push) → IsOne (unsaved_on file push dirty) p → p.file ≡ file
+pub unsaved-one : (file : ℕ) (push : Option Push) (dirty : List Push) (p : Push) → IsOne (unsaved_on file push dirty) p → p.file ≡ file
 unsaved-one file push dirty p one = step (exists-append (λ y. y ≡ p) (push_of file push) (filter (is_push_of file) dirty) one)
   where
     step : IsOne (push_of file push) p ⊎ IsOne (filter (is_push_of file) dirty) p → p.file ≡ file
@@ -78,9 +71,13 @@ none-report b file None is h = λ u g e. none-some u (sym is ∙ e)
 none-report b file (Some w) is h =
     choice NoneWaits (waits_for file w.written w.call) (after_names (after_loss b file) w.q file) (after_loss b file)
     (λ e u g f. none-some u f)
-    (λ e u g f cleaned. filter-both (λ l. l.file == g) b.losses (map loss_of (unsaved_on file b.push b.dirty)) (h u g f cleaned)
-    (other-losses file g (unsaved_on file b.push b.dirty) (unsaved-one file b.push b.dirty) (λ same. apart u g f cleaned e same)))
+    (λ e u g f cleaned.
+    of-added file_of_loss file g (map loss_of lost) b.losses (each-mapped (λ l. l.file ≡ file) loss_of lost (unsaved-one file b.push b.dirty))
+    ∙ rw (h u g f cleaned, other-losses file g lost (unsaved-one file b.push b.dirty) (λ same. apart u g f cleaned e same)) refl)
   where
+    lost : List Push
+    lost = unsaved_on file b.push b.dirty
+
     apart : (u : UnderWay) (g : ℕ) → b.call ≡ Some u → cleans g u.call ≡ true → waits_for file w.written w.call ≡ false → g ≡ file → ⊥
     apart u g f cleaned e same =
         let one : u ≡ w = some-same u w (sym f ∙ is) in

@@ -9,10 +9,13 @@ use Rattle.nq_base.specs.declared.Who.{Who}
 use Rattle.walk_server.proofs.Rows.{choice}
 use Rattle.nq_promises.specs.LossesAreReported.{losses_told, IsPartOf}
 use Rattle.law_reports.proofs.Books.{Book, unsaved_on, after_loss, after_names, after_report, Closed}
-use Rattle.law_reports.proofs.BookNone.{IsBy}
+use Rattle.law_reports.proofs.BookNone.{IsBy, unsaved-one}
+use Rattle.law_reports.proofs.Tallies.{each-mapped}
 use Rattle.law_reports.proofs.JournalMoves.{IsQuiet}
 use Rattle.law_reports.proofs.Journals.{same-who, other-who}
-use Rattle.nq_model.specs.Client.{UnderWay}
+use Rattle.nq_model.proofs.ByFile.{of-added}
+use Rattle.nq_model.proofs.Finding.{filter-swap}
+use Rattle.nq_model.specs.Client.{UnderWay, file_of_loss, losses_of, other_losses, add_losses}
 use Rattle.nq_model.specs.Hear.{loss_of, loss_entry, waits_for}
 use Rattle.nq_model.specs.Journal.{Each, same_who}
 
@@ -35,11 +38,11 @@ part-before : (xs ys zs : List Loss) → IsPartOf xs zs → IsPartOf xs (ys ++ z
 part-before xs [] zs h = h
 part-before xs (y ∷ ys) zs h = part-more xs (ys ++ zs) y (part-before xs ys zs h)
 
-part-append : (xs ys zs : List Loss) → IsPartOf xs ys → IsPartOf (xs ++ zs) (ys ++ zs)
-part-append [] ys zs h = part-before zs ys zs (part-same zs)
-part-append (x ∷ xs) [] zs h = absurd h
-part-append (x ∷ xs) (y ∷ ys) zs (inl h) = inl (h.0, part-append xs ys zs h.1)
-part-append (x ∷ xs) (y ∷ ys) zs (inr h) = inr (part-append (x ∷ xs) ys zs h)
+part-append : (xs ys zs ws : List Loss) → IsPartOf xs ys → IsPartOf zs ws → IsPartOf (xs ++ zs) (ys ++ ws)
+part-append [] ys zs ws h k = part-before zs ys ws k
+part-append (x ∷ xs) [] zs ws h k = absurd h
+part-append (x ∷ xs) (y ∷ ys) zs ws (inl h) k = inl (h.0, part-append xs ys zs ws h.1 k)
+part-append (x ∷ xs) (y ∷ ys) zs ws (inr h) k = inr (part-append (x ∷ xs) ys zs ws h k)
 
 -- a filter leaves a part
 filter-step : (x : Loss) (fewer xs : List Loss) (b : Bool) (ys : List Loss) → ((all : List Loss) → IsPartOf xs all → IsPartOf fewer all) → IsPartOf (x ∷ xs) ys → IsPartOf (if b then x ∷ fewer else fewer) ys
@@ -55,7 +58,7 @@ part-filter p (x ∷ xs) ys h = filter-step x (filter p xs) xs (p x) ys (λ all 
 -- ---- the order in the middle of a step
 
 abbrev pub Ordered : Book → Type 0
-Ordered b = IsPartOf b.losses (losses_told b.who b.journal)
+Ordered b = (file : ℕ) → IsPartOf (losses_of file b.losses) (losses_told b.who b.journal)
 
 told-more : (who : Who) (ps : List Push) (j : List Entry) → losses_told who (reverse (map (loss_entry who) ps) ++ j) ≡ losses_told who j ++ map loss_of ps
 told-more who [] j = sym (append-nil (losses_told who j))
@@ -65,13 +68,24 @@ told-more who (p ∷ ps) j =
     let one : losses_told who (loss_entry who p ∷ j) ≡ losses_told who j ++ loss_of p ∷ [] = rw same refl in
     ap (losses_told who) turned ∙ told-more who ps (loss_entry who p ∷ j) ∙ ap (λ z. z ++ map loss_of ps) one ∙ append_assoc (losses_told who j) (loss_of p ∷ []) (map loss_of ps)
 
+lost-on : (b : Book) (file : ℕ) → Each (λ l. l.file ≡ file) (map loss_of (unsaved_on file b.push b.dirty))
+lost-on b file = each-mapped (λ l. l.file ≡ file) loss_of (unsaved_on file b.push b.dirty) (unsaved-one file b.push b.dirty)
+
 order-loss : (b : Book) (file : ℕ) → Ordered b → Ordered (after_loss b file)
-order-loss b file h =
-    subst (IsPartOf (b.losses ++ map loss_of (unsaved_on file b.push b.dirty))) (sym (told-more b.who (unsaved_on file b.push b.dirty) b.journal))
-    (part-append b.losses (losses_told b.who b.journal) (map loss_of (unsaved_on file b.push b.dirty)) h)
+order-loss b file h g =
+    let ps : List Push = unsaved_on file b.push b.dirty in
+    subst (IsPartOf (losses_of g (add_losses file (map loss_of ps) b.losses))) (sym (told-more b.who ps b.journal))
+    (subst (λ ls. IsPartOf ls (losses_told b.who b.journal ++ map loss_of ps)) (sym (of-added file_of_loss file g (map loss_of ps) b.losses (lost-on b file)))
+    (part-append (losses_of g b.losses) (losses_told b.who b.journal) (losses_of g (map loss_of ps)) (map loss_of ps) (h g)
+    (part-filter (λ l. l.file == g) (map loss_of ps) (map loss_of ps) (part-same (map loss_of ps)))))
+
+fewer-ordered : (file g : ℕ) (losses told : List Loss) → IsPartOf (losses_of g losses) told → IsPartOf (losses_of g (other_losses file losses)) told
+fewer-ordered file g losses told h =
+    subst (λ ls. IsPartOf ls told) (sym (filter-swap (λ l. l.file == g) (λ l. not (l.file == file)) losses))
+    (part-filter (λ l. not (l.file == file)) (losses_of g losses) told h)
 
 order-names : (b : Book) (q file : ℕ) → Ordered b → Ordered (after_names b q file)
-order-names b q file h = part-filter (λ l. not (l.file == file)) b.losses (losses_told b.who b.journal) h
+order-names b q file h g = fewer-ordered file g b.losses (losses_told b.who b.journal) (h g)
 
 order-report : (b : Book) (file : ℕ) (o : Option UnderWay) → Ordered b → Ordered (after_report b file o)
 order-report b file None h = h
@@ -88,7 +102,7 @@ order-closed = record {
   numbers = λ b h. h;
   reads = λ b q file block value h. h;
   busy = λ b op h. h;
-  names = λ b op file is h. part-filter (λ l. not (l.file == file)) b.losses (losses_told b.who b.journal) h;
+  names = λ b op file is h g. fewer-ordered file g b.losses (losses_told b.who b.journal) (h g);
   begins = λ b op free h. h;
 }
 
@@ -99,13 +113,13 @@ told-by-other who other (L by file block first last) j apart h = let differs : s
 told-by-other who other e j apart h = refl
 
 pub order-other : (b : Book) (who : Who) (new : List Entry) → who.host ≢ b.who.host → Each (IsBy who) new → Ordered b → Ordered (record b { journal = new ++ b.journal })
-order-other b who [] apart by h = h
-order-other b who (e ∷ new) apart by h = subst (IsPartOf b.losses) (sym (told-by-other who b.who e (new ++ b.journal) apart by.0)) (order-other b who new apart by.1 h)
+order-other b who [] apart by h g = h g
+order-other b who (e ∷ new) apart by h g = subst (IsPartOf (losses_of g b.losses)) (sym (told-by-other who b.who e (new ++ b.journal) apart by.0)) (order-other b who new apart by.1 h g)
 
 told-quiet : (who : Who) (e : Entry) (j : List Entry) → IsQuiet e → losses_told who (e ∷ j) ≡ losses_told who j
 told-quiet who (L by file block first last) j h = absurd h
 told-quiet who e j h = refl
 
 pub order-quiet : (b : Book) (new : List Entry) → Each IsQuiet new → Ordered b → Ordered (record b { journal = new ++ b.journal })
-order-quiet b [] quiet h = h
-order-quiet b (e ∷ new) quiet h = subst (IsPartOf b.losses) (sym (told-quiet b.who e (new ++ b.journal) quiet.0)) (order-quiet b new quiet.1 h)
+order-quiet b [] quiet h g = h g
+order-quiet b (e ∷ new) quiet h g = subst (IsPartOf (losses_of g b.losses)) (sym (told-quiet b.who e (new ++ b.journal) quiet.0)) (order-quiet b new quiet.1 h g)

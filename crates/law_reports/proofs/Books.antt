@@ -8,7 +8,7 @@ use Rattle.nq_base.specs.declared.Loss.{Loss}
 use Rattle.nq_base.specs.declared.Push.{Push}
 use Rattle.nq_base.specs.declared.Said.{Said}
 use Rattle.nq_base.specs.declared.Who.{Who}
-use Rattle.nq_model.specs.Client.{Client, ClientStep, UnderWay, losses_of, other_losses, first_dirty, dirty_at, drop_dirty, other_dirty, is_push_of, span_list}
+use Rattle.nq_model.specs.Client.{Client, ClientStep, UnderWay, losses_of, other_losses, add_losses, first_dirty, dirty_at, drop_dirty, other_dirty, is_push_of, span_list}
 use Rattle.nq_model.specs.ClientStep.{told, changed_file, losses_for}
 use Rattle.nq_model.specs.Hear.{loss_of, push_of, loss_entry, other_push, waits_for}
 use Rattle.nq_model.specs.Settle.{said, with_write}
@@ -59,7 +59,7 @@ abbrev pub after_loss : Book → (file : ℕ) → Book
 after_loss b file = record b {
   dirty = other_dirty file b.dirty;
   push = other_push file b.push;
-  losses = b.losses ++ map loss_of (unsaved_on file b.push b.dirty);
+  losses = add_losses file (map loss_of (unsaved_on file b.push b.dirty)) b.losses;
   journal = reverse (map (loss_entry b.who) (unsaved_on file b.push b.dirty)) ++ b.journal;
 }
 

@@ -19,7 +19,7 @@ use Rattle.law_reports.proofs.Journals.{same-who, Journals, journals-add, told-n
 use Rattle.law_reports.proofs.JournalMoves.{loss_at}
 use Rattle.nq_model.specs.Hear.{loss_of, loss_entry}
 use Rattle.nq_model.specs.Journal.{Exists, AtEachPlace, same_who, call_of}
-use Rattle.nq_model.specs.Reported.{IsNameOf, Names, IsUnnamed, NameLosses}
+use Rattle.nq_model.specs.Reported.{loss_told, IsNameOf, Names, IsUnnamed, NameLosses}
 
 -- ---- an L
 
@@ -67,6 +67,28 @@ journals-lose {who = who} {calls = calls} {losses = losses} {old = old} (p ∷ p
 
     still : (q : Push) → IsOne (p ∷ ps) q → Exists (Names (loss_entry who p ∷ old) who (loss_of q)) (loss_entry who p ∷ old) → ⊥
     still q one n = split q one n
+
+-- ---- the same losses in another order
+
+told-same : (whole : List Entry) (who : Who) (losses others : List Loss) → ((loss : Loss) → IsOne losses loss → IsOne others loss) → (after : List Entry) (e : Entry) (before : List Entry) → IsToldAt whole who losses after e before → IsToldAt whole who others after e before
+told-same whole who losses others goes after (L by file block first last) before (inl named) = inl named
+told-same whole who losses others goes after (L by file block first last) before (inr h) = inr (h.0, λ same. goes (loss_told file block first last) (h.1 same))
+told-same whole who losses others goes after (A by q (Lost spans)) before h = h
+told-same whole who losses others goes after other before h = h
+
+all-told : (whole : List Entry) (who : Who) (losses others : List Loss) → ((loss : Loss) → IsOne losses loss → IsOne others loss) → (after xs : List Entry) → AtEachPlace (IsToldAt whole who losses) after xs → AtEachPlace (IsToldAt whole who others) after xs
+all-told whole who losses others goes after [] h = tt
+all-told whole who losses others goes after (e ∷ xs) h = (told-same whole who losses others goes after e xs h.0, all-told whole who losses others goes (e ∷ after) xs h.1)
+
+pub journals-same : {who : Who} {calls : ℕ} {losses : List Loss} {j : List Entry} (others : List Loss) → ((loss : Loss) → IsOne losses loss → IsOne others loss) → ((loss : Loss) → IsOne others loss → IsOne losses loss) → Journals who calls losses j → Journals who calls others j
+journals-same {who = who} {losses = losses} {j = j} others goes comes h = record {
+  told = all-told j who losses others goes [] j h.told;
+  called = h.called;
+  lost = λ loss one. h.lost loss (comes loss one);
+  unnamed = λ loss one. h.unnamed loss (comes loss one);
+  numbered = h.numbered;
+  past = h.past;
+}
 
 -- ---- first numbers
 

@@ -105,7 +105,7 @@ unfolding starts fresh_client
 restarted-steps j c f = record {
   fits = fits-quiet (empty_book (next_incarnation c.who) j) (Entry.B (next_incarnation c.who) ∷ []) (tt, tt) (fits-next (book_at j c) (next_incarnation c.who) refl (omega arith) f.fits);
   none = λ u file e. none-some u e;
-  ordered = tt;
+  ordered = λ file. tt;
   new = Entry.B (next_incarnation c.who) ∷ [];
   split = refl;
   by = (tt, tt);
@@ -154,7 +154,7 @@ step-fits w (Event.Crash longest) held h = server-fits w (crash w.server longest
 
 starts-at : (who : Who) (term : ℕ) → FitsAt [] (attached_client who term 0)
 unfolding attached_client fresh_client
-starts-at who term = record { fits = fits-start who; none = λ u file e. none-some u e; ordered = tt }
+starts-at who term = record { fits = fits-start who; none = λ u file e. none-some u e; ordered = λ file. tt }
 
 start-fits : (head : Head) → WorldFits (start head)
 unfolding start

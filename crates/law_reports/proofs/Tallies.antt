@@ -1,7 +1,8 @@
 -- Sums over lists, and what is in a list after each change of it.
-use Rattle.std.proofs.Common.{◌≡◌, ◌≤◌, ◌⊎◌, ℕ, ◌+◌, Bool, true, false, not, List, [], ◌∷◌, ◌++◌, Some, map, reverse, filter, find, if◌then◌else◌, refl, sym, subst, ap, arith, inl, inr}
+use Rattle.std.proofs.Common.{◌≡◌, ◌≤◌, ◌⊎◌, ℕ, ◌+◌, Bool, true, false, not, List, [], ◌∷◌, ◌++◌, Some, map, reverse, filter, find, nat_le, if◌then◌else◌, refl, sym, subst, ap, arith, inl, inr}
 use Rattle.std.proofs.lemmas.Grind.{reverse_onto}
-use Rattle.nq_model.proofs.Lists.{exists-left, exists-right, each-append}
+use Rattle.nq_model.proofs.Lists.{exists-left, exists-right, exists-append, each-append}
+use Rattle.nq_model.specs.ByFile.{up_to, past, add_by}
 use Rattle.nq_model.specs.Journal.{Each, Exists}
 
 -- ---- sums
@@ -123,3 +124,37 @@ tally-taken f p x xs there pass =
     let split = tally-split f p xs in
     let counts = tally-one f x (filter p xs) (one-passes p x xs pass there) in
     omega arith
+
+-- ---- elements that are put behind those of their file
+
+pub tally-added : {X : Type 0} (f : X → ℕ) (file_of : X → ℕ) (file : ℕ) (more xs : List X) → tally f (add_by file_of file more xs) ≡ tally f xs + tally f more
+tally-added f file_of file more xs =
+    let outer = tally-append f (up_to file_of file xs ++ more) (past file_of file xs) in
+    let inner = tally-append f (up_to file_of file xs) more in
+    let split = tally-split f (λ x. nat_le (file_of x) file) xs in
+    omega arith
+
+pub one-added : {X : Type 0} (file_of : X → ℕ) (file : ℕ) (more xs : List X) (x : X) → IsOne (add_by file_of file more xs) x → IsOne (xs ++ more) x
+one-added file_of file more xs x h = step (exists-append (λ y. y ≡ x) (up_to file_of file xs ++ more) (past file_of file xs) h)
+  where
+    before : IsOne (up_to file_of file xs) x ⊎ IsOne more x → IsOne (xs ++ more) x
+    before (inl a) = exists-left (λ y. y ≡ x) xs more (one-passed (λ y. nat_le (file_of y) file) x xs a).0
+    before (inr b) = exists-right (λ y. y ≡ x) xs more b
+
+    step : IsOne (up_to file_of file xs ++ more) x ⊎ IsOne (past file_of file xs) x → IsOne (xs ++ more) x
+    step (inl a) = before (exists-append (λ y. y ≡ x) (up_to file_of file xs) more a)
+    step (inr b) = exists-left (λ y. y ≡ x) xs more (one-passed (λ y. not (nat_le (file_of y) file)) x xs b).0
+
+pub added-one : {X : Type 0} (file_of : X → ℕ) (file : ℕ) (more xs : List X) (x : X) → IsOne (xs ++ more) x → IsOne (add_by file_of file more xs) x
+added-one file_of file more xs x h = step (exists-append (λ y. y ≡ x) xs more h)
+  where
+    early : IsOne (up_to file_of file xs ++ more) x → IsOne (add_by file_of file more xs) x
+    early a = exists-left (λ y. y ≡ x) (up_to file_of file xs ++ more) (past file_of file xs) a
+
+    sorted : (b : Bool) → nat_le (file_of x) file ≡ b → IsOne xs x → IsOne (add_by file_of file more xs) x
+    sorted true e one = early (exists-left (λ y. y ≡ x) (up_to file_of file xs) more (one-passes (λ y. nat_le (file_of y) file) x xs e one))
+    sorted false e one = exists-right (λ y. y ≡ x) (up_to file_of file xs ++ more) (past file_of file xs) (one-passes (λ y. not (nat_le (file_of y) file)) x xs (ap not e) one)
+
+    step : IsOne xs x ⊎ IsOne more x → IsOne (add_by file_of file more xs) x
+    step (inl a) = sorted (nat_le (file_of x) file) refl a
+    step (inr b) = early (exists-right (λ y. y ≡ x) (up_to file_of file xs) more b)

@@ -1,5 +1,5 @@
 -- What a search finds, after each change of the list.
-use Rattle.std.proofs.Common.{◌≡◌, ◌≢◌, ◌⊎◌, ℕ, Bool, true, false, ◌==◌, List, [], ◌∷◌, Some, None, if◌then◌else◌, map, refl, subst, arith, inl, inr}
+use Rattle.std.proofs.Common.{◌≡◌, ◌≢◌, ◌⊎◌, ℕ, Bool, true, false, ◌==◌, List, [], ◌∷◌, Some, None, if◌then◌else◌, map, refl, subst, ap, arith, inl, inr}
 use Rattle.std.specs.List.{find, filter}
 use Rattle.std.specs.Option.{option_map}
 use Rattle.std.proofs.lemmas.Bool.Decides.{nat_tests}
@@ -77,3 +77,40 @@ find-map-step p f y xs false e same rest = rw (same, e) rest
 pub find-map : {A : Type 0} (p : A → Bool) (f : A → A) (xs : List A) → ((x : A) → p (f x) ≡ p x) → find p (map f xs) ≡ option_map f (find p xs)
 find-map p f [] same = refl
 find-map p f (y ∷ xs) same = find-map-step p f y xs (p y) refl (same y) (find-map p f xs same)
+
+-- ---- a filter of what passed another
+
+within-step : {A : Type 0} (p q : A → Bool) (y : A) (xs : List A) (b c : Bool) → (b ≡ true → c ≡ true) → filter p (filter q xs) ≡ filter p xs → p y ≡ b → filter p (if c then y ∷ filter q xs else filter q xs) ≡ (if b then y ∷ filter p xs else filter p xs)
+within-step p q y xs true true keeps rest e = rw e (ap (λ ys. y ∷ ys) rest)
+within-step p q y xs true false keeps rest e = let bad : false ≡ true = keeps refl in cc
+within-step p q y xs false true keeps rest e = rw e rest
+within-step p q y xs false false keeps rest e = rest
+
+-- where all that pass it passed the other
+pub filter-within : {A : Type 0} (p q : A → Bool) (xs : List A) → ((x : A) → p x ≡ true → q x ≡ true) → filter p (filter q xs) ≡ filter p xs
+filter-within p q [] keeps = refl
+filter-within p q (y ∷ xs) keeps = within-step p q y xs (p y) (q y) (keeps y) (filter-within p q xs keeps) refl
+
+apart-step : {A : Type 0} (p q : A → Bool) (y : A) (xs : List A) (c : Bool) → (p y ≡ true → c ≡ false) → filter p (filter q xs) ≡ [] → filter p (if c then y ∷ filter q xs else filter q xs) ≡ []
+apart-step p q y xs true fails rest = head (p y) refl
+  where
+    head : (b : Bool) → p y ≡ b → (if b then y ∷ filter p (filter q xs) else filter p (filter q xs)) ≡ []
+    head true f = let bad : true ≡ false = fails f in cc
+    head false f = rest
+apart-step p q y xs false fails rest = rest
+
+-- where none that pass it passed the other
+pub filter-apart : {A : Type 0} (p q : A → Bool) (xs : List A) → ((x : A) → p x ≡ true → q x ≡ false) → filter p (filter q xs) ≡ []
+filter-apart p q [] fails = refl
+filter-apart p q (y ∷ xs) fails = apart-step p q y xs (q y) (fails y) (filter-apart p q xs fails)
+
+swap-step : {A : Type 0} (p q : A → Bool) (y : A) (xs : List A) (b c : Bool) → p y ≡ b → q y ≡ c → filter p (filter q xs) ≡ filter q (filter p xs) → filter p (if c then y ∷ filter q xs else filter q xs) ≡ filter q (if b then y ∷ filter p xs else filter p xs)
+swap-step p q y xs true true e f rest = rw (e, f) (ap (λ ys. y ∷ ys) rest)
+swap-step p q y xs true false e f rest = rw f rest
+swap-step p q y xs false true e f rest = rw e rest
+swap-step p q y xs false false e f rest = rest
+
+-- two filters in either order
+pub filter-swap : {A : Type 0} (p q : A → Bool) (xs : List A) → filter p (filter q xs) ≡ filter q (filter p xs)
+filter-swap p q [] = refl
+filter-swap p q (y ∷ xs) = swap-step p q y xs (p y) (q y) refl refl (filter-swap p q xs)

@@ -1,5 +1,5 @@
 -- Lists that stand in order of files.
-use Rattle.std.specs.Prelude.{ℕ, List, [], ◌∷◌, ◌++◌, nat_lt, nat_le, filter, if◌then◌else◌}
+use Rattle.std.specs.Prelude.{ℕ, not, List, [], ◌∷◌, ◌++◌, nat_lt, nat_le, filter, if◌then◌else◌}
 
 -- a list with one more element, which goes before the first of a later file
 abbrev pub insert_by : {A : Type 0} → (file_of : A → ℕ) → A → List A → List A
@@ -12,7 +12,7 @@ up_to file_of file xs = filter (λ x. nat_le (file_of x) file) xs
 
 -- the elements of later files
 abbrev pub past : {A : Type 0} → (file_of : A → ℕ) → (file : ℕ) → List A → List A
-past file_of file xs = filter (λ x. nat_lt file (file_of x)) xs
+past file_of file xs = filter (λ x. not (nat_le (file_of x) file)) xs
 
 -- a list with more elements of a file, which go behind those that are there
 abbrev pub add_by : {A : Type 0} → (file_of : A → ℕ) → (file : ℕ) → (more xs : List A) → List A

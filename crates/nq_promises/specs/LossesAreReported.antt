@@ -41,13 +41,13 @@ cleans file (Resize f blocks) = f == file
 cleans file (Remove f) = f == file
 cleans file other = false
 
--- a client's losses fit the journal: those that no answer named yet are the L of its incarnation that no A names, in their
--- order, and while a `sync`, `resize` or `remove` is under way there is none on its file
+-- a client's losses fit the journal: those that no answer named yet are the L of its incarnation that no A names, those of a
+-- file in their order, and while a `sync`, `resize` or `remove` is under way there is none on its file
 pub record LossesFit (c : Client) (journal : List Entry) : Type 0 where
   pub kept : (loss : Loss) → Exists (IsLossOf c.who loss) journal → IsOneOf c.losses loss ⊎ Exists (Names journal c.who loss) journal
   pub lost : (loss : Loss) → IsOneOf c.losses loss → Exists (IsLossOf c.who loss) journal
   pub unnamed : (loss : Loss) → IsOneOf c.losses loss → ¬ Exists (Names journal c.who loss) journal
-  pub ordered : IsPartOf c.losses (losses_told c.who journal)
+  pub ordered : (file : ℕ) → IsPartOf (losses_of file c.losses) (losses_told c.who journal)
   pub told : (u : UnderWay) (file : ℕ) → c.call ≡ Some u → cleans file u.call ≡ true → losses_of file c.losses ≡ []
 
 -- after every schedule, of each client
