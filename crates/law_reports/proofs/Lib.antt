@@ -9,7 +9,6 @@ pub mod ServerQuiet
 pub mod BookNone
 pub mod BookOrder
 pub mod OtherFits
-pub mod BookSettle
-pub mod BookHear
+pub mod BookSteps
 pub mod ReportedRuns
 pub mod SomeLoss

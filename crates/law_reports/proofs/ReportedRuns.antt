@@ -8,19 +8,20 @@ use Rattle.nq_base.specs.declared.Event.{Event}
 use Rattle.nq_base.specs.declared.Loss.{Loss}
 use Rattle.nq_base.specs.declared.Party.{Party}
 use Rattle.nq_base.specs.declared.Who.{Who}
+use Rattle.walk_client.proofs.ClientFacts.{fits_job}
 use Rattle.walk_client.proofs.ClientMoves.{none-some}
 use Rattle.walk_server.proofs.Rows.{same-number, number-same}
 use Rattle.walk_run.proofs.Worlds.{get-set-same, get-set-other, Holds, run-holds, first-client}
 use Rattle.nq_promises.specs.LossesAreReported.{IsLossOf, IsOneOf, LossesFitInEveryRun, ReportedInEveryRun}
 use Rattle.law_reports.proofs.Books.{book_of, book_at}
 use Rattle.law_reports.proofs.BookFits.{Fits, fits-closed}
-use Rattle.law_reports.proofs.BookHear.{hear-keeps, tick-keeps, call-keeps}
+use Rattle.law_reports.proofs.BookSteps.{hear-keeps, tick-keeps, call-keeps}
 use Rattle.law_reports.proofs.BookNone.{NoneWaits, none-closed, IsBy, Own, own-closed}
 use Rattle.law_reports.proofs.BookOrder.{Ordered, order-closed, order-other, order-quiet}
 use Rattle.law_reports.proofs.OtherFits.{Places, empty_book, places-quiet, fits-other, fits-quiet, fits-next, fits-start}
 use Rattle.law_reports.proofs.ServerQuiet.{AllQuiet, received-quiet, tick-quiet, crash-quiet}
 use Rattle.law_reports.proofs.Told.{IsNamedIn, IsToldAt, IsCalled, all-reported}
-use Rattle.nq_model.specs.Client.{Client, ClientStep}
+use Rattle.nq_model.specs.Client.{Client, ClientStep, Ticket}
 use Rattle.nq_model.specs.ClientStep.{client_call, client_tick, restart, starts, fresh_client, attached_client, next_incarnation}
 use Rattle.nq_model.specs.Hear.{hear}
 use Rattle.nq_model.specs.Journal.{Each, Exists, AtEachPlace}
@@ -97,8 +98,12 @@ called-steps j c op f = stepped j c (client_call c op) (call-keeps fits-closed j
 ticked-steps : (j : List Entry) (c : Client) (now : ℕ) → FitsAt j c → Stepped j c.who (client_tick c now)
 ticked-steps j c now f = stepped j c (client_tick c now) (tick-keeps fits-closed j c now f.fits) (tick-keeps none-closed j c now f.none) (tick-keeps order-closed j c now f.ordered) (tick-keeps (own-closed c.who j) j c now (own-at j c))
 
-heard-steps : (j : List Entry) (c : Client) (k : ℕ) (m : Message) (t : ClientStep) → hear c k m ≡ Some t → FitsAt j c → Stepped j c.who t
-heard-steps j c k m t is f = stepped j c t (hear-keeps fits-closed j c k m t is f.fits) (hear-keeps none-closed j c k m t is f.none) (hear-keeps order-closed j c k m t is f.ordered) (hear-keeps (own-closed c.who j) j c k m t is (own-at j c))
+-- the request under way fits what it is for
+abbrev AsksFit : Client → Type 0
+AsksFit c = (ticket : Ticket) → c.ticket ≡ Some ticket → fits_job ticket.job ticket.request ≡ true
+
+heard-steps : (j : List Entry) (c : Client) (k : ℕ) (m : Message) (t : ClientStep) → AsksFit c → hear c k m ≡ Some t → FitsAt j c → Stepped j c.who t
+heard-steps j c k m t asks is f = stepped j c t (hear-keeps fits-closed j c k m t asks is f.fits) (hear-keeps none-closed j c k m t asks is f.none) (hear-keeps order-closed j c k m t asks is f.ordered) (hear-keeps (own-closed c.who j) j c k m t asks is (own-at j c))
 
 restarted-steps : (j : List Entry) (c : Client) → FitsAt j c → Stepped j c.who (restart c)
 unfolding starts fresh_client
@@ -117,7 +122,7 @@ at-client-fits w host f (Some c) is goes held h = client-fits w host c (f c) is 
 
 hearing-fits : (w : World) (k host : ℕ) (m : Message) (c : Client) (o : Option ClientStep) → hear c k m ≡ o → slice_get w.clients host ≡ Some c → Holds w → WorldFits w → WorldFits (after_hearing w host o)
 hearing-fits w k host m c None hears is held h = h
-hearing-fits w k host m c (Some t) hears is held h = client-fits w host c t is (heard-steps w.journal c k m t hears (h.clients host c is)) held h
+hearing-fits w k host m c (Some t) hears is held h = client-fits w host c t is (heard-steps w.journal c k m t (λ ticket has. ((held.clients host c is).alone.asking.ticketed ticket has).fits) hears (h.clients host c is)) held h
 
 to-client-fits : (w : World) (k host : ℕ) (m : Message) (o : Option Client) → slice_get w.clients host ≡ o → Holds w → WorldFits w → WorldFits (deliver_to_client w k host m o)
 to-client-fits w k host m None is held h = h

@@ -1,0 +1,85 @@
+#!/usr/bin/env python3
+"""Tries what the pages say: runs their commands in a fresh clone, compares what these print, and follows the links.
+
+    readme.py            runs the commands of README.md, docs/ and examples/README.md, but for the slow ones
+    readme.py --slow     runs the slow ones too, those that prove for long
+    readme.py --links    follows the links, and runs nothing
+
+A command stands in a block that begins with ```sh, a slow one in a block that begins with ```sh slow. A block that begins
+with ```text and follows it shows what it prints. Each command begins at the top of the clone. The clone has what is
+committed, so commit a page before you try it. The status is 1 where a command fails, prints something else, or a link leads
+nowhere.
+"""
+
+import glob
+import os
+import re
+import subprocess
+import sys
+import tempfile
+
+TOP = os.path.normpath(os.path.join(os.path.dirname(os.path.abspath(__file__)), ".."))
+BLOCK = re.compile(r"^```([^\n]*)\n(.*?)^```$", re.MULTILINE | re.DOTALL)
+LINK = re.compile(r"\[[^\]]*\]\(([^)#\s]+)[^)]*\)")
+
+
+def pages():
+    """The pages, by their paths from the top."""
+    paths = ["README.md", "examples/README.md"] + glob.glob("docs/*.md", root_dir=TOP)
+    return sorted(path for path in paths if os.path.exists(os.path.join(TOP, path)))
+
+
+def text_of(page):
+    with open(os.path.join(TOP, page), encoding="utf-8") as page_file:
+        return page_file.read()
+
+
+def commands_of(page):
+    """The commands of a page: each with whether it is slow, and with what the page says that it prints, if it does."""
+    found = []
+    for words, body in BLOCK.findall(text_of(page)):
+        if words.split()[:1] == ["sh"]:
+            found.append([body, "slow" in words.split(), None])
+        elif words == "text" and found and found[-1][2] is None:
+            found[-1][2] = body
+    return found
+
+
+def wrong_links(page):
+    """The links of a page that lead to no file."""
+    here = os.path.join(TOP, os.path.dirname(page))
+    links = [link for link in LINK.findall(text_of(page)) if "://" not in link]
+    return [link for link in links if not os.path.exists(os.path.join(here, link))]
+
+
+def fault_of(command, shown, clone):
+    """What is wrong with a command, or None."""
+    done = subprocess.run(["bash", "-c", command], cwd=clone, capture_output=True, text=True)
+    if done.returncode != 0:
+        return f"ends with status {done.returncode}:\n{done.stderr[-2000:]}"
+    if shown is not None and done.stdout != shown:
+        return f"prints\n{done.stdout}and the page shows\n{shown}"
+    return None
+
+
+def main():
+    faults = [f"{page}: no file at {link}" for page in pages() for link in wrong_links(page)]
+    if "--links" not in sys.argv[1:]:
+        with tempfile.TemporaryDirectory() as folder:
+            clone = os.path.join(folder, "clone")
+            subprocess.run(["git", "clone", "--quiet", TOP, clone], check=True)
+            for page in pages():
+                for command, slow, shown in commands_of(page):
+                    if slow and "--slow" not in sys.argv[1:]:
+                        print(f"{page}: left out, slow: {command.strip()}")
+                        continue
+                    print(f"{page}: {command.strip()}", flush=True)
+                    fault = fault_of(command, shown, clone)
+                    if fault is not None:
+                        faults.append(f"{page}: {command.strip()}\n{fault}")
+    print("\n".join(faults) if faults else "all is as the pages say")
+    return 1 if faults else 0
+
+
+if __name__ == "__main__":
+    sys.exit(main())
