@@ -1,8 +1,11 @@
 pub mod Accounts
+pub mod AppliedChanges
 pub mod ByFile
 pub mod CachedReads
 pub mod ClientLists
 pub mod Finding
+pub mod DecidedSteps
+pub mod Files
 pub mod JournalTests
 pub mod LegalTest
 pub mod Lists

@@ -199,6 +199,10 @@ pub record IsHostWithin (row : HostRow) : Type 0 where
   pub seq : row.seq < 2 ^ 61
   pub value : row.value < 2 ^ 64
 
+-- the next id is that of no kept file
+abbrev pub IsNextFree : Kept → Type 0
+IsNextFree kept = find_file kept.next kept.files ≡ None
+
 -- the kept numbers are within their bounds: those that an image can have
 pub record IsWithinBounds (kept : Kept) : Type 0 where
   pub files : All (IsFileWithin kept.next) kept.files

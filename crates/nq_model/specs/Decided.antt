@@ -147,6 +147,15 @@ effect_of kept (Recovering opened) (Write who seq file block first last push bod
     effect_of_write_recovering kept opened file block push body
 effect_of kept (Recovering opened) other = no_effect TryLater
 
+-- whether a request is decided once
+abbrev pub is_decided_once : Request → Bool
+is_decided_once (Attach who) = true
+is_decided_once (Create who seq name blocks) = true
+is_decided_once (Write who seq file block first last push body) = true
+is_decided_once (Resize who seq q file blocks) = true
+is_decided_once (Remove who seq q file) = true
+is_decided_once other = false
+
 -- how an ATTACH is decided, by the kept row of its host
 abbrev pub attach_decided : Who → HostRow → Decided
 attach_decided who line =
@@ -336,10 +345,13 @@ later_aside s serving who (Some file) = put_off_aside s who file
 later_aside s (recovering until heard last) who file = nothing_aside s
 
 -- what a fresh request does beside the kept state, by its verdict
+abbrev pub aside_in : Server → Phase → Who → Request → Verdict → Aside
+aside_in s phase who r Done = done_aside s phase who r
+aside_in s phase who r TryLater = later_aside s phase who (changed_file r)
+aside_in s phase who r other = nothing_aside s
+
 abbrev pub aside : Server → Who → Request → Verdict → Aside
-aside s who r Done = done_aside s s.phase who r
-aside s who r TryLater = later_aside s s.phase who (changed_file r)
-aside s who r other = nothing_aside s
+aside s who r verdict = aside_in s s.phase who r verdict
 
 -- the reply to a request that was decided
 abbrev pub answer_of : (inc : ℕ) → Verdict → (value : ℕ) → Request → Answer
