@@ -7,10 +7,10 @@ use Rattle.std.proofs.Math.Seq.{take-append_seam}
 use Rattle.nq_base.specs.Block.{zeros}
 use Rattle.nq_model.specs.Kept.{File, find_file, replace_file, resized}
 
-same-number : (m n : ℕ) → (m == n) ≡ true → m ≡ n
+pub same-number : (m n : ℕ) → (m == n) ≡ true → m ≡ n
 same-number m n h = grind (arith, nat_tests)
 
-number-same : (m n : ℕ) → m ≡ n → (m == n) ≡ true
+pub number-same : (m n : ℕ) → m ≡ n → (m == n) ≡ true
 number-same m n h = grind (arith, nat_tests)
 
 found-first : (id : ℕ) (f file : File) (rest : Option File) (b : Bool) → (f.id == id) ≡ b → (rest ≡ Some file → file.id ≡ id) → (if b then Some f else rest) ≡ Some file → file.id ≡ id

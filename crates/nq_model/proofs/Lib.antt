@@ -5,12 +5,15 @@ pub mod CachedReads
 pub mod ClientLists
 pub mod Finding
 pub mod DecidedSteps
+pub mod EachChange
 pub mod Files
+pub mod FreshFits
 pub mod JournalTests
 pub mod LegalTest
 pub mod Lists
 pub mod LossTests
 pub mod OrderedTest
+pub mod RowEnds
 pub mod SkewTest
 pub mod SoundTest
 pub mod SynchronizedTest

@@ -172,6 +172,12 @@ pub record Fits (kept : Kept) (change : Change) : Type 0 where
   pub host : IfSome change.host (λ h. h.host < most_hosts)
   pub removed : IfSome change.removed (FitsRemoval kept change)
 
+-- what is kept is changed once at most, by a change that can be kept
+pub record IsChangedOnce (before after : Kept) : Type 0 where
+  pub change : Option Change
+  pub is_applied : after ≡ applied_if before change
+  pub fits : IfSome change (Fits before)
+
 -- a body is 4096 bytes
 pub record IsBody (body : List ℕ) : Type 0 where
   pub size : length body ≡ 4096

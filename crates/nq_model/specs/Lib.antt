@@ -8,6 +8,7 @@ pub mod Server
 pub mod Decide
 pub mod ServerStep
 pub mod Decided
+pub mod ChangesOnce
 pub mod ByFile
 pub mod Client
 pub mod Settle

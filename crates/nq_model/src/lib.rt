@@ -4,10 +4,12 @@
 #![tactic(auto)]
 
 mod cached;
+mod changes;
 mod clocks;
 mod journals;
 
 pub use cached::{cached_at_once, has_cached_is_exact};
+pub use changes::{each_step_changes_once, requests_are_decided};
 pub use clocks::skew_test_is_sound;
 pub use journals::{
     accounted_test_is_exact, excused_test_is_exact, legal_test_is_exact,

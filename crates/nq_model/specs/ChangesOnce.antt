@@ -1,0 +1,29 @@
+-- Each step of the server keeps one change at most. So one commit a step serves, and a crash leaves what was kept before the
+-- step or after it.
+use Rattle.std.specs.Prelude.{◌≡◌, ◌<◌, ℕ, true, Some}
+use Rattle.nq_base.specs.declared.Request.{Request}
+use Rattle.nq_base.specs.declared.Who.{Who}
+use Rattle.nq_model.specs.Change.{IsWithinBounds, IsChangedOnce}
+use Rattle.nq_model.specs.Decided.{is_decided_once, gate_of, decided, decided_step}
+use Rattle.nq_model.specs.Message.{Datagram, request, asker}
+use Rattle.nq_model.specs.Profile.{most_hosts}
+use Rattle.nq_model.specs.Server.{Server}
+use Rattle.nq_model.specs.ServerStep.{receive, tick, crash}
+
+-- whatever comes, from a kept state within its bounds what is kept is changed once at most
+pub record EachStepChangesOnce : Type 0 where
+  pub receives : (s : Server) (sender next : ℕ) (d : Datagram) → IsWithinBounds s.kept → IsChangedOnce s.kept (receive s sender next d).server.kept
+  pub ticks : (s : Server) (now : ℕ) → IsWithinBounds s.kept → IsChangedOnce s.kept (tick s now).server.kept
+  pub crashes : (s : Server) (longest : ℕ) → IsWithinBounds s.kept → IsChangedOnce s.kept (crash s longest).server.kept
+
+-- the server's step on a request of the host that sent it, which is decided once: the kept state and the gate decide, and a
+-- fresh one is kept in one change
+abbrev pub RequestsAreDecided : Type 0
+RequestsAreDecided =
+    (s : Server) (sender xid next : ℕ) (r : Request) (who : Who)
+    → asker r ≡ Some who
+    → is_decided_once r ≡ true
+    → who.host ≡ sender
+    → who.host < most_hosts
+    → IsWithinBounds s.kept
+    → receive s sender next (request xid r) ≡ decided_step s who xid r (decided s.kept (gate_of s who r) r)

@@ -1,0 +1,14 @@
+//! What the server keeps.
+
+ghost use Rattle.nq_model.specs.ChangesOnce.{EachStepChangesOnce, RequestsAreDecided};
+
+/// From a kept state within its bounds, each step of the server changes what is kept once at most, and that change can
+/// be kept.
+pub fn each_step_changes_once()
+    ensures { EachStepChangesOnce }
+{}
+
+/// Requests that are decided once are decided from the kept state and the gate alone.
+pub fn requests_are_decided()
+    ensures { RequestsAreDecided }
+{}
