@@ -1,5 +1,5 @@
 -- Each step of the server keeps one change at most.
-use Rattle.std.proofs.Common.{◌≡◌, ◌<◌, ℕ, ◌==◌, Bool, true, false, ◌&&◌, List, Option, Some, None, if◌then◌else◌, refl, sym, subst, ap, ◌∙◌, arith}
+use Rattle.std.proofs.Common.{◌≡◌, ◌<◌, ℕ, ◌==◌, true, ◌&&◌, List, Option, Some, None, if◌then◌else◌, refl, sym, subst, ap, ◌∙◌, arith}
 use Rattle.std.specs.List.{find, slice_get}
 use Rattle.std.specs.Prelude.{nat_lt, nat_le}
 use Rattle.std.proofs.lemmas.Bool.Decides.{nat_tests}
@@ -26,6 +26,7 @@ use Rattle.nq_model.specs.ServerStep.{to_read, look_up, get_attr, read, read_blo
 use Rattle.nq_model.specs.Table.{Table}
 use Rattle.nq_model.proofs.AppliedChanges.{applied-fencing, applied-boot, applied-opening}
 use Rattle.nq_model.proofs.DecidedSteps.{admits-decided, receives-decided}
+use Rattle.nq_model.proofs.Finding.{choice}
 use Rattle.nq_model.proofs.Files.{found-id}
 use Rattle.nq_model.proofs.FreshFits.{next-free, fresh-fits, fencing-fits, heads-fit}
 
@@ -36,10 +37,6 @@ unchanged before after same = record { change = None; is_applied = same; fits = 
 module _ (s : Server) (within : IsWithinBounds s.kept) where
   abbrev Once : ServerStep → Type 0
   Once t = IsChangedOnce s.kept t.server.kept
-
-  either : (b : Bool) (x y : ServerStep) → (b ≡ true → Once x) → (b ≡ false → Once y) → Once (if b then x else y)
-  either true x y this that = this refl
-  either false x y this that = that refl
 
   -- a request that is decided once
   decided-once : (who : Who) (xid : ℕ) (r : Request) → asker r ≡ Some who → who.host < most_hosts → (d : Decided) → Once (decided_step s who xid r d)
@@ -137,8 +134,8 @@ module _ (s : Server) (within : IsWithinBounds s.kept) where
   -- a request of an incarnation, by how it compares with the kept one
   asked-once : (who : Who) (xid next : ℕ) (r : Request) (kept_inc : ℕ) (t : ServerStep) → Once t → Once (if nat_lt who.inc kept_inc then drops s old_incarnation else (if nat_lt kept_inc who.inc then not_attached s who xid r else t))
   asked-once who xid next r kept_inc t performed =
-      either (nat_lt who.inc kept_inc) _ _ (λ older. dropped-once old_incarnation) (λ no_older.
-      either (nat_lt kept_inc who.inc) _ _ (λ later. not-attached-once who xid r) (λ current. performed))
+      choice Once (nat_lt who.inc kept_inc) _ _ (λ older. dropped-once old_incarnation) (λ no_older.
+      choice Once (nat_lt kept_inc who.inc) _ _ (λ later. not-attached-once who xid r) (λ current. performed))
 
   -- a request of a host
   requests-once : (who : Who) (xid next : ℕ) (r : Request) → asker r ≡ Some who → who.host < most_hosts → Once (admit s who xid next r (host_row s.kept who.host))
@@ -161,7 +158,7 @@ module _ (s : Server) (within : IsWithinBounds s.kept) where
   answers-once : (sender xid next : ℕ) (r : Request) (o : Option Who) → asker r ≡ o → Once (answer_request s sender xid next r o)
   answers-once sender xid next r None by = said-once sender (reply xid Answer.Null)
   answers-once sender xid next r (Some who) by =
-      either (who.host == sender && nat_lt who.host most_hosts) _ _ (λ of_host. requests-once who xid next r by (below-most who sender of_host)) (λ other. dropped-once wrong_host)
+      choice Once (who.host == sender && nat_lt who.host most_hosts) _ _ (λ of_host. requests-once who xid next r by (below-most who sender of_host)) (λ other. dropped-once wrong_host)
 
   receives-once : (sender next : ℕ) (d : Datagram) → Once (receive s sender next d)
   receives-once sender next too_long = dropped-once _
@@ -205,7 +202,7 @@ module _ (s : Server) (within : IsWithinBounds s.kept) where
   ticks-in : (now : ℕ) (phase : Phase) → Once (tick_in (at_time s now) phase)
   unfolding at_time
   ticks-in now serving = ends-once now (end_reading now s.table.rows) (find (is_due now) (end_reading now s.table.rows))
-  ticks-in now (recovering until heard last) = either (nat_le until now) _ _ (λ over. opens-once now until heard) (λ early. waits-once now)
+  ticks-in now (recovering until heard last) = choice Once (nat_le until now) _ _ (λ over. opens-once now until heard) (λ early. waits-once now)
 
   crashes-once : (longest : ℕ) → Once (crash s longest)
   unfolding crash boot

@@ -1,17 +1,11 @@
 -- What is found among the kept files, and what a file row makes of a file.
 use Rattle.std.proofs.Common.{◌≡◌, ℕ, ◌==◌, Bool, true, false, List, [], ◌∷◌, Option, Some, if◌then◌else◌, length, refl, sym, ap, ◌∙◌, arith}
 use Rattle.std.specs.Prelude.{replicate}
-use Rattle.std.proofs.lemmas.Bool.Decides.{nat_tests}
 use Rattle.std.proofs.lemmas.List.{take-replicate}
 use Rattle.std.proofs.Math.Seq.{take-append_seam}
 use Rattle.nq_base.specs.Block.{zeros}
 use Rattle.nq_model.specs.Kept.{File, find_file, replace_file, resized}
-
-pub same-number : (m n : ℕ) → (m == n) ≡ true → m ≡ n
-same-number m n h = grind (arith, nat_tests)
-
-pub number-same : (m n : ℕ) → m ≡ n → (m == n) ≡ true
-number-same m n h = grind (arith, nat_tests)
+use Rattle.nq_model.proofs.Finding.{same-number, number-same}
 
 found-first : (id : ℕ) (f file : File) (rest : Option File) (b : Bool) → (f.id == id) ≡ b → (rest ≡ Some file → file.id ≡ id) → (if b then Some f else rest) ≡ Some file → file.id ≡ id
 found-first id f file rest true e later h = let same : f ≡ file = cc in ap (λ x. x.id) (sym same) ∙ same-number f.id id e

@@ -21,7 +21,8 @@ use Rattle.nq_model.specs.Decided.{Effect, no_effect, creation, block_write, len
 use Rattle.nq_model.specs.Kept.{File, Kept, blocks_of, blocks_in_all, find_file, find_name, replace_file, resized}
 use Rattle.nq_model.specs.Message.{asker}
 use Rattle.nq_model.specs.Profile.{most_hosts, most_files, most_blocks, most_blocks_of_file, most_ids}
-use Rattle.nq_model.proofs.Files.{found-id, find-replaced, number-same}
+use Rattle.nq_model.proofs.Finding.{choice, number-same}
+use Rattle.nq_model.proofs.Files.{found-id, find-replaced}
 
 found-has-first : (P : File → Type 0) (f file : File) (rest : Option File) (b : Bool) → P f → (rest ≡ Some file → P file) → (if b then Some f else rest) ≡ Some file → P file
 found-has-first P f file rest true own later h = let same : f ≡ file = cc in subst P same own
@@ -124,10 +125,6 @@ module _ (kept : Kept) (within : IsWithinBounds kept) (who : Who) (few : who.hos
   unfolding change_with no_effect
   keeps-none verdict = record { file = tt; block = tt; host = few; removed = tt }
 
-  choice : (b : Bool) (e f : Effect) → (b ≡ true → Keeps e) → (b ≡ false → Keeps f) → Keeps (if b then e else f)
-  choice true e f this that = this refl
-  choice false e f this that = that refl
-
   keeps-creation : (name : List ℕ) (blocks : ℕ) → 1 ≤ blocks → blocks ≤ most_blocks_of_file → find_name name kept.files ≡ None → length kept.files < most_files → blocks_in_all kept.files + blocks ≤ most_blocks → Keeps (creation kept name blocks)
   unfolding change_with creation file_of
   keeps-creation name blocks some short none room fits =
@@ -205,9 +202,9 @@ module _ (kept : Kept) (within : IsWithinBounds kept) (who : Who) (few : who.hos
 
   keeps-create : (name : List ℕ) (blocks : ℕ) → Keeps (effect_of_create kept name blocks)
   keeps-create name blocks =
-      choice (blocks == 0 || nat_lt most_blocks_of_file blocks) _ _ (λ bad. keeps-none Verdict.Invalid) (λ good.
-      choice (is_some (find_name name kept.files)) _ _ (λ there. keeps-none Verdict.Exist) (λ free.
-      choice (nat_le most_files (length kept.files) || nat_lt most_blocks (blocks_in_all kept.files + blocks) || nat_le most_ids kept.next) _ _ (λ full. keeps-none Verdict.NoSpace) (λ room.
+      choice Keeps (blocks == 0 || nat_lt most_blocks_of_file blocks) _ _ (λ bad. keeps-none Verdict.Invalid) (λ good.
+      choice Keeps (is_some (find_name name kept.files)) _ _ (λ there. keeps-none Verdict.Exist) (λ free.
+      choice Keeps (nat_le most_files (length kept.files) || nat_lt most_blocks (blocks_in_all kept.files + blocks) || nat_le most_ids kept.next) _ _ (λ full. keeps-none Verdict.NoSpace) (λ room.
       keeps-creation name blocks (grind (arith, nat_tests)) (grind (arith, nat_tests)) (none-of (find_name name kept.files) free) (grind (arith, nat_tests)) (grind (arith, nat_tests)))))
     where
       none-of : (o : Option File) → is_some o ≡ false → o ≡ None
@@ -215,10 +212,10 @@ module _ (kept : Kept) (within : IsWithinBounds kept) (who : Who) (few : who.hos
       none-of (Some f) e = absurd (cc)
 
   keeps-push : (boot : ℕ) (held : Bool) (f : File) (block : ℕ) (base : PushBase) (body : List ℕ) → find_file f.id kept.files ≡ Some f → block < blocks_of f → Keeps (effect_of_push boot held f block base body)
-  keeps-push boot held f block base body found below = choice _ _ _ (λ lets. keeps-write f block body found below) (λ late. keeps-none Verdict.Fenced)
+  keeps-push boot held f block base body found below = choice Keeps _ _ _ (λ lets. keeps-write f block body found below) (λ late. keeps-none Verdict.Fenced)
 
   keeps-write-in : (boot : ℕ) (conflict held : Bool) (f : File) (block : ℕ) (push : Option PushBase) (body : List ℕ) → find_file f.id kept.files ≡ Some f → block < blocks_of f → Keeps (effect_of_write_in boot conflict held f block push body)
-  keeps-write-in boot conflict held f block None body found below = choice conflict _ _ (λ c. keeps-none Verdict.TryLater) (λ c. keeps-write f block body found below)
+  keeps-write-in boot conflict held f block None body found below = choice Keeps conflict _ _ (λ c. keeps-none Verdict.TryLater) (λ c. keeps-write f block body found below)
   keeps-write-in boot conflict held f block (Some base) body found below = keeps-push boot held f block base body found below
 
   own-found : (file : ℕ) (f : File) → find_file file kept.files ≡ Some f → find_file f.id kept.files ≡ Some f
@@ -227,19 +224,19 @@ module _ (kept : Kept) (within : IsWithinBounds kept) (who : Who) (few : who.hos
   keeps-write-of : (boot : ℕ) (conflict held : Bool) (file block : ℕ) (push : Option PushBase) (body : List ℕ) (o : Option File) → find_file file kept.files ≡ o → Keeps (effect_of_write boot conflict held o block push body)
   keeps-write-of boot conflict held file block push body None found = keeps-none Verdict.Stale
   keeps-write-of boot conflict held file block push body (Some f) found =
-      choice (nat_le (blocks_of f) block) _ _ (λ past. keeps-none Verdict.Invalid) (λ below. keeps-write-in boot conflict held f block push body (own-found file f found) (grind (arith, nat_tests)))
+      choice Keeps (nat_le (blocks_of f) block) _ _ (λ past. keeps-none Verdict.Invalid) (λ below. keeps-write-in boot conflict held f block push body (own-found file f found) (grind (arith, nat_tests)))
 
   keeps-resize : (conflict : Bool) (file blocks : ℕ) (o : Option File) → find_file file kept.files ≡ o → Keeps (effect_of_resize kept conflict o blocks)
   keeps-resize conflict file blocks None found = keeps-none Verdict.Stale
   keeps-resize conflict file blocks (Some f) found =
-      choice (blocks == 0 || nat_lt most_blocks_of_file blocks) _ _ (λ bad. keeps-none Verdict.Invalid) (λ good.
-      choice (nat_lt most_blocks ((blocks_in_all kept.files - blocks_of f) + blocks)) _ _ (λ full. keeps-none Verdict.NoSpace) (λ room.
-      choice conflict _ _ (λ c. keeps-none Verdict.TryLater) (λ c.
+      choice Keeps (blocks == 0 || nat_lt most_blocks_of_file blocks) _ _ (λ bad. keeps-none Verdict.Invalid) (λ good.
+      choice Keeps (nat_lt most_blocks ((blocks_in_all kept.files - blocks_of f) + blocks)) _ _ (λ full. keeps-none Verdict.NoSpace) (λ room.
+      choice Keeps conflict _ _ (λ c. keeps-none Verdict.TryLater) (λ c.
       keeps-length f blocks (own-found file f found) (grind (arith, nat_tests)) (grind (arith, nat_tests)) (grind (arith, nat_tests)))))
 
   keeps-remove : (conflict : Bool) (file : ℕ) (o : Option File) → find_file file kept.files ≡ o → Keeps (effect_of_remove conflict o)
   keeps-remove conflict file None found = keeps-none Verdict.Stale
-  keeps-remove conflict file (Some f) found = choice conflict _ _ (λ c. keeps-none Verdict.TryLater) (λ c. keeps-removal f (own-found file f found))
+  keeps-remove conflict file (Some f) found = choice Keeps conflict _ _ (λ c. keeps-none Verdict.TryLater) (λ c. keeps-removal f (own-found file f found))
 
   keeps-write-recovering : (opened file block : ℕ) (push : Option PushBase) (body : List ℕ) → Keeps (effect_of_write_recovering kept opened file block push body)
   keeps-write-recovering opened file block None body = keeps-none Verdict.TryLater

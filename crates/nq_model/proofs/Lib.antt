@@ -3,10 +3,10 @@ pub mod AppliedChanges
 pub mod ByFile
 pub mod CachedReads
 pub mod ClientLists
-pub mod Finding
 pub mod DecidedSteps
 pub mod EachChange
 pub mod Files
+pub mod Finding
 pub mod FreshFits
 pub mod JournalTests
 pub mod LegalTest
