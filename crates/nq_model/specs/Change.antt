@@ -1,5 +1,5 @@
 -- Changes of the kept state. Whatever a step of the server keeps, it keeps in one change, which is whole or nothing.
-use Rattle.std.specs.Prelude.{◌≡◌, ◌≤◌, ◌<◌, ◌^◌, ℕ, ◌+◌, ◌==◌, List, [], ◌∷◌, ◌++◌, Option, Some, None, All, IfSome, IsSome, length, slice_set, if◌then◌else◌}
+use Rattle.std.specs.Prelude.{◌≡◌, ◌≤◌, ◌<◌, ◌^◌, ℕ, ◌+◌, ◌==◌, List, [], ◌∷◌, ◌++◌, Option, Some, None, All, IfSome, IsSome, find, length, nat_lt, slice_set, if◌then◌else◌}
 use Rattle.nq_base.specs.Name.{IsName}
 use Rattle.nq_base.specs.declared.BlockChange.{BlockChange}
 use Rattle.nq_base.specs.declared.Change.{Change}
@@ -18,6 +18,10 @@ row_of file = record { id = file.id; name = file.name; blocks = blocks_of file; 
 -- the row of a file whose revision rises, with so many blocks
 unfoldable pub raised_row : File → (blocks : ℕ) → FileRow
 raised_row file blocks = record { id = file.id; name = file.name; blocks = blocks; rev = file.rev + 1 }
+
+-- the file with the least id above this one; the files stand in order of their ids
+abbrev pub file_after : (id : ℕ) → List File → Option File
+file_after id files = find (λ f. nat_lt id f.id) files
 
 -- the row of a kept file, None where the file is not kept
 abbrev pub row_of_found : Option File → Option FileRow

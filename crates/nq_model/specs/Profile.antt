@@ -57,6 +57,18 @@ most_dirty = 1024
 abbrev pub most_clean : ℕ
 most_clean = 512
 
+-- the most datagrams and ticks that a server takes in in one boot; each that is not refused counts, dropped ones included
+abbrev pub most_taken_by_server : ℕ
+most_taken_by_server = 2305843009213693952
+
+-- the most calls, datagrams and ticks that an incarnation of a client takes in; ignored ones count too
+abbrev pub most_taken_by_client : ℕ
+most_taken_by_client = 1073741824
+
+-- the number of the last boot that a server can have
+abbrev pub most_boots : ℕ
+most_boots = 4294967295
+
 -- the numbers of notices and requests wrap here
 abbrev pub xid_end : ℕ
 xid_end = 4294967296
