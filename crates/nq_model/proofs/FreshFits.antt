@@ -63,7 +63,8 @@ replaces-none file (f ∷ files) each =
     let rest : replace_file file files ≡ files = replaces-none file files (All-tail (λ f. f.id ≢ file.id) f files each) in
     ap (λ y. y ∷ replace_file file files) first ∙ ap (λ ys. f ∷ ys) rest
 
-blocks-first : (f : File) (files : List File) → blocks_in_all (f ∷ files) ≡ blocks_of f + blocks_in_all files
+-- the blocks of all files are those of the first and of the others
+pub blocks-first : (f : File) (files : List File) → blocks_in_all (f ∷ files) ≡ blocks_of f + blocks_in_all files
 blocks-first f files = sum_by-cons blocks_of f files
 
 -- of files with ids that rise, one that is found at the head is not among the others

@@ -18,3 +18,4 @@ pub mod SkewTest
 pub mod SoundTest
 pub mod SynchronizedTest
 pub mod Telling
+pub mod WithinBounds

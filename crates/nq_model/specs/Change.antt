@@ -227,3 +227,19 @@ pub record IsWithinBounds (kept : Kept) : Type 0 where
   pub short : kept.longest ≤ longest_term
   pub ids : 1 ≤ kept.next
   pub few_ids : kept.next ≤ most_ids
+
+-- the server's numbers are within their bounds, and the next id does not fall
+pub record AreHeadsWithin (next : ℕ) (heads : Heads) : Type 0 where
+  pub opened : heads.opened ≤ heads.boot
+  pub boot : heads.boot < 2 ^ 31
+  pub long : shortest_term ≤ heads.longest
+  pub short : heads.longest ≤ longest_term
+  pub ids : next ≤ heads.next
+  pub few_ids : heads.next ≤ most_ids
+
+-- the numbers of a change are within their bounds
+pub record IsChangeWithin (kept : Kept) (change : Change) : Type 0 where
+  pub file : IfSome change.file (λ row. IsName row.name × (row.rev < 2 ^ 61))
+  pub block : IfSome change.block (λ b. IsBody b.body)
+  pub host : IfSome change.host (λ h. IsHostWithin h.row)
+  pub heads : IfSome change.heads (AreHeadsWithin kept.next)
