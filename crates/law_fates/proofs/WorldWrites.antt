@@ -278,7 +278,7 @@ stepped head events host c t is same goes h =
     client-writes w host t (run-holds head events) (mid-stepped _ host w.packets w.journal t (ap (λ z. z.host) same ∙ ((run-holds head events).clients host c is).here) (goes (mid-begins c (h.clients host c is) h.journal))) h
 
 -- what is known of a reply to the request under way
-replies-known : (most : ℕ) (head : Head) (events : List Event) → KeepsBounds most head events → IsWithinSkew head.hosts most events → (host : ℕ) (c : Client) → client_at head events host ≡ Some c → (message : Message) → Told (run head events).packets host message → (xid : ℕ) (r : Reply) (ticket : Ticket) → message ≡ reply xid r → c.ticket ≡ Some ticket → xid ≡ ticket.xid → inc_of r ≡ c.who.inc → reply_counts r ticket ≡ true → Replies (host_row (run head events).server.kept host) (run head events).packets c ticket r
+pub replies-known : (most : ℕ) (head : Head) (events : List Event) → KeepsBounds most head events → IsWithinSkew head.hosts most events → (host : ℕ) (c : Client) → client_at head events host ≡ Some c → (message : Message) → Told (run head events).packets host message → (xid : ℕ) (r : Reply) (ticket : Ticket) → message ≡ reply xid r → c.ticket ≡ Some ticket → xid ≡ ticket.xid → inc_of r ≡ c.who.inc → reply_counts r ticket ≡ true → Replies (host_row (run head events).server.kept host) (run head events).packets c ticket r
 replies-known most head events b within host c is message told xid r ticket eq has same inc counts =
     let w : World = run head events in
     let a = (run-holds head events).clients host c is in
@@ -305,7 +305,7 @@ replies-known most head events b within host c is message told xid r ticket eq h
         let asks : u.0.request ≡ Request.Write v o.seq q.file q.block q.first q.last (Some o.base) q.body = (a.mail.asked o.xid (Request.Write v o.seq q.file q.block q.first q.last (Some o.base) q.body) v o.asked refl).same (ap (λ z. z.inc) one) u.0 u.1 u.2 in
         ap (λ z. push_in z.request) (sym same) ∙ ap push_in asks
 
-hear-same : (w : World) (host : ℕ) (c : Client) (k : ℕ) (m : Message) (t : ClientStep) → hear c k m ≡ Some t → Told w.packets host m → IsAt host c w.packets → t.client.who ≡ c.who
+pub hear-same : (w : World) (host : ℕ) (c : Client) (k : ℕ) (m : Message) (t : ClientStep) → hear c k m ≡ Some t → Told w.packets host m → IsAt host c w.packets → t.client.who ≡ c.who
 hear-same w host c k m t hears told a = (subst (StillIf c) hears (hear-still host c w.packets k m told a)).same
 
 writes-keeps : (most : ℕ) (head : Head) → Keeps most head Writes

@@ -1,11 +1,13 @@
 -- What follows of journals that account for their delayed writes.
-use Rattle.std.proofs.Common.{List, [], ◌∷◌}
+use Rattle.std.proofs.Common.{◌⊎◌, List, [], ◌∷◌}
 use mathlib.Core.Logic.{inl, inr}
 use Rattle.nq_base.specs.declared.Entry.{Entry}
-use Rattle.nq_base.specs.declared.Entry.TheVariants.{S, L}
+use Rattle.nq_base.specs.declared.Entry.TheVariants.{W, S, L, B}
 use Rattle.nq_model.proofs.Lists.{each-of, each-map, exists-map}
-use Rattle.nq_model.specs.Journal.{Each, AtMostOne, Throughout, Covers, Stores, Loses, IsStored, IsLost}
-use Rattle.nq_model.specs.Fate.{IsFirstToCover, IsAccountedAt, CoversOnce, StoredOrLost}
+use Rattle.nq_model.proofs.Telling.{no, tells_same}
+use Rattle.nq_model.specs.Tests.{Tells}
+use Rattle.nq_model.specs.Journal.{Each, Exists, AtMostOne, Throughout, Covers, Stores, Loses, IsStored, IsLost}
+use Rattle.nq_model.specs.Fate.{Restarts, restarts, IsFirstToCover, IsAccountedAt, CoversOnce, StoredOrLost}
 
 -- two facts of each element together
 both_of_each : {X : Type 0} (P Q : X → Type 0) (xs : List X) → Each P xs → Each Q xs → Each (λ x. P x × Q x) xs
@@ -40,6 +42,25 @@ loses_covers : (entry write : Entry) → Loses entry write → Covers entry writ
 loses_covers (L who file block first last) write h = h
 loses_covers entry write h = absurd h
 
+covers_by : (entry write : Entry) → Covers entry write → Stores entry write ⊎ Loses entry write
+covers_by (S who file block first last now) write h = inl h
+covers_by (L who file block first last) write h = inr h
+covers_by entry write h = absurd h
+
+-- a covered write is stored or lost
+pub covered_by : (write : Entry) (journal : List Entry) → Exists (λ entry. Covers entry write) journal → IsStored journal write ⊎ IsLost journal write
+covered_by write [] h = absurd h
+covered_by write (entry ∷ before) (inl h) = here (covers_by entry write h)
+  where
+    here : Stores entry write ⊎ Loses entry write → IsStored (entry ∷ before) write ⊎ IsLost (entry ∷ before) write
+    here (inl s) = inl (inl s)
+    here (inr l) = inr (inl l)
+covered_by write (entry ∷ before) (inr h) = there (covered_by write before h)
+  where
+    there : IsStored before write ⊎ IsLost before write → IsStored (entry ∷ before) write ⊎ IsLost (entry ∷ before) write
+    there (inl s) = inl (inr s)
+    there (inr l) = inr (inr l)
+
 stores_or_loses : (entry write : Entry) → Stores entry write → Loses entry write → ⊥
 stores_or_loses (S who file block first last now) write s l = l
 stores_or_loses entry write s l = s
@@ -53,3 +74,9 @@ not_both write (entry ∷ before) one (inr stored) (inr lost) = not_both write b
 
 pub stored_or_lost : StoredOrLost
 stored_or_lost journal h = each-map _ _ journal (λ write. not_both write journal) (covers_once journal h)
+
+-- ---- tests of fates
+
+pub tells_restarts : (entry write : Entry) → Tells (restarts entry write) (Restarts entry write)
+tells_restarts (B started) (W who file block number value through) = tells_same
+tells_restarts entry other = no
