@@ -16,12 +16,11 @@ use Rattle.walk_chains.proofs.ChainFacts.{line_for, rev_at, file_written, IsPush
 use Rattle.walk_chains.proofs.ChainHears.{mid-delays}
 use Rattle.walk_chains.proofs.ChainLists.{any-found, none-found, unclean-pushed, fresh-undone, plain-undone}
 use Rattle.walk_chains.proofs.ChainMoves.{View, Mid, mid-uses, mid-drops, mid-calls, CanAsk, mid-sends}
-use Rattle.walk_client.proofs.SendCases.{NothingToPush, IsFree, least-passes, send-cases, pushed}
+use Rattle.walk_client.proofs.SendCases.{NothingToPush, IsFree, least-passes, send-cases, pushed, noticed-one, no-noticed, least-with-some}
 use Rattle.walk_client.proofs.SettleCases.{IsSettling, IsWrite, CanWrite, Settled, settle-cases, settle-settles}
 use Rattle.walk_client.proofs.ClientFacts.{DelayingOf, push_in}
 use Rattle.walk_client.proofs.ClientMoves.{some-same, none-some}
 use Rattle.walk_client.proofs.ClientWrites.{writes-in-list, no-push}
-use Rattle.walk_client.proofs.SendWalk.{noticed-one, no-noticed, least-with-some}
 use Rattle.nq_model.specs.Client.{Client, ClientStep, Job, for_call, renewing, pushing, Lease, Notice, Ticket, UnderWay, lease_on, notice_on, is_clean, is_push_of, first_dirty, drop_dirty, is_live, is_clean_in, file_of_lease}
 use Rattle.nq_model.specs.LeaseInterval.{requested_file}
 use Rattle.nq_model.specs.Message.{Packet, sequence_of}

@@ -1,11 +1,10 @@
 -- What holds of one client alone after each of its steps, and between the parts of a step.
-use Rattle.std.proofs.Common.{◌≡◌, ◌<◌, ◌≤◌, ℕ, ◌+◌, Bool, true, false, ◌&&◌, not, List, [], Option, Some, None, is_some}
-use Rattle.std.specs.List.{list_any}
+use Rattle.std.proofs.Common.{◌≡◌, ◌<◌, ◌≤◌, ℕ, ◌+◌, Bool, true, false, List, [], Option, Some, None, is_some}
 use Rattle.nq_base.specs.declared.Push.{Push}
 use Rattle.nq_base.specs.declared.Request.{Request}
 use Rattle.nq_base.specs.declared.Request.TheVariants.{Attach, Lookup, Create, GetAttr, Read, Write, GetLease, Resize, Remove}
 use Rattle.nq_base.specs.declared.Who.{Who}
-use Rattle.nq_model.specs.Client.{is_clean_in, Client, Job, attaching, for_call, renewing, pushing, Lease, Notice, Ticket, UnderWay, is_push_of, lease_on, notice_on, push_passes}
+use Rattle.nq_model.specs.Client.{is_clean_in, Client, Job, attaching, for_call, renewing, pushing, Lease, Notice, Ticket, UnderWay, lease_on, notice_on}
 use Rattle.nq_model.specs.Hear.{wants_of}
 use Rattle.nq_model.specs.Message.{asker, sequence_of}
 

@@ -1,5 +1,5 @@
 -- What holds of one client alone is kept by each small change of it.
-use Rattle.std.proofs.Common.{◌≡◌, ◌≢◌, ◌<◌, ◌≤◌, ◌⊎◌, ℕ, ◌+◌, Bool, true, false, List, [], ◌∷◌, Option, Some, None, is_some, if◌then◌else◌, option_map, refl, sym, subst, ap, ◌∙◌, arith, inl, inr}
+use Rattle.std.proofs.Common.{◌≡◌, ◌≢◌, ◌<◌, ◌≤◌, ◌⊎◌, ℕ, ◌+◌, Bool, true, false, List, [], Option, Some, None, is_some, if◌then◌else◌, option_map, refl, sym, subst, ap, ◌∙◌, arith, inl, inr}
 use Rattle.nq_base.specs.declared.Request.{Request}
 use Rattle.nq_base.specs.declared.Who.{Who}
 use Rattle.walk_client.proofs.ClientFacts.{changes_file, fits_job, IsTicket, IsLease, Asking}

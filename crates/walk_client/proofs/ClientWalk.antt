@@ -1,30 +1,29 @@
 -- What each small change of a client keeps, each step of it keeps: a call, a tick, a datagram.
-use Rattle.std.proofs.Common.{◌≡◌, ◌≤◌, ◌⊎◌, ℕ, ◌+◌, Bool, true, false, ◌||◌, not, List, [], ◌∷◌, Option, Some, None, is_some, nat_le, refl, sym, subst, ap, ◌∙◌, arith, inl, inr}
+use Rattle.std.proofs.Common.{◌≡◌, ◌≤◌, ◌⊎◌, ℕ, ◌+◌, Bool, true, false, Option, Some, None, refl, sym, subst, ap, ◌∙◌, arith, inl, inr}
 use Rattle.std.specs.List.{list_any}
+use Rattle.nq_base.specs.declared.Answer.{Answer}
 use Rattle.nq_base.specs.declared.Call.{Call}
 use Rattle.nq_base.specs.declared.Grant.{Grant}
-use Rattle.nq_base.specs.declared.Loss.{Loss}
 use Rattle.nq_base.specs.declared.Push.{Push}
-use Rattle.nq_base.specs.declared.Refusal.{Refusal}
 use Rattle.nq_base.specs.declared.Reply.{Reply}
 use Rattle.nq_base.specs.declared.Request.{Request}
 use Rattle.nq_base.specs.declared.Tag.{Tag}
+use Rattle.nq_base.specs.declared.Value.{Value}
 use Rattle.walk_client.proofs.ClientCases.{Core, core_of, Closed, Both, CanVacate}
-use Rattle.walk_client.proofs.ClientFacts.{Alone, Asking, AskingOf, IsPush, push_in, fits_job}
+use Rattle.walk_client.proofs.ClientFacts.{Alone, Asking, AskingOf, IsPush, push_in}
 use Rattle.walk_client.proofs.ClientMoves as move
 use Rattle.walk_client.proofs.ClientMoves.{some-same, none-some, attached-with-ticket, keeps-or-cancels}
 use Rattle.walk_client.proofs.ClientWrites as writes
-use Rattle.walk_client.proofs.HearWalk.{Brings, answers-call-keeps, pauses-keeps, done-call-keeps, done-renewal-keeps, done-push-keeps, refused-push-keeps, spent-keeps, spent-free, spent-now, spent-notices}
-use Rattle.walk_server.proofs.Rows.{choice}
+use Rattle.walk_client.proofs.HearWalk.{IsFree, Brings, Spent, answers-call-keeps, pauses-keeps, optional-keeps, read-done-keeps, lease-done-keeps, write-done-keeps, quiet-knows, knows-free, push-done-keeps, push-refused-keeps, push-of-file, spent-keeps, spent-free, spent-now, spent-notices, spent-push, spent-gone}
+use Rattle.walk_client.proofs.RepliedCases.{replied-cases}
+use Rattle.walk_client.proofs.StepCases.{call-cases, unless-cached-cases, tick-cases, evicted-cases}
 use Rattle.walk_client.proofs.SendWalk.{at-true, from-true, send-next-keeps}
 use Rattle.walk_client.proofs.SettleWalk.{begun-call, settle-keeps}
-use Rattle.nq_model.specs.Client.{Client, ClientStep, Job, attaching, for_call, renewing, pushing, begun, Notice, Ticket, notice_on, put_notice, is_clean, is_push_of, push_passes}
-use Rattle.nq_model.specs.ClientStep.{begins_call, is_called, sends_unless_cached, call_freely, tell_losses, call_past_losses, says_busy, losses_for, changed_file, client_call, at_time, sends_again, tick_asking, client_tick}
-use Rattle.nq_model.specs.Hear.{wants_of, vacates_lease, answer_of, puts_off, spends, attached, pauses, answers_call, done, refused, replied, reply_counts, refusal_counts, is_of_procedure, cancelled, cancels, noticed_tag, notes_notice, evicted, goes_on}
-use Rattle.nq_model.specs.Send.{send_next}
+use Rattle.nq_model.specs.Client.{Client, ClientStep, attaching, for_call, renewing, pushing, begun, Notice, Ticket, notice_on, put_notice, is_clean, is_push_of, push_passes}
+use Rattle.nq_model.specs.ClientStep.{begins_call, is_called, says_busy, client_call, at_time, sends_again, client_tick}
+use Rattle.nq_model.specs.Hear.{wants_of, knows_revision, vacates_lease, answer_of, spends, attached, replied, reply_counts, cancelled, cancels, noticed_tag, notes_notice, evicted, goes_on}
 use Rattle.nq_model.specs.LeaseInterval.{grant_in, requested_file}
-use Rattle.nq_model.specs.Settle.{answers, settle}
-use Rattle.walk_server.proofs.Tests.{none-there}
+use Rattle.nq_model.specs.Settle.{answers, names_losses, settle}
 
 -- ---- replies
 
@@ -74,45 +73,51 @@ pub record Replying (Given : ℕ → Grant → ℕ → Type 0) (P : Core → Typ
 job-attached : (c : Client) (ticket : Ticket) → c.ticket ≡ Some ticket → Alone c → (ticket.job ≡ attaching → ⊥) → c.attached ≡ true
 job-attached c ticket is a other = attached-with-ticket a.asking ticket is other
 
-done-keeps : {Heard : ℕ → Tag → Type 0} {Given : ℕ → Grant → ℕ → Type 0} {P : Core → Type 0} → Closed Heard Given P → (c : Client) (number : ℕ) (ticket : Ticket) (r : Reply) (job : Job) → ticket.job ≡ job → is_of_procedure r ticket.request ≡ true → Replying Given P c ticket r → Both P (done (spends (begun c)) number ticket job r)
-done-keeps closed c number ticket r attaching job counts h = attached-keeps c ticket h.asked job h.alone (h.attached job)
-done-keeps {Given = Given} closed c number ticket r for_call job counts h =
-    let other : ticket.job ≡ attaching → ⊥ = λ e. absurd (cc) in
-    let is_attached : c.attached ≡ true = job-attached c ticket h.asked h.alone other in
-    done-call-keeps closed (spends (begun c)) number ticket.first ticket.request r (brings-spent Given c ticket r h.asked h.alone.asking h.brings) (past-spent c ticket h.asked h.alone.asking) (spent-free c is_attached) (spent-keeps c ticket h.asked is_attached (λ e. absurd (cc)) h.alone (h.spent other))
-done-keeps {Given = Given} closed c number ticket r renewing job counts h =
-    let other : ticket.job ≡ attaching → ⊥ = λ e. absurd (cc) in
-    let is_attached : c.attached ≡ true = job-attached c ticket h.asked h.alone other in
-    done-renewal-keeps closed (spends (begun c)) ticket.first ticket.request r (brings-spent Given c ticket r h.asked h.alone.asking h.brings) (past-spent c ticket h.asked h.alone.asking) (spent-free c is_attached) (spent-keeps c ticket h.asked is_attached (λ e. absurd (cc)) h.alone (h.spent other))
-done-keeps closed c number ticket r pushing job counts h =
-    let other : ticket.job ≡ attaching → ⊥ = λ e. absurd (cc) in
-    let is_attached : c.attached ≡ true = job-attached c ticket h.asked h.alone other in
-    let fits : is_some (push_in ticket.request) ≡ true = subst (λ j. fits_job j ticket.request ≡ true) job (h.alone.asking.ticketed ticket h.asked).fits in
-    done-push-keeps closed c ticket ticket.request r h.only refl fits counts h.asked is_attached h.alone (h.spent other)
-
-refused-keeps : {Heard : ℕ → Tag → Type 0} {Given : ℕ → Grant → ℕ → Type 0} {P : Core → Type 0} → Closed Heard Given P → (c : Client) (ticket : Ticket) (inc : ℕ) (status : Refusal) (job : Job) → ticket.job ≡ job → refusal_counts status ticket.request job ≡ true → Replying Given P c ticket (Reply.Refused inc status) → Both P (refused (spends (begun c)) status ticket job)
-refused-keeps closed c ticket inc status attaching job counts h = absurd (cc)
-refused-keeps {P = P} closed c ticket inc status for_call job counts h =
-    let other : ticket.job ≡ attaching → ⊥ = λ e. absurd (cc) in
-    let is_attached : c.attached ≡ true = job-attached c ticket h.asked h.alone other in
-    let kept : Both P (spends (begun c)) = spent-keeps c ticket h.asked is_attached (λ e. absurd (cc)) h.alone (h.spent other) in
-    choice (Both P) (puts_off status) (pauses (spends (begun c))) (answers_call (spends (begun c)) (answer_of status) None)
-    (λ e. pauses-keeps (spends (begun c)) (spent-free c is_attached).attached kept)
-    (λ e. answers-call-keeps (spends (begun c)) (answer_of status) None (spent-free c is_attached) kept)
-refused-keeps {P = P} closed c ticket inc status renewing job counts h =
-    let other : ticket.job ≡ attaching → ⊥ = λ e. absurd (cc) in
-    let is_attached : c.attached ≡ true = job-attached c ticket h.asked h.alone other in
-    let kept : Both P (spends (begun c)) = spent-keeps c ticket h.asked is_attached (λ e. absurd (cc)) h.alone (h.spent other) in
-    choice (Both P) (puts_off status) (pauses (spends (begun c))) (spends (begun c)) (λ e. pauses-keeps (spends (begun c)) (spent-free c is_attached).attached kept) (λ e. kept)
-refused-keeps closed c ticket inc status pushing job counts h =
-    let other : ticket.job ≡ attaching → ⊥ = λ e. absurd (cc) in
-    let is_attached : c.attached ≡ true = job-attached c ticket h.asked h.alone other in
-    let fits : is_some (push_in ticket.request) ≡ true = subst (λ j. fits_job j ticket.request ≡ true) job (h.alone.asking.ticketed ticket h.asked).fits in
-    refused-push-keeps closed c ticket ticket.request h.only refl fits h.asked is_attached h.alone (h.spent other)
-
 replied-keeps : {Heard : ℕ → Tag → Type 0} {Given : ℕ → Grant → ℕ → Type 0} {P : Core → Type 0} → Closed Heard Given P → (c : Client) (number : ℕ) (ticket : Ticket) (r : Reply) → Replying Given P c ticket r → Both P (replied (begun c) number ticket r)
-replied-keeps closed c number ticket (Reply.Refused inc status) h = refused-keeps closed c ticket inc status ticket.job refl h.counts h
-replied-keeps closed c number ticket other h = done-keeps closed c number ticket other ticket.job refl h.counts h
+replied-keeps {Given = Given} {P = P} closed c number ticket r h = replied-cases c number ticket r (Both P) (h.alone.asking.ticketed ticket h.asked).fits h.counts (record {
+  attaching = λ who inc job asks is. attached-keeps c ticket h.asked job h.alone (h.attached job);
+  named = λ answer job names. let k = of-call job in answers-call-keeps t answer None k.0 k.1;
+  reading = λ who q file block want inc rev body grant of is. let k = of-call of.job in read-done-keeps closed t file block body grant ticket.first number (brings file grant (ap requested_file of.asks) (ap grant_in is)) past k.0 k.1;
+  leasing = λ who file want inc grant of is. let k = of-call of.job in lease-done-keeps closed t file grant ticket.first (brings file grant (ap requested_file of.asks) (ap grant_in is)) past k.0 k.1;
+  writing = λ who seq file block first last body inc rev of is. let k = of-call of.job in write-done-keeps t file block body rev k.0 k.1;
+  resizing = λ who seq q file blocks inc rev of is. let k = of-call of.job in answers-call-keeps (knows_revision t file rev) (Answer.Ok Value.Nothing) None (knows-free t file rev k.0) (quiet-knows t file rev k.1);
+  removing = λ who seq q file inc of is. let k = of-call of.job in answers-call-keeps t (Answer.Ok Value.Nothing) None k.0 k.1;
+  renewing = λ who file want inc grant job asks is. let k = of-renewal job in optional-keeps closed t file grant ticket.first (brings file grant (ap requested_file asks) (ap grant_in is)) past k.0 k.1;
+  pushed = λ who seq file block first last base body inc rev job asks is. push-done-keeps closed t file block body rev (ungiven file (ap requested_file asks)) (of-push file job (λ p e. push-of-file who seq file block first last base body p (subst (λ z. push_in z ≡ Some p) asks e)));
+  putting_off = λ inc status job is later. let k = of-either job in pauses-keeps t k.0.attached k.1;
+  refusing = λ inc status job is counts not_later. let k = of-call job in answers-call-keeps t (answer_of status) None k.0 k.1;
+  renewal_refused = λ inc status job is not_later. (of-renewal job).1;
+  push_refused = λ who seq file block first last base body inc status job asks is not_later.
+      let of_file : (p : Push) → push_in ticket.request ≡ Some p → p.file ≡ file = λ p e. push-of-file who seq file block first last base body p (subst (λ z. push_in z ≡ Some p) asks e) in
+      push-refused-keeps closed t file (ungiven file (ap requested_file asks)) (spent-gone c ticket file h.asked of_file h.alone) (of-push file job of_file);
+}) where
+  t : ClientStep
+  t = spends (begun c)
+
+  past : ticket.first ≤ t.client.now
+  past = past-spent c ticket h.asked h.alone.asking
+
+  brings : (file : ℕ) (grant : Option Grant) → requested_file ticket.request ≡ Some file → grant_in r ≡ grant → Brings Given t file grant ticket.first
+  brings file grant on of_reply = subst (λ o. Brings Given t file o ticket.first) of_reply (brings-spent Given c ticket r h.asked h.alone.asking h.brings file on)
+
+  ungiven : (file : ℕ) → requested_file ticket.request ≡ None → (g : Grant) (sent : ℕ) → Given file g sent → ⊥
+  ungiven file none g sent given = none-some file (sym none ∙ h.only file g sent given)
+
+  spent : (ticket.job ≡ attaching → ⊥) → (ticket.job ≡ pushing → ⊥) → IsFree t × Both P t
+  spent other unpushed = let is_attached = job-attached c ticket h.asked h.alone other in (spent-free c is_attached, spent-keeps c ticket h.asked is_attached unpushed h.alone (h.spent other))
+
+  of-call : ticket.job ≡ for_call → IsFree t × Both P t
+  of-call job = spent (λ e. absurd (cc)) (λ e. absurd (cc))
+
+  of-renewal : ticket.job ≡ renewing → IsFree t × Both P t
+  of-renewal job = spent (λ e. absurd (cc)) (λ e. absurd (cc))
+
+  of-either : (ticket.job ≡ for_call) ⊎ (ticket.job ≡ renewing) → IsFree t × Both P t
+  of-either (inl job) = of-call job
+  of-either (inr job) = of-renewal job
+
+  of-push : (file : ℕ) → ticket.job ≡ pushing → ((p : Push) → push_in ticket.request ≡ Some p → p.file ≡ file) → Spent P t file
+  of-push file job of_file = let other : ticket.job ≡ attaching → ⊥ = λ e. absurd (cc) in spent-push c ticket file h.asked (job-attached c ticket h.asked h.alone other) of_file h.alone (h.spent other)
 
 -- after a datagram that counted
 goes-on-keeps : {Heard : ℕ → Tag → Type 0} {Given : ℕ → Grant → ℕ → Type 0} {P : Core → Type 0} → Closed Heard Given P → (t : ClientStep) → Both P t → Both P (goes_on t)
@@ -198,10 +203,10 @@ notes-keeps closed t file tag heard spared unclean b = record {
   is_attached = unclean-attached c file unclean b.alone
 
 evicted-keeps : {Heard : ℕ → Tag → Type 0} {Given : ℕ → Grant → ℕ → Type 0} {P : Core → Type 0} → Closed Heard Given P → (t : ClientStep) (file : ℕ) (tag : Tag) → Heard file tag → ((g : Grant) (sent : ℕ) → Given file g sent → ⊥) → ((u : Ticket) → t.client.ticket ≡ Some u → wants_of file u.request ≡ false) → Both P t → Both P (evicted t file tag)
-evicted-keeps {P = P} closed t file tag heard ungiven spared b =
-    choice (Both P) (is_clean t.client file) (vacates_lease t file tag) (notes_notice t file tag)
-    (λ e. vacates-keeps closed t file tag (record { unwanted = spared; ungiven = ungiven; source = inr heard }) b)
-    (λ e. notes-keeps closed t file tag heard spared e b)
+evicted-keeps {P = P} closed t file tag heard ungiven spared b = evicted-cases t file tag (Both P) (record {
+  clean = λ e. vacates-keeps closed t file tag (record { unwanted = spared; ungiven = ungiven; source = inr heard }) b;
+  waiting = λ e. notes-keeps closed t file tag heard spared e b;
+})
 
 pub notice-keeps : {Heard : ℕ → Tag → Type 0} {Given : ℕ → Grant → ℕ → Type 0} {P : Core → Type 0} → Closed Heard Given P → (c : Client) (file : ℕ) (tag : Tag) → Heard file tag → ((g : Grant) (sent : ℕ) → Given file g sent → ⊥) → Alone c → P (core_of (begun c)) → Both P (goes_on (evicted (cancels (begun c) file) file tag))
 notice-keeps closed c file tag heard ungiven a core =
@@ -222,17 +227,10 @@ called-keeps : {P : Core → Type 0} (t : ClientStep) (op : Call) → t.client.a
 unfolding is_called
 called-keeps t op is_attached b = record { alone = record { asking = begun-call t.client (record { q = t.client.calls; call = op; through = false; written = false }) is_attached b.alone.asking; delaying = b.alone.delaying }; core = b.core }
 
-unless-cached-keeps : {Heard : ℕ → Tag → Type 0} {Given : ℕ → Grant → ℕ → Type 0} {P : Core → Type 0} → Closed Heard Given P → (t : ClientStep) → Both P t → Both P (sends_unless_cached t)
-unless-cached-keeps {P = P} closed t b = choice (Both P) t.cached t (send_next false t) (λ e. b) (λ e. send-next-keeps closed false t b)
-
-freely-keeps : {Heard : ℕ → Tag → Type 0} {Given : ℕ → Grant → ℕ → Type 0} {P : Core → Type 0} → Closed Heard Given P → (t : ClientStep) (op : Call) → t.client.attached ≡ true → Both P t → Both P (call_freely t op)
-freely-keeps closed t op is_attached b = unless-cached-keeps closed (settle (is_called t op)) (settle-keeps closed (is_called t op) (called-keeps t op is_attached b))
-
 -- a call that is told its losses, where none is under way
-tells-keeps : {P : Core → Type 0} (t : ClientStep) (o : Option ℕ) → Alone t.client → t.client.call ≡ None → Both P t → Both P (tell_losses t o)
+tells-keeps : {P : Core → Type 0} (t : ClientStep) (q file : ℕ) → t.client.call ≡ None → Both P t → Both P (names_losses t q file)
 unfolding answers
-tells-keeps t None a none b = b
-tells-keeps t (Some file) a none b = record {
+tells-keeps t q file none b = record {
   alone = record {
     asking = subst (λ o. Asking t.client.who t.client.now t.client.attached o t.client.ticket t.client.xid t.client.seq t.client.leases t.client.notices) none b.alone.asking;
     delaying = b.alone.delaying;
@@ -240,24 +238,23 @@ tells-keeps t (Some file) a none b = record {
   core = b.core;
 }
 
-past-losses-keeps : {Heard : ℕ → Tag → Type 0} {Given : ℕ → Grant → ℕ → Type 0} {P : Core → Type 0} → Closed Heard Given P → (t : ClientStep) (op : Call) (losses : List Loss) → t.client.call ≡ None → t.client.attached ≡ true → Both P t → Both P (call_past_losses t op losses)
-past-losses-keeps closed t op [] none is_attached b = freely-keeps closed t op is_attached b
-past-losses-keeps closed t op (loss ∷ losses) none is_attached b = tells-keeps t (changed_file op) b.alone none b
-
 begun-same : (c : Client) (op : Call) → ((begins_call c op).client.call ≡ c.call) × ((begins_call c op).client.attached ≡ c.attached)
 unfolding begins_call
 begun-same c op = (refl, refl)
 
-neither : (a b : Bool) → (a || not b) ≡ false → (a ≡ false) × (b ≡ true)
-neither true b h = absurd (cc)
-neither false true h = (refl, refl)
-neither false false h = absurd (cc)
-
 pub call-keeps : {Heard : ℕ → Tag → Type 0} {Given : ℕ → Grant → ℕ → Type 0} {P : Core → Type 0} → Closed Heard Given P → (c : Client) (op : Call) → Alone c → P (core_of (begun c)) → Both P (client_call c op)
-call-keeps {P = P} closed c op a core =
-    choice (Both P) (is_some c.call || not c.attached) (says_busy (begins_call c op)) (call_past_losses (begins_call c op) op (losses_for (changed_file op) c.losses))
-    (λ e. busy-keeps (begins_call c op) (begins-both c op a core))
-    (λ e. let k = neither (is_some c.call) c.attached e in past-losses-keeps closed (begins_call c op) op (losses_for (changed_file op) c.losses) ((begun-same c op).0 ∙ none-there c.call k.0) ((begun-same c op).1 ∙ k.1) (begins-both c op a core))
+call-keeps {P = P} closed c op a core = call-cases c op (Both P) (record {
+  busy = λ why. busy-keeps t begins;
+  telling = λ file loss losses none on is some. tells-keeps t t.client.calls file ((begun-same c op).0 ∙ none) begins;
+  going = λ none on free.
+      let settled : Both P (settle (is_called t op)) = settle-keeps closed (is_called t op) (called-keeps t op ((begun-same c op).1 ∙ on) begins) in
+      unless-cached-cases (settle (is_called t op)) (Both P) (λ cached. settled) (λ other. send-next-keeps closed false (settle (is_called t op)) settled);
+}) where
+  t : ClientStep
+  t = begins_call c op
+
+  begins : Both P t
+  begins = begins-both c op a core
 
 -- ---- ticks
 
@@ -280,10 +277,6 @@ again-keeps closed t ticket is b = record {
   core = closed.again (core_of t) ticket is b.core;
 }
 
-tick-asking-keeps : {Heard : ℕ → Tag → Type 0} {Given : ℕ → Grant → ℕ → Type 0} {P : Core → Type 0} → Closed Heard Given P → (t : ClientStep) (o : Option Ticket) → t.client.ticket ≡ o → Both P t → Both P (tick_asking t o)
-tick-asking-keeps {P = P} closed t (Some ticket) is b = choice (Both P) (nat_le (ticket.last + 2) t.client.now) (sends_again t ticket) t (λ e. again-keeps closed t ticket is b) (λ e. b)
-tick-asking-keeps closed t None is b = send-next-keeps closed true (settle t) (settle-keeps closed t b)
-
 -- time passes at a client
 timed : (c : Client) (now : ℕ) → c.now ≤ now → Alone c → Alone (at_time c now)
 unfolding at_time
@@ -294,4 +287,13 @@ unfolding at_time
 timed-ticket c now = refl
 
 pub tick-keeps : {Heard : ℕ → Tag → Type 0} {Given : ℕ → Grant → ℕ → Type 0} {P : Core → Type 0} → Closed Heard Given P → (c : Client) (now : ℕ) → c.now ≤ now → Alone c → P (core_of (begun (at_time c now))) → Both P (client_tick c now)
-tick-keeps closed c now more a core = tick-asking-keeps closed (begun (at_time c now)) c.ticket (timed-ticket c now) (record { alone = timed c now more a; core = core })
+tick-keeps {P = P} closed c now more a core = tick-cases c now (Both P) (record {
+  again = λ ticket is late. again-keeps closed t ticket (timed-ticket c now ∙ is) b;
+  quiet = λ ticket is early. b;
+  free = λ none. send-next-keeps closed true (settle t) (settle-keeps closed t b);
+}) where
+  t : ClientStep
+  t = begun (at_time c now)
+
+  b : Both P t
+  b = record { alone = timed c now more a; core = core }

@@ -5,7 +5,6 @@ use Rattle.nq_base.specs.declared.Answer.{Answer}
 use Rattle.nq_base.specs.declared.Grant.{Grant}
 use Rattle.nq_base.specs.declared.Push.{Push}
 use Rattle.nq_base.specs.declared.PushBase.{PushBase}
-use Rattle.nq_base.specs.declared.Reply.{Reply}
 use Rattle.nq_base.specs.declared.Request.{Request}
 use Rattle.nq_base.specs.declared.Tag.{Tag}
 use Rattle.nq_base.specs.declared.Value.{Value}
@@ -13,16 +12,15 @@ use Rattle.nq_base.specs.declared.Who.{Who}
 use Rattle.walk_client.proofs.ClientCases.{Core, core_of, Closed, Both}
 use Rattle.walk_client.proofs.ClientFacts.{Alone, Asking, Delaying, AskingOf, DelayingOf, IsLease, push_in}
 use Rattle.walk_client.proofs.ClientMoves as move
-use Rattle.walk_client.proofs.ClientMoves.{some-same, none-some, attached-with-ticket}
+use Rattle.walk_client.proofs.ClientMoves.{some-same, none-some}
 use Rattle.walk_client.proofs.ClientWrites as writes
 use Rattle.nq_model.proofs.ClientLists.{notice-before-drop, any-others}
 use Rattle.walk_server.proofs.Rows.{choice, number-same, same-number}
 use Rattle.walk_client.proofs.SendWalk.{at-true, from-true}
 use Rattle.walk_client.proofs.SettleWalk.{IsIdle, answers-keeps, names-keeps, begun-call}
 use Rattle.nq_model.specs.Client.{Client, ClientStep, pushing, begun, Notice, Ticket, UnderWay, lease_on, put_lease, notice_on, is_clean, is_push_of, push_passes, revision_of, is_revision_before, dirty_at, is_clean_in}
-use Rattle.nq_model.specs.Hear.{vacates_lease, vacates_noticed, loses, waits_for, reports_to, reports, without_lease, push_refused, granted_lease, breaks, breaks_chain, if_broken, holds, takes_grant, takes_optional, answers_call_of, answers_call, caches_block, purges, knows_revision, grant_caches, then_caches, read_done, with_through, marks_through, lease_done, holds_caching, caches_write, write_done, ends_push, caches_push, vacates_if_clean, push_done, spends, attached, pauses, done_for_call, done_renewal, done_push, refused_push, is_of_procedure, other_push}
+use Rattle.nq_model.specs.Hear.{vacates_lease, vacates_noticed, loses, waits_for, reports_to, reports, without_lease, push_refused, granted_lease, breaks, breaks_chain, if_broken, holds, takes_grant, takes_optional, answers_call_of, answers_call, caches_block, purges, knows_revision, grant_caches, then_caches, read_done, with_through, marks_through, lease_done, holds_caching, caches_write, write_done, ends_push, caches_push, vacates_if_clean, push_done, spends, attached, pauses, other_push}
 use Rattle.nq_model.specs.Settle.{answers, names_losses}
-use Rattle.nq_model.specs.LeaseInterval.{grant_in, requested_file}
 
 -- no request is under way, and the client is attached
 pub record IsFree (t : ClientStep) : Type 0 where
@@ -58,7 +56,7 @@ quiet-purges : {P : Core → Type 0} (t : ClientStep) (file : ℕ) → Both P t 
 unfolding purges
 quiet-purges t file b = record { alone = record { asking = b.alone.asking; delaying = b.alone.delaying }; core = b.core }
 
-quiet-knows : {P : Core → Type 0} (t : ClientStep) (file rev : ℕ) → Both P t → Both P (knows_revision t file rev)
+pub quiet-knows : {P : Core → Type 0} (t : ClientStep) (file rev : ℕ) → Both P t → Both P (knows_revision t file rev)
 unfolding knows_revision
 quiet-knows t file rev b = record { alone = record { asking = b.alone.asking; delaying = b.alone.delaying }; core = b.core }
 
@@ -161,7 +159,7 @@ takes-free t file g sent none f = let s = if-broken-same t file g none in holds-
 abbrev pub Brings : (ℕ → Grant → ℕ → Type 0) → ClientStep → (file : ℕ) → Option Grant → (sent : ℕ) → Type 0
 Brings Given t file o sent = (g : Grant) → o ≡ Some g → Given file g sent × (notice_on file t.client.notices ≡ None)
 
-optional-keeps : {Heard : ℕ → Tag → Type 0} {Given : ℕ → Grant → ℕ → Type 0} {P : Core → Type 0} → Closed Heard Given P → (t : ClientStep) (file : ℕ) (o : Option Grant) (sent : ℕ) → Brings Given t file o sent → sent ≤ t.client.now → IsFree t → Both P t → Both P (takes_optional t file o sent)
+pub optional-keeps : {Heard : ℕ → Tag → Type 0} {Given : ℕ → Grant → ℕ → Type 0} {P : Core → Type 0} → Closed Heard Given P → (t : ClientStep) (file : ℕ) (o : Option Grant) (sent : ℕ) → Brings Given t file o sent → sent ≤ t.client.now → IsFree t → Both P t → Both P (takes_optional t file o sent)
 optional-keeps closed t file None sent brings past f b = b
 optional-keeps closed t file (Some g) sent brings past f b = let k = brings g refl in takes-keeps closed t file g sent k.0 past f k.1 b
 
@@ -179,13 +177,13 @@ then-caches-keeps {P = P} t file block body o b = choice (Both P) (grant_caches 
 then-caches-free : (t : ClientStep) (file block : ℕ) (body : List ℕ) (o : Option Grant) → IsFree t → IsFree (then_caches t file block body o)
 then-caches-free t file block body o f = choice IsFree (grant_caches o) (caches_block t file block body) t (λ e. caches-free t file block body f) (λ e. f)
 
-read-done-keeps : {Heard : ℕ → Tag → Type 0} {Given : ℕ → Grant → ℕ → Type 0} {P : Core → Type 0} → Closed Heard Given P → (t : ClientStep) (file block : ℕ) (body : List ℕ) (o : Option Grant) (sent number : ℕ) → Brings Given t file o sent → sent ≤ t.client.now → IsFree t → Both P t → Both P (read_done t file block body o sent number)
+pub read-done-keeps : {Heard : ℕ → Tag → Type 0} {Given : ℕ → Grant → ℕ → Type 0} {P : Core → Type 0} → Closed Heard Given P → (t : ClientStep) (file block : ℕ) (body : List ℕ) (o : Option Grant) (sent number : ℕ) → Brings Given t file o sent → sent ≤ t.client.now → IsFree t → Both P t → Both P (read_done t file block body o sent number)
 read-done-keeps {Given = Given} closed t file block body o sent number brings past f b =
     answers-call-keeps (then_caches (takes_optional t file o sent) file block body o) (Answer.Ok (Value.Body body)) (Some number)
     (then-caches-free (takes_optional t file o sent) file block body o (optional-free Given t file o sent brings f))
     (then-caches-keeps (takes_optional t file o sent) file block body o (optional-keeps closed t file o sent brings past f b))
 
-lease-done-keeps : {Heard : ℕ → Tag → Type 0} {Given : ℕ → Grant → ℕ → Type 0} {P : Core → Type 0} → Closed Heard Given P → (t : ClientStep) (file : ℕ) (o : Option Grant) (sent : ℕ) → Brings Given t file o sent → sent ≤ t.client.now → IsFree t → Both P t → Both P (lease_done t file o sent)
+pub lease-done-keeps : {Heard : ℕ → Tag → Type 0} {Given : ℕ → Grant → ℕ → Type 0} {P : Core → Type 0} → Closed Heard Given P → (t : ClientStep) (file : ℕ) (o : Option Grant) (sent : ℕ) → Brings Given t file o sent → sent ≤ t.client.now → IsFree t → Both P t → Both P (lease_done t file o sent)
 lease-done-keeps {Given = Given} {P = P} closed t file o sent brings past f b =
     choice (Both P) (grant_caches o) (takes_optional t file o sent) (marks_through true (takes_optional t file o sent))
     (λ e. optional-keeps closed t file o sent brings past f b)
@@ -201,7 +199,7 @@ purges-free : (t : ClientStep) (file : ℕ) → IsFree t → IsFree (purges t fi
 unfolding purges
 purges-free t file f = record { free = f.free; attached = f.attached }
 
-knows-free : (t : ClientStep) (file rev : ℕ) → IsFree t → IsFree (knows_revision t file rev)
+pub knows-free : (t : ClientStep) (file rev : ℕ) → IsFree t → IsFree (knows_revision t file rev)
 unfolding knows_revision
 knows-free t file rev f = record { free = f.free; attached = f.attached }
 
@@ -209,28 +207,11 @@ caches-write-free : (t : ClientStep) (file block : ℕ) (body : List ℕ) (rev :
 caches-write-free t file block body rev f =
     choice IsFree (holds_caching (lease_on file t.client.leases) && is_revision_before rev (revision_of file t.client.revisions)) (caches_block t file block body) (purges t file) (λ e. caches-free t file block body f) (λ e. purges-free t file f)
 
-write-done-keeps : {P : Core → Type 0} (t : ClientStep) (file block : ℕ) (body : List ℕ) (rev : ℕ) → IsFree t → Both P t → Both P (write_done t file block body rev)
+pub write-done-keeps : {P : Core → Type 0} (t : ClientStep) (file block : ℕ) (body : List ℕ) (rev : ℕ) → IsFree t → Both P t → Both P (write_done t file block body rev)
 write-done-keeps t file block body rev f b =
     answers-call-keeps (knows_revision (caches_write t file block body rev) file rev) (Answer.Ok Value.Nothing) None
     (knows-free (caches_write t file block body rev) file rev (caches-write-free t file block body rev f))
     (quiet-knows (caches_write t file block body rev) file rev (caches-write-keeps t file block body rev b))
-
--- ---- the call's request was done or refused
-
-pub done-call-keeps : {Heard : ℕ → Tag → Type 0} {Given : ℕ → Grant → ℕ → Type 0} {P : Core → Type 0} → Closed Heard Given P → (t : ClientStep) (number sent : ℕ) (request : Request) (r : Reply) → ((file : ℕ) → requested_file request ≡ Some file → Brings Given t file (grant_in r) sent) → sent ≤ t.client.now → IsFree t → Both P t → Both P (done_for_call t number sent request r)
-done-call-keeps closed t number sent (Request.Lookup who name) (Reply.Lookup inc file blocks) brings past f b = answers-call-keeps t (Answer.Ok (Value.File file)) None f b
-done-call-keeps closed t number sent (Request.Create who seq name blocks) (Reply.Create inc file) brings past f b = answers-call-keeps t (Answer.Ok (Value.File file)) None f b
-done-call-keeps closed t number sent (Request.GetAttr who file) (Reply.GetAttr inc blocks rev) brings past f b = answers-call-keeps t (Answer.Ok (Value.Blocks blocks)) None f b
-done-call-keeps closed t number sent (Request.Read who q file block want) (Reply.Read inc rev body grant) brings past f b = read-done-keeps closed t file block body grant sent number (brings file refl) past f b
-done-call-keeps closed t number sent (Request.GetLease who file want) (Reply.GetLease inc grant) brings past f b = lease-done-keeps closed t file grant sent (brings file refl) past f b
-done-call-keeps closed t number sent (Request.Write who seq file block first last push body) (Reply.Write inc rev) brings past f b = write-done-keeps t file block body rev f b
-done-call-keeps closed t number sent (Request.Resize who seq q file blocks) (Reply.Resize inc rev) brings past f b = answers-call-keeps (knows_revision t file rev) (Answer.Ok Value.Nothing) None (knows-free t file rev f) (quiet-knows t file rev b)
-done-call-keeps closed t number sent (Request.Remove who seq q file) (Reply.Remove inc) brings past f b = answers-call-keeps t (Answer.Ok Value.Nothing) None f b
-done-call-keeps closed t number sent request other brings past f b = b
-
-pub done-renewal-keeps : {Heard : ℕ → Tag → Type 0} {Given : ℕ → Grant → ℕ → Type 0} {P : Core → Type 0} → Closed Heard Given P → (t : ClientStep) (sent : ℕ) (request : Request) (r : Reply) → ((file : ℕ) → requested_file request ≡ Some file → Brings Given t file (grant_in r) sent) → sent ≤ t.client.now → IsFree t → Both P t → Both P (done_renewal t sent request r)
-done-renewal-keeps closed t sent (Request.GetLease who file want) (Reply.GetLease inc grant) brings past f b = optional-keeps closed t file grant sent (brings file refl) past f b
-done-renewal-keeps closed t sent request other brings past f b = b
 
 -- ---- a push was done or refused
 
@@ -302,7 +283,7 @@ vacates-if-clean-keeps {P = P} closed t file ungiven s none =
     (λ e. vacates-spent closed t file (notice_on file t.client.notices) ungiven refl s none)
     (λ e. both-again t file s none (λ n f. e))
 
-push-done-keeps : {Heard : ℕ → Tag → Type 0} {Given : ℕ → Grant → ℕ → Type 0} {P : Core → Type 0} → Closed Heard Given P → (t : ClientStep) (file block : ℕ) (body : List ℕ) (rev : ℕ) → ((g : Grant) (sent : ℕ) → Given file g sent → ⊥) → Spent P t file → Both P (push_done t file block body rev)
+pub push-done-keeps : {Heard : ℕ → Tag → Type 0} {Given : ℕ → Grant → ℕ → Type 0} {P : Core → Type 0} → Closed Heard Given P → (t : ClientStep) (file block : ℕ) (body : List ℕ) (rev : ℕ) → ((g : Grant) (sent : ℕ) → Given file g sent → ⊥) → Spent P t file → Both P (push_done t file block body rev)
 push-done-keeps closed t file block body rev ungiven s =
     vacates-if-clean-keeps closed (caches_push (knows_revision (ends_push t) file rev) file block body) file ungiven
     (caches-push-spent (knows_revision (ends_push t) file rev) file block body (ends-spent t file rev s))
@@ -344,7 +325,7 @@ unfolding vacates_lease
 vacated-free t file None f = f
 vacated-free t file (Some n) f = record { free = f.free; attached = f.attached }
 
-push-refused-keeps : {Heard : ℕ → Tag → Type 0} {Given : ℕ → Grant → ℕ → Type 0} {P : Core → Type 0} → Closed Heard Given P → (t : ClientStep) (file : ℕ) → ((g : Grant) (sent : ℕ) → Given file g sent → ⊥) → other_push file t.client.push ≡ None → Spent P t file → Both P (push_refused t file)
+pub push-refused-keeps : {Heard : ℕ → Tag → Type 0} {Given : ℕ → Grant → ℕ → Type 0} {P : Core → Type 0} → Closed Heard Given P → (t : ClientStep) (file : ℕ) → ((g : Grant) (sent : ℕ) → Given file g sent → ⊥) → other_push file t.client.push ≡ None → Spent P t file → Both P (push_refused t file)
 push-refused-keeps {P = P} closed t file ungiven gone s =
     reports-keeps (vacates_noticed third file (notice_on file t.client.notices)) file
     (vacated-free third file (notice_on file t.client.notices) kept.spent.free)
@@ -392,10 +373,10 @@ unfolding spends
 spent-notices c = refl
 
 -- by the reply to a push
-push-of-file : (w : Who) (seq file block first last : ℕ) (base : PushBase) (body : List ℕ) (p : Push) → push_in (Request.Write w seq file block first last (Some base) body) ≡ Some p → p.file ≡ file
+pub push-of-file : (w : Who) (seq file block first last : ℕ) (base : PushBase) (body : List ℕ) (p : Push) → push_in (Request.Write w seq file block first last (Some base) body) ≡ Some p → p.file ≡ file
 push-of-file w seq file block first last base body p e = let same : record { file = file; block = block; first = first; last = last; body = body } ≡ p = some-same _ p e in ap (λ q. q.file) (sym same)
 
-spent-push : {P : Core → Type 0} (c : Client) (ticket : Ticket) (file : ℕ) → c.ticket ≡ Some ticket → c.attached ≡ true → ((p : Push) → push_in ticket.request ≡ Some p → p.file ≡ file) → Alone c → P (record (core_of (begun c)) { ticket = None }) → Spent P (spends (begun c)) file
+pub spent-push : {P : Core → Type 0} (c : Client) (ticket : Ticket) (file : ℕ) → c.ticket ≡ Some ticket → c.attached ≡ true → ((p : Push) → push_in ticket.request ≡ Some p → p.file ≡ file) → Alone c → P (record (core_of (begun c)) { ticket = None }) → Spent P (spends (begun c)) file
 unfolding spends
 spent-push c ticket file is attached of_file a core = record {
   spent = record {
@@ -418,7 +399,7 @@ spent-push c ticket file is attached of_file a core = record {
   case f apart (inr some) = under f apart c.push refl some
 
 -- the push under way is of the request's file
-spent-gone : (c : Client) (ticket : Ticket) (file : ℕ) → c.ticket ≡ Some ticket → ((p : Push) → push_in ticket.request ≡ Some p → p.file ≡ file) → Alone c → other_push file (spends (begun c)).client.push ≡ None
+pub spent-gone : (c : Client) (ticket : Ticket) (file : ℕ) → c.ticket ≡ Some ticket → ((p : Push) → push_in ticket.request ≡ Some p → p.file ≡ file) → Alone c → other_push file (spends (begun c)).client.push ≡ None
 unfolding spends
 spent-gone c ticket file is of_file a = case c.push refl
   where
@@ -430,16 +411,3 @@ spent-gone c ticket file is of_file a = case c.push refl
         let same : p.file ≡ file = of_file p (subst (λ z. push_in z.request ≡ Some p) one k.pushes) in
         let yes : (p.file == file) ≡ true = number-same p.file file same in
         rw yes refl
-
--- ---- the reply to the request under way
-
-pub done-push-keeps : {Heard : ℕ → Tag → Type 0} {Given : ℕ → Grant → ℕ → Type 0} {P : Core → Type 0} → Closed Heard Given P → (c : Client) (ticket : Ticket) (request : Request) (r : Reply) → ((file : ℕ) (g : Grant) (sent : ℕ) → Given file g sent → requested_file ticket.request ≡ Some file) → ticket.request ≡ request → is_some (push_in request) ≡ true → is_of_procedure r request ≡ true → c.ticket ≡ Some ticket → c.attached ≡ true → Alone c → P (record (core_of (begun c)) { ticket = None }) → Both P (done_push (spends (begun c)) request r)
-done-push-keeps closed c ticket (Request.Write w seq file block first last (Some base) body) (Reply.Write inc rev) only eq fits counts is attached a core =
-    push-done-keeps closed (spends (begun c)) file block body rev (λ g sent given. none-some file (ap requested_file (sym eq) ∙ only file g sent given)) (spent-push c ticket file is attached (λ p e. push-of-file w seq file block first last base body p (subst (λ z. push_in z ≡ Some p) eq e)) a core)
-done-push-keeps closed c ticket request r only eq fits counts is attached a core = absurd (cc)
-
-pub refused-push-keeps : {Heard : ℕ → Tag → Type 0} {Given : ℕ → Grant → ℕ → Type 0} {P : Core → Type 0} → Closed Heard Given P → (c : Client) (ticket : Ticket) (request : Request) → ((file : ℕ) (g : Grant) (sent : ℕ) → Given file g sent → requested_file ticket.request ≡ Some file) → ticket.request ≡ request → is_some (push_in request) ≡ true → c.ticket ≡ Some ticket → c.attached ≡ true → Alone c → P (record (core_of (begun c)) { ticket = None }) → Both P (refused_push (spends (begun c)) request)
-refused-push-keeps closed c ticket (Request.Write w seq file block first last (Some base) body) only eq fits is attached a core =
-    let of_file : (p : Push) → push_in ticket.request ≡ Some p → p.file ≡ file = λ p e. push-of-file w seq file block first last base body p (subst (λ z. push_in z ≡ Some p) eq e) in
-    push-refused-keeps closed (spends (begun c)) file (λ g sent given. none-some file (ap requested_file (sym eq) ∙ only file g sent given)) (spent-gone c ticket file is of_file a) (spent-push c ticket file is attached of_file a core)
-refused-push-keeps closed c ticket request only eq fits is attached a core = absurd (cc)

@@ -1,5 +1,5 @@
 -- The next request, walked once: each outcome with what led to it.
-use Rattle.std.proofs.Common.{◌≡◌, ◌≤◌, ◌⊎◌, ℕ, Bool, true, false, ◌||◌, List, [], ◌∷◌, Option, Some, None, is_some, map, nat_le, if◌then◌else◌, refl, sym, subst, ap, ◌∙◌, inl, inr}
+use Rattle.std.proofs.Common.{◌≡◌, ◌≤◌, ◌⊎◌, ℕ, Bool, true, false, ◌||◌, List, [], ◌∷◌, Option, Some, None, is_some, map, nat_le, if◌then◌else◌, refl, sym, subst, ap, ◌∙◌, nat_lt, ◌==◌, inl, inr}
 use Rattle.std.specs.List.{filter}
 use Rattle.std.proofs.lemmas.Bool.{and_parts, not-true, or_parts}
 use Rattle.nq_base.specs.declared.Call.{Call}
@@ -8,10 +8,9 @@ use Rattle.nq_base.specs.declared.Push.{Push}
 use Rattle.nq_base.specs.declared.Request.{Request}
 use Rattle.nq_model.proofs.ClientLists.{lease-file, first-is-of}
 use Rattle.walk_client.proofs.ClientMoves.{some-same, none-some}
-use Rattle.walk_client.proofs.SendWalk.{least-with-one}
-use Rattle.nq_model.specs.Client.{Client, ClientStep, Job, for_call, renewing, pushing, Lease, Ticket, UnderWay, lease_on, notice_on, is_clean, first_dirty, file_of_lease}
-use Rattle.nq_model.specs.Send.{sends_request, after_seq, base_of, takes_push, pushes_these, pushes, noticed_file, ending_file, read_want, want_of, sends_write, next_write, next_put, gives_up, next_change, asks, next_of_call, next_of_under_way, renews_lease, renews, renewed_file, is_to_renew, is_asking, then_renews, then_calls, pushes_due, then_pushes, then_ending, send_next, shares_live, least}
-use Rattle.walk_server.proofs.Rows.{choice}
+use Rattle.nq_model.specs.Client.{Client, ClientStep, Job, for_call, renewing, pushing, Lease, Notice, Ticket, UnderWay, lease_on, notice_on, is_clean, first_dirty, file_of_lease, file_of_notice}
+use Rattle.nq_model.specs.Send.{least_with, sends_request, after_seq, base_of, takes_push, pushes_these, pushes, noticed_file, ending_file, read_want, want_of, sends_write, next_write, next_put, gives_up, next_change, asks, next_of_call, next_of_under_way, renews_lease, renews, renewed_file, is_to_renew, is_asking, then_renews, then_calls, pushes_due, then_pushes, then_ending, send_next, shares_live, least}
+use Rattle.walk_server.proofs.Rows.{choice, number-same}
 use Rattle.walk_server.proofs.Tests.{is-at-most, none-there}
 
 -- neither the file of the first notice nor the first file whose lease is about to end has delayed writes to be pushed
@@ -83,6 +82,39 @@ asking-pushes t o e = rw e refl
 sent-asks : (t : ClientStep) (job : Job) (request : Request) → is_asking (sends_request t job request) ≡ true
 unfolding sends_request
 sent-asks t job request = refl
+
+-- ---- the least of some files
+
+-- the least of some numbers is one of them, and there is one where there are some
+pub least-with-some : (n : ℕ) (o : Option ℕ) → least_with n o ≡ None → ⊥
+least-with-some n None h = cc
+least-with-some n (Some m) h = cc
+
+least-none : (ns : List ℕ) → least ns ≡ None → ns ≡ []
+least-none [] h = refl
+least-none (n ∷ ns) h = absurd (least-with-some n (least ns) h)
+
+pub least-with-one : (n : ℕ) (o : Option ℕ) (k : ℕ) → least_with n o ≡ Some k → (n ≡ k) ⊎ (o ≡ Some k)
+least-with-one n None k h = inl (some-same n k h)
+least-with-one n (Some m) k h = step (nat_lt m n) h
+  where
+    step : (b : Bool) → Some (if b then m else n) ≡ Some k → (n ≡ k) ⊎ (Some m ≡ Some k)
+    step true e = inr e
+    step false e = inl (some-same n k e)
+
+-- a file for which a notice waits has one
+pub noticed-one : (notices : List Notice) (file : ℕ) → least (map file_of_notice notices) ≡ Some file → (n : Notice) × (notice_on file notices ≡ Some n)
+noticed-one [] file h = none-some file h
+noticed-one (n ∷ notices) file h = step (n.file == file) refl (least-with-one n.file (least (map file_of_notice notices)) file h) (noticed-one notices file)
+  where
+    step : (b : Bool) → (n.file == file) ≡ b → (n.file ≡ file) ⊎ (least (map file_of_notice notices) ≡ Some file) → (least (map file_of_notice notices) ≡ Some file → (m : Notice) × (notice_on file notices ≡ Some m)) → (m : Notice) × ((if b then Some n else notice_on file notices) ≡ Some m)
+    step true e which rest = (n, refl)
+    step false e (inl same) rest = let is : (n.file == file) ≡ true = number-same n.file file same in absurd (cc)
+    step false e (inr less) rest = rest less
+
+pub no-noticed : (notices : List Notice) → least (map file_of_notice notices) ≡ None → (file : ℕ) (n : Notice) → notice_on file notices ≡ Some n → ⊥
+no-noticed [] h file n e = none-some n e
+no-noticed (m ∷ notices) h file n e = absurd (least-with-some m.file (least (map file_of_notice notices)) h)
 
 -- ---- the lease to renew
 

@@ -1,8 +1,6 @@
 -- What each small change of a client keeps is kept where the next request is sent.
-use Rattle.std.proofs.Common.{◌≡◌, ◌<◌, ◌⊎◌, ℕ, ◌+◌, Bool, true, false, ◌||◌, ◌==◌, List, [], ◌∷◌, Option, Some, None, is_some, map, nat_le, nat_lt, if◌then◌else◌, refl, sym, subst, ap, ◌∙◌, arith, inl, inr}
-use Rattle.std.specs.List.{find, filter, list_any}
-use Rattle.std.proofs.lemmas.Bool.{and_parts, not-true}
-use Rattle.nq_base.specs.declared.Call.{Call}
+use Rattle.std.proofs.Common.{◌≡◌, ◌<◌, ◌⊎◌, ℕ, ◌+◌, Bool, true, false, ◌||◌, List, [], ◌∷◌, Option, Some, None, is_some, if◌then◌else◌, refl, sym, subst, ap, ◌∙◌, arith, inl, inr}
+use Rattle.std.specs.List.{find, list_any}
 use Rattle.nq_base.specs.declared.Grant.{Grant}
 use Rattle.nq_base.specs.declared.Mode.{Mode}
 use Rattle.nq_base.specs.declared.Push.{Push}
@@ -13,13 +11,12 @@ use Rattle.walk_client.proofs.ClientCases.{Core, core_of, Closed, Both, CanSend}
 use Rattle.walk_client.proofs.ClientFacts.{Asking, Delaying, AskingOf, DelayingOf, changes_file, fits_job}
 use Rattle.nq_model.proofs.ClientLists.{dropped-lease}
 use Rattle.walk_client.proofs.ClientMoves.{some-same, none-some, attached-with-call, IsNext, draws, sends, drops}
+use Rattle.walk_client.proofs.SendCases.{NothingToPush, IsFree, noticed-one, no-noticed, send-cases}
 use Rattle.walk_client.proofs.ClientWrites.{has-writes, pushes as pushes_write, asks as asks_delaying, no-push}
-use Rattle.walk_server.proofs.Rows.{choice, number-same, same-number, find-passes}
-use Rattle.nq_model.specs.Client.{Client, ClientStep, Job, attaching, for_call, renewing, pushing, Lease, Notice, Ticket, UnderWay, lease_on, notice_on, is_clean, is_push_of, first_dirty, drop_dirty, drop_lease, push_passes, file_of_notice, file_of_lease}
+use Rattle.nq_model.specs.Client.{Client, ClientStep, Job, attaching, for_call, renewing, pushing, Lease, Notice, Ticket, UnderWay, lease_on, notice_on, is_push_of, first_dirty, drop_dirty, drop_lease, push_passes}
 use Rattle.nq_model.specs.Hear.{wants_of}
 use Rattle.nq_model.specs.Message.{asker, sequence_of}
-use Rattle.nq_model.specs.Send.{sends_request, after_seq, after_number, base_of, takes_push, pushes_these, pushes, least, least_with, is_to_renew, noticed_file, ending_file, read_want, want_of, sends_write, next_write, next_put, gives_up, next_change, asks, next_of_call, next_of_under_way, renews_lease, renews, renewed_file, is_asking, then_renews, then_calls, pushes_due, then_pushes, then_ending, send_next, shares_live}
-use Rattle.walk_server.proofs.Tests.{none-there}
+use Rattle.nq_model.specs.Send.{sends_request, after_seq, after_number, base_of, takes_push, pushes_these, noticed_file, read_want, want_of, sends_write, gives_up, send_next}
 use Rattle.nq_model.proofs.Finding.{number-other}
 
 -- a fact of a flag that is known
@@ -28,10 +25,6 @@ at-true F b e h = subst F e h
 
 pub from-true : (F : Bool → Type 0) (b : Bool) → b ≡ true → F true → F b
 from-true F b e h = subst F (sym e) h
-
--- where no request is under way, no notice waits
-abbrev pub NoNotice : ClientStep → Type 0
-NoNotice t = t.client.ticket ≡ None → (file : ℕ) (n : Notice) → notice_on file t.client.notices ≡ Some n → ⊥
 
 -- a client with delayed writes is attached
 attached-with-writes : {attached : Bool} {ticket : Option Ticket} {notices : List Notice} {dirty : List Push} {push : Option Push} → Delaying attached ticket notices dirty push → (file : ℕ) (p : Push) → first_dirty file dirty ≡ Some p → attached ≡ true
@@ -75,13 +68,6 @@ sent-push {P = P} closed t file p free first b = record {
 
   before : Delaying true None c.notices c.dirty None
   before = at-true (λ a. Delaying a None c.notices c.dirty None) c.attached attached (subst (λ o. Delaying c.attached None c.notices c.dirty o) (free-push c free b.alone.delaying) (subst (λ o. Delaying c.attached o c.notices c.dirty c.push) free b.alone.delaying))
-
-pub these-keep : {Heard : ℕ → Tag → Type 0} {Given : ℕ → Grant → ℕ → Type 0} {P : Core → Type 0} → Closed Heard Given P → (t : ClientStep) (file : ℕ) (o : Option Push) → t.client.ticket ≡ None → first_dirty file t.client.dirty ≡ o → Both P t → Both P (pushes_these t o)
-these-keep closed t file None free first b = b
-these-keep closed t file (Some p) free first b = sent-push closed t file p free first b
-
-pub pushes-keeps : {Heard : ℕ → Tag → Type 0} {Given : ℕ → Grant → ℕ → Type 0} {P : Core → Type 0} → Closed Heard Given P → (t : ClientStep) (file : ℕ) → t.client.ticket ≡ None → Both P t → Both P (pushes t file)
-pushes-keeps closed t file free b = these-keep closed t file (first_dirty file t.client.dirty) free refl b
 
 -- delayed writes where a request is sent that is no push
 sent-delaying : (c : Client) (ticket : Ticket) → c.ticket ≡ None → c.attached ≡ true → DelayingOf c → Delaying c.attached (Some ticket) c.notices c.dirty c.push
@@ -195,11 +181,9 @@ pub record IsChange (t : ClientStep) (file : ℕ) (request : Request) : Type 0 w
   pub wants : (f : ℕ) → wants_of f request ≡ false
   pub changes : changes_file request ≡ Some file
 
-change-keeps : {Heard : ℕ → Tag → Type 0} {Given : ℕ → Grant → ℕ → Type 0} {P : Core → Type 0} → Closed Heard Given P → (t : ClientStep) (may_ask : Bool) (file : ℕ) (request : Request) → t.client.ticket ≡ None → t.client.attached ≡ true → is_some t.client.call ≡ true → IsChange t file request → Both P t → Both P (next_change t may_ask file request)
-change-keeps {P = P} closed t may_ask file request free attached called d b =
-    choice (Both P) (is_clean t.client file) (if may_ask then sends_request (after_seq (gives_up t file)) for_call request else t) (pushes t file)
-    (λ e. choice (Both P) may_ask (sends_request (after_seq (gives_up t file)) for_call request) t (λ f. sent) (λ f. b))
-    (λ e. pushes-keeps closed t file free b)
+change-sent : {Heard : ℕ → Tag → Type 0} {Given : ℕ → Grant → ℕ → Type 0} {P : Core → Type 0} → Closed Heard Given P → (t : ClientStep) (file : ℕ) (request : Request) → t.client.ticket ≡ None → t.client.attached ≡ true → is_some t.client.call ≡ true → IsChange t file request → Both P t → Both P (sends_request (after_seq (gives_up t file)) for_call request)
+change-sent closed t file request free attached called d b =
+    decided-keeps closed (gives_up t file) request ((gives-up-same t file).0 ∙ free) ((gives-up-same t file).1 ∙ attached) (ap is_some (gives-up-same t file).2 ∙ called) goes (gives-up-keeps closed t file b)
   where
     goes : IsDecided (gives_up t file) request
     goes = record {
@@ -210,88 +194,9 @@ change-keeps {P = P} closed t may_ask file request free attached called d b =
       changed = λ f e. let one : file ≡ f = some-same file f (sym d.changes ∙ e) in ap (lease_on f) (gives-up-same t file).5 ∙ subst (λ g. lease_on g (drop_lease file t.client.leases) ≡ None) one (dropped-lease file t.client.leases);
     }
 
-    sent : Both P (sends_request (after_seq (gives_up t file)) for_call request)
-    sent = decided-keeps closed (gives_up t file) request ((gives-up-same t file).0 ∙ free) ((gives-up-same t file).1 ∙ attached) (ap is_some (gives-up-same t file).2 ∙ called) goes (gives-up-keeps closed t file b)
-
 write-sent : {Heard : ℕ → Tag → Type 0} {Given : ℕ → Grant → ℕ → Type 0} {P : Core → Type 0} → Closed Heard Given P → (t : ClientStep) (file block : ℕ) (body : List ℕ) → t.client.ticket ≡ None → t.client.attached ≡ true → is_some t.client.call ≡ true → Both P t → Both P (sends_write t file block body)
 write-sent closed t file block body free attached called b =
     numbered-keeps closed t (Request.Write t.client.who t.client.seq file block t.client.number t.client.number None body) free attached called (record { asks = refl; fits = refl; numbered = refl; wants = λ f. refl; changed = λ f e. none-some f e }) b
-
-next-write-keeps : {Heard : ℕ → Tag → Type 0} {Given : ℕ → Grant → ℕ → Type 0} {P : Core → Type 0} → Closed Heard Given P → (t : ClientStep) (u : UnderWay) (file block : ℕ) (body : List ℕ) → t.client.ticket ≡ None → NoNotice t → t.client.attached ≡ true → is_some t.client.call ≡ true → Both P t → Both P (next_write t u file block body)
-next-write-keeps {P = P} closed t u file block body free quiet attached called b =
-    choice (Both P) (u.through || shares_live t.client.now (lease_on file t.client.leases)) (sends_write t file block body) (sends_request t for_call (Request.GetLease t.client.who file (want_of t.client Mode.Writing)))
-    (λ e. write-sent closed t file block body free attached called b)
-    (λ e. plain-keeps closed t for_call (Request.GetLease t.client.who file (want_of t.client Mode.Writing)) free (λ f n e. absurd (quiet free f n e)) attached refl (record { asks = refl; fits = refl; no_attach = λ f. cc; called = λ f. called; changes = refl }) b)
-
-next-put-keeps : {Heard : ℕ → Tag → Type 0} {Given : ℕ → Grant → ℕ → Type 0} {P : Core → Type 0} → Closed Heard Given P → (t : ClientStep) (written may_ask : Bool) (file block : ℕ) (body : List ℕ) → t.client.ticket ≡ None → t.client.attached ≡ true → is_some t.client.call ≡ true → Both P t → Both P (next_put t written may_ask file block body)
-next-put-keeps closed t true may_ask file block body free attached called b = pushes-keeps closed t file free b
-next-put-keeps closed t false true file block body free attached called b = write-sent closed t file block body free attached called b
-next-put-keeps closed t false false file block body free attached called b = b
-
-asks-keeps : {Heard : ℕ → Tag → Type 0} {Given : ℕ → Grant → ℕ → Type 0} {P : Core → Type 0} → Closed Heard Given P → (t : ClientStep) (may_ask : Bool) (request : Request) → t.client.ticket ≡ None → NoNotice t → t.client.attached ≡ true → sequence_of request ≡ None → IsPlain t for_call request → Both P t → Both P (asks t may_ask request)
-asks-keeps closed t true request free quiet attached no_seq plain b = plain-keeps closed t for_call request free (λ f n e. absurd (quiet free f n e)) attached no_seq plain b
-asks-keeps closed t false request free quiet attached no_seq plain b = b
-
-next-call-keeps : {Heard : ℕ → Tag → Type 0} {Given : ℕ → Grant → ℕ → Type 0} {P : Core → Type 0} → Closed Heard Given P → (t : ClientStep) (u : UnderWay) (may_ask : Bool) (op : Call) → t.client.ticket ≡ None → NoNotice t → t.client.attached ≡ true → is_some t.client.call ≡ true → Both P t → Both P (next_of_call t u may_ask op)
-next-call-keeps {P = P} closed t u may_ask (Call.Create name blocks) free quiet attached called b =
-    choice (Both P) may_ask (sends_request (after_seq t) for_call (Request.Create t.client.who t.client.seq name blocks)) t (λ e. decided-keeps closed t (Request.Create t.client.who t.client.seq name blocks) free attached called (record { asks = refl; fits = refl; numbered = refl; wants = λ f. refl; changed = λ f g. none-some f g }) b) (λ e. b)
-next-call-keeps closed t u may_ask (Call.Lookup name) free quiet attached called b =
-    asks-keeps closed t may_ask (Request.Lookup t.client.who name) free quiet attached refl (record { asks = refl; fits = refl; no_attach = λ f. cc; called = λ f. called; changes = refl }) b
-next-call-keeps closed t u may_ask (Call.Attr file) free quiet attached called b =
-    asks-keeps closed t may_ask (Request.GetAttr t.client.who file) free quiet attached refl (record { asks = refl; fits = refl; no_attach = λ f. cc; called = λ f. called; changes = refl }) b
-next-call-keeps closed t u may_ask (Call.Read file block) free quiet attached called b =
-    asks-keeps closed t may_ask (Request.Read t.client.who u.q file block (read_want t.client file)) free quiet attached refl (record { asks = refl; fits = refl; no_attach = λ f. cc; called = λ f. called; changes = refl }) b
-next-call-keeps closed t u may_ask (Call.Fetch file block) free quiet attached called b =
-    asks-keeps closed t may_ask (Request.Read t.client.who u.q file block None) free quiet attached refl (record { asks = refl; fits = refl; no_attach = λ f. cc; called = λ f. called; changes = refl }) b
-next-call-keeps {P = P} closed t u may_ask (Call.Write file block body) free quiet attached called b =
-    choice (Both P) may_ask (next_write t u file block body) t (λ e. next-write-keeps closed t u file block body free quiet attached called b) (λ e. b)
-next-call-keeps closed t u may_ask (Call.WriteSync file block body) free quiet attached called b = next-put-keeps closed t u.written may_ask file block body free attached called b
-next-call-keeps closed t u may_ask (Call.Sync file) free quiet attached called b = pushes-keeps closed t file free b
-next-call-keeps closed t u may_ask (Call.Resize file blocks) free quiet attached called b =
-    change-keeps closed t may_ask file (Request.Resize t.client.who t.client.seq u.q file blocks) free attached called (record { asks = refl; fits = refl; numbered = refl; wants = λ f. refl; changes = refl }) b
-next-call-keeps closed t u may_ask (Call.Remove file) free quiet attached called b =
-    change-keeps closed t may_ask file (Request.Remove t.client.who t.client.seq u.q file) free attached called (record { asks = refl; fits = refl; numbered = refl; wants = λ f. refl; changes = refl }) b
-
-next-under-way-keeps : {Heard : ℕ → Tag → Type 0} {Given : ℕ → Grant → ℕ → Type 0} {P : Core → Type 0} → Closed Heard Given P → (t : ClientStep) (may_ask : Bool) (o : Option UnderWay) → t.client.call ≡ o → t.client.ticket ≡ None → NoNotice t → Both P t → Both P (next_of_under_way t may_ask o)
-next-under-way-keeps closed t may_ask None is free quiet b = b
-next-under-way-keeps closed t may_ask (Some u) is free quiet b =
-    next-call-keeps closed t u may_ask u.call free quiet (attached-with-call b.alone.asking u is) (ap is_some is) b
-
--- the call's request, where none is under way
-then-calls-keeps : {Heard : ℕ → Tag → Type 0} {Given : ℕ → Grant → ℕ → Type 0} {P : Core → Type 0} → Closed Heard Given P → (t : ClientStep) → NoNotice t → Both P t → Both P (then_calls t)
-then-calls-keeps {P = P} closed t quiet b =
-    choice (Both P) (is_asking t) t (next_of_under_way t (nat_le t.client.pause t.client.now) t.client.call) (λ e. b) (λ e. next-under-way-keeps closed t (nat_le t.client.pause t.client.now) t.client.call refl (none-there t.client.ticket e) quiet b)
-
--- the least of some numbers is one of them, and there is one where there are some
-pub least-with-some : (n : ℕ) (o : Option ℕ) → least_with n o ≡ None → ⊥
-least-with-some n None h = cc
-least-with-some n (Some m) h = cc
-
-least-none : (ns : List ℕ) → least ns ≡ None → ns ≡ []
-least-none [] h = refl
-least-none (n ∷ ns) h = absurd (least-with-some n (least ns) h)
-
-pub least-with-one : (n : ℕ) (o : Option ℕ) (k : ℕ) → least_with n o ≡ Some k → (n ≡ k) ⊎ (o ≡ Some k)
-least-with-one n None k h = inl (some-same n k h)
-least-with-one n (Some m) k h = step (nat_lt m n) h
-  where
-    step : (b : Bool) → Some (if b then m else n) ≡ Some k → (n ≡ k) ⊎ (Some m ≡ Some k)
-    step true e = inr e
-    step false e = inl (some-same n k e)
-
--- a file for which a notice waits has one
-pub noticed-one : (notices : List Notice) (file : ℕ) → least (map file_of_notice notices) ≡ Some file → (n : Notice) × (notice_on file notices ≡ Some n)
-noticed-one [] file h = none-some file h
-noticed-one (n ∷ notices) file h = step (n.file == file) refl (least-with-one n.file (least (map file_of_notice notices)) file h) (noticed-one notices file)
-  where
-    step : (b : Bool) → (n.file == file) ≡ b → (n.file ≡ file) ⊎ (least (map file_of_notice notices) ≡ Some file) → (least (map file_of_notice notices) ≡ Some file → (m : Notice) × (notice_on file notices ≡ Some m)) → (m : Notice) × ((if b then Some n else notice_on file notices) ≡ Some m)
-    step true e which rest = (n, refl)
-    step false e (inl same) rest = let is : (n.file == file) ≡ true = number-same n.file file same in absurd (cc)
-    step false e (inr less) rest = rest less
-
-pub no-noticed : (notices : List Notice) → least (map file_of_notice notices) ≡ None → (file : ℕ) (n : Notice) → notice_on file notices ≡ Some n → ⊥
-no-noticed [] h file n e = none-some n e
-no-noticed (m ∷ notices) h file n e = absurd (least-with-some m.file (least (map file_of_notice notices)) h)
 
 -- where a list has one that passes, the first is found
 any-found : (p : Push → Bool) (xs : List Push) → list_any p xs ≡ true → (x : Push) × (find p xs ≡ Some x)
@@ -310,100 +215,45 @@ to-push c file n free waits h = case (has-writes file c.dirty c.push (h.noticed 
     case (inl some) = any-found (is_push_of file) c.dirty some
     case (inr some) = let none : push_passes (is_push_of file) c.push ≡ false = rw (free-push c free h) refl in absurd (cc)
 
--- after a push is sent a request is under way
-pushed-asks : (t : ClientStep) (p : Push) → is_some (pushes_these t (Some p)).client.ticket ≡ true
-unfolding sends_request
-pushed-asks t p = refl
-
-asking-quiet : (t : ClientStep) → is_some t.client.ticket ≡ true → NoNotice t
-asking-quiet t asks = λ free file n e. let none : is_some t.client.ticket ≡ false = rw free refl in absurd (cc)
-
-pushed-quiet : (t : ClientStep) (p : Push) (o : Option Push) → o ≡ Some p → NoNotice (pushes_these t o)
-pushed-quiet t p o e = subst (λ z. NoNotice (pushes_these t z)) (sym e) (asking-quiet (pushes_these t (Some p)) (pushed-asks t p))
-
-due-keeps : {Heard : ℕ → Tag → Type 0} {Given : ℕ → Grant → ℕ → Type 0} {P : Core → Type 0} → Closed Heard Given P → (t : ClientStep) (o : Option ℕ) → t.client.ticket ≡ None → Both P t → Both P (pushes_due t o)
-due-keeps closed t None free b = b
-due-keeps closed t (Some file) free b = pushes-keeps closed t file free b
-
--- the first push that is due, where no request is under way
-then-pushes-keeps : {Heard : ℕ → Tag → Type 0} {Given : ℕ → Grant → ℕ → Type 0} {P : Core → Type 0} → Closed Heard Given P → (t : ClientStep) (o : Option ℕ) → Both P t → Both P (then_pushes t o)
-then-pushes-keeps {P = P} closed t o b = choice (Both P) (is_asking t) t (pushes_due t o) (λ e. b) (λ e. due-keeps closed t o (none-there t.client.ticket e) b)
-
--- after the files with notices were seen to, no notice waits where no request is under way
-noticed-quiet : (t : ClientStep) (o : Option ℕ) → noticed_file t.client ≡ o → is_asking t ≡ false → DelayingOf t.client → NoNotice (pushes_due t o)
-noticed-quiet t None is idle h = λ free file n e. no-noticed t.client.notices is file n e
-noticed-quiet t (Some file) is idle h =
-    let one = noticed-one t.client.notices file is in
-    let p = to-push t.client file one.0 (none-there t.client.ticket idle) one.1 h in
-    pushed-quiet t p.0 (first_dirty file t.client.dirty) p.1
-
-then-noticed-quiet : (t : ClientStep) → DelayingOf t.client → NoNotice (then_pushes t (noticed_file t.client))
-then-noticed-quiet t h = choice NoNotice (is_asking t) t (pushes_due t (noticed_file t.client)) (λ e. asking-quiet t e) (λ e. noticed-quiet t (noticed_file t.client) refl e h)
-
-these-quiet : (t : ClientStep) (o : Option Push) → NoNotice t → NoNotice (pushes_these t o)
-these-quiet t None quiet = quiet
-these-quiet t (Some p) quiet = asking-quiet (pushes_these t (Some p)) (pushed-asks t p)
-
-due-quiet : (t : ClientStep) (o : Option ℕ) → NoNotice t → NoNotice (pushes_due t o)
-due-quiet t None quiet = quiet
-due-quiet t (Some file) quiet = these-quiet t (first_dirty file t.client.dirty) quiet
-
-then-ending-quiet : (t : ClientStep) → NoNotice t → NoNotice (then_ending t)
-then-ending-quiet t quiet = choice NoNotice (is_asking t) t (pushes_due t (ending_file t.client)) (λ e. quiet) (λ e. due-quiet t (ending_file t.client) quiet)
-
--- a file whose lease is to be renewed has no notice
-renewed-one : (c : Client) (leases : List Lease) (file : ℕ) → least (map file_of_lease (filter (is_to_renew c) leases)) ≡ Some file → notice_on file c.notices ≡ None
-renewed-one c [] file h = none-some file h
-renewed-one c (l ∷ leases) file h = step (is_to_renew c l) refl h (renewed-one c leases file)
-  where
-    step : (b : Bool) → is_to_renew c l ≡ b → least (map file_of_lease (if b then l ∷ filter (is_to_renew c) leases else filter (is_to_renew c) leases)) ≡ Some file → (least (map file_of_lease (filter (is_to_renew c) leases)) ≡ Some file → notice_on file c.notices ≡ None) → notice_on file c.notices ≡ None
-    step true e g rest = which (least-with-one l.file (least (map file_of_lease (filter (is_to_renew c) leases))) file g)
-      where
-        which : (l.file ≡ file) ⊎ (least (map file_of_lease (filter (is_to_renew c) leases)) ≡ Some file) → notice_on file c.notices ≡ None
-        which (inl same) = subst (λ f. notice_on f c.notices ≡ None) same (none-there (notice_on l.file c.notices) (not-true _ (and_parts _ _ e).1))
-        which (inr less) = rest less
-    step false e g rest = rest g
-
 -- a client with a lease is attached
 attached-with-lease : {who : Who} {now xid seq : ℕ} {attached : Bool} {call : Option UnderWay} {ticket : Option Ticket} {leases : List Lease} {notices : List Notice} → Asking who now attached call ticket xid seq leases notices → (file : ℕ) (l : Lease) → lease_on file leases ≡ Some l → attached ≡ true
 attached-with-lease {attached = true} h file l e = refl
 attached-with-lease {attached = false} {leases = leases} h file l e = let gone : lease_on file leases ≡ None = ap (lease_on file) (h.waiting refl).no_lease in none-some l (sym gone ∙ e)
 
-renews-one : {Heard : ℕ → Tag → Type 0} {Given : ℕ → Grant → ℕ → Type 0} {P : Core → Type 0} → Closed Heard Given P → (t : ClientStep) (file : ℕ) (o : Option Lease) → lease_on file t.client.leases ≡ o → t.client.ticket ≡ None → notice_on file t.client.notices ≡ None → Both P t → Both P (renews_lease t o)
-renews-one closed t file None is free unnoticed b = b
-renews-one closed t file (Some l) is free unnoticed b =
-    plain-keeps closed t renewing (Request.GetLease t.client.who l.file (want_of t.client l.mode)) free unwanted (attached-with-lease b.alone.asking file l is) refl (record { asks = refl; fits = refl; no_attach = λ f. cc; called = λ f. absurd (cc); changes = refl }) b
+-- where nothing is to push no notice waits
+no-notice : (c : Client) → c.ticket ≡ None → NothingToPush c → DelayingOf c → (file : ℕ) (n : Notice) → notice_on file c.notices ≡ Some n → ⊥
+no-notice c free nothing h file n e = case (noticed_file c) refl
   where
-    of_file : l.file ≡ file
-    of_file = same-number l.file file (find-passes (λ m. m.file == file) l t.client.leases is)
-
-    unwanted : (f : ℕ) (n : Notice) → notice_on f t.client.notices ≡ Some n → (l.file == f) ≡ false
-    unwanted f n e = number-other l.file f (λ same. none-some n (sym unnoticed ∙ subst (λ g. notice_on g t.client.notices ≡ Some n) (sym same ∙ of_file) e))
-
-renews-keeps : {Heard : ℕ → Tag → Type 0} {Given : ℕ → Grant → ℕ → Type 0} {P : Core → Type 0} → Closed Heard Given P → (t : ClientStep) (o : Option ℕ) → renewed_file t.client ≡ o → t.client.ticket ≡ None → Both P t → Both P (renews t o)
-renews-keeps closed t None is free b = b
-renews-keeps closed t (Some file) is free b = renews-one closed t file (lease_on file t.client.leases) refl free (renewed-one t.client t.client.leases file is) b
-
-then-renews-keeps : {Heard : ℕ → Tag → Type 0} {Given : ℕ → Grant → ℕ → Type 0} {P : Core → Type 0} → Closed Heard Given P → (in_tick : Bool) (t : ClientStep) → Both P t → Both P (then_renews in_tick t)
-then-renews-keeps closed false t b = b
-then-renews-keeps {P = P} closed true t b =
-    choice (Both P) (is_asking t) t (if nat_le t.client.pause t.client.now then renews t (renewed_file t.client) else t)
-    (λ e. b)
-    (λ e. choice (Both P) (nat_le t.client.pause t.client.now) (renews t (renewed_file t.client)) t (λ f. renews-keeps closed t (renewed_file t.client) refl (none-there t.client.ticket e) b) (λ f. b))
+    case : (o : Option ℕ) → noticed_file c ≡ o → ⊥
+    case None is = no-noticed c.notices is file n e
+    case (Some f) is =
+        let one = noticed-one c.notices f is in
+        let p = to-push c f one.0 free one.1 h in
+        none-some p.0 (sym (nothing.noticed f is) ∙ p.1)
 
 -- the next request
 pub send-next-keeps : {Heard : ℕ → Tag → Type 0} {Given : ℕ → Grant → ℕ → Type 0} {P : Core → Type 0} → Closed Heard Given P → (in_tick : Bool) (t : ClientStep) → Both P t → Both P (send_next in_tick t)
-send-next-keeps {P = P} closed in_tick t b =
-    then-renews-keeps closed in_tick (then_calls third) (then-calls-keeps closed third quiet kept)
-  where
-    second : ClientStep
-    second = then_pushes t (noticed_file t.client)
+send-next-keeps {P = P} closed in_tick t b = send-cases in_tick t (Both P) (record {
+  stays_asking = λ ticket is. b;
+  stays = λ free nothing. b;
+  pushing = λ file p free first same. sent-push closed t file p free first b;
+  creating = λ u name blocks f is. decided-keeps closed t (Request.Create t.client.who t.client.seq name blocks) f.free (attached u f) (ap is_some f.called) (record { asks = refl; fits = refl; numbered = refl; wants = λ g. refl; changed = λ g e. none-some g e }) b;
+  looking_up = λ u name f is. asked u f (Request.Lookup t.client.who name) refl (record { asks = refl; fits = refl; no_attach = λ e. cc; called = λ e. ap is_some f.called; changes = refl });
+  getting_attributes = λ u file f is. asked u f (Request.GetAttr t.client.who file) refl (record { asks = refl; fits = refl; no_attach = λ e. cc; called = λ e. ap is_some f.called; changes = refl });
+  reading = λ u file block f is. asked u f (Request.Read t.client.who u.q file block (read_want t.client file)) refl (record { asks = refl; fits = refl; no_attach = λ e. cc; called = λ e. ap is_some f.called; changes = refl });
+  fetching = λ u file block f is. asked u f (Request.Read t.client.who u.q file block None) refl (record { asks = refl; fits = refl; no_attach = λ e. cc; called = λ e. ap is_some f.called; changes = refl });
+  writing = λ u file block body f is through. write-sent closed t file block body f.free (attached u f) (ap is_some f.called) b;
+  leasing = λ u file block body f is through shares. asked u f (Request.GetLease t.client.who file (want_of t.client Mode.Writing)) refl (record { asks = refl; fits = refl; no_attach = λ e. cc; called = λ e. ap is_some f.called; changes = refl });
+  putting = λ u file block body f is written. write-sent closed t file block body f.free (attached u f) (ap is_some f.called) b;
+  resizing = λ u file blocks f is clean. change-sent closed t file (Request.Resize t.client.who t.client.seq u.q file blocks) f.free (attached u f) (ap is_some f.called) (record { asks = refl; fits = refl; numbered = refl; wants = λ g. refl; changes = refl }) b;
+  removing = λ u file f is clean. change-sent closed t file (Request.Remove t.client.who t.client.seq u.q file) f.free (attached u f) (ap is_some f.called) (record { asks = refl; fits = refl; numbered = refl; wants = λ g. refl; changes = refl }) b;
+  renewing = λ file l ticks free nothing unpaused due held of_file clean unnoticed.
+      plain-keeps closed t renewing (Request.GetLease t.client.who l.file (want_of t.client l.mode)) free
+      (λ f n e. number-other l.file f (λ same. none-some n (sym unnoticed ∙ subst (λ g. notice_on g t.client.notices ≡ Some n) (sym same ∙ of_file) e)))
+      (attached-with-lease b.alone.asking file l held) refl (record { asks = refl; fits = refl; no_attach = λ e. cc; called = λ e. absurd (cc); changes = refl }) b;
+}) where
+  attached : (u : UnderWay) → IsFree t u → t.client.attached ≡ true
+  attached u f = attached-with-call b.alone.asking u f.called
 
-    third : ClientStep
-    third = then_ending second
-
-    quiet : NoNotice third
-    quiet = then-ending-quiet second (then-noticed-quiet t b.alone.delaying)
-
-    kept : Both P third
-    kept = then-pushes-keeps closed second (ending_file second.client) (then-pushes-keeps closed t (noticed_file t.client) b)
+  asked : (u : UnderWay) → IsFree t u → (request : Request) → sequence_of request ≡ None → IsPlain t for_call request → Both P (sends_request t for_call request)
+  asked u f request no_seq plain = plain-keeps closed t for_call request f.free (λ g n e. absurd (no-notice t.client f.free f.nothing b.alone.delaying g n e)) (attached u f) no_seq plain b
