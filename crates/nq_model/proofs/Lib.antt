@@ -6,6 +6,7 @@ pub mod LegalTest
 pub mod Lists
 pub mod LossTests
 pub mod OrderedTest
+pub mod SkewNames
 pub mod SkewTest
 pub mod SoundTest
 pub mod SynchronizedTest

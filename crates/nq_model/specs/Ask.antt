@@ -9,7 +9,6 @@ use Rattle.nq_base.specs.declared.Mode.TheVariants.{NonCaching}
 use Rattle.nq_base.specs.declared.Question.{Question}
 use Rattle.nq_base.specs.declared.Row.{Row}
 use Rattle.nq_base.specs.declared.Want.{Want}
-use Rattle.nq_base.specs.declared.Who.{Who}
 use Rattle.nq_model.specs.Profile.{skew, most_rows, granted_term}
 use Rattle.nq_model.specs.Table.{Table, next_tag, caches, is_writing, greater_mode, find_row, put_row, with_rows, after_draw}
 
