@@ -1,0 +1,2 @@
+//! Cache.
+pub struct Cache {}
