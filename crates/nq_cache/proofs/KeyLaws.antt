@@ -3,7 +3,7 @@ use Rattle.std.proofs.Common.{◌≡◌, ℕ, ◌==◌, ◌&&◌, refl, sym, ari
 use Rattle.std.proofs.lemmas.Bool.Decides.{nat_tests}
 use Rattle.nq_cache.specs.contracts.entries.KeyPartialEq.TheImpl as keys
 use Rattle.nq_cache.specs.declared.entries.Key.{Key}
-use Rattle.nq_cache.proofs.Blocks.{IsKeyEquality}
+use Rattle.nq_cache.proofs.Kept.{IsKeyEquality}
 
 flipped : (a b m n : ℕ) → ((a == b) && (m == n)) ≡ ((b == a) && (n == m))
 flipped a b m n = grind (arith, nat_tests)

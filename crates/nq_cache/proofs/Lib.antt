@@ -1,2 +1,3 @@
-pub mod Blocks
+pub mod Kept
 pub mod KeyLaws
+pub mod Places

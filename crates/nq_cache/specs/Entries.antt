@@ -2,7 +2,7 @@
 use Rattle.std.specs.Prelude.{ℕ, Bool, not, ◌==◌, ◌≡◌, List, [], ◌∷◌, ◌++◌, take, drop, filter, if◌then◌else◌, Option, Some, None, map}
 use Rattle.std.specs.declared.boxed.Box.{Box}
 use Rattle.nq_cache.specs.declared.entries.Key.{Key}
-use Rattle.nq_model.specs.Client.{Clean}
+use Rattle.nq_model.specs.Client.{Clean, drop_clean, purge}
 
 -- the clean block of an entry
 abbrev pub clean_of : {Z : Type 0} → Key × Box (List ℕ) Z → Clean
@@ -29,3 +29,8 @@ Turns {Z} file before after =
 -- all but the first so many entries were looked at: those of other files stand in front, in their order
 abbrev pub walked : {Z : Type 0} → (file left : ℕ) → List (Key × Box (List ℕ) Z) → List (Key × Box (List ℕ) Z)
 walked file left entries = filter (is_of_other file) (drop left entries) ++ take left entries
+
+-- a block that stands first stays there, and the others of its file go
+abbrev pub StaysFirst : (file block : ℕ) → (before after : List Clean) → Type 0
+StaysFirst file block before after =
+    (body : List ℕ) (rest : List Clean) → before ≡ record { file = file; block = block; body = body } ∷ drop_clean file block rest → after ≡ record { file = file; block = block; body = body } ∷ drop_clean file block (purge file rest)

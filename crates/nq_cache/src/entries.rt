@@ -5,7 +5,7 @@ ghost use Rattle.std.specs.Prelude.{◌≡◌, ◌≤◌, ◌<◌, ◌+◌, ◌-
 ghost use Rattle.nq_model.specs.Client.{clean_at, drop_clean, purge, put_clean};
 ghost use Rattle.nq_model.specs.Profile.{most_clean, at_most};
 ghost use Rattle.nq_model.specs.Settle.{looked_up};
-ghost use Rattle.nq_cache.specs.Entries.{clean_blocks, walked, Turns, body_or};
+ghost use Rattle.nq_cache.specs.Entries.{clean_blocks, walked, Turns, StaysFirst, body_or};
 ghost use Rattle.lru.specs.LruCache.{last_entry};
 
 use lru::LruCache;
@@ -113,6 +113,13 @@ pub(crate) fn read(entries: &Entries, key: &Key, into: &mut Block) -> bool
     }
 }
 
+/// Whether a block is there.
+pub(crate) fn holds(entries: &Entries, key: &Key) -> bool
+    ensures { result ≡ is_some (clean_at key.now.file key.now.block (clean_blocks entries.now.entries)) }
+{
+    entries.contains(key)
+}
+
 /// Lets the last block go where there is one too many.
 pub(crate) fn cut(entries: &mut Entries)
     requires { entries.old.cap ≡ 513 }
@@ -152,7 +159,7 @@ fn turn(entries: &mut Entries, file: FileId)
 }
 
 /// Looks at the last entries, so many of them. Those of the file go, and the others stand in front, in their order.
-pub(crate) fn walk(entries: &mut Entries, file: FileId, times: usize)
+fn walk(entries: &mut Entries, file: FileId, times: usize)
     requires { times ≤ length entries.old.entries }
     ensures walked { entries.new.entries ≡ walked file (length entries.old.entries - times) entries.old.entries }
     ensures room { entries.new.cap ≡ entries.old.cap }
@@ -160,4 +167,25 @@ pub(crate) fn walk(entries: &mut Entries, file: FileId, times: usize)
     for _ in 0..times {
         turn(entries, file);
     }
+}
+
+/// Takes the blocks of a file out.
+pub(crate) fn take_file(entries: &mut Entries, file: FileId)
+    ensures taken { clean_blocks entries.new.entries ≡ purge file (clean_blocks entries.old.entries) }
+    ensures count { length entries.new.entries ≤ length entries.old.entries }
+    ensures room { entries.new.cap ≡ entries.old.cap }
+{
+    let count = entries.len();
+    walk(entries, file, count);
+}
+
+/// Takes the blocks of a file out, but for the one with this key, which stands first.
+pub(crate) fn leave_first(entries: &mut Entries, key: &Key)
+    requires { 0 < length entries.old.entries }
+    ensures left { StaysFirst key.now.file key.now.block (clean_blocks entries.old.entries) (clean_blocks entries.new.entries) }
+    ensures room { entries.new.cap ≡ entries.old.cap }
+{
+    let others = entries.len() - 1;
+    walk(entries, key.file, others);
+    bring_forward(entries, key);
 }

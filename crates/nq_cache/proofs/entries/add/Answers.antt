@@ -1,6 +1,6 @@
 use Rattle.std.proofs.Common.{◌≤◌, ◌-◌, length, sym, ◌∙◌, ap, refl, arith}
 use Rattle.nq_cache.specs.Entries.{clean_blocks}
-use Rattle.nq_cache.proofs.Blocks.{put-entries}
+use Rattle.nq_cache.proofs.Kept.{put-entries}
 use Rattle.nq_cache.proofs.KeyLaws.{key_laws}
 use Rattle.nq_cache.proofs.entries.add.Goals as goal
 

@@ -1,6 +1,6 @@
 use Rattle.std.proofs.Common.{sym, ◌∙◌, ap, length}
 use Rattle.nq_cache.specs.Entries.{clean_blocks}
-use Rattle.nq_cache.proofs.Blocks.{is_there, promoted-entries, length-promoted}
+use Rattle.nq_cache.proofs.Kept.{is_there, promoted-entries, length-promoted}
 use Rattle.nq_cache.proofs.KeyLaws.{key_laws}
 use Rattle.nq_cache.proofs.entries.bring_forward.Goals as goal
 

@@ -1,7 +1,7 @@
 use Rattle.std.proofs.Common.{◌≡◌, ◌≤◌, ◌-◌, ℕ, length, take, sym, ◌∙◌, ap, arith}
 use Rattle.std.proofs.lemmas.List.{take_all}
 use Rattle.nq_cache.specs.Entries.{clean_blocks}
-use Rattle.nq_cache.proofs.Blocks.{at_most-entries}
+use Rattle.nq_cache.proofs.Kept.{at_most-entries}
 use Rattle.nq_cache.proofs.entries.cut.Goals as goal
 
 pub returns-then-len-gt-MOST-clause-cut : goal.returns-then-len-gt-MOST-clause-cut

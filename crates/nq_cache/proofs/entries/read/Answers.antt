@@ -1,5 +1,5 @@
 use Rattle.std.proofs.Common.{sym, ◌∙◌, ap, is_some}
-use Rattle.nq_cache.proofs.Blocks.{is_there, value_or, body_or-entries}
+use Rattle.nq_cache.proofs.Kept.{is_there, value_or, body_or-entries}
 use Rattle.nq_cache.proofs.KeyLaws.{key_laws}
 use Rattle.nq_cache.proofs.entries.read.Goals as goal
 

@@ -1,6 +1,6 @@
 use Rattle.std.proofs.Common.{◌≤◌, sym, ◌∙◌, ap, subst, length}
 use Rattle.nq_cache.specs.Entries.{clean_blocks}
-use Rattle.nq_cache.proofs.Blocks.{drop_clean-entries, length-removed}
+use Rattle.nq_cache.proofs.Kept.{drop_clean-entries, length-removed}
 use Rattle.nq_cache.proofs.KeyLaws.{key_laws}
 use Rattle.nq_cache.proofs.entries.take_out.Goals as goal
 

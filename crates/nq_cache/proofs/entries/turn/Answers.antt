@@ -1,6 +1,6 @@
 use Rattle.std.proofs.Common.{sym, subst}
 use Rattle.nq_cache.specs.Entries.{Turns}
-use Rattle.nq_cache.proofs.Blocks.{turn-drops, turn-keeps}
+use Rattle.nq_cache.proofs.Kept.{turn-drops, turn-keeps}
 use Rattle.nq_cache.proofs.KeyLaws.{key_laws}
 use Rattle.nq_cache.proofs.entries.turn.Goals as goal
 

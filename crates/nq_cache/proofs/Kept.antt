@@ -6,7 +6,7 @@ use Rattle.std.specs.Map.{keys_of, lookup, lookup_entry, remove_entry, set_value
 use Rattle.std.specs.Option.{option_map, option_map_or, option_to_list}
 use Rattle.std.specs.declared.boxed.Box.{Box}
 use Rattle.std.proofs.lemmas.Bool.Decides.{nat_tests}
-use Rattle.std.proofs.lemmas.List.{take_more, take_all, take_at, drop_more, drop_all, length_push, take-append-le}
+use Rattle.std.proofs.lemmas.List.{take_more, take_all, take_at, map_push, drop_more, drop_all, length_push, take-append-le}
 use Rattle.std.proofs.lemmas.Map.{NonePasses}
 use Rattle.std.proofs.lemmas.Map.Entries.{none_past_head}
 use Rattle.std.proofs.lemmas.Map.Keys.{IsDistinct-head, IsDistinct-tail}
@@ -269,3 +269,70 @@ module _ {Z : Type 0} where
   at_most-entries zero (e ∷ es) = refl
   at_most-entries (suc n) [] = refl
   at_most-entries (suc n) (e ∷ es) = rw (at_most-more n (clean_of e) (clean_blocks es)) (ap (λ xs. clean_of e ∷ xs) (at_most-entries n es))
+
+  fewer-step : (b : Bool) (e : Key × Box (List ℕ) Z) (es : List (Key × Box (List ℕ) Z)) (n : ℕ) → length es ≤ n → length (cond b (e ∷ es) es) ≤ n + 1
+  fewer-step true e es n h = omega arith
+  fewer-step false e es n h = omega arith
+
+  fewer : (file : ℕ) (es : List (Key × Box (List ℕ) Z)) → length (filter (is_of_other file) es) ≤ length es
+  fewer file [] = omega arith
+  fewer file (e ∷ es) = subst (λ n. length (filter (is_of_other file) (e ∷ es)) ≤ n) (add-one (length es)) (fewer-step (is_of_other file e) e (filter (is_of_other file) es) (length es) (fewer file es))
+
+  no-rest : (file : ℕ) (es : List (Key × Box (List ℕ) Z)) → walked file (length es - length es) es ≡ filter (is_of_other file) es
+  no-rest file es = let z : length es - length es ≡ 0 = omega arith in rw z (append-nil (filter (is_of_other file) es))
+
+  -- all entries were looked at
+  pub purged : (file : ℕ) (es after : List (Key × Box (List ℕ) Z)) → after ≡ walked file (length es - length es) es → (clean_blocks after ≡ purge file (clean_blocks es)) × (length after ≤ length es)
+  purged file es after h = let e = h ∙ no-rest file es in (ap clean_blocks e ∙ purge-entries file es, subst (λ xs. length xs ≤ length es) (sym e) (fewer file es))
+
+abbrev AreOthers : ℕ → List Clean → Type 0
+AreOthers file ks = AllByRecursion (λ k. (k.file == file) ≡ false) ks
+
+others-step-2 : (file : ℕ) (b : Bool) (k : Clean) (ks : List Clean) → (k.file == file) ≡ b → AreOthers file ks → AreOthers file (cond (not b) (k ∷ ks) ks)
+others-step-2 file true k ks e h = h
+others-step-2 file false k ks e h = (e, h)
+
+purge-leaves : (file : ℕ) (ks : List Clean) → AreOthers file (purge file ks)
+purge-leaves file [] = tt
+purge-leaves file (k ∷ ks) = others-step-2 file (k.file == file) k (purge file ks) refl (purge-leaves file ks)
+
+drop-others : (file block : ℕ) (ks : List Clean) → AreOthers file ks → drop_clean file block ks ≡ ks
+drop-others file block [] h = refl
+drop-others file block (k ∷ ks) h = rw h.0 (ap (λ xs. k ∷ xs) (drop-others file block ks h.1))
+
+drop-behind : (file block : ℕ) (body : List ℕ) (ks : List Clean) → AreOthers file ks → drop_clean file block (ks ++ record { file = file; block = block; body = body } ∷ []) ≡ ks
+drop-behind file block body [] h = rw (both-same file block) refl
+drop-behind file block body (k ∷ ks) h = rw h.0 (ap (λ xs. k ∷ xs) (drop-behind file block body ks h.1))
+
+found-behind : (file block : ℕ) (body : List ℕ) (ks : List Clean) → AreOthers file ks → clean_at file block (ks ++ record { file = file; block = block; body = body } ∷ []) ≡ Some (record { file = file; block = block; body = body })
+found-behind file block body [] h = rw (both-same file block) refl
+found-behind file block body (k ∷ ks) h = rw h.0 (found-behind file block body ks h.1)
+
+purge-dropped : (file block : ℕ) (ks : List Clean) → purge file (drop_clean file block ks) ≡ purge file ks
+purge-dropped file block [] = refl
+purge-dropped file block (k ∷ ks) = (elim (k.file == file) as (λ a. (k.file == file) ≡ a → purge file (drop_clean file block (k ∷ ks)) ≡ purge file (k ∷ ks)) [
+  | true ↦ λ e. (elim (k.block == block) as (λ b. (k.block == block) ≡ b → purge file (drop_clean file block (k ∷ ks)) ≡ purge file (k ∷ ks)) [
+    | true ↦ λ f. rw (e, f) (purge-dropped file block ks)
+    | false ↦ λ f. rw (e, f) (rw e (purge-dropped file block ks))
+  ]) refl
+  | false ↦ λ e. rw e (rw e (ap (λ xs. k ∷ xs) (purge-dropped file block ks)))
+]) refl
+
+module _ {Z : Type 0} where
+  walked-to-first : (file : ℕ) (e : Key × Box (List ℕ) Z) (es : List (Key × Box (List ℕ) Z)) → walked file (length (e ∷ es) - (length (e ∷ es) - 1)) (e ∷ es) ≡ filter (is_of_other file) es ++ e ∷ []
+  walked-to-first file e es = let n : length (e ∷ es) - (length (e ∷ es) - 1) ≡ 1 = omega arith in rw n refl
+
+  -- the first block stays, and those of its file behind it go
+  pub first_stays : (file block : ℕ) (body : List ℕ) (rest : List Clean) (es after : List (Key × Box (List ℕ) Z)) → clean_blocks es ≡ record { file = file; block = block; body = body } ∷ drop_clean file block rest → after ≡ walked file (length es - (length es - 1)) es → looked_up file block (clean_blocks after) ≡ record { file = file; block = block; body = body } ∷ drop_clean file block (purge file rest)
+  first_stays file block body rest [] after split h = absurd cc
+  first_stays file block body rest (e ∷ es) after split h =
+    let others = purge-leaves file rest in
+    let first : clean_of e ≡ record { file = file; block = block; body = body } = cc in
+    let behind : clean_blocks es ≡ drop_clean file block rest = cc in
+    let left : clean_blocks after ≡ purge file rest ++ record { file = file; block = block; body = body } ∷ [] =
+        ap clean_blocks (h ∙ walked-to-first file e es) ∙ map_push clean_of (filter (is_of_other file) es) e
+        ∙ ap (λ xs. xs ++ clean_of e ∷ []) (purge-entries file es ∙ ap (purge file) behind ∙ purge-dropped file block rest)
+        ∙ ap (λ k. purge file rest ++ k ∷ []) first in
+    ap (looked_up file block) left
+    ∙ ap (λ o. touched file block o (purge file rest ++ record { file = file; block = block; body = body } ∷ [])) (found-behind file block body (purge file rest) others)
+    ∙ ap (λ xs. record { file = file; block = block; body = body } ∷ xs) (drop-behind file block body (purge file rest) others ∙ sym (drop-others file block (purge file rest) others))
