@@ -236,9 +236,9 @@ module _ {Z : Type 0} where
   -- the last entry is of another file, and goes to the front
   pub turn-keeps : (eq : Key → Key → Bool) → IsKeyEquality eq → (file : ℕ) (key : Key) (es : List (Key × Box (List ℕ) Z)) → IsDistinct eq (keys_of es) → Some key ≡ option_map (λ e. e.0) (last_entry es) → (key.file == file) ≡ false → Turns file es (promoted (eq key) es)
   turn-keeps eq laws file key es d found away = λ front last split.
-    let k : key ≡ last.0 = last-key key es front last split found in
-    let d' : IsDistinct eq (keys_of (front ++ last ∷ [])) = subst (λ xs. IsDistinct eq (keys_of xs)) split d in
-    ap (λ xs. promoted (eq key) xs) split ∙ ap (λ x. promoted (eq x) (front ++ last ∷ [])) k ∙ promoted-last eq laws front last d' ∙ stays (last.0.file == file) last front (sym (ap (λ x. x.file == file) k) ∙ away)
+      let k : key ≡ last.0 = last-key key es front last split found in
+      let d' : IsDistinct eq (keys_of (front ++ last ∷ [])) = subst (λ xs. IsDistinct eq (keys_of xs)) split d in
+      ap (λ xs. promoted (eq key) xs) split ∙ ap (λ x. promoted (eq x) (front ++ last ∷ [])) k ∙ promoted-last eq laws front last d' ∙ stays (last.0.file == file) last front (sym (ap (λ x. x.file == file) k) ∙ away)
 
   others-step : (b : Bool) (e : Key × Box (List ℕ) Z) (es : List (Key × Box (List ℕ) Z)) (rest : List Clean) → clean_blocks es ≡ rest → clean_blocks (cond b (e ∷ es) es) ≡ cond b (clean_of e ∷ rest) rest
   others-step true e es rest h = ap (λ xs. clean_of e ∷ xs) h
@@ -251,12 +251,12 @@ module _ {Z : Type 0} where
 
   walked-at : (file m : ℕ) (e : Key × Box (List ℕ) Z) (es before after : List (Key × Box (List ℕ) Z)) → m < length es → before ≡ walked file (m + 1) es → Turns file before after → after ≡ walked file m es
   walked-at file m e es before after within was turns =
-        let x : Key × Box (List ℕ) Z = get_or es m e in
-        let kept : List (Key × Box (List ℕ) Z) = filter (is_of_other file) (drop (m + 1) es) in
-        let front : take (m + 1) es ≡ take m es ++ x ∷ [] = take_more es m e within in
-        let split : before ≡ (kept ++ take m es) ++ x ∷ [] = was ∙ ap (λ xs. kept ++ xs) front ∙ sym (append_assoc kept (take m es) (x ∷ [])) in
-        let rest : drop m es ≡ x ∷ drop (m + 1) es = drop_more es m e within in
-        turns (kept ++ take m es) x split ∙ turned-step (is_of_other file x) x kept (take m es) ∙ ap (λ xs. filter (is_of_other file) xs ++ take m es) (sym rest)
+      let x : Key × Box (List ℕ) Z = get_or es m e in
+      let kept : List (Key × Box (List ℕ) Z) = filter (is_of_other file) (drop (m + 1) es) in
+      let front : take (m + 1) es ≡ take m es ++ x ∷ [] = take_more es m e within in
+      let split : before ≡ (kept ++ take m es) ++ x ∷ [] = was ∙ ap (λ xs. kept ++ xs) front ∙ sym (append_assoc kept (take m es) (x ∷ [])) in
+      let rest : drop m es ≡ x ∷ drop (m + 1) es = drop_more es m e within in
+      turns (kept ++ take m es) x split ∙ turned-step (is_of_other file x) x kept (take m es) ∙ ap (λ xs. filter (is_of_other file) xs ++ take m es) (sym rest)
 
   -- one more entry was looked at
   pub walked-more : (file m : ℕ) (es before after : List (Key × Box (List ℕ) Z)) → m < length es → before ≡ walked file (m + 1) es → Turns file before after → after ≡ walked file m es
@@ -326,13 +326,13 @@ module _ {Z : Type 0} where
   pub first_stays : (file block : ℕ) (body : List ℕ) (rest : List Clean) (es after : List (Key × Box (List ℕ) Z)) → clean_blocks es ≡ record { file = file; block = block; body = body } ∷ drop_clean file block rest → after ≡ walked file (length es - (length es - 1)) es → looked_up file block (clean_blocks after) ≡ record { file = file; block = block; body = body } ∷ drop_clean file block (purge file rest)
   first_stays file block body rest [] after split h = absurd cc
   first_stays file block body rest (e ∷ es) after split h =
-    let others = purge-leaves file rest in
-    let first : clean_of e ≡ record { file = file; block = block; body = body } = cc in
-    let behind : clean_blocks es ≡ drop_clean file block rest = cc in
-    let left : clean_blocks after ≡ purge file rest ++ record { file = file; block = block; body = body } ∷ [] =
-        ap clean_blocks (h ∙ walked-to-first file e es) ∙ map_push clean_of (filter (is_of_other file) es) e
-        ∙ ap (λ xs. xs ++ clean_of e ∷ []) (purge-entries file es ∙ ap (purge file) behind ∙ purge-dropped file block rest)
-        ∙ ap (λ k. purge file rest ++ k ∷ []) first in
-    ap (looked_up file block) left
-    ∙ ap (λ o. touched file block o (purge file rest ++ record { file = file; block = block; body = body } ∷ [])) (found-behind file block body (purge file rest) others)
-    ∙ ap (λ xs. record { file = file; block = block; body = body } ∷ xs) (drop-behind file block body (purge file rest) others ∙ sym (drop-others file block (purge file rest) others))
+      let others = purge-leaves file rest in
+      let first : clean_of e ≡ record { file = file; block = block; body = body } = cc in
+      let behind : clean_blocks es ≡ drop_clean file block rest = cc in
+      let left : clean_blocks after ≡ purge file rest ++ record { file = file; block = block; body = body } ∷ [] =
+      ap clean_blocks (h ∙ walked-to-first file e es) ∙ map_push clean_of (filter (is_of_other file) es) e
+      ∙ ap (λ xs. xs ++ clean_of e ∷ []) (purge-entries file es ∙ ap (purge file) behind ∙ purge-dropped file block rest)
+      ∙ ap (λ k. purge file rest ++ k ∷ []) first in
+      ap (looked_up file block) left
+      ∙ ap (λ o. touched file block o (purge file rest ++ record { file = file; block = block; body = body } ∷ [])) (found-behind file block body (purge file rest) others)
+      ∙ ap (λ xs. record { file = file; block = block; body = body } ∷ xs) (drop-behind file block body (purge file rest) others ∙ sym (drop-others file block (purge file rest) others))

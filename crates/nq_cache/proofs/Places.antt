@@ -52,6 +52,7 @@ is_place file ks place within point = record {
     before-at file ks place i d within lt h =
         let short : i < place = omega (arith, length-take place ks) in
         rw (get_or-take place ks i d short) (below _ file (h (omega arith) short))
+
     behind-at : (file : ℕ) (ks : List Known) (place i : ℕ) (d : Known) → place ≤ length ks → i < length (drop place ks) → (place ≤ place + i → place + i < length ks → nat_lt (get_or ks (place + i) d).file file ≡ false) → file ≤ (get_or (drop place ks) i d).file
     behind-at file ks place i d within lt h = rw (get_or-drop place ks i d) (not-below _ file (h (omega arith) (omega (arith, length-drop place ks))))
 

@@ -6,7 +6,10 @@ ghost use Rattle.nq_model.specs.Profile.{most_clean};
 ghost use Rattle.nq_model.specs.Settle.{looked_up};
 ghost use Rattle.nq_cache.specs.Entries.{body_or};
 
-use crate::entries::{Entries, Key, MOST, bring_forward, cut, holds, leave_first, put_first, read, take_file, take_out};
+use crate::entries::{
+    Entries, Key, MOST, bring_forward, cut, holds, leave_first, put_first, read, take_file,
+    take_out,
+};
 use nq_base::{Block, FileId, NoMemory};
 use std::alloc::Global;
 use std::marker::Model;

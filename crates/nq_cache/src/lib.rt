@@ -7,3 +7,6 @@ mod entries;
 mod revisions;
 
 pub use cache::Cache;
+
+#[cfg(test)]
+mod tests;
