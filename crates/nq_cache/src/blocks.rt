@@ -1,0 +1,102 @@
+//! The clean blocks of a client.
+
+ghost use Rattle.std.specs.Prelude.{◌≡◌, ◌≤◌, [], length, is_some, IsSome, IsOk, OnOk, OnErr, IfOk};
+ghost use Rattle.nq_model.specs.Client.{clean_at, drop_clean, purge, put_clean};
+ghost use Rattle.nq_model.specs.Profile.{most_clean};
+ghost use Rattle.nq_model.specs.Settle.{looked_up};
+ghost use Rattle.nq_cache.specs.Entries.{body_or};
+
+use crate::entries::{
+    Entries, Key, MOST, bring_forward, cut, holds, leave_first, put_first, read, take_file,
+    take_out,
+};
+use nq_base::{Block, FileId, NoMemory};
+use std::alloc::Global;
+use std::marker::Model;
+use std::num::NonZeroUsize;
+
+/// At most 512 clean blocks. Clauses see them as a list, the most recently used first.
+#[derive(Drop)]
+pub(crate) struct Blocks {
+    entries: Entries,
+}
+
+impl Model for Blocks {
+    ghost use Rattle.std.specs.Prelude.{◌≡◌, ◌≤◌, List, length};
+    ghost use Rattle.nq_model.specs.Client.{Clean};
+    ghost use Rattle.nq_cache.specs.Entries.{clean_blocks};
+
+    ghost Value = { List Clean };
+
+    ghost view = { λ b. clean_blocks b.entries.entries };
+
+    ghost invariant = { λ b. (b.entries.cap ≡ 513) × (length b.entries.entries ≤ 512) };
+}
+
+impl Blocks {
+    /// No blocks. It takes the room for their keys.
+    pub(crate) fn new(alloc: Global) -> Result<Blocks, NoMemory>
+        ensures { IfOk result (λ b. b ≡ []) }
+    {
+        let room = NonZeroUsize::new(MOST + 1).unwrap();
+        match Entries::new(alloc, room) {
+            Ok(entries) => Ok(Blocks { entries }),
+            Err(_) => Err(NoMemory::Memory),
+        }
+    }
+
+    /// Copies a block that is there, and brings it to the front.
+    pub(crate) fn get(&mut self, key: &Key, into: &mut Block) -> bool
+        ensures found { result ≡ is_some (clean_at key.now.file key.now.block self.old) }
+        ensures body { into.new ≡ body_or into.old (clean_at key.now.file key.now.block self.old) }
+        ensures order { self.new ≡ looked_up key.now.file key.now.block self.old }
+    {
+        read(&self.entries, key, into);
+        bring_forward(&mut self.entries, key)
+    }
+
+    /// Whether a block is there.
+    pub(crate) fn holds(&self, key: &Key) -> bool
+        ensures found { result ≡ is_some (clean_at key.now.file key.now.block self.now) }
+        ensures few { length self.now ≤ most_clean }
+    {
+        holds(&self.entries, key)
+    }
+
+    /// Puts a block in front. The last one goes where there would be more than 512.
+    pub(crate) fn put(&mut self, key: &Key, body: &Block) -> Result<(), NoMemory>
+        ensures put { OnOk result (self.new ≡ put_clean key.now.file key.now.block body.now self.old) }
+        ensures refused { OnErr result (self.new ≡ self.old) }
+        ensures succeeds { IsSome (clean_at key.now.file key.now.block self.old) → IsOk result }
+    {
+        put_first(&mut self.entries, key, body)?;
+        cut(&mut self.entries);
+        Ok(())
+    }
+
+    /// Takes a block out, if it is there.
+    pub(crate) fn remove(&mut self, key: &Key)
+        ensures { self.new ≡ drop_clean key.now.file key.now.block self.old }
+    {
+        take_out(&mut self.entries, key);
+    }
+
+    /// Takes the blocks of a file out.
+    pub(crate) fn purge(&mut self, file: FileId)
+        ensures { self.new ≡ purge file self.old }
+    {
+        take_file(&mut self.entries, file);
+    }
+
+    /// Takes the other blocks of a file out, and puts a block in front.
+    pub(crate) fn put_alone(&mut self, key: &Key, body: &Block) -> Result<(), NoMemory>
+        ensures put { OnOk result (self.new ≡ put_clean key.now.file key.now.block body.now (purge key.now.file self.old)) }
+        ensures refused { OnErr result (self.new ≡ self.old) }
+        ensures succeeds { IsSome (clean_at key.now.file key.now.block self.old) → IsOk result }
+    {
+        put_first(&mut self.entries, key, body)?;
+        leave_first(&mut self.entries, key);
+        cut(&mut self.entries);
+        Ok(())
+    }
+}

@@ -1,0 +1,141 @@
+//! The cache of a client.
+
+ghost use Rattle.std.specs.Prelude.{◌≡◌, ◌≤◌, ◌+◌, [], length, is_some, option_map, IsSome, IsOk, OnOk, OnErr, IfOk};
+ghost use Rattle.nq_model.specs.Client.{clean_at, drop_clean, purge, put_clean, revision_of, put_revision};
+ghost use Rattle.nq_model.specs.Profile.{most_clean};
+ghost use Rattle.nq_model.specs.Settle.{looked_up};
+ghost use Rattle.nq_cache.specs.Entries.{body_or};
+
+use crate::blocks::Blocks;
+use crate::entries::Key;
+use crate::revisions::Revisions;
+use nq_base::{Block, BlockNo, FileId, NoMemory, Rev};
+use std::alloc::Global;
+use std::marker::Model;
+
+/// What a client caches: at most 512 clean blocks, and for each file the revision of its blocks. Clauses see the
+/// blocks with the most recently used first, the revisions in order of files, and how many more files get a
+/// revision before memory is wanted.
+#[derive(Drop)]
+pub struct Cache {
+    clean: Blocks,
+    revisions: Revisions,
+}
+
+impl Model for Cache {
+    ghost use Rattle.nq_cache.specs.Cached.{Cached};
+
+    ghost Value = { Cached };
+
+    ghost view = { λ c. record { clean = c.clean; revisions = c.revisions.items; spare = c.revisions.spare } };
+}
+
+impl Cache {
+    /// The empty cache.
+    pub fn new(alloc: Global) -> Result<Cache, NoMemory>
+        ensures { IfOk result (λ c. (c.clean ≡ []) × (c.revisions ≡ [])) }
+    {
+        let clean = Blocks::new(alloc)?;
+        Ok(Cache {
+            clean,
+            revisions: Revisions::new(alloc),
+        })
+    }
+
+    /// Whether a block is there. Its body is then copied, and the block comes to the front.
+    pub fn get(&mut self, file: FileId, block: BlockNo, into: &mut Block) -> bool
+        ensures found { result ≡ is_some (clean_at file block self.old.clean) }
+        ensures body { into.new ≡ body_or into.old (clean_at file block self.old.clean) }
+        ensures order { self.new ≡ record self.old { clean = looked_up file block self.old.clean } }
+    {
+        self.clean.get(&Key { file, block }, into)
+    }
+
+    /// Whether a block is there.
+    pub fn holds(&self, file: FileId, block: BlockNo) -> bool
+        ensures found { result ≡ is_some (clean_at file block self.now.clean) }
+        ensures few { length self.now.clean ≤ most_clean }
+    {
+        self.clean.holds(&Key { file, block })
+    }
+
+    /// Puts a block in front. The last one goes where there would be more than 512.
+    ///
+    /// # Errors
+    ///
+    /// Only want of memory, and then nothing changed. A block that is there wants none.
+    pub fn put(&mut self, file: FileId, block: BlockNo, body: &Block) -> Result<(), NoMemory>
+        ensures put { OnOk result (self.new ≡ record self.old { clean = put_clean file block body.now self.old.clean }) }
+        ensures refused { OnErr result (self.new ≡ self.old) }
+        ensures succeeds { IsSome (clean_at file block self.old.clean) → IsOk result }
+    {
+        self.clean.put(&Key { file, block }, body)
+    }
+
+    /// Takes a block out, if it is there.
+    pub fn remove(&mut self, file: FileId, block: BlockNo)
+        ensures { self.new ≡ record self.old { clean = drop_clean file block self.old.clean } }
+    {
+        self.clean.remove(&Key { file, block });
+    }
+
+    /// Takes all blocks of a file out.
+    pub fn purge(&mut self, file: FileId)
+        ensures { self.new ≡ record self.old { clean = purge file self.old.clean } }
+    {
+        self.clean.purge(file);
+    }
+
+    /// Takes all blocks of a file out and puts one in front.
+    ///
+    /// # Errors
+    ///
+    /// Only want of memory, and then nothing changed: no block was taken out. A block that is there wants none.
+    pub fn put_alone(&mut self, file: FileId, block: BlockNo, body: &Block) -> Result<(), NoMemory>
+        ensures put { OnOk result (self.new ≡ record self.old { clean = put_clean file block body.now (purge file self.old.clean) }) }
+        ensures refused { OnErr result (self.new ≡ self.old) }
+        ensures succeeds { IsSome (clean_at file block self.old.clean) → IsOk result }
+    {
+        self.clean.put_alone(&Key { file, block }, body)
+    }
+
+    /// The revision of a file's clean blocks, if there is one.
+    pub fn rev(&self, file: FileId) -> Option<Rev>
+        ensures { result ≡ option_map (λ r. r.rev) (revision_of file self.now.revisions) }
+    {
+        self.revisions.get(file)
+    }
+
+    /// Makes room for the revisions of `files` files that have none.
+    ///
+    /// # Errors
+    ///
+    /// Only want of memory, and then nothing changed.
+    pub fn reserve(&mut self, files: usize) -> Result<(), NoMemory>
+        ensures clean { self.new.clean ≡ self.old.clean }
+        ensures revisions { self.new.revisions ≡ self.old.revisions }
+        ensures room { OnOk result (files ≤ self.new.spare) }
+        ensures refused { OnErr result (self.new ≡ self.old) }
+        ensures succeeds { files ≤ self.old.spare → IsOk result }
+        ensures spare { self.old.spare ≤ self.new.spare }
+    {
+        self.revisions.reserve(files)
+    }
+
+    /// Gives a file a revision.
+    ///
+    /// # Errors
+    ///
+    /// Only want of memory, and then nothing changed. A file that has a revision wants none, nor does another where
+    /// room is reserved.
+    pub fn retag(&mut self, file: FileId, rev: Rev) -> Result<(), NoMemory>
+        ensures clean { self.new.clean ≡ self.old.clean }
+        ensures put { OnOk result (self.new.revisions ≡ put_revision file rev self.old.revisions) }
+        ensures refused { OnErr result (self.new.revisions ≡ self.old.revisions) }
+        ensures there { IsSome (revision_of file self.old.revisions) → IsOk result × (self.old.spare ≤ self.new.spare) }
+        ensures succeeds { 1 ≤ self.old.spare → IsOk result }
+        ensures spare { self.old.spare ≤ self.new.spare + 1 }
+    {
+        self.revisions.put(file, rev)
+    }
+}

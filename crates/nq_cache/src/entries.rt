@@ -1,0 +1,191 @@
+//! Clean blocks on an `LruCache`: it has room for one more than there may be, so that a block can be put in before
+//! another goes.
+
+ghost use Rattle.std.specs.Prelude.{◌≡◌, ◌≤◌, ◌<◌, ◌+◌, ◌-◌, ◌∷◌, ◌++◌, [], false, true, length, take, drop, filter, is_some, option_map, IsSome, IsOk, OnOk, OnErr, IfOk, IsTrue, if◌then◌else◌};
+ghost use Rattle.nq_model.specs.Client.{clean_at, drop_clean, purge, put_clean};
+ghost use Rattle.nq_model.specs.Profile.{most_clean, at_most};
+ghost use Rattle.nq_model.specs.Settle.{looked_up};
+ghost use Rattle.nq_cache.specs.Entries.{clean_blocks, walked, Turns, StaysFirst, body_or};
+ghost use Rattle.lru.specs.LruCache.{last_entry};
+
+use lru::LruCache;
+use nq_base::{Block, BlockNo, FileId, NoMemory};
+use std::alloc::Global;
+use std::num::NonZeroUsize;
+
+/// The most clean blocks that a client keeps.
+pub(crate) const MOST: usize = 512;
+
+/// What tells blocks apart.
+#[derive(Clone, Copy, PartialEq, Eq, Hash)]
+pub(crate) struct Key {
+    pub(crate) file: FileId,
+    pub(crate) block: BlockNo,
+}
+
+/// The blocks by their keys.
+pub(crate) type Entries = LruCache<Key, Box<Block>>;
+
+/// Gives a block that is there another body, and brings it to the front.
+fn overwrite(entries: &mut Entries, key: &Key, body: &Block) -> bool
+    ensures found { result ≡ is_some (clean_at key.now.file key.now.block (clean_blocks entries.old.entries)) }
+    ensures written { IsTrue result → clean_blocks entries.new.entries ≡ record { file = key.now.file; block = key.now.block; body = body.now } ∷ drop_clean key.now.file key.now.block (clean_blocks entries.old.entries) }
+    ensures absent { result ≡ false → entries.new ≡ entries.old }
+    ensures room { entries.new.cap ≡ entries.old.cap }
+{
+    let _distinct = entries.len();
+    match entries.get_mut(key) {
+        Some(kept) => {
+            **kept = *body;
+            true
+        }
+        None => false,
+    }
+}
+
+/// Puts a block that is not there in front.
+fn add(entries: &mut Entries, key: Key, body: &Block) -> Result<(), NoMemory>
+    requires room { entries.old.cap ≡ 513 }
+    requires few { length entries.old.entries ≤ 512 }
+    requires absent { is_some (clean_at key.file key.block (clean_blocks entries.old.entries)) ≡ false }
+    ensures added { OnOk result (clean_blocks entries.new.entries ≡ record { file = key.file; block = key.block; body = body.now } ∷ drop_clean key.file key.block (clean_blocks entries.old.entries)) }
+    ensures refused { OnErr result (entries.new ≡ entries.old) }
+    ensures room { entries.new.cap ≡ entries.old.cap }
+{
+    let alloc = *entries.allocator();
+    let Ok(boxed) = Box::new(alloc, *body) else {
+        return Err(NoMemory::Memory);
+    };
+    match entries.put(key, boxed) {
+        Ok(_) => Ok(()),
+        Err(_) => Err(NoMemory::Memory),
+    }
+}
+
+/// Puts a block in front. There may then be one too many.
+pub(crate) fn put_first(entries: &mut Entries, key: &Key, body: &Block) -> Result<(), NoMemory>
+    requires room { entries.old.cap ≡ 513 }
+    requires few { length entries.old.entries ≤ 512 }
+    ensures put { OnOk result (clean_blocks entries.new.entries ≡ record { file = key.now.file; block = key.now.block; body = body.now } ∷ drop_clean key.now.file key.now.block (clean_blocks entries.old.entries)) }
+    ensures refused { OnErr result (entries.new ≡ entries.old) }
+    ensures succeeds { IsSome (clean_at key.now.file key.now.block (clean_blocks entries.old.entries)) → IsOk result }
+    ensures room { entries.new.cap ≡ entries.old.cap }
+{
+    if overwrite(entries, key, body) {
+        Ok(())
+    } else {
+        add(entries, *key, body)
+    }
+}
+
+/// Brings a block to the front, if it is there.
+pub(crate) fn bring_forward(entries: &mut Entries, key: &Key) -> bool
+    ensures found { result ≡ is_some (clean_at key.now.file key.now.block (clean_blocks entries.old.entries)) }
+    ensures order { clean_blocks entries.new.entries ≡ looked_up key.now.file key.now.block (clean_blocks entries.old.entries) }
+    ensures count { length entries.new.entries ≡ length entries.old.entries }
+    ensures room { entries.new.cap ≡ entries.old.cap }
+{
+    let _distinct = entries.len();
+    entries.promote(key)
+}
+
+/// Takes a block out, if it is there.
+pub(crate) fn take_out(entries: &mut Entries, key: &Key)
+    ensures taken { clean_blocks entries.new.entries ≡ drop_clean key.now.file key.now.block (clean_blocks entries.old.entries) }
+    ensures count { length entries.new.entries ≤ length entries.old.entries }
+    ensures room { entries.new.cap ≡ entries.old.cap }
+{
+    let _distinct = entries.len();
+    drop(entries.pop(key));
+}
+
+/// Copies the body of a block, if it is there.
+pub(crate) fn read(entries: &Entries, key: &Key, into: &mut Block) -> bool
+    ensures found { result ≡ is_some (clean_at key.now.file key.now.block (clean_blocks entries.now.entries)) }
+    ensures body { into.new ≡ body_or into.old (clean_at key.now.file key.now.block (clean_blocks entries.now.entries)) }
+{
+    match entries.peek(key) {
+        Some(kept) => {
+            *into = **kept;
+            true
+        }
+        None => false,
+    }
+}
+
+/// Whether a block is there.
+pub(crate) fn holds(entries: &Entries, key: &Key) -> bool
+    ensures { result ≡ is_some (clean_at key.now.file key.now.block (clean_blocks entries.now.entries)) }
+{
+    entries.contains(key)
+}
+
+/// Lets the last block go where there is one too many.
+pub(crate) fn cut(entries: &mut Entries)
+    requires { entries.old.cap ≡ 513 }
+    ensures cut { clean_blocks entries.new.entries ≡ at_most most_clean (clean_blocks entries.old.entries) }
+    ensures few { length entries.new.entries ≤ 512 }
+    ensures room { entries.new.cap ≡ entries.old.cap }
+{
+    if entries.len() > MOST {
+        drop(entries.pop_lru());
+    }
+}
+
+/// The key of the last entry.
+fn last_key(entries: &Entries) -> Option<Key>
+    ensures { result ≡ option_map (λ e. e.0) (last_entry entries.now.entries) }
+{
+    match entries.peek_lru() {
+        Some((key, _)) => Some(*key),
+        None => None,
+    }
+}
+
+/// Looks at the last entry: it goes to the front, or goes if it is of the file.
+fn turn(entries: &mut Entries, file: FileId)
+    ensures turns { Turns file entries.old.entries entries.new.entries }
+    ensures room { entries.new.cap ≡ entries.old.cap }
+{
+    let _distinct = entries.len();
+    let Some(key) = last_key(entries) else {
+        return;
+    };
+    if key.file == file {
+        drop(entries.pop_lru());
+    } else {
+        entries.promote(&key);
+    }
+}
+
+/// Looks at the last entries, so many of them. Those of the file go, and the others stand in front, in their order.
+fn walk(entries: &mut Entries, file: FileId, times: usize)
+    requires { times ≤ length entries.old.entries }
+    ensures walked { entries.new.entries ≡ walked file (length entries.old.entries - times) entries.old.entries }
+    ensures room { entries.new.cap ≡ entries.old.cap }
+{
+    for _ in 0..times {
+        turn(entries, file);
+    }
+}
+
+/// Takes the blocks of a file out.
+pub(crate) fn take_file(entries: &mut Entries, file: FileId)
+    ensures taken { clean_blocks entries.new.entries ≡ purge file (clean_blocks entries.old.entries) }
+    ensures count { length entries.new.entries ≤ length entries.old.entries }
+    ensures room { entries.new.cap ≡ entries.old.cap }
+{
+    let count = entries.len();
+    walk(entries, file, count);
+}
+
+/// Takes the blocks of a file out, but for the one with this key, which stands first.
+pub(crate) fn leave_first(entries: &mut Entries, key: &Key)
+    requires { 0 < length entries.old.entries }
+    ensures left { StaysFirst key.now.file key.now.block (clean_blocks entries.old.entries) (clean_blocks entries.new.entries) }
+    ensures room { entries.new.cap ≡ entries.old.cap }
+{
+    let others = entries.len() - 1;
+    walk(entries, key.file, others);
+    bring_forward(entries, key);
+}
