@@ -155,12 +155,12 @@ impl Table {
     /// # Errors
     ///
     /// `Full` exactly where there is none of its file and host and 2048 rows are there; then nothing changed.
-    pub fn put_row(&mut self, row: &Row) -> Result<(), Full>
-        ensures put { OnOk result (self.new ≡ with_rows self.old (put_row row.now self.old.rows)) }
+    pub fn put_row(&mut self, row: Row) -> Result<(), Full>
+        ensures put { OnOk result (self.new ≡ with_rows self.old (put_row row self.old.rows)) }
         ensures kept { OnErr result (self.new ≡ self.old) }
-        ensures full { IsErr result ↔ ((find_row row.now.file row.now.who.host self.old.rows ≡ None) × (length self.old.rows ≡ most_rows)) }
+        ensures full { IsErr result ↔ ((find_row row.file row.who.host self.old.rows ≡ None) × (length self.old.rows ≡ most_rows)) }
     {
-        changes::put(&mut self.rows, &mut self.ends, row)
+        changes::put(&mut self.rows, &mut self.ends, &row)
     }
 
     /// Drops the row of a file and a host, if there is one.
