@@ -1,12 +1,7 @@
 -- When rows end.
-use Rattle.std.specs.Prelude.{ℕ, ◌+◌, List, [], ◌∷◌, Option, Some, None, max, min, map, if◌then◌else◌}
+use Rattle.std.specs.Prelude.{ℕ, List, [], ◌∷◌, Option, Some, None, min, map}
 use Rattle.nq_base.specs.declared.Row.{Row}
-use Rattle.nq_model.specs.Profile.{write_slack}
-use Rattle.nq_model.specs.Table.{is_writing}
-
--- when a row ends: a writing row goes on for the write slack after its lease is over and its last write was heard
-abbrev pub row_end : Row → ℕ
-row_end row = if is_writing row.mode then max row.until row.heard + write_slack else row.until
+use Rattle.nq_model.specs.Table.{row_end}
 
 -- the last time that a clock can show
 abbrev pub last_time : ℕ
