@@ -6,7 +6,9 @@ use crate::kept::Verdict;
 #[derive(Clone, Copy, PartialEq, Eq)]
 pub enum Gate {
     /// It recovers, and the boot `opened` served last.
-    Recovering { opened: u32 },
+    Recovering {
+        opened: u32,
+    },
     /// This boot serves.
     Serving {
         /// The boot.
