@@ -1,0 +1,108 @@
+//! The trait of what keeps the state of a server.
+
+ghost use Rattle.std.specs.Prelude.{◌≡◌, ◌⊎◌, ◌<◌, ℕ, Option, Some, IfOk, OnOk};
+ghost use Rattle.std.specs.Option.{ForSome};
+ghost use Rattle.nq_model.specs.Change.{Fits, row_of_found, file_after, heads_of, space_of};
+ghost use Rattle.nq_model.specs.Kept.{Kept, find_file, find_name, host_row};
+ghost use Rattle.nq_model.specs.Profile.{most_hosts};
+ghost use Rattle.nq_keeper.specs.Keeping.{Reads, Commits, LeavesOne, LeavesTwo, HasBlockAt, NamesHost, body_at};
+
+use nq_base::{Block, BlockNo, Change, FileId, FileRow, Heads, Host, HostRow, Name, Space};
+
+/// Why a keeper did not do what it was asked.
+#[derive(Clone, Copy, Debug, PartialEq, Eq)]
+pub enum KeepFault {
+    /// A fault, which the keeper has counted.
+    Failed,
+    /// Memory was wanted and refused.
+    Memory,
+}
+
+/// What keeps the state of a server. Each call may fail; a change is kept whole or not at all.
+pub trait Keeper {
+    /// What is kept, where the keeper tells it.
+    ghost content: { Self → Option Kept };
+
+    /// How many faults it has met: a count that never falls, and may stand still at the end of its type.
+    ghost faults: { Self → ℕ };
+
+    /// Whether the second keeper is the first one after some of its calls.
+    ghost follows: { Self → Self → Type 0 };
+
+    /// What a stop at some moment between these two may leave, as it is found again: None for what nobody can open.
+    ghost leaves: { Self → Self → Option Kept → Type 0 };
+
+    /// The row of a file; None where the file is not kept.
+    fn file(&mut self, id: FileId) -> Result<Option<FileRow>, KeepFault>
+        ensures told { ForSome (content self.old) (λ kept. IfOk result (λ row. row ≡ row_of_found (find_file id kept.files))) }
+        ensures reads { Reads result (content self.old) (content self.new) (faults self.old) (faults self.new) }
+        ensures follows { follows self.old self.new }
+        ensures leaves { LeavesOne (content self.old) (leaves self.old self.new) };
+
+    /// The row of the file of this name; None where no file has it.
+    fn by_name(&mut self, name: &Name) -> Result<Option<FileRow>, KeepFault>
+        ensures told { ForSome (content self.old) (λ kept. IfOk result (λ row. row ≡ row_of_found (find_name name.now kept.files))) }
+        ensures reads { Reads result (content self.old) (content self.new) (faults self.old) (faults self.new) }
+        ensures follows { follows self.old self.new }
+        ensures leaves { LeavesOne (content self.old) (leaves self.old self.new) };
+
+    /// The row of the file with the least id above this one; None where there is none.
+    fn next_file(&mut self, after: FileId) -> Result<Option<FileRow>, KeepFault>
+        ensures told { ForSome (content self.old) (λ kept. IfOk result (λ row. row ≡ row_of_found (file_after after kept.files))) }
+        ensures reads { Reads result (content self.old) (content self.new) (faults self.old) (faults self.new) }
+        ensures follows { follows self.old self.new }
+        ensures leaves { LeavesOne (content self.old) (leaves self.old self.new) };
+
+    /// The row of a host.
+    fn host(&mut self, host: Host) -> Result<HostRow, KeepFault>
+        requires { host < most_hosts }
+        ensures told { ForSome (content self.old) (λ kept. IfOk result (λ row. row ≡ host_row kept host)) }
+        ensures reads { Reads result (content self.old) (content self.new) (faults self.old) (faults self.new) }
+        ensures follows { follows self.old self.new }
+        ensures leaves { LeavesOne (content self.old) (leaves self.old self.new) };
+
+    /// The numbers of the server.
+    fn heads(&mut self) -> Result<Heads, KeepFault>
+        ensures told { ForSome (content self.old) (λ kept. IfOk result (λ heads. heads ≡ heads_of kept)) }
+        ensures reads { Reads result (content self.old) (content self.new) (faults self.old) (faults self.new) }
+        ensures follows { follows self.old self.new }
+        ensures leaves { LeavesOne (content self.old) (leaves self.old self.new) };
+
+    /// How many files and blocks are kept.
+    fn space(&mut self) -> Result<Space, KeepFault>
+        ensures told { ForSome (content self.old) (λ kept. IfOk result (λ space. space ≡ space_of kept)) }
+        ensures reads { Reads result (content self.old) (content self.new) (faults self.old) (faults self.new) }
+        ensures follows { follows self.old self.new }
+        ensures leaves { LeavesOne (content self.old) (leaves self.old self.new) };
+
+    /// Reads a block of a file into `into`, which after a fault may hold anything.
+    fn block(&mut self, id: FileId, block: BlockNo, into: &mut Block) -> Result<(), KeepFault>
+        requires { ForSome (content self.old) (λ kept. HasBlockAt block (find_file id kept.files)) }
+        ensures told { ForSome (content self.old) (λ kept. OnOk result (Some into.new ≡ body_at block (find_file id kept.files))) }
+        ensures reads { Reads result (content self.old) (content self.new) (faults self.old) (faults self.new) }
+        ensures follows { follows self.old self.new }
+        ensures leaves { LeavesOne (content self.old) (leaves self.old self.new) };
+
+    /// Keeps a change whole, or nothing of it.
+    fn commit(&mut self, change: &Change) -> Result<(), KeepFault>
+        requires host { NamesHost change.now }
+        requires fits { ForSome (content self.old) (λ kept. Fits kept change.now) }
+        ensures commits { Commits result change.now (content self.old) (content self.new) (faults self.old) (faults self.new) }
+        ensures follows { follows self.old self.new }
+        ensures leaves { LeavesTwo change.now (content self.old) (leaves self.old self.new) };
+
+    /// A keeper follows itself.
+    ghost follows_itself: { (keeper : Self) → follows keeper keeper };
+
+    /// What follows one that follows, follows.
+    ghost follows_on: { (first second third : Self) → follows first second → follows second third → follows first third };
+
+    /// At one moment a stop leaves what is kept.
+    ghost leaves_kept: { (keeper : Self) (kept : Kept) (found : Option Kept) → content keeper ≡ Some kept → leaves keeper keeper found → found ≡ Some kept };
+
+    /// What is kept at the beginning may be left, and what is kept at the end.
+    ghost may_leave: { (first last : Self) (kept : Kept) → follows first last → (content first ≡ Some kept) ⊎ (content last ≡ Some kept) → leaves first last (Some kept) };
+
+    /// A stop between two moments stands before a third moment between them, or behind it.
+    ghost parts: { (first middle last : Self) (found : Option Kept) → follows first middle → follows middle last → leaves first last found → leaves first middle found ⊎ leaves middle last found };
+}

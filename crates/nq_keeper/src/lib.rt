@@ -1,0 +1,11 @@
+//! What a server keeps over its boots: files, one row for each host, and the numbers of its boots. A server reads it
+//! block by block, and changes it by whole changes alone.
+//!
+//! A contract knows a keeper by its content, where it tells it, by a count of its faults, and by what a stop between two
+//! moments may leave. An answer `Failed` comes only where that count rose in the call.
+#![tactic(auto)]
+
+mod keeper;
+
+pub use keeper::{KeepFault, Keeper};
+pub use nq_base::{BlockChange, Change, FileRow, Heads, HostChange, HostRow, Space, Verdict};
