@@ -1,5 +1,6 @@
 -- Each step of the server keeps one change at most.
-use Rattle.std.proofs.Common.{◌≡◌, ◌<◌, ℕ, ◌==◌, true, ◌&&◌, List, Option, Some, None, if◌then◌else◌, refl, sym, subst, ap, ◌∙◌, arith}
+use Rattle.std.proofs.Common.{◌≤◌, ◌≡◌, ◌<◌, ℕ, ◌==◌, true, ◌&&◌, List, Option, Some, None, if◌then◌else◌, refl, sym, subst, ap, ◌∙◌, arith}
+use Rattle.nq_base.specs.declared.Heads.{Heads}
 use Rattle.std.specs.List.{find, slice_get}
 use Rattle.std.specs.Prelude.{nat_lt, nat_le}
 use Rattle.std.proofs.lemmas.Bool.Decides.{nat_tests}
@@ -188,11 +189,11 @@ module _ (s : Server) (within : IsWithinBounds s.kept) where
   ends-once now rows (Some row) = fences-once row.file (find_file row.file s.kept.files) refl
 
   opens-once : (now until heard : ℕ) → Once (opens (at_time s now) until heard)
-  unfolding at_time opens
+  unfolding at_time opens opened_heads
   opens-once now until heard = record {
     change = Some (change_of_heads (opened_heads s.kept s.longest));
     is_applied = applied-opening s.kept s.longest;
-    fits = heads-fit s.kept (opened_heads s.kept s.longest);
+    fits = heads-fit s.kept (opened_heads s.kept s.longest) (omega arith);
   }
 
   waits-once : (now : ℕ) → Once (quiet (at_time s now))
@@ -204,12 +205,15 @@ module _ (s : Server) (within : IsWithinBounds s.kept) where
   ticks-in now serving = ends-once now (end_reading now s.table.rows) (find (is_due now) (end_reading now s.table.rows))
   ticks-in now (recovering until heard last) = choice Once (nat_le until now) _ _ (λ over. opens-once now until heard) (λ early. waits-once now)
 
+  boots-next : (kept : Kept) (longest : ℕ) → kept.next ≤ (booted_heads kept longest).next
+  boots-next kept longest = choice (λ (heads : Heads). kept.next ≤ heads.next) (kept.opened == 0) _ _ (λ first. omega arith) (λ later. omega arith)
+
   crashes-once : (longest : ℕ) → Once (crash s longest)
   unfolding crash boot
   crashes-once longest = record {
     change = Some (change_of_heads (booted_heads s.kept longest));
     is_applied = applied-boot s.kept longest;
-    fits = heads-fit s.kept (booted_heads s.kept longest);
+    fits = heads-fit s.kept (booted_heads s.kept longest) (boots-next s.kept longest);
   }
 
 -- each step changes once

@@ -124,7 +124,7 @@ module _ (kept : Kept) (within : IsWithinBounds kept) (who : Who) (few : who.hos
 
   keeps-none : (verdict : Verdict) → Keeps (no_effect verdict)
   unfolding change_with no_effect
-  keeps-none verdict = record { file = tt; block = tt; host = few; removed = tt }
+  keeps-none verdict = record { file = tt; block = tt; host = few; heads = tt; removed = tt }
 
   keeps-creation : (name : List ℕ) (blocks : ℕ) → 1 ≤ blocks → blocks ≤ most_blocks_of_file → find_name name kept.files ≡ None → length kept.files < most_files → blocks_in_all kept.files + blocks ≤ most_blocks → Keeps (creation kept name blocks)
   unfolding change_with creation file_of
@@ -143,6 +143,7 @@ module _ (kept : Kept) (within : IsWithinBounds kept) (who : Who) (few : who.hos
         };
         block = tt;
         host = few;
+        heads = omega arith;
         removed = tt;
       }
 
@@ -178,6 +179,7 @@ module _ (kept : Kept) (within : IsWithinBounds kept) (who : Who) (few : who.hos
         file = raised-alike f found;
         block = subst (HasBlock block) (sym there) (omega (arith, resized-length (blocks_of f) f.bodies));
         host = few;
+        heads = tt;
         removed = tt;
       }
 
@@ -187,6 +189,7 @@ module _ (kept : Kept) (within : IsWithinBounds kept) (who : Who) (few : who.hos
     file = raised-fits f blocks found some short (let one = blocks-of-one f kept.files found in omega arith);
     block = tt;
     host = few;
+    heads = tt;
     removed = tt;
   }
 
@@ -196,6 +199,7 @@ module _ (kept : Kept) (within : IsWithinBounds kept) (who : Who) (few : who.hos
     file = tt;
     block = tt;
     host = few;
+    heads = tt;
     removed = record { is_kept = subst IsSome (sym found) refl; no_file = refl; no_block = refl };
   }
 
@@ -256,7 +260,7 @@ module _ (kept : Kept) (within : IsWithinBounds kept) (who : Who) (few : who.hos
 
 nothing-fits : (kept : Kept) → Fits kept no_change
 unfolding no_change
-nothing-fits kept = record { file = tt; block = tt; host = tt; removed = tt }
+nothing-fits kept = record { file = tt; block = tt; host = tt; heads = tt; removed = tt }
 
 same-host : (r : Request) (w who : Who) → Some w ≡ Some who → who.host < most_hosts → w.host < most_hosts
 same-host r w who e few = let same : w ≡ who = cc in subst (λ v. v.host < most_hosts) (sym same) few
@@ -273,9 +277,9 @@ fresh-fits kept gate other who within by few = nothing-fits kept
 -- a file that is fenced can be kept
 pub fencing-fits : (kept : Kept) (f : File) → IsWithinBounds kept → find_file f.id kept.files ≡ Some f → Fits kept (fencing f)
 unfolding fencing
-fencing-fits kept f within found = record { file = raised-alike kept within (record { host = 0; inc = 0 }) (omega arith) 0 f found; block = tt; host = tt; removed = tt }
+fencing-fits kept f within found = record { file = raised-alike kept within (record { host = 0; inc = 0 }) (omega arith) 0 f found; block = tt; host = tt; heads = tt; removed = tt }
 
 -- and so can the server's numbers
-pub heads-fit : (kept : Kept) (heads : Heads) → Fits kept (change_of_heads heads)
+pub heads-fit : (kept : Kept) (heads : Heads) → kept.next ≤ heads.next → Fits kept (change_of_heads heads)
 unfolding change_of_heads
-heads-fit kept heads = record { file = tt; block = tt; host = tt; removed = tt }
+heads-fit kept heads stays = record { file = tt; block = tt; host = tt; heads = stays; removed = tt }

@@ -169,11 +169,12 @@ pub record FitsRemoval (kept : Kept) (change : Change) (id : ℕ) : Type 0 where
   pub no_file : change.file ≡ None
   pub no_block : change.block ≡ None
 
--- a change can be kept. The block is one that its file has after the change
+-- a change can be kept. The block is one that its file has after the change, and the next id does not fall
 pub record Fits (kept : Kept) (change : Change) : Type 0 where
   pub file : IfSome change.file (FitsFile kept change.heads)
   pub block : IfSome change.block (λ b. HasBlock b.block (find_file b.file (files_with change.file kept.files)))
   pub host : IfSome change.host (λ h. h.host < most_hosts)
+  pub heads : IfSome change.heads (λ heads. kept.next ≤ heads.next)
   pub removed : IfSome change.removed (FitsRemoval kept change)
 
 -- what is kept is changed once at most, by a change that can be kept
