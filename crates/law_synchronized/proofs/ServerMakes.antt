@@ -25,7 +25,7 @@ use Rattle.walk_tables.proofs.ServerNumbers.{LinesFitOf}
 use Rattle.walk_server.proofs.KeptChanges.{other-line, own-line, same-lines, booted-line}
 use Rattle.walk_server.proofs.Rows.{same-number, number-same}
 use Rattle.walk_server.proofs.ServerCases.{server-hears, server-ticks}
-use Rattle.walk_server.proofs.ServerOutcomes.{line_of, IsFrom, IsFresh, IsDeclined, bad_length, name_taken, no_room, not_kept, outside, no_row, not_under, not_over, not_while_recovering, bad_size, no_room_to_grow}
+use Rattle.walk_server.proofs.ServerOutcomes.{line_of, IsFrom, IsFresh, IsDeclined, declined-not}
 use Rattle.law_synchronized.proofs.OkMoves.{IsMild}
 
 -- no entry is an answer, a loss or a delayed write
@@ -153,23 +153,9 @@ module _ (ps : List Packet) (s : Server) (sender next : ℕ) (d : Datagram) (was
       move host true e = let same_host : w.host ≡ host = sym (same-number host w.host e) in subst (λ n. LineMoves ps (host_row s.kept n) (host_row after n) n k.entries) same_host (decided here)
       move host false e = stays (other-line k.server.kept w.host host (row_after w seq k) (λ eq. let yes : (host == w.host) ≡ true = number-same host w.host eq in absurd (cc)) ∙ same-lines s.kept k.server.kept host same)
 
-  -- a decision without effect is not Done
-  declined-not : (w : Who) (r : Request) (v : Verdict) → IsDeclined s w r v → v ≡ Verdict.Done → ⊥
-  declined-not w r v (bad_length seq blocks name p on bad is) done = cc
-  declined-not w r v (name_taken seq blocks name p on taken is) done = cc
-  declined-not w r v (no_room seq blocks name p on is) done = cc
-  declined-not w r v (not_kept file on none is) done = cc
-  declined-not w r v (outside seq file block first last push body f on found out is) done = cc
-  declined-not w r v (no_row seq file block first last base body f p on found none is) done = cc
-  declined-not w r v (not_under seq file block first last base body f row p on found some bars is) done = cc
-  declined-not w r v (not_over seq file block first last base body f rec on found bars is) done = cc
-  declined-not w r v (not_while_recovering rec none is) done = cc
-  declined-not w r v (bad_size seq q file blocks f p on found bad is) done = cc
-  declined-not w r v (no_room_to_grow seq q file blocks f p on found is) done = cc
-
   declining : (xid : ℕ) (w : Who) (seq : ℕ) (r : Request) (v : Verdict) → d ≡ request xid r → asker r ≡ Some w → sequence_of r ≡ Some seq → IsFresh s sender w seq → IsDeclined s w r v → ServerMakes ps s (commits w seq xid r (decides s v))
   unfolding decides
-  declining xid w seq r v e by sq fresh declined = committed xid w seq r (decides s v) e by sq fresh refl none-mild (λ done. absurd (declined-not w r v declined done))
+  declining xid w seq r v e by sq fresh declined = committed xid w seq r (decides s v) e by sq fresh refl none-mild (λ done. absurd (declined-not s w r v declined done))
 
   putting-off-change : (xid : ℕ) (w : Who) (seq : ℕ) (r : Request) (file : ℕ) (table : Table) → d ≡ request xid r → asker r ≡ Some w → sequence_of r ≡ Some seq → IsFresh s sender w seq → ServerMakes ps s (commits w seq xid r (puts_off s w file table))
   unfolding puts_off after_notices

@@ -223,17 +223,14 @@ pub record IsBounded (who : Who) (calls number : ℕ) (e : Entry) : Type 0 where
   pub numbers : (q : ℕ) → entry_who e ≡ Some who → entry_call e ≡ Some q → q ≤ calls
   pub writes : (n : ℕ) → entry_who e ≡ Some who → entry_number e ≡ Some n → n < number
 
-told-still : (who : Who) (calls : ℕ) (u : UnderWay) (e : Entry) (journal : List Entry) → IsNoCall who e → IsOpenAsTold who calls u journal → IsOpenAsTold who calls u (e ∷ journal)
-told-still who calls u e journal quiet h = record { is_open = open-more journal u.q quiet h.is_open; tells = call-told e journal who u.q (told u.call) h.tells; counted = h.counted }
+-- the facts of bounds after one more entry
+pub record Bounds (who : Who) (calls number : ℕ) (journal : List Entry) : Type 0 where
+  pub past : (e : Entry) (w : Who) → In journal e → entry_who e ≡ Some w → w.host ≡ who.host → w.inc ≤ who.inc
+  pub numbers : (e : Entry) (q : ℕ) → In journal e → entry_who e ≡ Some who → entry_call e ≡ Some q → q ≤ calls
+  pub writes : (e : Entry) (n : ℕ) → In journal e → entry_who e ≡ Some who → entry_number e ≡ Some n → n < number
 
-pub calls-more : (who : Who) (calls number : ℕ) (under : Option UnderWay) (e : Entry) (journal : List Entry) → IsNoCall who e → IsBounded who calls number e → CallsAt who calls number under journal → CallsAt who calls number under (e ∷ journal)
-calls-more who calls number under e journal quiet b h = record {
-  past = λ f w i. past f w i;
-  numbers = λ f q i. numbers f q i;
-  writes = λ f n i. writes f n i;
-  under_way = λ u is. told-still who calls u e journal quiet (h.under_way u is);
-  alone = λ q is_open. h.alone q (open-before journal q quiet is_open);
-} where
+pub bounds-more : (who : Who) (calls number : ℕ) (e : Entry) (journal : List Entry) → IsBounded who calls number e → Bounds who calls number journal → Bounds who calls number (e ∷ journal)
+bounds-more who calls number e journal b h = record { past = λ f w i. past f w i; numbers = λ f q i. numbers f q i; writes = λ f n i. writes f n i } where
   past : (f : Entry) (w : Who) → (e ≡ f) ⊎ In journal f → entry_who f ≡ Some w → w.host ≡ who.host → w.inc ≤ who.inc
   past f w (inl same) by = b.past w (ap entry_who same ∙ by)
   past f w (inr i) by = h.past f w i by
@@ -245,6 +242,20 @@ calls-more who calls number under e journal quiet b h = record {
   writes : (f : Entry) (n : ℕ) → (e ≡ f) ⊎ In journal f → entry_who f ≡ Some who → entry_number f ≡ Some n → n < number
   writes f n (inl same) by of = b.writes n (ap entry_who same ∙ by) (ap entry_number same ∙ of)
   writes f n (inr i) by of = h.writes f n i by of
+
+told-still : (who : Who) (calls : ℕ) (u : UnderWay) (e : Entry) (journal : List Entry) → IsNoCall who e → IsOpenAsTold who calls u journal → IsOpenAsTold who calls u (e ∷ journal)
+told-still who calls u e journal quiet h = record { is_open = open-more journal u.q quiet h.is_open; tells = call-told e journal who u.q (told u.call) h.tells; counted = h.counted }
+
+pub calls-more : (who : Who) (calls number : ℕ) (under : Option UnderWay) (e : Entry) (journal : List Entry) → IsNoCall who e → IsBounded who calls number e → CallsAt who calls number under journal → CallsAt who calls number under (e ∷ journal)
+calls-more who calls number under e journal quiet b h =
+    let more = bounds-more who calls number e journal b (record { past = h.past; numbers = h.numbers; writes = h.writes }) in
+    record {
+      past = more.past;
+      numbers = more.numbers;
+      writes = more.writes;
+      under_way = λ u is. told-still who calls u e journal quiet (h.under_way u is);
+      alone = λ q is_open. h.alone q (open-before journal q quiet is_open);
+    }
 
 -- more calls and write numbers were drawn
 pub calls-raised : (who : Who) (calls number more after : ℕ) (under : Option UnderWay) (journal : List Entry) → calls ≤ more → number ≤ after → CallsAt who calls number under journal → CallsAt who more after under journal

@@ -9,8 +9,8 @@ use Rattle.nq_base.specs.declared.Request.{Request}
 use Rattle.nq_base.specs.declared.Said.{Said}
 use Rattle.nq_base.specs.declared.Told.{Told}
 use Rattle.nq_base.specs.declared.Who.{Who}
-use Rattle.walk_calls.proofs.Entries.{entry_who, entry_call, entry_number, IsOpenAsTold}
-use Rattle.walk_calls.proofs.CallFacts.{CallsAt, IsBounded, NoneDone, IsPut, Pending, through_number, TicketFits, Requesting, calls-raised, called-below, answered-below, resized-below, asks-told}
+use Rattle.walk_calls.proofs.Entries.{IsOpenAsTold}
+use Rattle.walk_calls.proofs.CallFacts.{CallsAt, IsBounded, NoneDone, IsPut, Pending, through_number, TicketFits, Requesting, calls-raised, called-below, answered-below, resized-below, asks-told, Bounds, bounds-more}
 use Rattle.walk_calls.proofs.Quiet.{IsNoChange, IsQuiet, told-more, before-more, OpenFits, open-fits-more, ReadFits, read-fits-more}
 use Rattle.walk_client.proofs.ClientMoves.{some-same, none-some}
 use Rattle.nq_model.specs.Client.{UnderWay, for_call, Ticket}
@@ -39,26 +39,6 @@ answer-bounded who calls number q said below = record {
   numbers = λ n by of. let e : q ≡ n = some-same _ n of in omega arith;
   writes = λ n by of. none-some n of;
 }
-
--- the facts of bounds after one more entry
-record Bounds (who : Who) (calls number : ℕ) (journal : List Entry) : Type 0 where
-  past : (e : Entry) (w : Who) → In journal e → entry_who e ≡ Some w → w.host ≡ who.host → w.inc ≤ who.inc
-  numbers : (e : Entry) (q : ℕ) → In journal e → entry_who e ≡ Some who → entry_call e ≡ Some q → q ≤ calls
-  writes : (e : Entry) (n : ℕ) → In journal e → entry_who e ≡ Some who → entry_number e ≡ Some n → n < number
-
-bounds-more : (who : Who) (calls number : ℕ) (e : Entry) (journal : List Entry) → IsBounded who calls number e → Bounds who calls number journal → Bounds who calls number (e ∷ journal)
-bounds-more who calls number e journal b h = record { past = λ f w i. past f w i; numbers = λ f q i. numbers f q i; writes = λ f n i. writes f n i } where
-  past : (f : Entry) (w : Who) → (e ≡ f) ⊎ In journal f → entry_who f ≡ Some w → w.host ≡ who.host → w.inc ≤ who.inc
-  past f w (inl same) by = b.past w (ap entry_who same ∙ by)
-  past f w (inr i) by = h.past f w i by
-
-  numbers : (f : Entry) (q : ℕ) → (e ≡ f) ⊎ In journal f → entry_who f ≡ Some who → entry_call f ≡ Some q → q ≤ calls
-  numbers f q (inl same) by of = b.numbers q (ap entry_who same ∙ by) (ap entry_call same ∙ of)
-  numbers f q (inr i) by of = h.numbers f q i by of
-
-  writes : (f : Entry) (n : ℕ) → (e ≡ f) ⊎ In journal f → entry_who f ≡ Some who → entry_number f ≡ Some n → n < number
-  writes f n (inl same) by of = b.writes n (ap entry_who same ∙ by) (ap entry_number same ∙ of)
-  writes f n (inr i) by of = h.writes f n i by of
 
 bounds-of : (who : Who) (calls number : ℕ) (under : Option UnderWay) (journal : List Entry) → CallsAt who calls number under journal → Bounds who calls number journal
 bounds-of who calls number under journal h = record { past = h.past; numbers = h.numbers; writes = h.writes }

@@ -35,21 +35,16 @@ use Rattle.walk_server.proofs.RowChanges.{no-clash}
 use Rattle.walk_server.proofs.Rows.{same-number, number-same}
 use Rattle.walk_server.proofs.ServerCases.{server-hears}
 use Rattle.walk_server.proofs.ServerMoves.{first_line}
-use Rattle.walk_server.proofs.ServerOutcomes.{line_of, clash_with, IsFrom, IsFresh, IsChanging, IsDeclined, bad_length, name_taken, no_room, not_kept, outside, no_row, not_under, not_over, not_while_recovering, bad_size, no_room_to_grow, ServerCases}
+use Rattle.walk_server.proofs.ServerOutcomes.{line_of, clash_with, IsFrom, IsFresh, IsChanging, IsDeclined, ServerCases, declined-not}
+
+-- what is not Done
+verdict-undone : (v : Verdict) → (v ≡ Verdict.Done → ⊥) → is_done v ≡ false
+verdict-undone Verdict.Done none = absurd (none refl)
+verdict-undone v none = refl
 
 -- what is declined is not done
 declined-undone : (s : Server) (w : Who) (r : Request) (v : Verdict) → IsDeclined s w r v → is_done v ≡ false
-declined-undone s w r v (bad_length seq blocks name p is bad to) = ap is_done to
-declined-undone s w r v (name_taken seq blocks name p is taken to) = ap is_done to
-declined-undone s w r v (no_room seq blocks name p is to) = ap is_done to
-declined-undone s w r v (not_kept file changes none to) = ap is_done to
-declined-undone s w r v (outside seq file block first last push body f is found past to) = ap is_done to
-declined-undone s w r v (no_row seq file block first last base body f p is found none to) = ap is_done to
-declined-undone s w r v (not_under seq file block first last base body f row p is found stands bars to) = ap is_done to
-declined-undone s w r v (not_over seq file block first last base body f recovers is found bars to) = ap is_done to
-declined-undone s w r v (not_while_recovering recovers none to) = ap is_done to
-declined-undone s w r v (bad_size seq q file blocks f p is found bad to) = ap is_done to
-declined-undone s w r v (no_room_to_grow seq q file blocks f p is found to) = ap is_done to
+declined-undone s w r v d = verdict-undone v (declined-not s w r v d)
 
 module _ (ps : List Packet) (s : Server) (sender next : ℕ) (d : Datagram) (events : List Event) (c : Client) (b : Beforehand ps s events c) (was_sent : (x : ℕ) (r : Request) → d ≡ request x r → Asked ps sender x r) (stood : StandingFitsOf s) (lines : LinesFitOf s) (pushes : PushesFit s sender ps) where
   abbrev Claimed : ℕ → Type 0

@@ -1,10 +1,11 @@
 -- What a step of the server does to the line of a host, and to files, as one client sees it.
-use Rattle.std.proofs.Common.{◌≡◌, ◌≢◌, ◌<◌, ℕ, ◌+◌, Bool, true, false, ◌&&◌, ◌==◌, List, Option, Some, length, refl, sym, subst, ap, ◌∙◌, arith}
+use Rattle.std.proofs.Common.{◌≡◌, ◌≢◌, ◌<◌, ℕ, ◌+◌, Bool, true, false, ◌==◌, List, Option, Some, length, refl, sym, subst, ap, ◌∙◌, arith}
 use Rattle.std.proofs.lemmas.List.{length-set}
 use Rattle.nq_base.specs.declared.PushBase.{PushBase}
 use Rattle.nq_base.specs.declared.Request.{Request}
 use Rattle.nq_base.specs.declared.Verdict.{Verdict}
 use Rattle.nq_base.specs.declared.Who.{Who}
+use Rattle.walk_chains.proofs.ChainReplies.{undone-file}
 use Rattle.walk_chain_rows.proofs.ServerChains.{LineTo, line_stays, line_decides, NoneCaches, FileMove, file_stays, file_written, file_changed}
 use Rattle.walk_chains.proofs.ChainFacts.{line_for, done_at, VerdictFits}
 use Rattle.nq_promises.specs.Chained.{is_done, has_done, has_done_write}
@@ -93,14 +94,7 @@ done-not-to w seq inc block first last file g push body d apart = step (file == 
 
 -- a refusal was done to none
 pub refused-to : (w : Who) (seq inc g : ℕ) (r : Request) (d : Decision) → is_done d.verdict ≡ false → has_done (row_after w seq d) inc g r ≡ false
-refused-to w seq inc g (Request.Write v n file block first last push body) d e = last-false (file == g) (w.inc == inc) (seq == n) (is_done d.verdict) e
-  where
-    last-false : (a b c d : Bool) → d ≡ false → (a && b && c && d) ≡ false
-    last-false true true true d e = e
-    last-false true true false d e = refl
-    last-false true false c d e = refl
-    last-false false b c d e = refl
-refused-to w seq inc g other d e = refl
+refused-to w seq inc g r d e = undone-file (row_after w seq d) inc g r e
 
 -- ---- files
 

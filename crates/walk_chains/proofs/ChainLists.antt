@@ -13,7 +13,7 @@ use Rattle.nq_model.specs.Client.{Lease, Revision, lease_on, drop_lease, used_le
 use Rattle.nq_model.specs.Hear.{other_push}
 use Rattle.nq_model.specs.Message.{sequence_of}
 use Rattle.nq_model.specs.Settle.{with_write}
-use Rattle.walk_server.proofs.Rows.{same-number, number-same}
+use Rattle.walk_server.proofs.Rows.{same-number}
 use Rattle.walk_server.proofs.Tests.{is-other}
 
 -- ---- leases

@@ -255,7 +255,7 @@ refused-undone inc i value status Verdict.Stale r n sq e = refl
 refused-undone inc i value status Verdict.TryLater r n sq e = refl
 
 -- what is not done is done to no file
-undone-file : (line : HostRow) (inc file : ℕ) (r : Request) → is_done line.verdict ≡ false → has_done line inc file r ≡ false
+pub undone-file : (line : HostRow) (inc file : ℕ) (r : Request) → is_done line.verdict ≡ false → has_done line inc file r ≡ false
 undone-file line inc file (Request.Write w seq f block first last push body) e = last-false (f == file) (line.inc == inc) (line.seq == seq) (is_done line.verdict) e
   where
     last-false : (a b c d : Bool) → d ≡ false → (a && b && c && d) ≡ false

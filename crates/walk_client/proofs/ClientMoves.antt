@@ -113,18 +113,6 @@ draws {xid = xid} {seq = seq} xid' seq' more more' h = record {
   changed = h.changed;
 }
 
--- the request under way is spent by an attached client
-pub spends : {who : Who} {now xid seq : ℕ} {call : Option UnderWay} {ticket : Option Ticket} {leases : List Lease} {notices : List Notice} → Asking who now true call ticket xid seq leases notices → Asking who now true call None xid seq leases notices
-spends h = record {
-  ticketed = λ t e. none-some t e;
-  waiting = λ e. absurd (cc);
-  attaching = λ t e. none-some t e;
-  called = λ t e. none-some t e;
-  leased = h.leased;
-  unwanted = λ file n t a e. none-some t e;
-  changed = λ t file e. none-some t e;
-}
-
 -- the client is attached, and its request is spent
 pub attaches : {who : Who} {now xid seq : ℕ} {attached : Bool} {call : Option UnderWay} {ticket : Option Ticket} {leases : List Lease} {notices : List Notice} → Asking who now attached call ticket xid seq leases notices → Asking who now true call None xid seq leases notices
 attaches h = record {
@@ -136,6 +124,10 @@ attaches h = record {
   unwanted = λ file n t a e. none-some t e;
   changed = λ t file e. none-some t e;
 }
+
+-- the request under way is spent by an attached client
+pub spends : {who : Who} {now xid seq : ℕ} {call : Option UnderWay} {ticket : Option Ticket} {leases : List Lease} {notices : List Notice} → Asking who now true call ticket xid seq leases notices → Asking who now true call None xid seq leases notices
+spends h = attaches h
 
 -- a request that is sent by an attached client with none under way
 pub record IsNext (who : Who) (call : Option UnderWay) (seq : ℕ) (leases : List Lease) (notices : List Notice) (job : Job) (request : Request) : Type 0 where

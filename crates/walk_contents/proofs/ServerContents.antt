@@ -35,7 +35,7 @@ use Rattle.walk_server.proofs.Incarnations.{one-who}
 use Rattle.walk_server.proofs.KeptChanges.{find-new-added, line-as}
 use Rattle.walk_server.proofs.Rows.{number-same}
 use Rattle.walk_server.proofs.ServerCases.{server-hears}
-use Rattle.walk_server.proofs.ServerOutcomes.{error_for, IsFrom, IsDeclined, bad_length, name_taken, no_room, not_kept, outside, no_row, not_under, not_over, not_while_recovering, bad_size, no_room_to_grow, IsPlain, unattached, attached_again, not_yet, no_entry, entry, no_attributes, attributes, no_file, no_block, decided_again, is_old, error-no-reply}
+use Rattle.walk_server.proofs.ServerOutcomes.{error_for, IsFrom, IsDeclined, IsPlain, unattached, attached_again, not_yet, no_entry, entry, no_attributes, attributes, no_file, no_block, decided_again, is_old, error-no-reply, declined-not}
 
 -- ---- what a message says
 
@@ -244,22 +244,9 @@ module _ (journal : List Entry) (first after : ℕ → ℕ) (ps : List Packet) (
     was : IsFirst first after s.kept.next c.server.kept.files → IsFirst first after s.kept.next s.kept.files
     was is = subst (λ k. IsFirst first after s.kept.next k.files) same is
 
-  not-done : (who : Who) (r : Request) (v : Verdict) → IsDeclined s who r v → v ≡ Verdict.Done → ⊥
-  not-done who r v (bad_length seq blocks name p asks bad is) done = let e : Verdict.Invalid ≡ Verdict.Done = sym is ∙ done in absurd (cc)
-  not-done who r v (name_taken seq blocks name p asks taken is) done = let e : Verdict.Exist ≡ Verdict.Done = sym is ∙ done in absurd (cc)
-  not-done who r v (no_room seq blocks name p asks is) done = let e : Verdict.NoSpace ≡ Verdict.Done = sym is ∙ done in absurd (cc)
-  not-done who r v (not_kept file on none is) done = let e : Verdict.Stale ≡ Verdict.Done = sym is ∙ done in absurd (cc)
-  not-done who r v (outside seq file block f l push body g asks found past is) done = let e : Verdict.Invalid ≡ Verdict.Done = sym is ∙ done in absurd (cc)
-  not-done who r v (no_row seq file block f l base body g p asks found none is) done = let e : Verdict.Fenced ≡ Verdict.Done = sym is ∙ done in absurd (cc)
-  not-done who r v (not_under seq file block f l base body g row p asks found there bars is) done = let e : Verdict.Fenced ≡ Verdict.Done = sym is ∙ done in absurd (cc)
-  not-done who r v (not_over seq file block f l base body g rec asks found bars is) done = let e : Verdict.Fenced ≡ Verdict.Done = sym is ∙ done in absurd (cc)
-  not-done who r v (not_while_recovering rec none is) done = let e : Verdict.TryLater ≡ Verdict.Done = sym is ∙ done in absurd (cc)
-  not-done who r v (bad_size seq q file blocks g p asks found bad is) done = let e : Verdict.Invalid ≡ Verdict.Done = sym is ∙ done in absurd (cc)
-  not-done who r v (no_room_to_grow seq q file blocks g p asks found is) done = let e : Verdict.NoSpace ≡ Verdict.Done = sym is ∙ done in absurd (cc)
-
   declining : (xid : ℕ) (who : Who) (seq : ℕ) (r : Request) (v : Verdict) → d ≡ request xid r → asker r ≡ Some who → sequence_of r ≡ Some seq → who.host ≡ sender → IsDeclined s who r v → ShowsIf (commits who seq xid r (decides s v))
   unfolding decides
-  declining xid who seq r v e by sq from declined = committed xid who seq r (decides s v) e by sq from (no-effect (decides s v) refl refl no-packets) (λ is done. absurd (not-done who r v declined done))
+  declining xid who seq r v e by sq from declined = committed xid who seq r (decides s v) e by sq from (no-effect (decides s v) refl refl no-packets) (λ is done. absurd (declined-not s who r v declined done))
 
   putting-off : (xid : ℕ) (who : Who) (seq file : ℕ) (r : Request) (table : Table) → d ≡ request xid r → asker r ≡ Some who → sequence_of r ≡ Some seq → who.host ≡ sender → ShowsIf (commits who seq xid r (puts_off s who file table))
   unfolding puts_off after_notices

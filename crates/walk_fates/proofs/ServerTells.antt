@@ -29,7 +29,7 @@ use Rattle.walk_run.proofs.ServerSays.{verdict-inc, plain-inc, notices-no-reply}
 use Rattle.walk_tables.proofs.ServerNumbers.{LinesFitOf}
 use Rattle.walk_server.proofs.KeptChanges.{other-line, own-line, same-lines}
 use Rattle.walk_server.proofs.ServerCases.{server-hears}
-use Rattle.walk_server.proofs.ServerOutcomes.{error_for, base_in, line_of, IsFrom, IsFresh, IsPlain, unattached, attached_again, not_yet, no_entry, entry, no_attributes, attributes, no_file, no_block, decided_again, is_old, IsDeclined, bad_length, name_taken, no_room, not_kept, outside, no_row, not_under, not_over, not_while_recovering, bad_size, no_room_to_grow}
+use Rattle.walk_server.proofs.ServerOutcomes.{error_for, base_in, line_of, IsFrom, IsFresh, IsPlain, unattached, attached_again, not_yet, no_entry, entry, no_attributes, attributes, no_file, no_block, decided_again, is_old, IsDeclined, declined-not}
 
 -- ---- entries
 
@@ -267,23 +267,9 @@ module _ (ps : List Packet) (s : Server) (sender next : ℕ) (d : Datagram) (was
     case host x a (inl bad) = absurd (silent host x a bad)
     case host x a (inr i) = one-says ps after w.host xid (verdict_reply w.inc k.verdict k.value r) (answered after xid w r (verdict_reply w.inc k.verdict k.value r) e by fresh.current.from.host (verdict-inc w.inc k.verdict k.value r seq sq) tells) host x a i
 
-  -- a decision without effect is not Done
-  declined-not : (w : Who) (r : Request) (v : Verdict) → IsDeclined s w r v → v ≡ Verdict.Done → ⊥
-  declined-not w r v (bad_length seq blocks name p on bad is) done = cc
-  declined-not w r v (name_taken seq blocks name p on taken is) done = cc
-  declined-not w r v (no_room seq blocks name p on is) done = cc
-  declined-not w r v (not_kept file on none is) done = cc
-  declined-not w r v (outside seq file block first last push body f on found out is) done = cc
-  declined-not w r v (no_row seq file block first last base body f p on found none is) done = cc
-  declined-not w r v (not_under seq file block first last base body f row p on found some bars is) done = cc
-  declined-not w r v (not_over seq file block first last base body f rec on found bars is) done = cc
-  declined-not w r v (not_while_recovering rec none is) done = cc
-  declined-not w r v (bad_size seq q file blocks f p on found bad is) done = cc
-  declined-not w r v (no_room_to_grow seq q file blocks f p on found is) done = cc
-
   declining : (xid : ℕ) (w : Who) (seq : ℕ) (r : Request) (v : Verdict) → d ≡ request xid r → asker r ≡ Some w → sequence_of r ≡ Some seq → IsFresh s sender w seq → IsDeclined s w r v → ServerTells ps s (commits w seq xid r (decides s v))
   unfolding decides
-  declining xid w seq r v e by sq fresh declined = committed xid w seq r (decides s v) e by sq fresh refl (λ host x a i. i) (without none-quiet (inr (declined-not w r v declined)))
+  declining xid w seq r v e by sq fresh declined = committed xid w seq r (decides s v) e by sq fresh refl (λ host x a i. i) (without none-quiet (inr (declined-not s w r v declined)))
 
   no-base : (r : Request) → base_in r ≡ None → push_in r ≡ None
   no-base (Request.Write w seq file block first last None body) e = refl

@@ -1,8 +1,5 @@
 -- Look-ups in lists of rows after each change of the list.
-use Rattle.std.proofs.Common.{◌≡◌, ◌⊎◌, ℕ, Bool, true, false, ◌&&◌, ◌==◌, List, [], ◌∷◌, Some, None, if◌then◌else◌, map, refl, subst, arith, inl, inr}
-use Rattle.std.specs.List.{find, filter}
-use Rattle.std.specs.Option.{option_map}
-use Rattle.std.proofs.lemmas.Bool.Decides.{nat_tests}
+use Rattle.std.proofs.Common.{◌≡◌, ℕ, Bool, true, false, ◌&&◌, ◌==◌, List, ◌∷◌, Some, if◌then◌else◌, refl}
 use Rattle.std.proofs.lemmas.Bool.{and_parts}
 use Rattle.nq_base.specs.declared.Row.{Row}
 pub use Rattle.nq_model.proofs.Finding.{choice, decided, same-number, number-same, find-passes, find-none, find-filter, find-dropped, find-map}

@@ -165,6 +165,20 @@ pub data IsDeclined (s : Server) (who : Who) (r : Request) (verdict : Verdict) :
   bad_size : (seq q file blocks : ℕ) (f : File) → s.phase ≡ serving → r ≡ Request.Resize who seq q file blocks → find_file file s.kept.files ≡ Some f → (blocks == 0 || nat_lt most_blocks_of_file blocks) ≡ true → verdict ≡ Verdict.Invalid → IsDeclined s who r verdict
   no_room_to_grow : (seq q file blocks : ℕ) (f : File) → s.phase ≡ serving → r ≡ Request.Resize who seq q file blocks → find_file file s.kept.files ≡ Some f → verdict ≡ Verdict.NoSpace → IsDeclined s who r verdict
 
+-- a decision without effect is not Done
+pub declined-not : (s : Server) (who : Who) (r : Request) (v : Verdict) → IsDeclined s who r v → v ≡ Verdict.Done → ⊥
+declined-not s who r v (bad_length seq blocks name p on bad is) done = cc
+declined-not s who r v (name_taken seq blocks name p on taken is) done = cc
+declined-not s who r v (no_room seq blocks name p on is) done = cc
+declined-not s who r v (not_kept file on none is) done = cc
+declined-not s who r v (outside seq file block first last push body f on found out is) done = cc
+declined-not s who r v (no_row seq file block first last base body f p on found none is) done = cc
+declined-not s who r v (not_under seq file block first last base body f row p on found some bars is) done = cc
+declined-not s who r v (not_over seq file block first last base body f rec on found bars is) done = cc
+declined-not s who r v (not_while_recovering rec none is) done = cc
+declined-not s who r v (bad_size seq q file blocks f p on found bad is) done = cc
+declined-not s who r v (no_room_to_grow seq q file blocks f p on found is) done = cc
+
 -- the outcomes of a datagram
 pub record ServerCases (s : Server) (sender next : ℕ) (d : Datagram) (Q : ServerStep → Type 0) : Type 0 where
   -- nothing happens

@@ -1,5 +1,5 @@
 -- Who can read and write while a writing row stands: nobody but its holder.
-use Rattle.std.proofs.Common.{◌≡◌, ℕ, ◌-◌, ◌==◌, Bool, true, false, List, ◌∷◌, Some, refl, sym, subst, ap, ◌∙◌, arith}
+use Rattle.std.proofs.Common.{◌≡◌, ℕ, ◌-◌, ◌==◌, true, false, List, ◌∷◌, Some, refl, sym, subst, ap, ◌∙◌, arith}
 use Rattle.std.proofs.lemmas.Bool.Decides.{nat_tests}
 use Rattle.std.specs.Prelude.{slice_get, nat_lt}
 use Rattle.std.proofs.lemmas.Bool.{and_parts}
@@ -19,20 +19,20 @@ use Rattle.walk_leases.proofs.Runs.{Runs}
 use Rattle.nq_model.proofs.Lists.{each-append, each-map}
 use Rattle.nq_model.specs.Client.{Client, ClientStep, Lease, lease_on, lets_read, lets_write}
 use Rattle.nq_model.specs.Journal.{Each}
-use Rattle.nq_model.specs.Kept.{File, host_row}
+use Rattle.nq_model.specs.Kept.{host_row}
 use Rattle.nq_model.specs.LeaseInterval.{IsCovered, KeepsLeaseInterval, cover_end}
 use Rattle.nq_model.specs.Message.{Packet}
 use Rattle.nq_model.specs.Server.{Phase, serving, recovering, Server, standing, standing_in}
-use Rattle.nq_model.specs.Table.{Table, is_writing, caches, find_row}
+use Rattle.nq_model.specs.Table.{is_writing, caches}
 use Rattle.nq_model.specs.World.{World}
 use Rattle.nq_promises.specs.OneRequestPerSequence.{OpensOne}
 use Rattle.walk_run.proofs.Worlds.{Holds}
 use Rattle.walk_server.proofs.Modes.{writing-caches, at-least-writing, at-least-caching}
-use Rattle.walk_server.proofs.Rows.{same-number, number-same, find-passes}
+use Rattle.walk_server.proofs.Rows.{same-number, find-passes}
 use Rattle.walk_server.proofs.TableFits.{TableFits}
 use Rattle.walk_undisturbed.proofs.Accesses.{Accesses, neither, read, wrote}
 use Rattle.walk_undisturbed.proofs.PlainParts.{IsPlain}
-use Rattle.walk_undisturbed.proofs.ServerLeaves.{HasWriting}
+use Rattle.walk_undisturbed.proofs.ServerLeaves.{HasWriting, HasCaching, one-holder}
 use Rattle.walk_undisturbed.proofs.Tags.{IsEntry, unclean-entry}
 use Rattle.nq_promises.specs.Undisturbed.{LeavesAlone}
 
@@ -46,27 +46,6 @@ pub record KnownOf (hosts most : ℕ) (w : World) (events : List Event) : Type 0
   pub journal : JournalFits w.journal
   pub covers : KeepsLeaseInterval w events
   pub opens : OpensOne w
-
--- a row of an incarnation that lets it read stands
-pub record HasCaching (table : Table) (who : Who) (file : ℕ) : Type 0 where
-  pub row : Row
-  pub stands : find_row file who.host table.rows ≡ Some row
-  pub holder : row.who ≡ who
-  pub caching : caches row.mode ≡ true
-
--- whoever has a caching row beside a writing one is its holder
-pub one-holder : (files : List File) (table : Table) → TableFits files table.boot table.drawn table.rows → (file : ℕ) (who other : Who) → HasWriting table who file → HasCaching table other file → other ≡ who
-one-holder files table fits file who other h k = case (other.host == who.host) refl
-  where
-    case : (b : Bool) → (other.host == who.host) ≡ b → other ≡ who
-    case true e =
-        let same : other.host ≡ who.host = same-number _ _ e in
-        let one : h.row ≡ k.row = some-same h.row k.row (sym h.stands ∙ ap (λ n. find_row file n table.rows) (sym same) ∙ k.stands) in
-        sym k.holder ∙ ap (λ r. r.who) (sym one) ∙ h.holder
-    case false e =
-        let free : caches k.row.mode ≡ false = fits.alone file who.host other.host h.row k.row h.stands k.stands (λ same. let yes : (other.host == who.host) ≡ true = number-same _ _ same in absurd (cc)) h.writes in
-        let bars = k.caching in
-        absurd (cc)
 
 -- the row of a chained lease over delayed writes lets its holder write
 pub chained-writes : (s : Server) (c : Client) (ps : List Packet) → ChainFits s c ps → (p : Push) → IsEntry c p → (l : Lease) (row : Row) → lease_on p.file c.leases ≡ Some l → IsChained (standing s) c.who p.file l.tag row → HasWriting (standing s) c.who p.file

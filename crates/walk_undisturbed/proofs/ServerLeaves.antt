@@ -21,6 +21,7 @@ use Rattle.nq_model.specs.ServerStep.{attaches, vacates, tells_later, serves, le
 use Rattle.nq_model.specs.Table.{Table, is_writing, caches, find_row, drop_row, with_rows}
 use Rattle.walk_tables.proofs.ServerFacts.{IncsFit, IncsFitOf}
 use Rattle.walk_tables.proofs.ServerTables.{StandingFits, StandingFitsOf}
+use Rattle.walk_server.proofs.Modes.{writing-caches}
 use Rattle.walk_server.proofs.Incarnations.{one-who}
 use Rattle.walk_server.proofs.RowChanges.{found-kept, found-any, find-row-dropped, no-clash, unique-filtered, HasUniqueKeys}
 use Rattle.walk_server.proofs.Rows.{same-number, number-same, find-passes, found-row}
@@ -60,6 +61,27 @@ none-caches Mode.Writing w c = absurd (cc)
 none-caches Mode.Reading w c = absurd (cc)
 none-caches Mode.NonCaching w c = absurd (cc)
 
+-- a row of an incarnation that lets it read stands
+pub record HasCaching (table : Table) (who : Who) (file : ℕ) : Type 0 where
+  pub row : Row
+  pub stands : find_row file who.host table.rows ≡ Some row
+  pub holder : row.who ≡ who
+  pub caching : caches row.mode ≡ true
+
+-- whoever has a caching row beside a writing one is its holder
+pub one-holder : (files : List File) (table : Table) → TableFits files table.boot table.drawn table.rows → (file : ℕ) (who other : Who) → HasWriting table who file → HasCaching table other file → other ≡ who
+one-holder files table fits file who other h k = case (other.host == who.host) refl
+  where
+    case : (b : Bool) → (other.host == who.host) ≡ b → other ≡ who
+    case true e =
+        let same : other.host ≡ who.host = same-number _ _ e in
+        let one : h.row ≡ k.row = some-same h.row k.row (sym h.stands ∙ ap (λ n. find_row file n table.rows) (sym same) ∙ k.stands) in
+        sym k.holder ∙ ap (λ r. r.who) (sym one) ∙ h.holder
+    case false e =
+        let free : caches k.row.mode ≡ false = fits.alone file who.host other.host h.row k.row h.stands k.stands (λ same. let yes : (other.host == who.host) ≡ true = number-same _ _ same in absurd (cc)) h.writes in
+        let bars = k.caching in
+        absurd (cc)
+
 module _ (s : Server) (sender next : ℕ) (d : Datagram) (who : Who) (file : ℕ) (stood : StandingFitsOf s) (incs : IncsFitOf s) (has : HasWriting (standing s) who file) where
   served-table : s.phase ≡ serving → TableFits s.kept.files s.table.boot s.table.drawn s.table.rows
   served-table p = subst (λ p. StandingFits s.kept.files p s.table) p stood
@@ -77,16 +99,7 @@ module _ (s : Server) (sender next : ℕ) (d : Datagram) (who : Who) (file : ℕ
 
   -- one whose writing row stands on the file is its holder
   writer-is : (table : Table) (fits : TableFits s.kept.files table.boot table.drawn table.rows) (other : Who) → HasWriting table who file → HasWriting table other file → other ≡ who
-  writer-is table fits other h k = case (other.host == who.host) refl
-    where
-      case : (b : Bool) → (other.host == who.host) ≡ b → other ≡ who
-      case true e =
-          let same : other.host ≡ who.host = same-number _ _ e in
-          let one : h.row ≡ k.row = some-same h.row k.row (sym h.stands ∙ ap (λ n. find_row file n table.rows) (sym same) ∙ k.stands) in
-          sym k.holder ∙ ap (λ r. r.who) (sym one) ∙ h.holder
-      case false e =
-          let alone = fits.alone file who.host other.host h.row k.row h.stands k.stands (λ same. let yes : (other.host == who.host) ≡ true = number-same _ _ same in absurd (cc)) h.writes in
-          none-caches k.row.mode k.writes alone
+  writer-is table fits other h k = one-holder s.kept.files table fits file who other h (record { row = k.row; stands = k.stands; holder = k.holder; caching = writing-caches k.row.mode k.writes })
 
   abbrev LeftAlone : ServerStep → Type 0
   LeftAlone t = Each (LeavesAlone who file) t.entries
