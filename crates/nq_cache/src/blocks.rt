@@ -39,10 +39,8 @@ impl Blocks {
         ensures { IfOk result (λ b. b ≡ []) }
     {
         let room = NonZeroUsize::new(MOST + 1).unwrap();
-        match Entries::new(alloc, room) {
-            Ok(entries) => Ok(Blocks { entries }),
-            Err(_) => Err(NoMemory::Memory),
-        }
+        let entries = Entries::new(alloc, room)?;
+        Ok(Blocks { entries })
     }
 
     /// Copies a block that is there, and brings it to the front.

@@ -36,7 +36,7 @@ fn overwrite(entries: &mut Entries, key: &Key, body: &Block) -> bool
     let _distinct = entries.len();
     match entries.get_mut(key) {
         Some(kept) => {
-            **kept = *body;
+            kept.copy_from(body);
             true
         }
         None => false,
@@ -53,13 +53,9 @@ fn add(entries: &mut Entries, key: Key, body: &Block) -> Result<(), NoMemory>
     ensures room { entries.new.cap ≡ entries.old.cap }
 {
     let alloc = *entries.allocator();
-    let Ok(boxed) = Box::new(alloc, *body) else {
-        return Err(NoMemory::Memory);
-    };
-    match entries.put(key, boxed) {
-        Ok(_) => Ok(()),
-        Err(_) => Err(NoMemory::Memory),
-    }
+    let boxed = Box::new(alloc, body.copied())?;
+    entries.put(key, boxed)?;
+    Ok(())
 }
 
 /// Puts a block in front. There may then be one too many.
@@ -106,7 +102,7 @@ pub(crate) fn read(entries: &Entries, key: &Key, into: &mut Block) -> bool
 {
     match entries.peek(key) {
         Some(kept) => {
-            *into = **kept;
+            into.copy_from(kept);
             true
         }
         None => false,

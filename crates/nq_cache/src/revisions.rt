@@ -70,10 +70,8 @@ fn put(known: &mut Vec<Known>, file: FileId, rev: Rev) -> Result<(), NoMemory>
         replace(known, place, new);
         Ok(())
     } else {
-        match known.insert(place, new) {
-            Ok(()) => Ok(()),
-            Err(_) => Err(NoMemory::Memory),
-        }
+        known.insert(place, new)?;
+        Ok(())
     }
 }
 
@@ -132,10 +130,8 @@ impl Revisions {
         ensures succeeds { files ≤ self.old.spare → IsOk result }
         ensures spare { self.old.spare ≤ self.new.spare }
     {
-        match self.known.try_reserve(files) {
-            Ok(()) => Ok(()),
-            Err(_) => Err(NoMemory::Memory),
-        }
+        self.known.try_reserve(files)?;
+        Ok(())
     }
 
     /// Gives a file a revision.

@@ -8,7 +8,8 @@ returns-in-Some-clause-found c = ap is_some c.in-Some.ensures ∙ sym (is_there 
 
 pub returns-in-Some-clause-body : goal.returns-in-Some-clause-body
 returns-in-Some-clause-body c =
-    c.deref.ensures
+    c.copy_from.ensures
+    ∙ c.deref.ensures
     ∙ ap (value_or c.args.into.now) c.in-Some.ensures
     ∙ sym (body_or-entries _ key_laws c.args.key.now c.args.into.now c.args.entries.now.entries)
 

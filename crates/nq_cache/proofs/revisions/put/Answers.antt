@@ -18,26 +18,26 @@ returns-then-is_at-clause-ascends c =
     let there : IsSomeAnd (slice_get c.args.known.now.items c.place_of-place.result) (λ k. k.file ≡ c.args.file) = subst (λ ks. IsSomeAnd (slice_get ks c.place_of-place.result) (λ k. k.file ≡ c.args.file)) c.deref-2.ensures.value (c.if-is_at.ensures.0 refl) in
     subst Ascends (sym c.replace.ensures.items) (replaced (record { file = c.args.file; rev = c.args.rev }) c.args.known.now.items c.place_of-place.result c.requires place there).1
 
-pub returns-in-Ok-clause-put : goal.returns-in-Ok-clause-put
-returns-in-Ok-clause-put c =
+pub returns-in_ok-insert-clause-put : goal.returns-in_ok-insert-clause-put
+returns-in_ok-insert-clause-put c =
     let place : IsPlace c.args.file c.args.known.now.items c.place_of-place.result = subst (λ ks. IsPlace c.args.file ks c.place_of-place.result) c.deref.ensures.value c.place_of-place.ensures in
     let absent : ¬ IsSomeAnd (slice_get c.args.known.now.items c.place_of-place.result) (λ k. k.file ≡ c.args.file) = subst (λ ks. ¬ IsSomeAnd (slice_get ks c.place_of-place.result) (λ k. k.file ≡ c.args.file)) c.deref-2.ensures.value (λ h. false≢true (c.if-is_at.ensures.1 h)) in
-    ap (map revision) c.in-Ok.ensures.items ∙ (inserted (record { file = c.args.file; rev = c.args.rev }) c.args.known.now.items c.place_of-place.result c.requires place absent).0
+    ap (map revision) c.in_ok-insert.ensures.items ∙ (inserted (record { file = c.args.file; rev = c.args.rev }) c.args.known.now.items c.place_of-place.result c.requires place absent).0
 
-pub returns-in-Ok-clause-ascends : goal.returns-in-Ok-clause-ascends
-returns-in-Ok-clause-ascends c =
+pub returns-in_ok-insert-clause-ascends : goal.returns-in_ok-insert-clause-ascends
+returns-in_ok-insert-clause-ascends c =
     let place : IsPlace c.args.file c.args.known.now.items c.place_of-place.result = subst (λ ks. IsPlace c.args.file ks c.place_of-place.result) c.deref.ensures.value c.place_of-place.ensures in
     let absent : ¬ IsSomeAnd (slice_get c.args.known.now.items c.place_of-place.result) (λ k. k.file ≡ c.args.file) = subst (λ ks. ¬ IsSomeAnd (slice_get ks c.place_of-place.result) (λ k. k.file ≡ c.args.file)) c.deref-2.ensures.value (λ h. false≢true (c.if-is_at.ensures.1 h)) in
-    subst Ascends (sym c.in-Ok.ensures.items) (inserted (record { file = c.args.file; rev = c.args.rev }) c.args.known.now.items c.place_of-place.result c.requires place absent).1
+    subst Ascends (sym c.in_ok-insert.ensures.items) (inserted (record { file = c.args.file; rev = c.args.rev }) c.args.known.now.items c.place_of-place.result c.requires place absent).1
 
-pub returns-in-Ok-clause-there : goal.returns-in-Ok-clause-there
-returns-in-Ok-clause-there c =
+pub returns-in_ok-insert-clause-there : goal.returns-in_ok-insert-clause-there
+returns-in_ok-insert-clause-there c =
     let place : IsPlace c.args.file c.args.known.now.items c.place_of-place.result = subst (λ ks. IsPlace c.args.file ks c.place_of-place.result) c.deref.ensures.value c.place_of-place.ensures in
     let absent : ¬ IsSomeAnd (slice_get c.args.known.now.items c.place_of-place.result) (λ k. k.file ≡ c.args.file) = subst (λ ks. ¬ IsSomeAnd (slice_get ks c.place_of-place.result) (λ k. k.file ≡ c.args.file)) c.deref-2.ensures.value (λ h. false≢true (c.if-is_at.ensures.1 h)) in
     λ some. absurd (false≢true (subst IsSome (none_found c.args.file c.args.known.now.items c.place_of-place.result c.requires place absent) some))
 
-pub returns-in-Err-clause-there : goal.returns-in-Err-clause-there
-returns-in-Err-clause-there c =
+pub returns-in_err-insert-clause-there : goal.returns-in_err-insert-clause-there
+returns-in_err-insert-clause-there c =
     let place : IsPlace c.args.file c.args.known.now.items c.place_of-place.result = subst (λ ks. IsPlace c.args.file ks c.place_of-place.result) c.deref.ensures.value c.place_of-place.ensures in
     let absent : ¬ IsSomeAnd (slice_get c.args.known.now.items c.place_of-place.result) (λ k. k.file ≡ c.args.file) = subst (λ ks. ¬ IsSomeAnd (slice_get ks c.place_of-place.result) (λ k. k.file ≡ c.args.file)) c.deref-2.ensures.value (λ h. false≢true (c.if-is_at.ensures.1 h)) in
     λ some. absurd (false≢true (subst IsSome (none_found c.args.file c.args.known.now.items c.place_of-place.result c.requires place absent) some))
