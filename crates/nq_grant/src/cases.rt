@@ -1,14 +1,18 @@
 //! The cases of a question, of which the first that fits decides.
 
-ghost use Rattle.std.specs.Prelude.{◌≡◌, ◌+◌, ◌-◌, ◌^◌, ◌<◌, Some, None, IsSome, IsOk, length, find, false, true};
+ghost use Rattle.std.specs.Prelude.{◌≡◌, ◌+◌, ◌-◌, ◌^◌, ◌<◌, ◌≤◌, Some, None, IsSome, IsOk, length, find, false, true};
 ghost use Rattle.std.specs.Option.{ForSome};
 ghost use Rattle.nq_model.specs.Ask.{ask as asked_of, ask_freely as asked_freely, ask_for, put_off as told_to_wait, with_waiting, begin as begun, renew as renews, share_again as shares_again, granted as grants};
+ghost use Rattle.nq_base.specs.declared.Asked.{Asked};
 ghost use Rattle.nq_model.specs.Profile.{most_rows};
 ghost use Rattle.nq_model.specs.Table.{after_draw, put_row, find_row, caches, next_tag};
 
 use crate::{rows, scan};
 use nq_base::{Asked, Clash, Question, Row, RowKey, Want};
 use nq_lease::{MOST_ROWS, Table};
+
+/// Clocks show times below this, in ticks.
+const END_OF_CLOCKS: u64 = 1 << 62;
 
 /// Draws the tag that a row has, and puts the row in.
 #[tactic(auto, unfolding(nq_model::specs::Table::after_draw, nq_model::specs::Table::with_rows))]
@@ -161,11 +165,8 @@ fn ask_freely(table: &mut Table, question: &Question, own: &Option<Row>) -> Aske
     }
 }
 
-/// Asks the table for a host that is about to read or change a file, and that may want a lease on it (Gray and Cheriton
-/// 1989, Macklem 1994). Where a row of another host is in the way, such rows are marked as evicting and the asker is put
-/// off, with a waiting row if it wants a lease. It takes no memory. Fewer than 2^63 tags were drawn, the time is below
-/// 2^62, and an own non-caching row ends after the time, by less than 2^32 ticks.
-pub fn ask(table: &mut Table, question: &Question) -> Asked
+/// All cases, at a time that a clock shows.
+fn ask_in_time(table: &mut Table, question: &Question) -> Asked
     requires drawn { table.old.drawn < 2 ^ 63 }
     requires early { question.now.time < 2 ^ 62 }
     requires shared { ForSome (find_row question.now.file question.now.who.host table.old.rows) (λ row. caches row.mode ≡ false → (question.now.time < row.until) × (row.until < question.now.time + 2 ^ 32)) }
@@ -185,4 +186,23 @@ pub fn ask(table: &mut Table, question: &Question) -> Asked
         Some(row) => put_off(table, question, row, &own),
         None => ask_freely(table, question, &own),
     }
+}
+
+/// Asks the table for a host that is about to read or change a file, and that may want a lease on it (Gray and Cheriton
+/// 1989, Macklem 1994). Where a row of another host is in the way, such rows are marked as evicting and the asker is put
+/// off, with a waiting row if it wants a lease. It takes no memory.
+///
+/// Fewer than 2^63 tags were drawn, and an own non-caching row ends after the time, by less than 2^32 ticks. Clocks show
+/// times below 2^62; at a later one no lease is given, and the table stays as it is.
+pub fn ask(table: &mut Table, question: &Question) -> Asked
+    requires drawn { table.old.drawn < 2 ^ 63 }
+    requires shared { ForSome (find_row question.now.file question.now.who.host table.old.rows) (λ row. caches row.mode ≡ false → (question.now.time < row.until) × (row.until < question.now.time + 2 ^ 32)) }
+    ensures table { question.now.time < 2 ^ 62 → table.new ≡ (asked_of table.old question.now).table }
+    ensures asked { question.now.time < 2 ^ 62 → result ≡ (asked_of table.old question.now).asked }
+    ensures late { 2 ^ 62 ≤ question.now.time → (table.new ≡ table.old) × (result ≡ Asked.NoLease) }
+{
+    if question.time.0 >= END_OF_CLOCKS {
+        return Asked::NoLease;
+    }
+    ask_in_time(table, question)
 }
