@@ -14,6 +14,7 @@ pub mod Lists
 pub mod LossTests
 pub mod OrderedTest
 pub mod RowEnds
+pub mod SkewNames
 pub mod SkewTest
 pub mod SoundTest
 pub mod SynchronizedTest

@@ -7,11 +7,11 @@ use Rattle.nq_model.specs.Profile.{skew}
 use Rattle.nq_model.specs.Skew.{is_server_tick, is_tick_of, server_ticks, ticks_of, part_within, parts_within, host_within, is_within_skew, SkewTestIsSound}
 
 -- what a test of one part says
-part-says : (longest ticks server : ℕ) → part_within longest ticks server ≡ true → ticks ≤ longest → server ≤ ticks + skew
+pub part-says : (longest ticks server : ℕ) → part_within longest ticks server ≡ true → ticks ≤ longest → server ≤ ticks + skew
 part-says longest ticks server h few = grind (arith, nat_tests)
 
 -- a part that begins where the test begins
-begins-here : (host longest ticks server : ℕ) (part after : List Event) → parts_within host longest ticks server (part ++ after) ≡ true → ticks_of host part + ticks ≤ longest → server_ticks part + server ≤ ticks_of host part + ticks + skew
+pub begins-here : (host longest ticks server : ℕ) (part after : List Event) → parts_within host longest ticks server (part ++ after) ≡ true → ticks_of host part + ticks ≤ longest → server_ticks part + server ≤ ticks_of host part + ticks + skew
 begins-here host longest ticks server [] [] h few = let said : server ≤ ticks + skew = part-says longest ticks server h (omega arith) in omega arith
 begins-here host longest ticks server [] (e ∷ after) h few = let said : server ≤ ticks + skew = part-says longest ticks server (and_parts _ _ h).0 (omega arith) in omega arith
 begins-here host longest ticks server (e ∷ part) after h few =

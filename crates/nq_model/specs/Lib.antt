@@ -17,6 +17,7 @@ pub mod Hear
 pub mod ClientStep
 pub mod World
 pub mod Skew
+pub mod SkewBroken
 pub mod Lines
 pub mod CachedAtOnce
 pub mod LeaseInterval
