@@ -1,0 +1,3 @@
+pub mod CountLists
+pub mod Judging
+pub mod Tracking
