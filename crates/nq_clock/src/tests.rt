@@ -1,3 +1,5 @@
+ghost use Rattle.std.specs.Prelude.{◌≡◌, ◌<◌, length};
+
 use super::*;
 use nq_base::{Host, Ticks};
 use std::test::Fail;
@@ -40,7 +42,10 @@ const EXAMPLES: [Example; 4] = [
 ];
 
 /// Ticks until one is refused, and gives what was named.
-fn ticked(skew: &mut Skew, ticks: &[Tick]) -> Option<SkewBroken> {
+fn ticked(skew: &mut Skew, ticks: &[Tick]) -> Option<SkewBroken>
+    requires { 0 < length skew.old.hosts }
+    ensures { length skew.new.hosts ≡ length skew.old.hosts }
+{
     for tick in ticks {
         match tick {
             Tick::Server(times) => {
