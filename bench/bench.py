@@ -1,11 +1,12 @@
 #!/usr/bin/env python3
 """Times `nqnfs replay` on inputs that it makes, and prints events per second and peak memory; or times `nq_bench`, and
-prints datagrams and megabytes per second.
+prints datagrams and megabytes, or calls of the server's parts, per second.
 
     bench/bench.py PROGRAM [--words WORD ...]
     bench/bench.py PROGRAM --codecs
+    bench/bench.py PROGRAM --parts
 
-PROGRAM is the built program, `nqnfs` or, with --codecs, `nq_bench` (`rt run` in the crate's folder builds it, and says
+PROGRAM is the built program, `nqnfs` or, with --codecs or --parts, `nq_bench` (`rt run` in the crate's folder builds it, and says
 where). Each input is run three times; the fastest run counts. The words are `replay` where none are given.
 """
 import argparse
@@ -111,14 +112,35 @@ def codecs(program):
     return 0
 
 
+# Rounds of the test of skew: each ticks 64 hosts' clocks, and with "all" the server's too.
+SKEW_ROUNDS = 100_000
+
+
+def parts(program):
+    """Prints how fast the server's parts are."""
+    rounds = {}
+    for way in ("clients", "all"):
+        rounds[way] = (often(program, ["skew", way], SKEW_ROUNDS)[0] - often(program, ["skew", way], 0)[0]) / SKEW_ROUNDS
+    for name, each in (
+        ("a host's clock ticks", rounds["clients"] / 64),
+        ("the server's clock ticks, 64 hosts", rounds["all"] - rounds["clients"]),
+        ("any clock ticks, 64 hosts in turn", rounds["all"] / 65),
+    ):
+        print(f"{name:36} {each * 1e9:8,.1f} ns {1 / each:14,.0f} per second")
+    return 0
+
+
 def main():
     parser = argparse.ArgumentParser(description="Times nqnfs replay, or nq_bench.")
     parser.add_argument("program")
     parser.add_argument("--words", nargs="*", default=["replay"])
     parser.add_argument("--codecs", action="store_true")
+    parser.add_argument("--parts", action="store_true")
     asked = parser.parse_args()
     if asked.codecs:
         return codecs(asked.program)
+    if asked.parts:
+        return parts(asked.program)
     inputs = [
         ("10,000 events", of_events(10_000)),
         ("100,000 events", of_events(100_000)),

@@ -1,10 +1,11 @@
 //! The program `nq_bench`: does one thing many times, to be timed from outside, and prints a number that stands on
 //! all that came out. Its words are what, which way and how often: `lookup`, `lookup-reply` or `read-reply` with
-//! `encode` or `decode`, or `journal` with `print` or `parse`.
+//! `encode` or `decode`, `journal` with `print` or `parse`, or `skew` with `all` or `clients`.
 #![tactic(auto)]
 
 mod datagrams;
 mod journals;
+mod skews;
 
 use std::alloc::Global;
 use std::env;
@@ -39,6 +40,8 @@ fn done(alloc: Global, what: &str, way: &str, times: u64) -> Option<u64> {
         ("read-reply", "decode") => datagrams::decode_read_replies(alloc, times),
         ("journal", "print") => journals::print_often(alloc, times),
         ("journal", "parse") => journals::parse_often(alloc, times),
+        ("skew", "all") => skews::tick_all(alloc, times),
+        ("skew", "clients") => skews::tick_clients(alloc, times),
         _ => None,
     }
 }

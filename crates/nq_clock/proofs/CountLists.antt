@@ -5,7 +5,7 @@ use mathlib.Core.Logic.{inl, inr}
 use Rattle.std.specs.Prelude.{Option, Some, None, slice_get, map, replicate, drop, IfSome}
 use Rattle.std.specs.Option.{option_flatten}
 use Rattle.nq_base.specs.declared.SkewBroken.{SkewBroken}
-use Rattle.nq_clock.specs.Counts.{Counts, AreAtMost, no_counts, after_host_tick, counts_of, one_on, host_ticked, broken_by, first_broken}
+use Rattle.nq_clock.specs.Counts.{Counts, AreAtMost, after_host_tick, counts_of, one_on, host_ticked, broken_by, first_broken}
 use Rattle.nq_clock.specs.Clock.{AreRising}
 use Rattle.circular_buffer.specs.Buffer.{keep_last}
 
@@ -97,31 +97,31 @@ pub some-first : (host : ℕ) (hosts : List Counts) (b : SkewBroken) → first_b
 some-first host [] b h = absurd (cc)
 some-first host (d ∷ hosts) b h =
     elim (by-some host d.three_more (first_broken (host + 1) hosts) b h) [
-      inl (ticks, is, named) ↦
-        let client : b.client ≡ ticks = ap (λ (x : SkewBroken). x.client) (sym named) in
-        let at : b.host ≡ host = ap (λ (x : SkewBroken). x.host) (sym named) in
-        let server : b.server ≡ ticks + 4 = ap (λ (x : SkewBroken). x.server) (sym named) in
-        record {
-          place = 0;
-          counts = d;
-          stands = refl;
-          at = omega arith;
-          behind = is ∙ ap (λ n. Some n) (sym client);
-          server = omega arith;
-          lower = λ other c below stands. absurd (omega arith);
-        }
-    | inr (none, later) ↦
-        let first = some-first (host + 1) hosts b later in
-        let at = first.at in
-        record {
-          place = suc first.place;
-          counts = first.counts;
-          stands = first.stands;
-          at = omega arith;
-          behind = first.behind;
-          server = first.server;
-          lower = lower-later d hosts first.place none first.lower;
-        }
+      | inl (ticks, is, named) ↦
+          let client : b.client ≡ ticks = ap (λ (x : SkewBroken). x.client) (sym named) in
+          let at : b.host ≡ host = ap (λ (x : SkewBroken). x.host) (sym named) in
+          let server : b.server ≡ ticks + 4 = ap (λ (x : SkewBroken). x.server) (sym named) in
+          record {
+            place = 0;
+            counts = d;
+            stands = refl;
+            at = omega arith;
+            behind = is ∙ ap (λ n. Some n) (sym client);
+            server = omega arith;
+            lower = λ other c below stands. absurd (omega arith);
+          }
+      | inr (none, later) ↦
+          let first = some-first (host + 1) hosts b later in
+          let at = first.at in
+          record {
+            place = suc first.place;
+            counts = first.counts;
+            stands = first.stands;
+            at = omega arith;
+            behind = first.behind;
+            server = first.server;
+            lower = lower-later d hosts first.place none first.lower;
+          }
     ]
 
 -- a list whose first so many items are changed

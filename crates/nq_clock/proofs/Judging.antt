@@ -1,16 +1,16 @@
 -- A test of skew that follows a history finds what is broken there.
-use Rattle.std.proofs.Common.{◌≡◌, ◌<◌, ◌≤◌, ℕ, ◌+◌, ◌++◌, zero, suc, Bool, true, false, not, List, [], ◌∷◌, refl, sym, ap, subst, ◌∙◌, arith, length}
+use Rattle.std.proofs.Common.{◌≡◌, ◌<◌, ◌≤◌, ℕ, ◌+◌, Bool, true, false, not, List, [], ◌∷◌, refl, sym, ap, subst, ◌∙◌, arith, length}
 use Rattle.std.specs.Prelude.{◌⊎◌, ◌↔◌, Option, Some, None, slice_get, IsTrue, is_some}
 use Rattle.std.proofs.lemmas.Bool.{cases_order}
 use mathlib.Core.Logic.{inl, inr}
 use Rattle.nq_base.specs.declared.Event.{Event}
 use Rattle.nq_base.specs.declared.SkewBroken.{SkewBroken}
 use Rattle.nq_model.specs.Profile.{skew}
-use Rattle.nq_model.specs.Skew.{IsWithinSkew, is_server_tick, is_tick_of, server_ticks, ticks_of}
+use Rattle.nq_model.specs.Skew.{IsWithinSkew, is_server_tick, is_tick_of, ticks_of}
 use Rattle.nq_model.specs.SkewBroken.{skew_broken, EndsNow, Breaks, IsLowest, IsJudged}
 use Rattle.nq_model.proofs.SkewNames.{each-tick-is-judged}
 use Rattle.nq_clock.specs.Counts.{Counts, SkewCounts, first_broken}
-use Rattle.nq_clock.specs.Tracks.{Leads, HasLead, IsSomeUpTo, Follows}
+use Rattle.nq_clock.specs.Tracks.{Leads, IsSomeUpTo, Follows}
 use Rattle.nq_clock.proofs.CountLists.{IsFirst, none-first, some-first, some-within, within-some}
 use Rattle.nq_clock.proofs.Tracking.{split-first}
 

@@ -1,6 +1,6 @@
 -- How counts go on with each event.
-use Rattle.std.proofs.Common.{◌≡◌, ◌<◌, ◌≤◌, ℕ, ◌+◌, ◌++◌, zero, suc, Bool, true, false, List, [], ◌∷◌, refl, sym, ap, subst, ◌∙◌, arith, length}
-use Rattle.std.specs.Prelude.{Option, Some, None, slice_get, map, replicate, nat_lt, if◌then◌else◌, ◌⊎◌}
+use Rattle.std.proofs.Common.{◌≡◌, ◌<◌, ◌≤◌, ℕ, ◌+◌, ◌++◌, Bool, true, false, List, [], ◌∷◌, refl, sym, ap, subst, ◌∙◌, arith, length}
+use Rattle.std.specs.Prelude.{Option, Some, None, map, replicate, nat_lt, if◌then◌else◌, ◌⊎◌}
 use mathlib.Core.Logic.{inl, inr}
 use Rattle.std.proofs.lemmas.Bool.{cases_eq, eq-eqb, ne_eqb, ltb-true, lt-ltb}
 use Rattle.nq_base.specs.declared.Event.{Event}
@@ -8,7 +8,7 @@ use Rattle.nq_model.specs.Profile.{skew}
 use Rattle.nq_model.specs.Skew.{IsWithinSkew, is_server_tick, is_tick_of, server_ticks, ticks_of}
 use Rattle.nq_model.specs.SkewBroken.{EndsNow}
 use Rattle.nq_clock.specs.Counts.{Counts, SkewCounts, no_counts, after_server_tick, after_host_tick, one_on, host_ticked}
-use Rattle.nq_clock.specs.Tracks.{Leads, HasLead, IsSomeUpTo, IsFewestOf, Tracks, Follows, IsNoTick, OtherEventsPass}
+use Rattle.nq_clock.specs.Tracks.{Leads, HasLead, IsSomeUpTo, IsFewestOf, Tracks, Follows, OtherEventsPass}
 use Rattle.nq_clock.proofs.CountLists.{IsTicked, of-map, of-replicate, of-ticked, length-map, length-ticked, within-some}
 
 -- a part that ends with this event is this event and a part that ended before it
@@ -70,12 +70,12 @@ still window host more later e events count quiet more_is some h = record {
 pub first-lead : (window host : ℕ) (events : List Event) → IsFewestOf window host 1 (Event.ServerTick ∷ events) (Some 0)
 first-lead window host events = record {
   found = λ ticks is.
-    let none : 0 ≡ ticks = cc in
-    record {
-      part = Event.ServerTick ∷ [];
-      leads = record { ends = record { before = events; split = refl }; few = omega arith; ahead = omega arith };
-      client = omega arith;
-    };
+      let none : 0 ≡ ticks = cc in
+      record {
+        part = Event.ServerTick ∷ [];
+        leads = record { ends = record { before = events; split = refl }; few = omega arith; ahead = omega arith };
+        client = omega arith;
+      };
   fewest = λ part lead. record { ticks = 0; is = refl; up_to = omega arith };
 }
 
@@ -132,13 +132,13 @@ none-left : (hosts window host : ℕ) (e : Event) (events : List Event) → IsWi
 none-left hosts window host e events within below ticks_host quiet = record {
   found = λ ticks is. absurd (cc);
   fewest = λ part lead.
-    let earlier = lead-onward window host 3 e events part (omega arith) lead in
-    let client = earlier.client in
-    let server = earlier.server in
-    let few = lead.few in
-    let ahead = lead.ahead in
-    let keeps = no-more hosts window host events earlier.earlier within below earlier.ends (omega arith) in
-    absurd (omega arith);
+      let earlier = lead-onward window host 3 e events part (omega arith) lead in
+      let client = earlier.client in
+      let server = earlier.server in
+      let few = lead.few in
+      let ahead = lead.ahead in
+      let keeps = no-more hosts window host events earlier.earlier within below earlier.ends (omega arith) in
+      absurd (omega arith);
 }
 
 -- within skew a schedule stays so with any event but a tick of the server's clock
@@ -193,15 +193,15 @@ pub follows-none : (hosts window : ℕ) → Follows (record { window = window; h
 follows-none hosts window = record {
   within = begins-within (length (replicate hosts no_counts)) window;
   tracks = λ host counts stands.
-    let same : no_counts ≡ counts = of-replicate hosts no_counts host counts stands in
-    subst
-    (λ c. Tracks window host [] c)
-    same
-    (record {
-      one_more = none-yet window host 1 (omega arith);
-      two_more = none-yet window host 2 (omega arith);
-      three_more = none-yet window host 3 (omega arith);
-    });
+      let same : no_counts ≡ counts = of-replicate hosts no_counts host counts stands in
+      subst
+      (λ c. Tracks window host [] c)
+      same
+      (record {
+        one_more = none-yet window host 1 (omega arith);
+        two_more = none-yet window host 2 (omega arith);
+        three_more = none-yet window host 3 (omega arith);
+      });
 }
 
 -- another event
@@ -241,11 +241,11 @@ pub follows-server : (skew : SkewCounts) (events : List Event) → IsWithinSkew 
 follows-server skew events within h = record {
   within = subst (λ n. IsWithinSkew n skew.window (Event.ServerTick ∷ events)) (sym (length-map after_server_tick skew.hosts)) within;
   tracks = λ host now stands.
-    let was = of-map after_server_tick skew.hosts host now stands in
-    subst
-    (λ c. Tracks skew.window host (Event.ServerTick ∷ events) c)
-    was.2
-    (tracks-server skew.window host events was.0 (h.tracks host was.0 was.1));
+      let was = of-map after_server_tick skew.hosts host now stands in
+      subst
+      (λ c. Tracks skew.window host (Event.ServerTick ∷ events) c)
+      was.2
+      (tracks-server skew.window host events was.0 (h.tracks host was.0 was.1));
 }
 
 -- ---- as the code's goals say it

@@ -1,5 +1,5 @@
 -- What the test of skew keeps for each host.
-use Rattle.std.specs.Prelude.{ℕ, ◌+◌, ◌≡◌, ◌≤◌, Bool, List, [], ◌∷◌, Option, Some, None, nat_lt, if◌then◌else◌, slice_get, unwrap_or, zero, suc}
+use Rattle.std.specs.Prelude.{ℕ, ◌+◌, ◌≤◌, List, [], ◌∷◌, Option, Some, None, nat_lt, if◌then◌else◌, slice_get, unwrap_or, zero, suc}
 use Rattle.nq_base.specs.declared.SkewBroken.{SkewBroken}
 
 -- For one host: of the parts of the history that end now and in which the server's clock ticks at least one, two or

@@ -1,4 +1,4 @@
-use Rattle.std.proofs.Common.{◌≡◌, ◌<◌, ◌≤◌, length, take, drop, ◌++◌, ap, ◌∙◌, add-one, arith}
+use Rattle.std.proofs.Common.{◌≡◌, ◌<◌, ◌≤◌, length, ap, ◌∙◌, add-one, arith}
 use Rattle.std.specs.Prelude.{map}
 use Rattle.nq_clock.specs.Counts.{after_server_tick}
 use Rattle.nq_clock.proofs.CountLists.{mapped_to, mapped_to-next, mapped_to-all, length-map}
