@@ -16,6 +16,7 @@ pub mod OrderedTest
 pub mod RowEnds
 pub mod SkewNames
 pub mod SkewTest
+pub mod SomeChange
 pub mod SoundTest
 pub mod SynchronizedTest
 pub mod Telling

@@ -193,7 +193,8 @@ zero-words : (times : ℕ) → All (λ byte. byte < 256) (repeated times 0)
 zero-words zero = All-nil _
 zero-words (suc times) = All-append (λ byte. byte < 256) (word 0) (repeated times 0) (All-replicate (λ byte. byte < 256) 4 0 (omega arith)) (zero-words times)
 
-zeros-body : IsBody zeros
+-- a block of zeros is a body
+pub zeros-body : IsBody zeros
 unfolding zeros filled
 zeros-body = record { size = zeros-length; bytes = zero-words 1024 }
 

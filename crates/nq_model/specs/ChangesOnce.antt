@@ -1,10 +1,14 @@
 -- Each step of the server keeps one change at most. So one commit a step serves, and a crash leaves what was kept before the
 -- step or after it.
 use Rattle.std.specs.Prelude.{◌≡◌, ◌<◌, ℕ, true, Some}
+use Rattle.nq_base.specs.declared.Decided.TheVariants.{Fresh, Again}
+use Rattle.nq_base.specs.declared.Gate.{Gate}
 use Rattle.nq_base.specs.declared.Request.{Request}
+use Rattle.nq_base.specs.declared.Verdict.TheVariants.{Done}
 use Rattle.nq_base.specs.declared.Who.{Who}
-use Rattle.nq_model.specs.Change.{IsWithinBounds, IsChangedOnce}
-use Rattle.nq_model.specs.Decided.{is_decided_once, gate_of, decided, decided_step}
+use Rattle.nq_model.specs.Change.{IsWithinBounds, IsChangedOnce, applied_if}
+use Rattle.nq_model.specs.Decided.{is_decided_once, gate_of, decided, change_of, decided_step}
+use Rattle.nq_model.specs.Kept.{Kept}
 use Rattle.nq_model.specs.Message.{Datagram, request, asker}
 use Rattle.nq_model.specs.Profile.{most_hosts}
 use Rattle.nq_model.specs.Server.{Server}
@@ -27,3 +31,14 @@ RequestsAreDecided =
     → who.host < most_hosts
     → IsWithinBounds s.kept
     → receive s sender next (request xid r) ≡ decided_step s who xid r (decided s.kept (gate_of s who r) r)
+
+-- that these laws speak of something: from a kept state within its bounds, over which a server boots and serves, a request is
+-- done, and is kept with its effect; when it comes again it is answered again
+pub record ChangesAreMet : Type 0 where
+  pub kept : Kept
+  pub gate : Gate
+  pub write : Request
+  pub value : ℕ
+  pub within : IsWithinBounds kept
+  pub fresh : decided kept gate write ≡ Fresh Done value
+  pub again : decided (applied_if kept (change_of kept gate write)) gate write ≡ Again Done value

@@ -1,6 +1,6 @@
 //! What the server keeps.
 
-ghost use Rattle.nq_model.specs.ChangesOnce.{EachStepChangesOnce, RequestsAreDecided};
+ghost use Rattle.nq_model.specs.ChangesOnce.{ChangesAreMet, EachStepChangesOnce, RequestsAreDecided};
 
 /// From a kept state within its bounds, each step of the server changes what is kept once at most, and that change can
 /// be kept.
@@ -11,4 +11,9 @@ pub fn each_step_changes_once()
 /// Requests that are decided once are decided from the kept state and the gate alone.
 pub fn requests_are_decided()
     ensures { RequestsAreDecided }
+{}
+
+/// The premises of these laws are met: by a file of one block, which a host writes.
+pub fn changes_are_met()
+    ensures { ChangesAreMet }
 {}
