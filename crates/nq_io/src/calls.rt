@@ -6,8 +6,10 @@ ghost use Rattle.nq_io.specs.Faults.{Rose};
 
 use std::marker::Model;
 
+/// Which calls an object in memory was given, which of them are to fail, and how many faults it met. Its counts stand still
+/// at the end of their type.
 #[derive(Drop)]
-pub(crate) struct Calls {
+pub struct Calls {
     made: u64,
     failing: Vec<u32>,
     faults: u64,
@@ -22,7 +24,8 @@ impl Model for Calls {
 }
 
 impl Calls {
-    pub(crate) fn new(failing: Vec<u32>) -> Calls
+    /// Before the first call. The calls whose numbers are listed are to fail, counted from 0.
+    pub fn new(failing: Vec<u32>) -> Calls
         ensures { result ≡ fresh failing.items }
     {
         Calls {
@@ -32,7 +35,8 @@ impl Calls {
         }
     }
 
-    pub(crate) fn is_next_listed(&self) -> bool
+    /// Whether the next call is to fail.
+    pub fn is_next_listed(&self) -> bool
         ensures { result ≡ is_next_listed self.now }
     {
         self.failing
@@ -40,13 +44,15 @@ impl Calls {
             .any(|number| u64::from(*number) == self.made)
     }
 
-    pub(crate) fn count_call(&mut self)
+    /// Counts a call that does not fail.
+    pub fn count_call(&mut self)
         ensures { self.new ≡ after_call self.old }
     {
         self.made = self.made.saturating_add(1);
     }
 
-    pub(crate) fn count_fault(&mut self)
+    /// Counts a call that fails, and its fault.
+    pub fn count_fault(&mut self)
         ensures counted { self.new ≡ after_fault self.old }
         ensures rose { Rose self.old.faults self.new.faults }
     {

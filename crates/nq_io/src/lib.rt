@@ -14,6 +14,7 @@ mod std_sink;
 mod std_source;
 mod whole;
 
+pub use calls::Calls;
 pub use mem_sink::MemSink;
 pub use mem_source::MemSource;
 pub use nq_memory::NoMemory;
