@@ -1,6 +1,8 @@
 //! How requests are decided that are decided once: ATTACH, CREATE, WRITE, RESIZE and REMOVE.
 
-use crate::kept::Verdict;
+use crate::changes::{BlockChange, Heads};
+use crate::kept::{FileRow, Verdict};
+use crate::numbers::FileId;
 
 /// What a server knows beside its kept state when it decides a request.
 #[derive(Clone, Copy, PartialEq, Eq)]
@@ -33,4 +35,21 @@ pub enum Decided {
     OldIncarnation,
     /// The incarnation is not attached.
     NotAttached,
+}
+
+/// What a fresh request comes to. It is kept together with the row of the host that asked.
+#[derive(Drop)]
+pub struct Effect {
+    /// How it is decided.
+    pub verdict: Verdict,
+    /// The value that is kept with the verdict: a file id or a revision where it was done, else 0.
+    pub value: u64,
+    /// The file as it becomes.
+    pub file: Option<FileRow>,
+    /// The block as it becomes.
+    pub block: Option<BlockChange>,
+    /// The numbers of the server as they become.
+    pub heads: Option<Heads>,
+    /// The file that is taken away.
+    pub removed: Option<FileId>,
 }

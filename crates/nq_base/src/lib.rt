@@ -24,7 +24,7 @@ pub use blocks::Block;
 pub use calls::{Call, Event};
 pub use changes::{BlockChange, Change, Heads, HostChange, Space};
 pub use clocks::SkewBroken;
-pub use decisions::{Decided, Gate};
+pub use decisions::{Decided, Effect, Gate};
 pub use entries::{Entry, Said, Told};
 pub use kept::{FileRow, HostRow, Row, RowKey, Verdict};
 pub use lists::{FileList, Loss, Losses, Span, Spans};

@@ -1,11 +1,12 @@
 -- What each change makes of the kept state, in the words of the server's step.
 use Rattle.std.proofs.Common.{◌≡◌, ℕ, ◌+◌, ◌==◌, Bool, true, false, List, [], ◌∷◌, ◌++◌, Option, Some, None, if◌then◌else◌, refl, sym, ap, ◌∙◌}
 use Rattle.std.specs.Prelude.{slice_set}
+use Rattle.nq_base.specs.declared.Effect.{Effect}
 use Rattle.nq_base.specs.declared.HostRow.{HostRow}
 use Rattle.nq_base.specs.declared.Verdict.{Verdict}
 use Rattle.nq_base.specs.declared.Who.{Who}
 use Rattle.nq_model.specs.Change.{IsNextFree, raised_row, file_of, with_body, with_file, with_file_at, with_block, with_block_in, kept_as, applied, applied_if, change_of_heads, booted_heads, opened_heads, fencing, fencing_of}
-use Rattle.nq_model.specs.Decided.{Effect, no_effect, creation, block_write, length_change, removal, change_with}
+use Rattle.nq_model.specs.Decided.{no_effect, creation, block_write, length_change, removal, change_with}
 use Rattle.nq_model.specs.Kept.{File, Kept, blocks_of, find_file, replace_file, drop_file, new_file, written_file, resized_file, fenced_file, with_row, with_files, with_new_file}
 use Rattle.nq_model.specs.ServerStep.{fence, booted}
 use Rattle.nq_model.proofs.Files.{found-id, find-replaced, replaced-twice, resized-same, resized-none}

@@ -7,6 +7,7 @@ use Rattle.nq_base.specs.Block.{value_of}
 use Rattle.nq_base.specs.declared.Access.{Access}
 use Rattle.nq_base.specs.declared.Change.{Change}
 use Rattle.nq_base.specs.declared.Decided.TheVariants.{Fresh, Again, Old, OldIncarnation, NotAttached}
+use Rattle.nq_base.specs.declared.Effect.{Effect}
 use Rattle.nq_base.specs.declared.Entry.{Entry}
 use Rattle.nq_base.specs.declared.HostRow.{HostRow}
 use Rattle.nq_base.specs.declared.PushBase.{PushBase}
@@ -20,7 +21,7 @@ use Rattle.nq_base.specs.declared.Who.{Who}
 use Rattle.nq_model.specs.Ask.{ask_past, conflicts, marked, put_off, free}
 use Rattle.nq_model.specs.Change.{IsNextFree, kept_as, applied}
 use Rattle.nq_model.specs.Decide.{Decision, decides, creates, writes_through, stores, wrote, stores_recovering, resizes, removes, to_change, puts_off, unless_asked, lets_push, decide_create, decide_push, decide_write_in, decide_write, decide_push_recovering, decide_write_recovering, decide_resize, decide_remove, decide_in, decide, verdict_reply, commits}
-use Rattle.nq_model.specs.Decided.{Effect, no_effect, creation, block_write, length_change, removal, effect_of_create, effect_of_push, effect_of_write_in, effect_of_write, effect_of_write_recovering, effect_of_resize, effect_of_remove, effect_of, decided, is_decided_once, change_with, changed_file, is_held_writing, gate_in, gate_of, Aside, nothing_aside, entry_aside, rows_aside, heard_aside, put_off_aside, stored_aside, kept_length, aside_in, answer_of, fresh_step, decided_step}
+use Rattle.nq_model.specs.Decided.{no_effect, creation, block_write, length_change, removal, effect_of_create, effect_of_push, effect_of_write_in, effect_of_write, effect_of_write_recovering, effect_of_resize, effect_of_remove, effect_of, decided, is_decided_once, change_with, changed_file, is_held_writing, gate_in, gate_of, Aside, nothing_aside, entry_aside, rows_aside, heard_aside, put_off_aside, stored_aside, kept_length, aside_in, answer_of, fresh_step, decided_step}
 use Rattle.nq_model.specs.Kept.{File, Kept, blocks_of, find_file, replace_file, drop_file, written_file, resized_file, with_row, with_files, with_new_file, host_row}
 use Rattle.nq_model.specs.Message.{reply, request, asker, old_incarnation, wrong_host}
 use Rattle.nq_model.specs.Profile.{most_hosts}

@@ -7,6 +7,7 @@ use Rattle.std.proofs.lemmas.List.{length-take, length-replicate, length-map}
 use Rattle.std.proofs.lemmas.List.Elements.{All-head, All-tail}
 use Rattle.std.proofs.lemmas.List.Sums.{sum_by-append, sum_by-cons}
 use Rattle.nq_base.specs.Block.{zeros}
+use Rattle.nq_base.specs.declared.Effect.{Effect}
 use Rattle.nq_base.specs.declared.FileRow.{FileRow}
 use Rattle.nq_base.specs.declared.Gate.{Gate}
 use Rattle.nq_base.specs.declared.Gate.TheVariants.{Recovering, Serving}
@@ -17,7 +18,7 @@ use Rattle.nq_base.specs.declared.Request.TheVariants.{Attach, Create, Write, Re
 use Rattle.nq_base.specs.declared.Verdict.{Verdict}
 use Rattle.nq_base.specs.declared.Who.{Who}
 use Rattle.nq_model.specs.Change.{IsNextFree, IsRowOf, FitsFile, HasBlock, Fits, IsFileWithin, AreApart, IsWithinBounds, raised_row, file_of, with_file, with_file_at, no_change, fencing, change_of_heads}
-use Rattle.nq_model.specs.Decided.{Effect, no_effect, creation, block_write, length_change, removal, effect_of_create, effect_of_push, effect_of_write_in, effect_of_write, effect_of_write_recovering, effect_of_resize, effect_of_remove, effect_of, change_with, fresh_change}
+use Rattle.nq_model.specs.Decided.{no_effect, creation, block_write, length_change, removal, effect_of_create, effect_of_push, effect_of_write_in, effect_of_write, effect_of_write_recovering, effect_of_resize, effect_of_remove, effect_of, change_with, fresh_change}
 use Rattle.nq_model.specs.Kept.{File, Kept, blocks_of, blocks_in_all, find_file, find_name, replace_file, resized}
 use Rattle.nq_model.specs.Message.{asker}
 use Rattle.nq_model.specs.Profile.{most_hosts, most_files, most_blocks, most_blocks_of_file, most_ids}

@@ -3,15 +3,13 @@
 use Rattle.std.specs.Prelude.{ℕ, ◌+◌, ◌-◌, ◌%◌, ◌==◌, Bool, true, false, ◌&&◌, ◌||◌, List, [], ◌∷◌, ◌++◌, Option, Some, None, find, length, max, nat_lt, nat_le, is_some, if◌then◌else◌}
 use Rattle.nq_base.specs.Block.{value_of}
 use Rattle.nq_base.specs.declared.Access.{Access}
-use Rattle.nq_base.specs.declared.BlockChange.{BlockChange}
 use Rattle.nq_base.specs.declared.Change.{Change}
 use Rattle.nq_base.specs.declared.Decided.{Decided}
 use Rattle.nq_base.specs.declared.Decided.TheVariants.{Fresh, Again, Old, OldIncarnation, NotAttached}
+use Rattle.nq_base.specs.declared.Effect.{Effect}
 use Rattle.nq_base.specs.declared.Entry.{Entry}
-use Rattle.nq_base.specs.declared.FileRow.{FileRow}
 use Rattle.nq_base.specs.declared.Gate.{Gate}
 use Rattle.nq_base.specs.declared.Gate.TheVariants.{Recovering, Serving}
-use Rattle.nq_base.specs.declared.Heads.{Heads}
 use Rattle.nq_base.specs.declared.HostRow.{HostRow}
 use Rattle.nq_base.specs.declared.PushBase.{PushBase}
 use Rattle.nq_base.specs.declared.Refusal.{Refusal}
@@ -30,15 +28,6 @@ use Rattle.nq_model.specs.Message.{Packet, reply, old_incarnation}
 use Rattle.nq_model.specs.Profile.{write_slack, most_files, most_blocks, most_blocks_of_file, most_ids, xid_end}
 use Rattle.nq_model.specs.Server.{Phase, serving, recovering, Server, ServerStep, taken, to_host, drops, refuses, replies, notices}
 use Rattle.nq_model.specs.Table.{Table, is_writing, find_row, put_row, drop_host, drop_rows_of, with_rows}
-
--- what a fresh request comes to: how it is decided, the value that is kept with that, and what it changes
-pub record Effect : Type 0 where
-  pub verdict : Verdict
-  pub value : ℕ
-  pub file : Option FileRow
-  pub block : Option BlockChange
-  pub heads : Option Heads
-  pub removed : Option ℕ
 
 -- a decision that changes nothing
 unfoldable pub no_effect : Verdict → Effect
