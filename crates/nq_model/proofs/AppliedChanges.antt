@@ -5,7 +5,7 @@ use Rattle.nq_base.specs.declared.Effect.{Effect}
 use Rattle.nq_base.specs.declared.HostRow.{HostRow}
 use Rattle.nq_base.specs.declared.Verdict.{Verdict}
 use Rattle.nq_base.specs.declared.Who.{Who}
-use Rattle.nq_model.specs.Change.{IsNextFree, raised_row, file_of, with_body, with_file, with_file_at, with_block, with_block_in, kept_as, applied, applied_if, change_of_heads, booted_heads, opened_heads, fencing, fencing_of}
+use Rattle.nq_model.specs.Change.{IsNextFree, raised_row, row_of, row_of_found, heads_of, file_of, with_body, with_file, with_file_at, with_block, with_block_in, kept_as, applied, applied_if, change_of_heads, booted_heads, opened_heads, fencing, fencing_of}
 use Rattle.nq_model.specs.Decided.{no_effect, creation, block_write, length_change, removal, change_with}
 use Rattle.nq_model.specs.Kept.{File, Kept, blocks_of, find_file, replace_file, drop_file, new_file, written_file, resized_file, fenced_file, with_row, with_files, with_new_file}
 use Rattle.nq_model.specs.ServerStep.{fence, booted}
@@ -20,14 +20,14 @@ pub applied-none : (kept : Kept) (who : Who) (seq : ℕ) (verdict : Verdict) →
 unfolding change_with no_effect kept_as with_row
 applied-none kept who seq verdict = refl
 
-raised-same : (file : File) → file_of (raised_row file (blocks_of file)) file.bodies ≡ fenced_file file
+raised-same : (file : File) → file_of (raised_row (row_of file) (blocks_of file)) file.bodies ≡ fenced_file file
 unfolding file_of raised_row fenced_file
 raised-same file = ap (λ bodies. record { id = file.id; name = file.name; rev = file.rev + 1; bodies = bodies }) (resized-same file.bodies)
 
 -- the files with a kept file raised
-with-raised : (file : File) (blocks : ℕ) (files : List File) → find_file file.id files ≡ Some file → with_file (raised_row file blocks) files ≡ replace_file (file_of (raised_row file blocks) file.bodies) files
+with-raised : (file : File) (blocks : ℕ) (files : List File) → find_file file.id files ≡ Some file → with_file (raised_row (row_of file) blocks) files ≡ replace_file (file_of (raised_row (row_of file) blocks) file.bodies) files
 unfolding raised_row
-with-raised file blocks files found = ap (with_file_at (raised_row file blocks) files) found
+with-raised file blocks files found = ap (with_file_at (raised_row (row_of file) blocks) files) found
 
 written-by : (file : File) (block : ℕ) (body : List ℕ) → with_body (fenced_file file) block body ≡ written_file file block body
 unfolding with_body fenced_file written_file
@@ -48,26 +48,26 @@ with-body-in file block body files found =
     ∙ replaced-twice (written_file file block body) (fenced_file file) files (written-id file block body ∙ sym (fenced-id file))
 
 -- a block is written
-pub applied-write : (kept : Kept) (who : Who) (seq : ℕ) (file : File) (block : ℕ) (body : List ℕ) → find_file file.id kept.files ≡ Some file → applied kept (change_with who seq (block_write file block body)) ≡ with_row (with_files kept (replace_file (written_file file block body) kept.files)) who.host (row_with who seq (block_write file block body))
+pub applied-write : (kept : Kept) (who : Who) (seq : ℕ) (file : File) (block : ℕ) (body : List ℕ) → find_file file.id kept.files ≡ Some file → applied kept (change_with who seq (block_write (row_of file) block body)) ≡ with_row (with_files kept (replace_file (written_file file block body) kept.files)) who.host (row_with who seq (block_write (row_of file) block body))
 unfolding change_with block_write kept_as with_row with_files
 applied-write kept who seq file block body found =
     ap (λ files. record kept { files = files; hosts = slice_set kept.hosts who.host (record { inc = who.inc; seq = seq; verdict = Verdict.Done; value = file.rev + 1 }) })
     (ap (with_block (record { file = file.id; block = block; body = body })) (with-raised file (blocks_of file) kept.files found ∙ ap (λ f. replace_file f kept.files) (raised-same file)) ∙ with-body-in file block body kept.files found)
 
 -- a file gets another length
-pub applied-resize : (kept : Kept) (who : Who) (seq : ℕ) (file : File) (blocks : ℕ) → find_file file.id kept.files ≡ Some file → applied kept (change_with who seq (length_change file blocks)) ≡ with_row (with_files kept (replace_file (resized_file file blocks) kept.files)) who.host (row_with who seq (length_change file blocks))
+pub applied-resize : (kept : Kept) (who : Who) (seq : ℕ) (file : File) (blocks : ℕ) → find_file file.id kept.files ≡ Some file → applied kept (change_with who seq (length_change (row_of file) blocks)) ≡ with_row (with_files kept (replace_file (resized_file file blocks) kept.files)) who.host (row_with who seq (length_change (row_of file) blocks))
 unfolding change_with length_change kept_as with_row with_files file_of raised_row resized_file
 applied-resize kept who seq file blocks found =
     ap (λ files. record kept { files = files; hosts = slice_set kept.hosts who.host (record { inc = who.inc; seq = seq; verdict = Verdict.Done; value = file.rev + 1 }) })
     (with-raised file blocks kept.files found)
 
 -- a file is taken away
-pub applied-removal : (kept : Kept) (who : Who) (seq : ℕ) (file : File) → applied kept (change_with who seq (removal file)) ≡ with_row (with_files kept (drop_file file.id kept.files)) who.host (row_with who seq (removal file))
+pub applied-removal : (kept : Kept) (who : Who) (seq : ℕ) (file : File) → applied kept (change_with who seq (removal (row_of file))) ≡ with_row (with_files kept (drop_file file.id kept.files)) who.host (row_with who seq (removal (row_of file)))
 unfolding change_with removal kept_as with_row with_files
 applied-removal kept who seq file = refl
 
 -- a file is made
-pub applied-creation : (kept : Kept) (who : Who) (seq : ℕ) (name : List ℕ) (blocks : ℕ) → IsNextFree kept → applied kept (change_with who seq (creation kept name blocks)) ≡ with_row (with_new_file kept name blocks) who.host (row_with who seq (creation kept name blocks))
+pub applied-creation : (kept : Kept) (who : Who) (seq : ℕ) (name : List ℕ) (blocks : ℕ) → IsNextFree kept → applied kept (change_with who seq (creation (heads_of kept) name blocks)) ≡ with_row (with_new_file kept name blocks) who.host (row_with who seq (creation (heads_of kept) name blocks))
 unfolding change_with creation kept_as with_row with_new_file new_file file_of
 applied-creation kept who seq name blocks free =
     ap (λ files. record kept { files = files; hosts = slice_set kept.hosts who.host (record { inc = who.inc; seq = seq; verdict = Verdict.Done; value = kept.next }); next = kept.next + 1 })
@@ -75,7 +75,7 @@ applied-creation kept who seq name blocks free =
     ∙ ap (λ bodies. kept.files ++ record { id = kept.next; name = name; rev = 0; bodies = bodies } ∷ []) (resized-none blocks))
 
 -- a file is fenced, where it is kept
-pub applied-fencing : (kept : Kept) (file : Option File) (id : ℕ) → find_file id kept.files ≡ file → fence kept file ≡ applied_if kept (fencing_of file)
+pub applied-fencing : (kept : Kept) (file : Option File) (id : ℕ) → find_file id kept.files ≡ file → fence kept file ≡ applied_if kept (fencing_of (row_of_found file))
 unfolding fencing kept_as with_files
 applied-fencing kept None id found = refl
 applied-fencing kept (Some file) id found =

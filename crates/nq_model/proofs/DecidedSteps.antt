@@ -19,10 +19,10 @@ use Rattle.nq_base.specs.declared.Row.{Row}
 use Rattle.nq_base.specs.declared.Verdict.{Verdict}
 use Rattle.nq_base.specs.declared.Who.{Who}
 use Rattle.nq_model.specs.Ask.{ask_past, conflicts, marked, put_off, free}
-use Rattle.nq_model.specs.Change.{IsNextFree, kept_as, applied}
+use Rattle.nq_model.specs.Change.{row_of, row_of_found, heads_of, space_of, IsNextFree, kept_as, applied}
 use Rattle.nq_model.specs.Decide.{Decision, decides, creates, writes_through, stores, wrote, stores_recovering, resizes, removes, to_change, puts_off, unless_asked, lets_push, decide_create, decide_push, decide_write_in, decide_write, decide_push_recovering, decide_write_recovering, decide_resize, decide_remove, decide_in, decide, verdict_reply, commits}
 use Rattle.nq_model.specs.Decided.{no_effect, creation, block_write, length_change, removal, effect_of_create, effect_of_push, effect_of_write_in, effect_of_write, effect_of_write_recovering, effect_of_resize, effect_of_remove, effect_of, decided, is_decided_once, change_with, changed_file, is_held_writing, gate_in, gate_of, Aside, nothing_aside, entry_aside, rows_aside, heard_aside, put_off_aside, stored_aside, kept_length, aside_in, answer_of, fresh_step, decided_step}
-use Rattle.nq_model.specs.Kept.{File, Kept, blocks_of, find_file, replace_file, drop_file, written_file, resized_file, with_row, with_files, with_new_file, host_row}
+use Rattle.nq_model.specs.Kept.{File, Kept, blocks_of, blocks_in_all, find_file, find_name, replace_file, drop_file, written_file, resized_file, with_row, with_files, with_new_file, host_row}
 use Rattle.nq_model.specs.Message.{reply, request, asker, old_incarnation, wrong_host}
 use Rattle.nq_model.specs.Profile.{most_hosts}
 use Rattle.nq_model.specs.Server.{Phase, serving, recovering, Server, ServerStep, taken, to_host, drops, refuses, replies, keeping, keeping_with, after_notices}
@@ -79,12 +79,12 @@ module _ (s : Server) (phase : Phase) (who : Who) (seq xid : ℕ) (r : Request) 
 
 -- ---- while serving
 
-creates-does : (s : Server) (who w : Who) (seq n xid : ℕ) (name : List ℕ) (blocks : ℕ) → IsNextFree s.kept → Does s serving who seq xid (Create w n name blocks) (λ v x. refl) (creates s name blocks) (creation s.kept name blocks)
+creates-does : (s : Server) (who w : Who) (seq n xid : ℕ) (name : List ℕ) (blocks : ℕ) → IsNextFree s.kept → Does s serving who seq xid (Create w n name blocks) (λ v x. refl) (creates s name blocks) (creation (heads_of s.kept) name blocks)
 unfolding creates creation commits keeping nothing_aside
 creates-does s who w seq n xid name blocks free =
-    does s serving who seq xid (Create w n name blocks) (λ v x. refl) (creates s name blocks) (creation s.kept name blocks) (with_row (with_new_file s.kept name blocks) who.host (row_with who seq (creation s.kept name blocks))) (nothing_aside s) (applied-creation s.kept who seq name blocks free) refl refl
+    does s serving who seq xid (Create w n name blocks) (λ v x. refl) (creates s name blocks) (creation (heads_of s.kept) name blocks) (with_row (with_new_file s.kept name blocks) who.host (row_with who seq (creation (heads_of s.kept) name blocks))) (nothing_aside s) (applied-creation s.kept who seq name blocks free) refl refl
 
-create-does : (s : Server) (who w : Who) (seq n xid : ℕ) (name : List ℕ) (blocks : ℕ) → IsNextFree s.kept → Does s serving who seq xid (Create w n name blocks) (λ v x. refl) (decide_create s name blocks) (effect_of_create s.kept name blocks)
+create-does : (s : Server) (who w : Who) (seq n xid : ℕ) (name : List ℕ) (blocks : ℕ) → IsNextFree s.kept → Does s serving who seq xid (Create w n name blocks) (λ v x. refl) (decide_create s name blocks) (effect_of_create (space_of s.kept) (heads_of s.kept) (is_some (find_name name s.kept.files)) name blocks)
 create-does s who w seq n xid name blocks free =
     let r : Request = Create w n name blocks in
     let declined : (v : Verdict) → aside_in s serving who r v ≡ nothing_aside s → Does s serving who seq xid r (λ v x. refl) (decides s v) (no_effect v) = declines s serving who seq xid r (λ v x. refl) in
@@ -96,101 +96,101 @@ module _ (s : Server) (who w : Who) (seq n xid block first last : ℕ) (body : L
   abbrev Writes : Option PushBase → Decision → Effect → Type 0
   Writes push d e = Does s serving who seq xid (Write w n f.id block first last push body) (λ v x. refl) d e
 
-  goes-through : Writes None (writes_through s who f block first body) (block_write f block body)
+  goes-through : Writes None (writes_through s who f block first body) (block_write (row_of f) block body)
   unfolding writes_through block_write commits keeping entry_aside
   goes-through =
-      does s serving who seq xid (Write w n f.id block first last None body) (λ v x. refl) (writes_through s who f block first body) (block_write f block body) (with_row (with_files s.kept (replace_file (written_file f block body) s.kept.files)) who.host (row_with who seq (block_write f block body))) (entry_aside s (Entry.W who f.id block first (value_of body) true)) (applied-write s.kept who seq f block body found) refl refl
+      does s serving who seq xid (Write w n f.id block first last None body) (λ v x. refl) (writes_through s who f block first body) (block_write (row_of f) block body) (with_row (with_files s.kept (replace_file (written_file f block body) s.kept.files)) who.host (row_with who seq (block_write (row_of f) block body))) (entry_aside s (Entry.W who f.id block first (value_of body) true)) (applied-write s.kept who seq f block body found) refl refl
 
-  is-stored : (base : PushBase) (row : Row) → find_row f.id who.host s.table.rows ≡ Some row → Writes (Some base) (stores s who f row block first last body) (block_write f block body)
+  is-stored : (base : PushBase) (row : Row) → find_row f.id who.host s.table.rows ≡ Some row → Writes (Some base) (stores s who f row block first last body) (block_write (row_of f) block body)
   unfolding stores block_write commits keeping keeping_with rows_aside
   is-stored base row own =
-      does s serving who seq xid (Write w n f.id block first last (Some base) body) (λ v x. refl) (stores s who f row block first last body) (block_write f block body) (with_row (with_files s.kept (replace_file (written_file f block body) s.kept.files)) who.host (row_with who seq (block_write f block body))) (stored_aside s (Some row) (Entry.S who f.id block first last s.now)) (applied-write s.kept who seq f block body found) (ap (λ o. stored_aside s o (Entry.S who f.id block first last s.now)) own) refl
+      does s serving who seq xid (Write w n f.id block first last (Some base) body) (λ v x. refl) (stores s who f row block first last body) (block_write (row_of f) block body) (with_row (with_files s.kept (replace_file (written_file f block body) s.kept.files)) who.host (row_with who seq (block_write (row_of f) block body))) (stored_aside s (Some row) (Entry.S who f.id block first last s.now)) (applied-write s.kept who seq f block body found) (ap (λ o. stored_aside s o (Entry.S who f.id block first last s.now)) own) refl
 
-  pushes : (base : PushBase) (o : Option Row) → find_row f.id who.host s.table.rows ≡ o → Writes (Some base) (decide_push s who f block first last base body o) (effect_of_push s.kept.boot (is_held_writing who o) f block base body)
+  pushes : (base : PushBase) (o : Option Row) → find_row f.id who.host s.table.rows ≡ o → Writes (Some base) (decide_push s who f block first last base body o) (effect_of_push s.kept.boot (is_held_writing who o) (row_of f) block base body)
   pushes base None own = declines s serving who seq xid (Write w n f.id block first last (Some base) body) (λ v x. refl) Verdict.Fenced refl
   pushes base (Some row) own =
       either s serving who seq xid (Write w n f.id block first last (Some base) body) (λ v x. refl) (lets_push s who f base row) _ _ _ _ (is-stored base row own) (declines s serving who seq xid (Write w n f.id block first last (Some base) body) (λ v x. refl) Verdict.Fenced refl)
 
-  writes-in : (push : Option PushBase) → Writes push (decide_write_in s who f block first last push body) (effect_of_write_in s.kept.boot (is_some (find (conflicts f.id who.host Access.Write) s.table.rows)) (is_held_writing who (find_row f.id who.host s.table.rows)) f block push body)
-  writes-in None = unless-conflict-by s serving who seq xid (Write w n f.id block first last None body) (λ v x. refl) f (writes_through s who f block first body) (block_write f block body) (find (conflicts f.id who.host Access.Write) s.table.rows) (find_row f.id who.host s.table.rows) refl goes-through
+  writes-in : (push : Option PushBase) → Writes push (decide_write_in s who f block first last push body) (effect_of_write_in s.kept.boot (is_some (find (conflicts f.id who.host Access.Write) s.table.rows)) (is_held_writing who (find_row f.id who.host s.table.rows)) (row_of f) block push body)
+  writes-in None = unless-conflict-by s serving who seq xid (Write w n f.id block first last None body) (λ v x. refl) f (writes_through s who f block first body) (block_write (row_of f) block body) (find (conflicts f.id who.host Access.Write) s.table.rows) (find_row f.id who.host s.table.rows) refl goes-through
   writes-in (Some base) = pushes base (find_row f.id who.host s.table.rows) refl
 
-  writes : (push : Option PushBase) → Writes push (decide_write s who (Some f) block first last push body) (effect_of_write s.kept.boot (is_some (find (conflicts f.id who.host Access.Write) s.table.rows)) (is_held_writing who (find_row f.id who.host s.table.rows)) (Some f) block push body)
+  writes : (push : Option PushBase) → Writes push (decide_write s who (Some f) block first last push body) (effect_of_write s.kept.boot (is_some (find (conflicts f.id who.host Access.Write) s.table.rows)) (is_held_writing who (find_row f.id who.host s.table.rows)) (Some (row_of f)) block push body)
   writes push = either s serving who seq xid (Write w n f.id block first last push body) (λ v x. refl) (nat_le (blocks_of f) block) _ _ _ _ (declines s serving who seq xid (Write w n f.id block first last push body) (λ v x. refl) Verdict.Invalid refl) (writes-in push)
 
 -- a WRITE of a file that may be kept
-writes-found : (s : Server) (who w : Who) (seq n xid file block first last : ℕ) (push : Option PushBase) (body : List ℕ) (o : Option File) → find_file file s.kept.files ≡ o → Does s serving who seq xid (Write w n file block first last push body) (λ v x. refl) (decide_write s who o block first last push body) (effect_of_write s.kept.boot (is_some (find (conflicts file who.host Access.Write) s.table.rows)) (is_held_writing who (find_row file who.host s.table.rows)) o block push body)
+writes-found : (s : Server) (who w : Who) (seq n xid file block first last : ℕ) (push : Option PushBase) (body : List ℕ) (o : Option File) → find_file file s.kept.files ≡ o → Does s serving who seq xid (Write w n file block first last push body) (λ v x. refl) (decide_write s who o block first last push body) (effect_of_write s.kept.boot (is_some (find (conflicts file who.host Access.Write) s.table.rows)) (is_held_writing who (find_row file who.host s.table.rows)) (row_of_found o) block push body)
 writes-found s who w seq n xid file block first last push body None found = declines s serving who seq xid (Write w n file block first last push body) (λ v x. refl) Verdict.Stale refl
 writes-found s who w seq n xid file block first last push body (Some f) found =
     let same : f.id ≡ file = found-id file s.kept.files f found in
     let here : find_file f.id s.kept.files ≡ Some f = ap (λ i. find_file i s.kept.files) same ∙ found in
-    subst (λ i. Does s serving who seq xid (Write w n i block first last push body) (λ v x. refl) (decide_write s who (Some f) block first last push body) (effect_of_write s.kept.boot (is_some (find (conflicts i who.host Access.Write) s.table.rows)) (is_held_writing who (find_row i who.host s.table.rows)) (Some f) block push body)) same (writes s who w seq n xid block first last body f here push)
+    subst (λ i. Does s serving who seq xid (Write w n i block first last push body) (λ v x. refl) (decide_write s who (Some f) block first last push body) (effect_of_write s.kept.boot (is_some (find (conflicts i who.host Access.Write) s.table.rows)) (is_held_writing who (find_row i who.host s.table.rows)) (Some (row_of f)) block push body)) same (writes s who w seq n xid block first last body f here push)
 
 -- RESIZE
 module _ (s : Server) (who w : Who) (seq n xid q blocks : ℕ) (f : File) (found : find_file f.id s.kept.files ≡ Some f) where
   abbrev Resizes : Decision → Effect → Type 0
   Resizes d e = Does s serving who seq xid (Resize w n q f.id blocks) (λ v x. refl) d e
 
-  is-resized : Resizes (resizes s who q f blocks) (length_change f blocks)
+  is-resized : Resizes (resizes s who q f blocks) (length_change (row_of f) blocks)
   unfolding resizes length_change commits keeping entry_aside
   is-resized =
-      does s serving who seq xid (Resize w n q f.id blocks) (λ v x. refl) (resizes s who q f blocks) (length_change f blocks) (with_row (with_files s.kept (replace_file (resized_file f blocks) s.kept.files)) who.host (row_with who seq (length_change f blocks))) (entry_aside s (Entry.Z who q f.id (blocks_of f) blocks)) (applied-resize s.kept who seq f blocks found) (ap (λ o. entry_aside s (Entry.Z who q f.id (kept_length o) blocks)) found) refl
+      does s serving who seq xid (Resize w n q f.id blocks) (λ v x. refl) (resizes s who q f blocks) (length_change (row_of f) blocks) (with_row (with_files s.kept (replace_file (resized_file f blocks) s.kept.files)) who.host (row_with who seq (length_change (row_of f) blocks))) (entry_aside s (Entry.Z who q f.id (blocks_of f) blocks)) (applied-resize s.kept who seq f blocks found) (ap (λ o. entry_aside s (Entry.Z who q f.id (kept_length (row_of_found o)) blocks)) found) refl
 
-  resizing : Resizes (decide_resize s who q (Some f) blocks) (effect_of_resize s.kept (is_some (find (conflicts f.id who.host Access.Write) s.table.rows)) (Some f) blocks)
+  resizing : Resizes (decide_resize s who q (Some f) blocks) (effect_of_resize (blocks_in_all s.kept.files) (is_some (find (conflicts f.id who.host Access.Write) s.table.rows)) (Some (row_of f)) blocks)
   resizing =
       let r : Request = Resize w n q f.id blocks in
       let declined : (v : Verdict) → aside_in s serving who r v ≡ nothing_aside s → Does s serving who seq xid r (λ v x. refl) (decides s v) (no_effect v) = declines s serving who seq xid r (λ v x. refl) in
       either s serving who seq xid r (λ v x. refl) _ _ _ _ _ (declined Verdict.Invalid refl)
       (either s serving who seq xid r (λ v x. refl) _ _ _ _ _ (declined Verdict.NoSpace refl)
-      (unless-conflict-by s serving who seq xid r (λ v x. refl) f (resizes s who q f blocks) (length_change f blocks) (find (conflicts f.id who.host Access.Write) s.table.rows) (find_row f.id who.host s.table.rows) refl is-resized))
+      (unless-conflict-by s serving who seq xid r (λ v x. refl) f (resizes s who q f blocks) (length_change (row_of f) blocks) (find (conflicts f.id who.host Access.Write) s.table.rows) (find_row f.id who.host s.table.rows) refl is-resized))
 
-resizes-found : (s : Server) (who w : Who) (seq n xid q file blocks : ℕ) (o : Option File) → find_file file s.kept.files ≡ o → Does s serving who seq xid (Resize w n q file blocks) (λ v x. refl) (decide_resize s who q o blocks) (effect_of_resize s.kept (is_some (find (conflicts file who.host Access.Write) s.table.rows)) o blocks)
+resizes-found : (s : Server) (who w : Who) (seq n xid q file blocks : ℕ) (o : Option File) → find_file file s.kept.files ≡ o → Does s serving who seq xid (Resize w n q file blocks) (λ v x. refl) (decide_resize s who q o blocks) (effect_of_resize (blocks_in_all s.kept.files) (is_some (find (conflicts file who.host Access.Write) s.table.rows)) (row_of_found o) blocks)
 resizes-found s who w seq n xid q file blocks None found = declines s serving who seq xid (Resize w n q file blocks) (λ v x. refl) Verdict.Stale refl
 resizes-found s who w seq n xid q file blocks (Some f) found =
     let same : f.id ≡ file = found-id file s.kept.files f found in
     let here : find_file f.id s.kept.files ≡ Some f = ap (λ i. find_file i s.kept.files) same ∙ found in
-    subst (λ i. Does s serving who seq xid (Resize w n q i blocks) (λ v x. refl) (decide_resize s who q (Some f) blocks) (effect_of_resize s.kept (is_some (find (conflicts i who.host Access.Write) s.table.rows)) (Some f) blocks)) same (resizing s who w seq n xid q blocks f here)
+    subst (λ i. Does s serving who seq xid (Resize w n q i blocks) (λ v x. refl) (decide_resize s who q (Some f) blocks) (effect_of_resize (blocks_in_all s.kept.files) (is_some (find (conflicts i who.host Access.Write) s.table.rows)) (Some (row_of f)) blocks)) same (resizing s who w seq n xid q blocks f here)
 
 -- REMOVE
 module _ (s : Server) (who w : Who) (seq n xid q : ℕ) (f : File) (found : find_file f.id s.kept.files ≡ Some f) where
-  is-removed : Does s serving who seq xid (Remove w n q f.id) (λ v x. refl) (removes s who q f) (removal f)
+  is-removed : Does s serving who seq xid (Remove w n q f.id) (λ v x. refl) (removes s who q f) (removal (row_of f))
   unfolding removes removal commits keeping keeping_with rows_aside
   is-removed =
-      does s serving who seq xid (Remove w n q f.id) (λ v x. refl) (removes s who q f) (removal f) (with_row (with_files s.kept (drop_file f.id s.kept.files)) who.host (row_with who seq (removal f))) (rows_aside s (drop_rows_of f.id s.table.rows) (Entry.Z who q f.id (blocks_of f) 0 ∷ [])) (applied-removal s.kept who seq f) (ap (λ o. rows_aside s (drop_rows_of f.id s.table.rows) (Entry.Z who q f.id (kept_length o) 0 ∷ [])) found) refl
+      does s serving who seq xid (Remove w n q f.id) (λ v x. refl) (removes s who q f) (removal (row_of f)) (with_row (with_files s.kept (drop_file f.id s.kept.files)) who.host (row_with who seq (removal (row_of f)))) (rows_aside s (drop_rows_of f.id s.table.rows) (Entry.Z who q f.id (blocks_of f) 0 ∷ [])) (applied-removal s.kept who seq f) (ap (λ o. rows_aside s (drop_rows_of f.id s.table.rows) (Entry.Z who q f.id (kept_length (row_of_found o)) 0 ∷ [])) found) refl
 
-  removing : Does s serving who seq xid (Remove w n q f.id) (λ v x. refl) (decide_remove s who q (Some f)) (effect_of_remove (is_some (find (conflicts f.id who.host Access.Write) s.table.rows)) (Some f))
-  removing = unless-conflict-by s serving who seq xid (Remove w n q f.id) (λ v x. refl) f (removes s who q f) (removal f) (find (conflicts f.id who.host Access.Write) s.table.rows) (find_row f.id who.host s.table.rows) refl is-removed
+  removing : Does s serving who seq xid (Remove w n q f.id) (λ v x. refl) (decide_remove s who q (Some f)) (effect_of_remove (is_some (find (conflicts f.id who.host Access.Write) s.table.rows)) (Some (row_of f)))
+  removing = unless-conflict-by s serving who seq xid (Remove w n q f.id) (λ v x. refl) f (removes s who q f) (removal (row_of f)) (find (conflicts f.id who.host Access.Write) s.table.rows) (find_row f.id who.host s.table.rows) refl is-removed
 
-removes-found : (s : Server) (who w : Who) (seq n xid q file : ℕ) (o : Option File) → find_file file s.kept.files ≡ o → Does s serving who seq xid (Remove w n q file) (λ v x. refl) (decide_remove s who q o) (effect_of_remove (is_some (find (conflicts file who.host Access.Write) s.table.rows)) o)
+removes-found : (s : Server) (who w : Who) (seq n xid q file : ℕ) (o : Option File) → find_file file s.kept.files ≡ o → Does s serving who seq xid (Remove w n q file) (λ v x. refl) (decide_remove s who q o) (effect_of_remove (is_some (find (conflicts file who.host Access.Write) s.table.rows)) (row_of_found o))
 removes-found s who w seq n xid q file None found = declines s serving who seq xid (Remove w n q file) (λ v x. refl) Verdict.Stale refl
 removes-found s who w seq n xid q file (Some f) found =
     let same : f.id ≡ file = found-id file s.kept.files f found in
     let here : find_file f.id s.kept.files ≡ Some f = ap (λ i. find_file i s.kept.files) same ∙ found in
-    subst (λ i. Does s serving who seq xid (Remove w n q i) (λ v x. refl) (decide_remove s who q (Some f)) (effect_of_remove (is_some (find (conflicts i who.host Access.Write) s.table.rows)) (Some f))) same (removing s who w seq n xid q f here)
+    subst (λ i. Does s serving who seq xid (Remove w n q i) (λ v x. refl) (decide_remove s who q (Some f)) (effect_of_remove (is_some (find (conflicts i who.host Access.Write) s.table.rows)) (Some (row_of f)))) same (removing s who w seq n xid q f here)
 
 -- ---- while recovering
 
 module _ (s : Server) (until heard : ℕ) (known : Option Table) (who w : Who) (seq n xid block first last : ℕ) (body : List ℕ) (base : PushBase) where
-  is-stored-recovering : (f : File) → find_file f.id s.kept.files ≡ Some f → Does s (recovering until heard known) who seq xid (Write w n f.id block first last (Some base) body) (λ v x. refl) (stores_recovering s until known who f block first last body) (block_write f block body)
+  is-stored-recovering : (f : File) → find_file f.id s.kept.files ≡ Some f → Does s (recovering until heard known) who seq xid (Write w n f.id block first last (Some base) body) (λ v x. refl) (stores_recovering s until known who f block first last body) (block_write (row_of f) block body)
   unfolding stores_recovering wrote block_write commits keeping heard_aside
   is-stored-recovering f found =
-      does s (recovering until heard known) who seq xid (Write w n f.id block first last (Some base) body) (λ v x. refl) (stores_recovering s until known who f block first last body) (block_write f block body) (with_row (with_files s.kept (replace_file (written_file f block body) s.kept.files)) who.host (row_with who seq (block_write f block body))) (heard_aside s until known (Entry.S who f.id block first last s.now)) (applied-write s.kept who seq f block body found) refl refl
+      does s (recovering until heard known) who seq xid (Write w n f.id block first last (Some base) body) (λ v x. refl) (stores_recovering s until known who f block first last body) (block_write (row_of f) block body) (with_row (with_files s.kept (replace_file (written_file f block body) s.kept.files)) who.host (row_with who seq (block_write (row_of f) block body))) (heard_aside s until known (Entry.S who f.id block first last s.now)) (applied-write s.kept who seq f block body found) refl refl
 
-  pushes-recovering : (f : File) → find_file f.id s.kept.files ≡ Some f → Does s (recovering until heard known) who seq xid (Write w n f.id block first last (Some base) body) (λ v x. refl) (decide_push_recovering s until known who (Some f) block first last base body) (effect_of_write s.kept.opened false true (Some f) block (Some base) body)
+  pushes-recovering : (f : File) → find_file f.id s.kept.files ≡ Some f → Does s (recovering until heard known) who seq xid (Write w n f.id block first last (Some base) body) (λ v x. refl) (decide_push_recovering s until known who (Some f) block first last base body) (effect_of_write s.kept.opened false true (Some (row_of f)) block (Some base) body)
   pushes-recovering f found =
       let p : Phase = recovering until heard known in
       let r : Request = Write w n f.id block first last (Some base) body in
       either s p who seq xid r (λ v x. refl) (nat_le (blocks_of f) block) _ _ _ _ (declines s p who seq xid r (λ v x. refl) Verdict.Invalid refl)
       (either s p who seq xid r (λ v x. refl) (base.boot == s.kept.opened && base.base == f.rev) _ _ _ _ (is-stored-recovering f found) (declines s p who seq xid r (λ v x. refl) Verdict.Fenced refl))
 
-  pushes-found : (file : ℕ) (o : Option File) → find_file file s.kept.files ≡ o → Does s (recovering until heard known) who seq xid (Write w n file block first last (Some base) body) (λ v x. refl) (decide_push_recovering s until known who o block first last base body) (effect_of_write s.kept.opened false true o block (Some base) body)
+  pushes-found : (file : ℕ) (o : Option File) → find_file file s.kept.files ≡ o → Does s (recovering until heard known) who seq xid (Write w n file block first last (Some base) body) (λ v x. refl) (decide_push_recovering s until known who o block first last base body) (effect_of_write s.kept.opened false true (row_of_found o) block (Some base) body)
   pushes-found file None found = declines s (recovering until heard known) who seq xid (Write w n file block first last (Some base) body) (λ v x. refl) Verdict.Stale refl
   pushes-found file (Some f) found =
       let same : f.id ≡ file = found-id file s.kept.files f found in
       let here : find_file f.id s.kept.files ≡ Some f = ap (λ i. find_file i s.kept.files) same ∙ found in
-      subst (λ i. Does s (recovering until heard known) who seq xid (Write w n i block first last (Some base) body) (λ v x. refl) (decide_push_recovering s until known who (Some f) block first last base body) (effect_of_write s.kept.opened false true (Some f) block (Some base) body)) same (pushes-recovering f here)
+      subst (λ i. Does s (recovering until heard known) who seq xid (Write w n i block first last (Some base) body) (λ v x. refl) (decide_push_recovering s until known who (Some f) block first last base body) (effect_of_write s.kept.opened false true (Some (row_of f)) block (Some base) body)) same (pushes-recovering f here)
 
-writes-recovering : (s : Server) (until heard : ℕ) (known : Option Table) (who w : Who) (seq n xid file block first last : ℕ) (push : Option PushBase) (body : List ℕ) → Does s (recovering until heard known) who seq xid (Write w n file block first last push body) (λ v x. refl) (decide_write_recovering s until known who file block first last push body) (effect_of_write_recovering s.kept s.kept.opened file block push body)
+writes-recovering : (s : Server) (until heard : ℕ) (known : Option Table) (who w : Who) (seq n xid file block first last : ℕ) (push : Option PushBase) (body : List ℕ) → Does s (recovering until heard known) who seq xid (Write w n file block first last push body) (λ v x. refl) (decide_write_recovering s until known who file block first last push body) (effect_of_write_recovering s.kept.opened (row_of_found (find_file file s.kept.files)) block push body)
 writes-recovering s until heard known who w seq n xid file block first last None body = declines s (recovering until heard known) who seq xid (Write w n file block first last None body) (λ v x. refl) Verdict.TryLater refl
 writes-recovering s until heard known who w seq n xid file block first last (Some base) body = pushes-found s until heard known who w seq n xid block first last body base file (find_file file s.kept.files) refl
 

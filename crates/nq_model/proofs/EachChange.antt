@@ -16,7 +16,7 @@ use Rattle.nq_base.specs.declared.Tag.{Tag}
 use Rattle.nq_base.specs.declared.Want.{Want}
 use Rattle.nq_base.specs.declared.Who.{Who}
 use Rattle.nq_model.specs.Ask.{Reply, ask}
-use Rattle.nq_model.specs.Change.{IsWithinBounds, IsChangedOnce, fencing_of, change_of_heads, booted_heads, opened_heads}
+use Rattle.nq_model.specs.Change.{IsWithinBounds, IsChangedOnce, fencing_of, row_of_found, change_of_heads, booted_heads, opened_heads}
 use Rattle.nq_model.specs.ChangesOnce.{EachStepChangesOnce, RequestsAreDecided}
 use Rattle.nq_model.specs.Decided.{is_decided_once, fresh_change, gate_of, decided, decided_step, fresh_step}
 use Rattle.nq_model.specs.Kept.{File, Kept, find_file, find_name, host_row}
@@ -178,7 +178,7 @@ module _ (s : Server) (within : IsWithinBounds s.kept) where
   fences-once : (id : ℕ) (o : Option File) → find_file id s.kept.files ≡ o → IsChangedOnce s.kept (fence s.kept o)
   fences-once id None found = unchanged s.kept s.kept refl
   fences-once id (Some file) found = record {
-    change = fencing_of (Some file);
+    change = fencing_of (row_of_found (Some file));
     is_applied = applied-fencing s.kept (Some file) id found;
     fits = fencing-fits s.kept file within (ap (λ i. find_file i s.kept.files) (found-id id s.kept.files file found) ∙ found);
   }

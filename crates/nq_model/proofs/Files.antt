@@ -1,9 +1,11 @@
 -- What is found among the kept files, and what a file row makes of a file.
-use Rattle.std.proofs.Common.{◌≡◌, ℕ, ◌==◌, Bool, true, false, List, [], ◌∷◌, Option, Some, if◌then◌else◌, length, refl, sym, ap, ◌∙◌, arith}
-use Rattle.std.specs.Prelude.{replicate}
+use Rattle.std.proofs.Common.{◌≡◌, ℕ, ◌==◌, Bool, true, false, List, [], ◌∷◌, Option, Some, None, if◌then◌else◌, length, refl, sym, ap, ◌∙◌, arith}
+use Rattle.std.specs.Prelude.{is_some, replicate}
 use Rattle.std.proofs.lemmas.List.{take-replicate}
 use Rattle.std.proofs.Math.Seq.{take-append_seam}
 use Rattle.nq_base.specs.Block.{zeros}
+use Rattle.nq_base.specs.declared.FileRow.{FileRow}
+use Rattle.nq_model.specs.Change.{row_of, row_of_found}
 use Rattle.nq_model.specs.Kept.{File, find_file, replace_file, resized}
 use Rattle.nq_model.proofs.Finding.{same-number, number-same}
 
@@ -53,3 +55,16 @@ resized-same bodies = take-append_seam bodies (replicate (length bodies) zeros)
 -- out of nothing zeros are made
 pub resized-none : (blocks : ℕ) → resized blocks [] ≡ replicate blocks zeros
 resized-none blocks = take-replicate blocks blocks zeros (omega arith)
+
+-- the row that is told of a file tells whether it is kept, and which one it is
+pub none-told : (o : Option File) → row_of_found o ≡ None → o ≡ None
+none-told None e = refl
+none-told (Some f) e = absurd (cc)
+
+pub some-told : (o : Option File) (row : FileRow) → row_of_found o ≡ Some row → (f : File) × (o ≡ Some f) × (row ≡ row_of f)
+some-told None row e = absurd (cc)
+some-told (Some f) row e = (f, refl, cc)
+
+pub told-some : (o : Option File) → is_some (row_of_found o) ≡ is_some o
+told-some None = refl
+told-some (Some f) = refl

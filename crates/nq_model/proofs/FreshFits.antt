@@ -17,7 +17,7 @@ use Rattle.nq_base.specs.declared.Request.{Request}
 use Rattle.nq_base.specs.declared.Request.TheVariants.{Attach, Create, Write, Resize, Remove}
 use Rattle.nq_base.specs.declared.Verdict.{Verdict}
 use Rattle.nq_base.specs.declared.Who.{Who}
-use Rattle.nq_model.specs.Change.{IsNextFree, IsRowOf, FitsFile, HasBlock, Fits, IsFileWithin, AreApart, IsWithinBounds, raised_row, file_of, with_file, with_file_at, no_change, fencing, change_of_heads}
+use Rattle.nq_model.specs.Change.{row_of, row_of_found, heads_of, space_of, IsNextFree, IsRowOf, FitsFile, HasBlock, Fits, IsFileWithin, AreApart, IsWithinBounds, raised_row, file_of, with_file, with_file_at, no_change, fencing, change_of_heads}
 use Rattle.nq_model.specs.Decided.{no_effect, creation, block_write, length_change, removal, effect_of_create, effect_of_push, effect_of_write_in, effect_of_write, effect_of_write_recovering, effect_of_resize, effect_of_remove, effect_of, change_with, fresh_change}
 use Rattle.nq_model.specs.Kept.{File, Kept, blocks_of, blocks_in_all, find_file, find_name, replace_file, resized}
 use Rattle.nq_model.specs.Message.{asker}
@@ -127,7 +127,7 @@ module _ (kept : Kept) (within : IsWithinBounds kept) (who : Who) (few : who.hos
   unfolding change_with no_effect
   keeps-none verdict = record { file = tt; block = tt; host = few; heads = tt; removed = tt }
 
-  keeps-creation : (name : List ℕ) (blocks : ℕ) → 1 ≤ blocks → blocks ≤ most_blocks_of_file → find_name name kept.files ≡ None → length kept.files < most_files → blocks_in_all kept.files + blocks ≤ most_blocks → Keeps (creation kept name blocks)
+  keeps-creation : (name : List ℕ) (blocks : ℕ) → 1 ≤ blocks → blocks ≤ most_blocks_of_file → find_name name kept.files ≡ None → length kept.files < most_files → blocks_in_all kept.files + blocks ≤ most_blocks → Keeps (creation (heads_of kept) name blocks)
   unfolding change_with creation file_of
   keeps-creation name blocks some short none room fits =
       let free : IsNextFree kept = next-free kept within in
@@ -149,7 +149,7 @@ module _ (kept : Kept) (within : IsWithinBounds kept) (who : Who) (few : who.hos
       }
 
   -- the row of a kept file with so many blocks
-  raised-fits : (f : File) (blocks : ℕ) → find_file f.id kept.files ≡ Some f → 1 ≤ blocks → blocks ≤ most_blocks_of_file → blocks_in_all kept.files + blocks ≤ most_blocks + blocks_of f → FitsFile kept None (raised_row f blocks)
+  raised-fits : (f : File) (blocks : ℕ) → find_file f.id kept.files ≡ Some f → 1 ≤ blocks → blocks ≤ most_blocks_of_file → blocks_in_all kept.files + blocks ≤ most_blocks + blocks_of f → FitsFile kept None (raised_row (row_of f) blocks)
   unfolding raised_row file_of
   raised-fits f blocks found some short fits =
       let row : FileRow = record { id = f.id; name = f.name; blocks = blocks; rev = f.rev + 1 } in
@@ -166,10 +166,10 @@ module _ (kept : Kept) (within : IsWithinBounds kept) (who : Who) (few : who.hos
   file-within : (f : File) → find_file f.id kept.files ≡ Some f → IsFileWithin kept.next f
   file-within f found = found-has (IsFileWithin kept.next) f.id kept.files f within.files found
 
-  raised-alike : (f : File) → find_file f.id kept.files ≡ Some f → FitsFile kept None (raised_row f (blocks_of f))
+  raised-alike : (f : File) → find_file f.id kept.files ≡ Some f → FitsFile kept None (raised_row (row_of f) (blocks_of f))
   raised-alike f found = let own = file-within f found in let all = within.few_blocks in raised-fits f (blocks_of f) found own.not_empty own.short (omega arith)
 
-  keeps-write : (f : File) (block : ℕ) (body : List ℕ) → find_file f.id kept.files ≡ Some f → block < blocks_of f → Keeps (block_write f block body)
+  keeps-write : (f : File) (block : ℕ) (body : List ℕ) → find_file f.id kept.files ≡ Some f → block < blocks_of f → Keeps (block_write (row_of f) block body)
   unfolding change_with block_write raised_row file_of
   keeps-write f block body found below =
       let row : FileRow = record { id = f.id; name = f.name; blocks = blocks_of f; rev = f.rev + 1 } in
@@ -184,7 +184,7 @@ module _ (kept : Kept) (within : IsWithinBounds kept) (who : Who) (few : who.hos
         removed = tt;
       }
 
-  keeps-length : (f : File) (blocks : ℕ) → find_file f.id kept.files ≡ Some f → 1 ≤ blocks → blocks ≤ most_blocks_of_file → (blocks_in_all kept.files - blocks_of f) + blocks ≤ most_blocks → Keeps (length_change f blocks)
+  keeps-length : (f : File) (blocks : ℕ) → find_file f.id kept.files ≡ Some f → 1 ≤ blocks → blocks ≤ most_blocks_of_file → (blocks_in_all kept.files - blocks_of f) + blocks ≤ most_blocks → Keeps (length_change (row_of f) blocks)
   unfolding change_with length_change
   keeps-length f blocks found some short fits = record {
     file = raised-fits f blocks found some short (let one = blocks-of-one f kept.files found in omega arith);
@@ -194,7 +194,7 @@ module _ (kept : Kept) (within : IsWithinBounds kept) (who : Who) (few : who.hos
     removed = tt;
   }
 
-  keeps-removal : (f : File) → find_file f.id kept.files ≡ Some f → Keeps (removal f)
+  keeps-removal : (f : File) → find_file f.id kept.files ≡ Some f → Keeps (removal (row_of f))
   unfolding change_with removal
   keeps-removal f found = record {
     file = tt;
@@ -206,7 +206,7 @@ module _ (kept : Kept) (within : IsWithinBounds kept) (who : Who) (few : who.hos
 
   -- ---- each request
 
-  keeps-create : (name : List ℕ) (blocks : ℕ) → Keeps (effect_of_create kept name blocks)
+  keeps-create : (name : List ℕ) (blocks : ℕ) → Keeps (effect_of_create (space_of kept) (heads_of kept) (is_some (find_name name kept.files)) name blocks)
   keeps-create name blocks =
       choice Keeps (blocks == 0 || nat_lt most_blocks_of_file blocks) _ _ (λ bad. keeps-none Verdict.Invalid) (λ good.
       choice Keeps (is_some (find_name name kept.files)) _ _ (λ there. keeps-none Verdict.Exist) (λ free.
@@ -217,22 +217,22 @@ module _ (kept : Kept) (within : IsWithinBounds kept) (who : Who) (few : who.hos
       none-of None e = refl
       none-of (Some f) e = absurd (cc)
 
-  keeps-push : (boot : ℕ) (held : Bool) (f : File) (block : ℕ) (base : PushBase) (body : List ℕ) → find_file f.id kept.files ≡ Some f → block < blocks_of f → Keeps (effect_of_push boot held f block base body)
+  keeps-push : (boot : ℕ) (held : Bool) (f : File) (block : ℕ) (base : PushBase) (body : List ℕ) → find_file f.id kept.files ≡ Some f → block < blocks_of f → Keeps (effect_of_push boot held (row_of f) block base body)
   keeps-push boot held f block base body found below = choice Keeps _ _ _ (λ lets. keeps-write f block body found below) (λ late. keeps-none Verdict.Fenced)
 
-  keeps-write-in : (boot : ℕ) (conflict held : Bool) (f : File) (block : ℕ) (push : Option PushBase) (body : List ℕ) → find_file f.id kept.files ≡ Some f → block < blocks_of f → Keeps (effect_of_write_in boot conflict held f block push body)
+  keeps-write-in : (boot : ℕ) (conflict held : Bool) (f : File) (block : ℕ) (push : Option PushBase) (body : List ℕ) → find_file f.id kept.files ≡ Some f → block < blocks_of f → Keeps (effect_of_write_in boot conflict held (row_of f) block push body)
   keeps-write-in boot conflict held f block None body found below = choice Keeps conflict _ _ (λ c. keeps-none Verdict.TryLater) (λ c. keeps-write f block body found below)
   keeps-write-in boot conflict held f block (Some base) body found below = keeps-push boot held f block base body found below
 
   own-found : (file : ℕ) (f : File) → find_file file kept.files ≡ Some f → find_file f.id kept.files ≡ Some f
   own-found file f found = ap (λ i. find_file i kept.files) (found-id file kept.files f found) ∙ found
 
-  keeps-write-of : (boot : ℕ) (conflict held : Bool) (file block : ℕ) (push : Option PushBase) (body : List ℕ) (o : Option File) → find_file file kept.files ≡ o → Keeps (effect_of_write boot conflict held o block push body)
+  keeps-write-of : (boot : ℕ) (conflict held : Bool) (file block : ℕ) (push : Option PushBase) (body : List ℕ) (o : Option File) → find_file file kept.files ≡ o → Keeps (effect_of_write boot conflict held (row_of_found o) block push body)
   keeps-write-of boot conflict held file block push body None found = keeps-none Verdict.Stale
   keeps-write-of boot conflict held file block push body (Some f) found =
       choice Keeps (nat_le (blocks_of f) block) _ _ (λ past. keeps-none Verdict.Invalid) (λ below. keeps-write-in boot conflict held f block push body (own-found file f found) (grind (arith, nat_tests)))
 
-  keeps-resize : (conflict : Bool) (file blocks : ℕ) (o : Option File) → find_file file kept.files ≡ o → Keeps (effect_of_resize kept conflict o blocks)
+  keeps-resize : (conflict : Bool) (file blocks : ℕ) (o : Option File) → find_file file kept.files ≡ o → Keeps (effect_of_resize (blocks_in_all kept.files) conflict (row_of_found o) blocks)
   keeps-resize conflict file blocks None found = keeps-none Verdict.Stale
   keeps-resize conflict file blocks (Some f) found =
       choice Keeps (blocks == 0 || nat_lt most_blocks_of_file blocks) _ _ (λ bad. keeps-none Verdict.Invalid) (λ good.
@@ -240,11 +240,11 @@ module _ (kept : Kept) (within : IsWithinBounds kept) (who : Who) (few : who.hos
       choice Keeps conflict _ _ (λ c. keeps-none Verdict.TryLater) (λ c.
       keeps-length f blocks (own-found file f found) (grind (arith, nat_tests)) (grind (arith, nat_tests)) (grind (arith, nat_tests)))))
 
-  keeps-remove : (conflict : Bool) (file : ℕ) (o : Option File) → find_file file kept.files ≡ o → Keeps (effect_of_remove conflict o)
+  keeps-remove : (conflict : Bool) (file : ℕ) (o : Option File) → find_file file kept.files ≡ o → Keeps (effect_of_remove conflict (row_of_found o))
   keeps-remove conflict file None found = keeps-none Verdict.Stale
   keeps-remove conflict file (Some f) found = choice Keeps conflict _ _ (λ c. keeps-none Verdict.TryLater) (λ c. keeps-removal f (own-found file f found))
 
-  keeps-write-recovering : (opened file block : ℕ) (push : Option PushBase) (body : List ℕ) → Keeps (effect_of_write_recovering kept opened file block push body)
+  keeps-write-recovering : (opened file block : ℕ) (push : Option PushBase) (body : List ℕ) → Keeps (effect_of_write_recovering opened (row_of_found (find_file file kept.files)) block push body)
   keeps-write-recovering opened file block None body = keeps-none Verdict.TryLater
   keeps-write-recovering opened file block (Some base) body = keeps-write-of opened false true file block (Some base) body (find_file file kept.files) refl
 
@@ -276,7 +276,7 @@ fresh-fits kept gate (Remove w n q file) who within by few = effect-fits kept wi
 fresh-fits kept gate other who within by few = nothing-fits kept
 
 -- a file that is fenced can be kept
-pub fencing-fits : (kept : Kept) (f : File) → IsWithinBounds kept → find_file f.id kept.files ≡ Some f → Fits kept (fencing f)
+pub fencing-fits : (kept : Kept) (f : File) → IsWithinBounds kept → find_file f.id kept.files ≡ Some f → Fits kept (fencing (row_of f))
 unfolding fencing
 fencing-fits kept f within found = record { file = raised-alike kept within (record { host = 0; inc = 0 }) (omega arith) 0 f found; block = tt; host = tt; heads = tt; removed = tt }
 

@@ -12,12 +12,12 @@ use Rattle.nq_model.specs.Kept.{File, Kept, blocks_of, blocks_in_all, find_file,
 use Rattle.nq_model.specs.Profile.{shortest_term, longest_term, most_hosts, most_files, most_blocks, most_blocks_of_file, most_ids}
 
 -- a file without its blocks
-unfoldable pub row_of : File → FileRow
+abbrev pub row_of : File → FileRow
 row_of file = record { id = file.id; name = file.name; blocks = blocks_of file; rev = file.rev }
 
 -- the row of a file whose revision rises, with so many blocks
-unfoldable pub raised_row : File → (blocks : ℕ) → FileRow
-raised_row file blocks = record { id = file.id; name = file.name; blocks = blocks; rev = file.rev + 1 }
+unfoldable pub raised_row : FileRow → (blocks : ℕ) → FileRow
+raised_row row blocks = record row { blocks = blocks; rev = row.rev + 1 }
 
 -- the file with the least id above this one; the files stand in order of their ids
 abbrev pub file_after : (id : ℕ) → List File → Option File
@@ -126,18 +126,18 @@ unfoldable pub opened_heads : Kept → (longest : ℕ) → Heads
 opened_heads kept longest = record { boot = kept.boot; opened = kept.boot; longest = longest; next = kept.next }
 
 -- the change by which a file is fenced: its revision rises, so that no older write is stored any more
-unfoldable pub fencing : File → Change
-fencing file = record {
-  file = Some (raised_row file (blocks_of file));
+unfoldable pub fencing : FileRow → Change
+fencing row = record {
+  file = Some (raised_row row row.blocks);
   block = None;
   host = None;
   heads = None;
   removed = None;
 }
 
-abbrev pub fencing_of : Option File → Option Change
+abbrev pub fencing_of : Option FileRow → Option Change
 fencing_of None = None
-fencing_of (Some file) = Some (fencing file)
+fencing_of (Some row) = Some (fencing row)
 
 -- the next id is raised by one
 abbrev pub RaisesNext : Kept → Option Heads → Type 0

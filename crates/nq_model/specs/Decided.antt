@@ -8,8 +8,10 @@ use Rattle.nq_base.specs.declared.Decided.{Decided}
 use Rattle.nq_base.specs.declared.Decided.TheVariants.{Fresh, Again, Old, OldIncarnation, NotAttached}
 use Rattle.nq_base.specs.declared.Effect.{Effect}
 use Rattle.nq_base.specs.declared.Entry.{Entry}
+use Rattle.nq_base.specs.declared.FileRow.{FileRow}
 use Rattle.nq_base.specs.declared.Gate.{Gate}
 use Rattle.nq_base.specs.declared.Gate.TheVariants.{Recovering, Serving}
+use Rattle.nq_base.specs.declared.Heads.{Heads}
 use Rattle.nq_base.specs.declared.HostRow.{HostRow}
 use Rattle.nq_base.specs.declared.PushBase.{PushBase}
 use Rattle.nq_base.specs.declared.Refusal.{Refusal}
@@ -17,13 +19,14 @@ use Rattle.nq_base.specs.declared.Reply.{Reply as Answer}
 use Rattle.nq_base.specs.declared.Request.{Request}
 use Rattle.nq_base.specs.declared.Request.TheVariants.{Attach, Create, Write, Resize, Remove}
 use Rattle.nq_base.specs.declared.Row.{Row}
+use Rattle.nq_base.specs.declared.Space.{Space}
 use Rattle.nq_base.specs.declared.Verdict.{Verdict}
 use Rattle.nq_base.specs.declared.Verdict.TheVariants.{Done, Fenced, Exist, NoSpace, Invalid, Stale, TryLater}
 use Rattle.nq_base.specs.declared.Who.{Who}
 use Rattle.nq_model.specs.Ask.{conflicts, marked}
-use Rattle.nq_model.specs.Change.{raised_row, applied, no_change}
+use Rattle.nq_model.specs.Change.{raised_row, row_of_found, heads_of, space_of, applied, no_change}
 use Rattle.nq_model.specs.Decide.{in_the_way, verdict_reply}
-use Rattle.nq_model.specs.Kept.{File, Kept, blocks_of, blocks_in_all, find_file, find_name, host_row}
+use Rattle.nq_model.specs.Kept.{Kept, blocks_in_all, find_file, find_name, host_row}
 use Rattle.nq_model.specs.Message.{Packet, reply, old_incarnation}
 use Rattle.nq_model.specs.Profile.{write_slack, most_files, most_blocks, most_blocks_of_file, most_ids, xid_end}
 use Rattle.nq_model.specs.Server.{Phase, serving, recovering, Server, ServerStep, taken, to_host, drops, refuses, replies, notices}
@@ -34,106 +37,107 @@ unfoldable pub no_effect : Verdict → Effect
 no_effect verdict = record { verdict = verdict; value = 0; file = None; block = None; heads = None; removed = None }
 
 -- a file is made: it takes the next id, which then rises
-unfoldable pub creation : Kept → (name : List ℕ) (blocks : ℕ) → Effect
-creation kept name blocks = record {
+unfoldable pub creation : Heads → (name : List ℕ) (blocks : ℕ) → Effect
+creation heads name blocks = record {
   verdict = Done;
-  value = kept.next;
-  file = Some (record { id = kept.next; name = name; blocks = blocks; rev = 0 });
+  value = heads.next;
+  file = Some (record { id = heads.next; name = name; blocks = blocks; rev = 0 });
   block = None;
-  heads = Some (record { boot = kept.boot; opened = kept.opened; longest = kept.longest; next = kept.next + 1 });
+  heads = Some (record heads { next = heads.next + 1 });
   removed = None;
 }
 
 -- a block is written: the file's revision rises, and is kept as the value
-unfoldable pub block_write : File → (block : ℕ) (body : List ℕ) → Effect
-block_write file block body = record {
+unfoldable pub block_write : FileRow → (block : ℕ) (body : List ℕ) → Effect
+block_write row block body = record {
   verdict = Done;
-  value = file.rev + 1;
-  file = Some (raised_row file (blocks_of file));
-  block = Some (record { file = file.id; block = block; body = body });
+  value = row.rev + 1;
+  file = Some (raised_row row row.blocks);
+  block = Some (record { file = row.id; block = block; body = body });
   heads = None;
   removed = None;
 }
 
 -- a file gets another length: its revision rises, and is kept as the value
-unfoldable pub length_change : File → (blocks : ℕ) → Effect
-length_change file blocks = record {
+unfoldable pub length_change : FileRow → (blocks : ℕ) → Effect
+length_change row blocks = record {
   verdict = Done;
-  value = file.rev + 1;
-  file = Some (raised_row file blocks);
+  value = row.rev + 1;
+  file = Some (raised_row row blocks);
   block = None;
   heads = None;
   removed = None;
 }
 
 -- a file is taken away
-unfoldable pub removal : File → Effect
-removal file = record { verdict = Done; value = 0; file = None; block = None; heads = None; removed = Some file.id }
+unfoldable pub removal : FileRow → Effect
+removal row = record { verdict = Done; value = 0; file = None; block = None; heads = None; removed = Some row.id }
 
--- CREATE
-abbrev pub effect_of_create : Kept → (name : List ℕ) (blocks : ℕ) → Effect
-effect_of_create kept name blocks =
+-- CREATE, by how much is kept, the server's numbers, and whether a kept file has the name
+abbrev pub effect_of_create : Space → Heads → (is_there : Bool) (name : List ℕ) (blocks : ℕ) → Effect
+effect_of_create space heads is_there name blocks =
     if blocks == 0 || nat_lt most_blocks_of_file blocks
     then no_effect Invalid
-    else (if is_some (find_name name kept.files)
+    else (if is_there
     then no_effect Exist
-    else (if nat_le most_files (length kept.files) || nat_lt most_blocks (blocks_in_all kept.files + blocks) || nat_le most_ids kept.next
+    else (if nat_le most_files space.files || nat_lt most_blocks (space.blocks + blocks) || nat_le most_ids heads.next
     then no_effect NoSpace
-    else creation kept name blocks))
+    else creation heads name blocks))
 
 -- a push: it is stored where its sender holds a writing lease, and it rests on this boot and on the kept revision
-abbrev pub effect_of_push : (boot : ℕ) (held : Bool) → File → (block : ℕ) → PushBase → (body : List ℕ) → Effect
-effect_of_push boot held file block base body =
-    if held && base.boot == boot && base.base == file.rev then block_write file block body else no_effect Fenced
+abbrev pub effect_of_push : (boot : ℕ) (held : Bool) → FileRow → (block : ℕ) → PushBase → (body : List ℕ) → Effect
+effect_of_push boot held row block base body =
+    if held && base.boot == boot && base.base == row.rev then block_write row block body else no_effect Fenced
 
 -- a WRITE of a block that the file has: one that goes through is put off where another host caches the file
-abbrev pub effect_of_write_in : (boot : ℕ) (conflict held : Bool) → File → (block : ℕ) → Option PushBase → (body : List ℕ) → Effect
-effect_of_write_in boot conflict held file block None body =
-    if conflict then no_effect TryLater else block_write file block body
-effect_of_write_in boot conflict held file block (Some base) body = effect_of_push boot held file block base body
+abbrev pub effect_of_write_in : (boot : ℕ) (conflict held : Bool) → FileRow → (block : ℕ) → Option PushBase → (body : List ℕ) → Effect
+effect_of_write_in boot conflict held row block None body =
+    if conflict then no_effect TryLater else block_write row block body
+effect_of_write_in boot conflict held row block (Some base) body = effect_of_push boot held row block base body
 
 -- a WRITE, by the file if it is kept
-abbrev pub effect_of_write : (boot : ℕ) (conflict held : Bool) → Option File → (block : ℕ) → Option PushBase → (body : List ℕ) → Effect
+abbrev pub effect_of_write : (boot : ℕ) (conflict held : Bool) → Option FileRow → (block : ℕ) → Option PushBase → (body : List ℕ) → Effect
 effect_of_write boot conflict held None block push body = no_effect Stale
-effect_of_write boot conflict held (Some file) block push body =
-    if nat_le (blocks_of file) block
+effect_of_write boot conflict held (Some row) block push body =
+    if nat_le row.blocks block
     then no_effect Invalid
-    else effect_of_write_in boot conflict held file block push body
+    else effect_of_write_in boot conflict held row block push body
 
 -- a WRITE while the server recovers: one that goes through is put off, and a push has to rest on the boot that served last
-abbrev pub effect_of_write_recovering : Kept → (opened file block : ℕ) → Option PushBase → (body : List ℕ) → Effect
-effect_of_write_recovering kept opened file block None body = no_effect TryLater
-effect_of_write_recovering kept opened file block (Some base) body =
-    effect_of_write opened false true (find_file file kept.files) block (Some base) body
+abbrev pub effect_of_write_recovering : (opened : ℕ) → Option FileRow → (block : ℕ) → Option PushBase → (body : List ℕ) → Effect
+effect_of_write_recovering opened row block None body = no_effect TryLater
+effect_of_write_recovering opened row block (Some base) body =
+    effect_of_write opened false true row block (Some base) body
 
--- RESIZE, by the file if it is kept
-abbrev pub effect_of_resize : Kept → (conflict : Bool) → Option File → (blocks : ℕ) → Effect
-effect_of_resize kept conflict None blocks = no_effect Stale
-effect_of_resize kept conflict (Some file) blocks =
+-- RESIZE, by how many blocks are kept and by the file if it is kept
+abbrev pub effect_of_resize : (in_all : ℕ) (conflict : Bool) → Option FileRow → (blocks : ℕ) → Effect
+effect_of_resize in_all conflict None blocks = no_effect Stale
+effect_of_resize in_all conflict (Some row) blocks =
     if blocks == 0 || nat_lt most_blocks_of_file blocks
     then no_effect Invalid
-    else (if nat_lt most_blocks ((blocks_in_all kept.files - blocks_of file) + blocks)
+    else (if nat_lt most_blocks ((in_all - row.blocks) + blocks)
     then no_effect NoSpace
-    else (if conflict then no_effect TryLater else length_change file blocks))
+    else (if conflict then no_effect TryLater else length_change row blocks))
 
 -- REMOVE, by the file if it is kept
-abbrev pub effect_of_remove : (conflict : Bool) → Option File → Effect
+abbrev pub effect_of_remove : (conflict : Bool) → Option FileRow → Effect
 effect_of_remove conflict None = no_effect Stale
-effect_of_remove conflict (Some file) = if conflict then no_effect TryLater else removal file
+effect_of_remove conflict (Some row) = if conflict then no_effect TryLater else removal row
 
 -- what a fresh request comes to
 abbrev pub effect_of : Kept → Gate → Request → Effect
 effect_of kept gate (Attach who) = no_effect Done
-effect_of kept (Serving boot conflict held) (Create who seq name blocks) = effect_of_create kept name blocks
+effect_of kept (Serving boot conflict held) (Create who seq name blocks) =
+    effect_of_create (space_of kept) (heads_of kept) (is_some (find_name name kept.files)) name blocks
 effect_of kept (Serving boot conflict held) (Write who seq file block first last push body) =
-    effect_of_write boot conflict held (find_file file kept.files) block push body
+    effect_of_write boot conflict held (row_of_found (find_file file kept.files)) block push body
 effect_of kept (Serving boot conflict held) (Resize who seq q file blocks) =
-    effect_of_resize kept conflict (find_file file kept.files) blocks
+    effect_of_resize (blocks_in_all kept.files) conflict (row_of_found (find_file file kept.files)) blocks
 effect_of kept (Serving boot conflict held) (Remove who seq q file) =
-    effect_of_remove conflict (find_file file kept.files)
+    effect_of_remove conflict (row_of_found (find_file file kept.files))
 effect_of kept (Serving boot conflict held) other = no_effect TryLater
 effect_of kept (Recovering opened) (Write who seq file block first last push body) =
-    effect_of_write_recovering kept opened file block push body
+    effect_of_write_recovering opened (row_of_found (find_file file kept.files)) block push body
 effect_of kept (Recovering opened) other = no_effect TryLater
 
 -- whether a request is decided once
@@ -294,9 +298,9 @@ put_off_aside s who file = record {
 }
 
 -- the kept length of a file, 0 where it is not kept
-abbrev pub kept_length : Option File → ℕ
+abbrev pub kept_length : Option FileRow → ℕ
 kept_length None = 0
-kept_length (Some file) = blocks_of file
+kept_length (Some row) = row.blocks
 
 -- a push was stored under this row, which was heard now
 abbrev pub stored_aside : Server → Option Row → Entry → Aside
@@ -316,12 +320,12 @@ done_aside s phase who (Attach w) = rows_aside s (drop_host who.host s.table.row
 done_aside s serving who (Write w seq file block first last push body) =
     written_aside s who file block first last push body
 done_aside s serving who (Resize w seq q file blocks) =
-    entry_aside s (Entry.Z who q file (kept_length (find_file file s.kept.files)) blocks)
+    entry_aside s (Entry.Z who q file (kept_length (row_of_found (find_file file s.kept.files))) blocks)
 done_aside s serving who (Remove w seq q file) =
     rows_aside
     s
     (drop_rows_of file s.table.rows)
-    (Entry.Z who q file (kept_length (find_file file s.kept.files)) 0 ∷ [])
+    (Entry.Z who q file (kept_length (row_of_found (find_file file s.kept.files))) 0 ∷ [])
 done_aside s serving who other = nothing_aside s
 done_aside s (recovering until heard last) who (Write w seq file block first final push body) =
     heard_aside s until last (Entry.S who file block first final s.now)
