@@ -21,7 +21,7 @@ use Rattle.nq_base.specs.declared.Who.{Who}
 use Rattle.nq_model.specs.Ask.{ask_past, conflicts, marked, put_off, free}
 use Rattle.nq_model.specs.Change.{row_of, row_of_found, heads_of, space_of, IsNextFree, kept_as, applied}
 use Rattle.nq_model.specs.Decide.{Decision, decides, creates, writes_through, stores, wrote, stores_recovering, resizes, removes, to_change, puts_off, unless_asked, lets_push, decide_create, decide_push, decide_write_in, decide_write, decide_push_recovering, decide_write_recovering, decide_resize, decide_remove, decide_in, decide, verdict_reply, commits}
-use Rattle.nq_model.specs.Decided.{no_effect, creation, block_write, length_change, removal, effect_of_create, effect_of_push, effect_of_write_in, effect_of_write, effect_of_write_recovering, effect_of_resize, effect_of_remove, effect_of, decided, is_decided_once, change_with, changed_file, is_held_writing, gate_in, gate_of, Aside, nothing_aside, entry_aside, rows_aside, heard_aside, put_off_aside, stored_aside, kept_length, aside_in, answer_of, fresh_step, decided_step}
+use Rattle.nq_model.specs.Decided.{no_effect, creation, block_write, length_change, removal, effect_of_create, effect_of_push, effect_of_write_in, effect_of_write, effect_of_write_recovering, effect_of_resize, effect_of_remove, effect_of, or_fresh, decided, is_decided_once, change_with, changed_file, is_held_writing, gate_in, gate_of, Aside, nothing_aside, entry_aside, rows_aside, heard_aside, put_off_aside, stored_aside, kept_length, aside_in, answer_of, fresh_step, decided_step}
 use Rattle.nq_model.specs.Kept.{File, Kept, blocks_of, blocks_in_all, find_file, find_name, replace_file, drop_file, written_file, resized_file, with_row, with_files, with_new_file, host_row}
 use Rattle.nq_model.specs.Message.{reply, request, asker, old_incarnation, wrong_host}
 use Rattle.nq_model.specs.Profile.{most_hosts}
@@ -220,12 +220,12 @@ remove-by s (recovering until heard known) who w seq n xid q file = declines s (
 -- ---- by the kept row of the host
 
 -- the four tests of incarnation and sequence choose alike
-tests-alike : (s : Server) (who : Who) (seq xid : ℕ) (r : Request) (line : HostRow) (fresh : ServerStep) (verdict : Verdict) (value : ℕ) (late early same below : Bool) → answer_of who.inc line.verdict line.value r ≡ verdict_reply who.inc line.verdict line.value r → fresh ≡ decided_step s who xid r (Fresh verdict value) → (if late then drops s old_incarnation else (if early then refuses s who xid Refusal.NotAttached else (if same then replies s who.host xid (verdict_reply who.inc line.verdict line.value r) else (if below then refuses s who xid Refusal.Old else fresh)))) ≡ decided_step s who xid r (if late then OldIncarnation else (if early then NotAttached else (if same then Again line.verdict line.value else (if below then Old else Fresh verdict value))))
-tests-alike s who seq xid r line fresh verdict value true early same below plain f = refl
-tests-alike s who seq xid r line fresh verdict value false true same below plain f = refl
-tests-alike s who seq xid r line fresh verdict value false false true below plain f = ap (replies s who.host xid) (sym plain)
-tests-alike s who seq xid r line fresh verdict value false false false true plain f = refl
-tests-alike s who seq xid r line fresh verdict value false false false false plain f = f
+tests-alike : (s : Server) (who : Who) (seq xid : ℕ) (r : Request) (line : HostRow) (fresh : ServerStep) (effect : Effect) (late early same below : Bool) → answer_of who.inc line.verdict line.value r ≡ verdict_reply who.inc line.verdict line.value r → fresh ≡ decided_step s who xid r (Fresh effect.verdict effect.value) → (if late then drops s old_incarnation else (if early then refuses s who xid Refusal.NotAttached else (if same then replies s who.host xid (verdict_reply who.inc line.verdict line.value r) else (if below then refuses s who xid Refusal.Old else fresh)))) ≡ decided_step s who xid r (or_fresh (if late then Some OldIncarnation else (if early then Some NotAttached else (if same then Some (Again line.verdict line.value) else (if below then Some Old else None)))) effect)
+tests-alike s who seq xid r line fresh effect true early same below plain f = refl
+tests-alike s who seq xid r line fresh effect false true same below plain f = refl
+tests-alike s who seq xid r line fresh effect false false true below plain f = ap (replies s who.host xid) (sym plain)
+tests-alike s who seq xid r line fresh effect false false false true plain f = refl
+tests-alike s who seq xid r line fresh effect false false false false plain f = f
 
 attaches-fresh : (s : Server) (who : Who) (xid : ℕ) → attaches s who xid ≡ decided_step s who xid (Attach who) (Fresh Verdict.Done 0)
 unfolding attaches keeping_with rows_aside no_effect fresh_step change_with kept_as with_row
@@ -242,19 +242,19 @@ AdmitsDecided s who xid next r = admit s who xid next r (host_row s.kept who.hos
 
 admits-create : (s : Server) (who : Who) (xid next seq : ℕ) (name : List ℕ) (blocks : ℕ) → IsNextFree s.kept → AdmitsDecided s who xid next (Create who seq name blocks)
 admits-create s who xid next seq name blocks free =
-    tests-alike s who seq xid (Create who seq name blocks) (host_row s.kept who.host) (commits who seq xid (Create who seq name blocks) (decide s who (Create who seq name blocks))) _ _ _ _ _ _ refl (create-by s s.phase who who seq seq xid name blocks free)
+    tests-alike s who seq xid (Create who seq name blocks) (host_row s.kept who.host) (commits who seq xid (Create who seq name blocks) (decide s who (Create who seq name blocks))) _ _ _ _ _ refl (create-by s s.phase who who seq seq xid name blocks free)
 
 admits-write : (s : Server) (who : Who) (xid next seq file block first last : ℕ) (push : Option PushBase) (body : List ℕ) → AdmitsDecided s who xid next (Write who seq file block first last push body)
 admits-write s who xid next seq file block first last push body =
-    tests-alike s who seq xid (Write who seq file block first last push body) (host_row s.kept who.host) (commits who seq xid (Write who seq file block first last push body) (decide s who (Write who seq file block first last push body))) _ _ _ _ _ _ refl (write-by s s.phase who who seq seq xid file block first last push body)
+    tests-alike s who seq xid (Write who seq file block first last push body) (host_row s.kept who.host) (commits who seq xid (Write who seq file block first last push body) (decide s who (Write who seq file block first last push body))) _ _ _ _ _ refl (write-by s s.phase who who seq seq xid file block first last push body)
 
 admits-resize : (s : Server) (who : Who) (xid next seq q file blocks : ℕ) → AdmitsDecided s who xid next (Resize who seq q file blocks)
 admits-resize s who xid next seq q file blocks =
-    tests-alike s who seq xid (Resize who seq q file blocks) (host_row s.kept who.host) (commits who seq xid (Resize who seq q file blocks) (decide s who (Resize who seq q file blocks))) _ _ _ _ _ _ refl (resize-by s s.phase who who seq seq xid q file blocks)
+    tests-alike s who seq xid (Resize who seq q file blocks) (host_row s.kept who.host) (commits who seq xid (Resize who seq q file blocks) (decide s who (Resize who seq q file blocks))) _ _ _ _ _ refl (resize-by s s.phase who who seq seq xid q file blocks)
 
 admits-remove : (s : Server) (who : Who) (xid next seq q file : ℕ) → AdmitsDecided s who xid next (Remove who seq q file)
 admits-remove s who xid next seq q file =
-    tests-alike s who seq xid (Remove who seq q file) (host_row s.kept who.host) (commits who seq xid (Remove who seq q file) (decide s who (Remove who seq q file))) _ _ _ _ _ _ refl (remove-by s s.phase who who seq seq xid q file)
+    tests-alike s who seq xid (Remove who seq q file) (host_row s.kept who.host) (commits who seq xid (Remove who seq q file) (decide s who (Remove who seq q file))) _ _ _ _ _ refl (remove-by s s.phase who who seq seq xid q file)
 
 -- a request of a host that is decided once is answered as it is decided
 pub admits-decided : (s : Server) (who : Who) (xid next : ℕ) (r : Request) → asker r ≡ Some who → is_decided_once r ≡ true → IsNextFree s.kept → AdmitsDecided s who xid next r

@@ -156,16 +156,23 @@ attach_decided who line =
     then Fresh Done 0
     else (if nat_lt who.inc line.inc then OldIncarnation else Again line.verdict line.value)
 
--- how a request of this sequence is decided, by the kept row of its host
-abbrev pub sequence_decided : Who → (seq : ℕ) → HostRow → Effect → Decided
-sequence_decided who seq line effect =
+-- what is said of a request of this sequence that is not fresh, by the kept row of its host
+abbrev pub decided_before : Who → (seq : ℕ) → HostRow → Option Decided
+decided_before who seq line =
     if nat_lt who.inc line.inc
-    then OldIncarnation
+    then Some OldIncarnation
     else (if nat_lt line.inc who.inc
-    then NotAttached
-    else (if seq == line.seq
-    then Again line.verdict line.value
-    else (if nat_lt seq line.seq then Old else Fresh effect.verdict effect.value)))
+    then Some NotAttached
+    else (if seq == line.seq then Some (Again line.verdict line.value) else (if nat_lt seq line.seq then Some Old else None)))
+
+-- a request of which nothing is said is fresh
+abbrev pub or_fresh : Option Decided → Effect → Decided
+or_fresh (Some decision) effect = decision
+or_fresh None effect = Fresh effect.verdict effect.value
+
+-- how a request of this sequence is decided
+abbrev pub sequence_decided : Who → (seq : ℕ) → HostRow → Effect → Decided
+sequence_decided who seq line effect = or_fresh (decided_before who seq line) effect
 
 -- how a request is decided; the others are not decided once, and say nothing here
 abbrev pub decided : Kept → Gate → Request → Decided
