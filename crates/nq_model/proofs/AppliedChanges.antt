@@ -9,7 +9,7 @@ use Rattle.nq_model.specs.Change.{IsNextFree, raised_row, row_of, row_of_found, 
 use Rattle.nq_model.specs.Decided.{no_effect, creation, block_write, length_change, removal, change_with}
 use Rattle.nq_model.specs.Kept.{File, Kept, blocks_of, find_file, replace_file, drop_file, new_file, written_file, resized_file, fenced_file, with_row, with_files, with_new_file}
 use Rattle.nq_model.specs.ServerStep.{fence, booted}
-use Rattle.nq_model.proofs.Files.{found-id, find-replaced, replaced-twice, resized-same, resized-none}
+use Rattle.nq_model.proofs.Files.{found-id, replaced-found, replaced-twice, resized-same, resized-none}
 
 -- the row of a host that an effect leaves
 abbrev pub row_with : Who → (seq : ℕ) → Effect → HostRow
@@ -43,7 +43,7 @@ written-id file block body = refl
 
 with-body-in : (file : File) (block : ℕ) (body : List ℕ) (files : List File) → find_file file.id files ≡ Some file → with_block (record { file = file.id; block = block; body = body }) (replace_file (fenced_file file) files) ≡ replace_file (written_file file block body) files
 with-body-in file block body files found =
-    ap (with_block_in (record { file = file.id; block = block; body = body }) (replace_file (fenced_file file) files)) (find-replaced file.id files (fenced_file file) file (fenced-id file) found)
+    ap (with_block_in (record { file = file.id; block = block; body = body }) (replace_file (fenced_file file) files)) (replaced-found file.id files (fenced_file file) file (fenced-id file) found)
     ∙ ap (λ f. replace_file f (replace_file (fenced_file file) files)) (written-by file block body)
     ∙ replaced-twice (written_file file block body) (fenced_file file) files (written-id file block body ∙ sym (fenced-id file))
 

@@ -25,10 +25,10 @@ found-at-head id x file files false true e f same rest = absurd (cc)
 found-at-head id x file files false false e f same rest = rw e (rest refl)
 
 -- after a file was replaced the new one is found
-pub find-replaced : (id : ℕ) (files : List File) (file f : File) → file.id ≡ id → find_file id files ≡ Some f → find_file id (replace_file file files) ≡ Some file
-find-replaced id [] file f same found = absurd (cc)
-find-replaced id (x ∷ files) file f same found =
-    found-at-head id x file (replace_file file files) (x.id == id) (x.id == file.id) refl (ap (λ i. x.id == i) same) same (λ other. find-replaced id files file f same (later other))
+pub replaced-found : (id : ℕ) (files : List File) (file f : File) → file.id ≡ id → find_file id files ≡ Some f → find_file id (replace_file file files) ≡ Some file
+replaced-found id [] file f same found = absurd (cc)
+replaced-found id (x ∷ files) file f same found =
+    found-at-head id x file (replace_file file files) (x.id == id) (x.id == file.id) refl (ap (λ i. x.id == i) same) same (λ other. replaced-found id files file f same (later other))
   where
     later : (x.id == id) ≡ false → find_file id files ≡ Some f
     later other = by (x.id == id) other found

@@ -23,7 +23,7 @@ use Rattle.nq_model.specs.Kept.{File, Kept, blocks_of, blocks_in_all, find_file,
 use Rattle.nq_model.specs.Message.{asker}
 use Rattle.nq_model.specs.Profile.{most_hosts, most_files, most_blocks, most_blocks_of_file, most_ids}
 use Rattle.nq_model.proofs.Finding.{choice, number-same}
-use Rattle.nq_model.proofs.Files.{found-id, find-replaced}
+use Rattle.nq_model.proofs.Files.{found-id, replaced-found}
 
 found-has-first : (P : File → Type 0) (f file : File) (rest : Option File) (b : Bool) → P f → (rest ≡ Some file → P file) → (if b then Some f else rest) ≡ Some file → P file
 found-has-first P f file rest true own later h = let same : f ≡ file = cc in subst P same own
@@ -175,7 +175,7 @@ module _ (kept : Kept) (within : IsWithinBounds kept) (who : Who) (few : who.hos
       let row : FileRow = record { id = f.id; name = f.name; blocks = blocks_of f; rev = f.rev + 1 } in
       let file : File = record { id = f.id; name = f.name; rev = f.rev + 1; bodies = resized (blocks_of f) f.bodies } in
       let after : with_file row kept.files ≡ replace_file file kept.files = ap (with_file_at row kept.files) found in
-      let there : find_file f.id (with_file row kept.files) ≡ Some file = ap (find_file f.id) after ∙ find-replaced f.id kept.files file f refl found in
+      let there : find_file f.id (with_file row kept.files) ≡ Some file = ap (find_file f.id) after ∙ replaced-found f.id kept.files file f refl found in
       record {
         file = raised-alike f found;
         block = subst (HasBlock block) (sym there) (omega (arith, resized-length (blocks_of f) f.bodies));
