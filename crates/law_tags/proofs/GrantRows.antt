@@ -75,7 +75,7 @@ Backs t = AllBacked t.server t.sends
 
 error-backed : (t : Server) (sender : ℕ) (d : Datagram) (m : Message) → error_for d ≡ Some m → IsBacked t (to_host sender m)
 error-backed t sender too_long m e = none-some m e
-error-backed t sender no_message m e = none-some m e
+error-backed t sender (no_message fault) m e = none-some m e
 error-backed t sender no_call m e = none-some m e
 error-backed t sender (other_rpc xid) m e = subst (λ z. IsBacked t (to_host sender z)) (some-same _ m e) (error-none t sender xid RpcError.rpc_mismatch)
 error-backed t sender (other_program xid) m e = subst (λ z. IsBacked t (to_host sender z)) (some-same _ m e) (error-none t sender xid RpcError.program_unavailable)

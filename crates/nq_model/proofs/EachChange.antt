@@ -163,7 +163,7 @@ module _ (s : Server) (within : IsWithinBounds s.kept) where
 
   receives-once : (sender next : ℕ) (d : Datagram) → Once (receive s sender next d)
   receives-once sender next too_long = dropped-once _
-  receives-once sender next no_message = dropped-once _
+  receives-once sender next (no_message fault) = dropped-once _
   receives-once sender next no_call = dropped-once _
   receives-once sender next (other_rpc xid) = said-once sender _
   receives-once sender next (other_program xid) = said-once sender _

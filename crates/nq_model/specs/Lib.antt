@@ -18,6 +18,7 @@ pub mod ClientStep
 pub mod World
 pub mod Skew
 pub mod SkewBroken
+pub mod Stepped
 pub mod Lines
 pub mod CachedAtOnce
 pub mod LeaseInterval

@@ -35,12 +35,13 @@ pub record Packet : Type 0 where
   pub to : Party
   pub message : Message
 
--- what a server makes of a datagram. The classes are tried in this order: too long, no message of RPC, a reply,
--- a call of another version of RPC, of another program, of another version of the program, of no procedure that is
--- served, with arguments outside their grammar (of VACATED, or of another procedure), and a request
+-- what a server makes of a datagram. The classes are tried in this order: too long, no message of RPC (with the number
+-- of its fault), a reply, a call of another version of RPC, of another program, of another version of the program,
+-- of no procedure that is served, with arguments outside their grammar (of VACATED, or of another procedure), and a
+-- request
 pub data Datagram : Type 0 where
   too_long : Datagram
-  no_message : Datagram
+  no_message : (fault : ℕ) → Datagram
   no_call : Datagram
   other_rpc : (xid : ℕ) → Datagram
   other_program : (xid : ℕ) → Datagram
@@ -53,7 +54,7 @@ pub data Datagram : Type 0 where
 -- why a datagram is dropped
 pub data Reason : Type 0 where
   was_too_long : Reason
-  was_no_message : Reason
+  was_no_message : (fault : ℕ) → Reason
   was_no_call : Reason
   wrong_host : Reason
   old_incarnation : Reason

@@ -218,7 +218,7 @@ answer_request s sender xid next r (Some who) =
 -- a datagram from a host; the number is that of the packet that is sent next
 abbrev pub receive : Server → (sender next : ℕ) → Datagram → ServerStep
 receive s sender next too_long = drops s was_too_long
-receive s sender next no_message = drops s was_no_message
+receive s sender next (no_message fault) = drops s (was_no_message fault)
 receive s sender next no_call = drops s was_no_call
 receive s sender next (other_rpc xid) = says s sender (error xid rpc_mismatch)
 receive s sender next (other_program xid) = says s sender (error xid program_unavailable)

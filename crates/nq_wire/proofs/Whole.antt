@@ -1,17 +1,18 @@
 -- All of the bytes: what is spelled so is read.
-use Rattle.std.proofs.Common.{◌≡◌, ℕ, ◌≤◌, ◌==◌, suc, false, cond, List, [], ◌∷◌, ◌++◌, length, Result, Ok, Err, refl, sym, ap, subst, ◌∙◌, arith}
+use Rattle.std.proofs.Common.{◌≡◌, ℕ, ◌≤◌, ◌==◌, suc, false, cond, List, [], ◌∷◌, ◌++◌, length, Result, Ok, Err, Option, Some, None, refl, sym, ap, subst, ◌∙◌, arith}
 use Rattle.std.proofs.lemmas.Bool.Decides.{nat_tests}
 use Rattle.std.proofs.lemmas.List.{append-nil}
 use Rattle.nq_base.specs.declared.Reply.{Reply}
 use Rattle.nq_base.specs.declared.Request.{Request}
 use Rattle.nq_wire.specs.declared.fault.Garbage.{Garbage}
+use Rattle.nq_wire.specs.declared.fault.WireFault.TheVariants as fault
 use Rattle.nq_wire.specs.Garbage.{garbage}
 use Rattle.nq_wire.specs.declared.procedure.Procedure.{Procedure}
 use Rattle.nq_wire.specs.declared.procedure.Procedure.TheVariants.{Null, Attach, Lookup, Create, GetAttr, Read, Write, GetLease, Vacated, Evicted, Resize, Remove}
-use Rattle.nq_wire.specs.Procedure.{number_of}
+use Rattle.nq_wire.specs.Procedure.{number_of, numbered}
 use Rattle.nq_wire.specs.Request.{arguments, procedure_of, IsArguments}
 use Rattle.nq_wire.specs.Reply.{results, Answers, IsResults}
-use Rattle.nq_wire.specs.Reading.{whole, request_at, reply_at}
+use Rattle.nq_wire.specs.Reading.{whole, wired, request_at, request_by, request_in, reply_at, reply_by, reply_in}
 use Rattle.nq_wire.proofs.RequestsAgain.{request_again}
 use Rattle.nq_wire.proofs.RepliesAgain.{reply_again}
 
@@ -110,3 +111,41 @@ pub one_reply : (p : Procedure) (n : ℕ) (r s : Reply) (bytes start : List ℕ)
 one_reply p n r s bytes start number same was is =
     let P : ℕ → Type 0 = λ n. IsResults n r bytes in
     let read : whole (reply_at p start) ≡ Ok r = rw same (reply_whole p r bytes (subst P (sym number) is)) in cc
+
+-- ---- what is read by a procedure's number
+
+pub request_is : (p : Procedure) (number : ℕ) (bytes start : List ℕ) (read : Result Request Garbage)
+    → numbered number ≡ Some p → start ≡ bytes → whole (request_at p start) ≡ read → request_in number bytes ≡ wired read
+unfolding request_in
+request_is p number bytes start read named same was =
+    ap (λ o. request_by o bytes) named ∙ ap (λ bs. wired (whole (request_at p bs))) (sym same) ∙ ap wired was
+
+pub request_none : (number : ℕ) (bytes : List ℕ) → numbered number ≡ None → request_in number bytes ≡ Err fault.NoSuchProc
+unfolding request_in
+request_none number bytes named = ap (λ o. request_by o bytes) named
+
+pub reply_is : (p : Procedure) (number : ℕ) (bytes start : List ℕ) (read : Result Reply Garbage)
+    → numbered number ≡ Some p → start ≡ bytes → whole (reply_at p start) ≡ read → reply_in number bytes ≡ wired read
+unfolding reply_in
+reply_is p number bytes start read named same was =
+    ap (λ o. reply_by o bytes) named ∙ ap (λ bs. wired (whole (reply_at p bs))) (sym same) ∙ ap wired was
+
+pub reply_none : (number : ℕ) (bytes : List ℕ) → numbered number ≡ None → reply_in number bytes ≡ Err fault.NoSuchProc
+unfolding reply_in
+reply_none number bytes named = ap (λ o. reply_by o bytes) named
+
+-- a procedure has its number
+pub numbered-number_of : (p : Procedure) → numbered (number_of p) ≡ Some p
+unfolding numbered
+numbered-number_of Null = refl
+numbered-number_of Attach = refl
+numbered-number_of Lookup = refl
+numbered-number_of Create = refl
+numbered-number_of GetAttr = refl
+numbered-number_of Read = refl
+numbered-number_of Write = refl
+numbered-number_of GetLease = refl
+numbered-number_of Vacated = refl
+numbered-number_of Evicted = refl
+numbered-number_of Resize = refl
+numbered-number_of Remove = refl

@@ -1,5 +1,5 @@
 -- The procedures of the program, and their numbers.
-use Rattle.std.specs.Prelude.{ℕ}
+use Rattle.std.specs.Prelude.{ℕ, ◌==◌, Option, Some, None, if◌then◌else◌}
 use Rattle.nq_wire.specs.declared.procedure.Procedure.{Procedure}
 use Rattle.nq_wire.specs.declared.procedure.Procedure.TheVariants.{Null, Attach, Lookup, Create, GetAttr, Read, Write, GetLease, Vacated, Evicted, Resize, Remove}
 
@@ -17,3 +17,19 @@ number_of Vacated = 8
 number_of Evicted = 9
 number_of Resize = 10
 number_of Remove = 11
+
+-- the procedure of a number
+unfoldable pub numbered : ℕ → Option Procedure
+numbered n =
+    if n == 0 then Some Null else (
+    if n == 1 then Some Attach else (
+    if n == 2 then Some Lookup else (
+    if n == 3 then Some Create else (
+    if n == 4 then Some GetAttr else (
+    if n == 5 then Some Read else (
+    if n == 6 then Some Write else (
+    if n == 7 then Some GetLease else (
+    if n == 8 then Some Vacated else (
+    if n == 9 then Some Evicted else (
+    if n == 10 then Some Resize else (
+    if n == 11 then Some Remove else None)))))))))))

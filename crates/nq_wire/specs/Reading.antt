@@ -17,7 +17,10 @@ use Rattle.nq_base.specs.declared.Who.{Who}
 use Rattle.nq_xdr.specs.declared.XdrFault.{XdrFault}
 use Rattle.nq_xdr.specs.Reading.{◌>>=◌, word_at, hyper_at, boolean_at, opaque_at}
 use Rattle.nq_wire.specs.declared.fault.Garbage.{Garbage}
+use Rattle.nq_wire.specs.declared.fault.WireFault.{WireFault}
+use Rattle.nq_wire.specs.declared.fault.WireFault.TheVariants as fault
 use Rattle.nq_wire.specs.Garbage.{garbage}
+use Rattle.nq_wire.specs.Procedure.{numbered}
 use Rattle.nq_wire.specs.declared.procedure.Procedure.{Procedure}
 use Rattle.nq_wire.specs.declared.procedure.Procedure.TheVariants as procedure
 
@@ -323,3 +326,28 @@ reply_at p bytes = answer_at p bytes
 abbrev pub whole : {A : Type 0} → Result (A × List ℕ) Garbage → Result A Garbage
 whole (Ok x) = if length x.1 == 0 then Ok x.0 else Err garbage
 whole (Err e) = Err e
+
+-- ---- by the number of a procedure
+
+-- what is not in the grammar, as a fault
+abbrev pub wired : {A : Type 0} → Result A Garbage → Result A WireFault
+wired (Ok x) = Ok x
+wired (Err e) = Err fault.Garbage
+
+-- the request of these arguments, where there is such a procedure
+abbrev pub request_by : Option Procedure → List ℕ → Result Request WireFault
+request_by None bytes = Err fault.NoSuchProc
+request_by (Some p) bytes = wired (whole (request_at p bytes))
+
+-- the request whose arguments are all of the bytes
+unfoldable pub request_in : (procedure : ℕ) → List ℕ → Result Request WireFault
+request_in procedure bytes = request_by (numbered procedure) bytes
+
+-- the reply of these results, where there is such a procedure
+abbrev pub reply_by : Option Procedure → List ℕ → Result Reply WireFault
+reply_by None bytes = Err fault.NoSuchProc
+reply_by (Some p) bytes = wired (whole (reply_at p bytes))
+
+-- the reply whose results are all of the bytes
+unfoldable pub reply_in : (procedure : ℕ) → List ℕ → Result Reply WireFault
+reply_in procedure bytes = reply_by (numbered procedure) bytes

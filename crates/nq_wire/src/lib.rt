@@ -16,8 +16,8 @@ mod requests;
 mod status;
 
 pub use fault::WireFault;
-pub use nq_memory::NoMemory;
 pub use nq_base::{Party, PushBase, Refusal, Reply, Request};
+pub use nq_memory::NoMemory;
 pub use outbox::Outbox;
 pub use procedure::Procedure;
 pub use replies::{LONGEST_RESULTS, decode_reply, encode_reply, encode_reply_into};

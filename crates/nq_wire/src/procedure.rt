@@ -1,7 +1,7 @@
 //! The procedures and their numbers.
 
 ghost use Rattle.std.specs.Prelude.{◌≡◌, ◌<◌, ◌↔◌, IsNone, IfSome};
-ghost use Rattle.nq_wire.specs.Procedure.{number_of};
+ghost use Rattle.nq_wire.specs.Procedure.{number_of, numbered};
 ghost use Rattle.nq_wire.specs.Request.{procedure_of};
 
 use crate::Request;
@@ -57,7 +57,9 @@ impl Procedure {
     }
 
     /// The procedure of a number; None exactly where the number is above 11.
+    #[tactic(auto, unfolding(crate::specs::Procedure::numbered))]
     pub fn from_number(number: u32) -> Option<Procedure>
+        ensures is { result ≡ numbered number }
         ensures none { IsNone result ↔ (11 < number) }
         ensures some { IfSome result (λ p. number_of p ≡ number) }
     {

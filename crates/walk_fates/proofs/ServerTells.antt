@@ -148,7 +148,7 @@ error-none sender d m e host x a (inl i) = let t : m ≡ reply x a = (told-same 
   where
     no : (d : Datagram) → error_for d ≡ Some (reply x a) → ⊥
     no too_long e = cc
-    no no_message e = cc
+    no (no_message fault) e = cc
     no no_call e = cc
     no (other_rpc xid) e = cc
     no (other_program xid) e = cc

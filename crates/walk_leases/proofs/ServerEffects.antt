@@ -211,7 +211,7 @@ module _ (ps : List Packet) (s : Server) (most sender next : ℕ) (d : Datagram)
 
   pub error-new : (dd : Datagram) (n : Message) → error_for dd ≡ Some n → IsNew ps s s (to_host sender n)
   error-new too_long n e = none-some n e
-  error-new no_message n e = none-some n e
+  error-new (no_message fault) n e = none-some n e
   error-new no_call n e = none-some n e
   error-new (other_rpc x) n e = new_error sender x RpcError.rpc_mismatch (ap (to_host sender) (sym (some-same _ n e)))
   error-new (other_program x) n e = new_error sender x RpcError.program_unavailable (ap (to_host sender) (sym (some-same _ n e)))

@@ -125,7 +125,7 @@ plain-grant s who r a (is_old seq same sq below e) = ap grant_in e
 
 error-said : (ps : List Packet) (sender : ℕ) (d : Datagram) (m : Message) → error_for d ≡ Some m → IsSaid ps (to_host sender m)
 error-said ps sender too_long m e = none-some m e
-error-said ps sender no_message m e = none-some m e
+error-said ps sender (no_message fault) m e = none-some m e
 error-said ps sender no_call m e = none-some m e
 error-said ps sender (other_rpc xid) m e = said_error sender xid RpcError.rpc_mismatch (ap (to_host sender) (sym (some-same _ m e)))
 error-said ps sender (other_program xid) m e = said_error sender xid RpcError.program_unavailable (ap (to_host sender) (sym (some-same _ m e)))

@@ -461,7 +461,7 @@ request-sent (error x e) xid r h = cc
 -- what the server makes of a datagram
 pub server-hears : (s : Server) (sender next : ℕ) (d : Datagram) (Q : ServerStep → Type 0) → ServerCases s sender next d Q → Q (receive s sender next d)
 server-hears s sender next too_long Q cases = cases.dropping was_too_long
-server-hears s sender next no_message Q cases = cases.dropping was_no_message
+server-hears s sender next (no_message fault) Q cases = cases.dropping (was_no_message fault)
 server-hears s sender next no_call Q cases = cases.dropping was_no_call
 server-hears s sender next (other_rpc xid) Q cases = cases.erring _ refl
 server-hears s sender next (other_program xid) Q cases = cases.erring _ refl

@@ -27,7 +27,7 @@ use Rattle.walk_server.proofs.AskCases.{clash_in, own_in, has_room, with_marked,
 -- the error that a datagram which is no request is answered with
 abbrev pub error_for : Datagram → Option Message
 error_for too_long = None
-error_for no_message = None
+error_for (no_message fault) = None
 error_for no_call = None
 error_for (other_rpc xid) = Some (error xid rpc_mismatch)
 error_for (other_program xid) = Some (error xid program_unavailable)

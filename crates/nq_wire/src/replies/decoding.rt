@@ -4,7 +4,7 @@ ghost use Rattle.std.specs.Prelude.{◌≡◌, ◌≢◌, ◌<◌, ◌≤◌, �
 ghost use Rattle.nq_base.specs.declared.Reply.{Reply};
 ghost use Rattle.nq_xdr.specs.Reading.{Gives};
 ghost use Rattle.nq_wire.specs.Reply.{results, IsRefusable, IsResults, ReadsReply, ReadsResults};
-ghost use Rattle.nq_wire.specs.Reading.{found_at, created_at, attributes_at, block_at, written_at, lease_at, resized_at, results_at, answer_at, reply_at};
+ghost use Rattle.nq_wire.specs.Reading.{found_at, created_at, attributes_at, block_at, written_at, lease_at, resized_at, results_at, answer_at, reply_at, reply_in};
 
 use crate::fault::Garbage;
 use crate::parts::decoding::{body, end, optional_grant};
@@ -160,6 +160,9 @@ pub fn decode_reply(_alloc: Global, procedure: u32, bytes: &[u8]) -> Result<Repl
     ensures garbage { (result ≡ Err WireFault.Garbage)
         ↔ ((procedure ≤ 11) × ((r : Reply) → IsResults procedure r bytes.now → ⊥)) }
     ensures memory { result ≢ Err WireFault.Memory }
+
+    // All of it, as reading from the left.
+    ensures step { result ≡ reply_in procedure bytes.now }
 {
     let Some(called) = Procedure::from_number(procedure) else {
         return Err(WireFault::NoSuchProc);

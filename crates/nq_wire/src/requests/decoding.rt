@@ -6,7 +6,7 @@ ghost use Rattle.nq_xdr.specs.Reading.{Gives};
 ghost use Rattle.nq_xdr.specs.Item.{hyper};
 ghost use Rattle.nq_wire.specs.Parts.{optional, base_bytes, IsPushBase};
 ghost use Rattle.nq_wire.specs.Request.{arguments, IsOneWrite, IsArguments, ReadsRequest};
-ghost use Rattle.nq_wire.specs.Reading.{attach_at, lookup_at, create_at, get_attr_at, read_at, span_at, write_at, get_lease_at, vacated_at, evicted_at, resize_at, remove_at, request_at};
+ghost use Rattle.nq_wire.specs.Reading.{attach_at, lookup_at, create_at, get_attr_at, read_at, span_at, write_at, get_lease_at, vacated_at, evicted_at, resize_at, remove_at, request_at, request_in};
 
 use crate::fault::Garbage;
 use crate::parts::decoding::{body, end, name, optional_push, optional_want, tag, want, who};
@@ -241,6 +241,9 @@ pub fn decode_request(_alloc: Global, procedure: u32, bytes: &[u8]) -> Result<Re
     ensures garbage { (result ≡ Err WireFault.Garbage)
         ↔ ((procedure ≤ 11) × ((r : Request) → IsArguments procedure r bytes.now → ⊥)) }
     ensures memory { result ≢ Err WireFault.Memory }
+
+    // All of it, as reading from the left.
+    ensures step { result ≡ request_in procedure bytes.now }
 {
     let Some(called) = Procedure::from_number(procedure) else {
         return Err(WireFault::NoSuchProc);

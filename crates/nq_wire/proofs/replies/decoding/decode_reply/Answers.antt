@@ -1,11 +1,11 @@
-use Rattle.std.proofs.Common.{◌++◌, ap, refl, sym, ◌∙◌, Ok}
+use Rattle.std.proofs.Common.{◌++◌, ap, refl, sym, ◌∙◌, Ok, Err}
 use Rattle.std.proofs.lemmas.Result.{err_from_is_err_and}
 use Rattle.std.proofs.lemmas.Bool.{false≢true}
 use Rattle.std.proofs.lemmas.List.{append-nil}
 use Rattle.nq_wire.specs.Garbage.{garbage}
 use Rattle.nq_wire.specs.Reading.{reply_at}
 use Rattle.nq_wire.specs.Reply.{results}
-use Rattle.nq_wire.proofs.Whole.{failed, left_over, ended, number_fits, no_reply, one_reply}
+use Rattle.nq_wire.proofs.Whole.{failed, left_over, ended, number_fits, no_reply, one_reply, reply_is, reply_none}
 use Rattle.nq_wire.proofs.replies.decoding.decode_reply.Goals as goal
 
 -- the bytes begin with none
@@ -69,3 +69,26 @@ returns-clause-garbage c =
                 sym c.new-reader.ensures ∙ found.2 ∙ ap (λ rest. spelling ++ rest) (c.in_ok-end.ensures.0 refl) ∙ append-nil spelling;
           })),
     )
+
+-- all of it, as reading from the left
+pub returns-in_default-clause-step : goal.returns-in_default-clause-step
+returns-in_default-clause-step c = sym (reply_none c.args.procedure c.args.bytes.now (sym c.from_number.ensures.is ∙ c.in_default.is))
+
+pub returns-in_err-reply-clause-step : goal.returns-in_err-reply-clause-step
+returns-in_err-reply-clause-step c =
+    let p = err_from_is_err_and c.from_residual.result c.from_residual.ensures.1 in
+    let was = failed (reply_at c.in-Some.called c.new-reader.result) c.in_err-reply.field-0.0 c.in_err-reply.ensures.step in
+    let is = reply_is c.in-Some.called c.args.procedure c.args.bytes.now c.new-reader.result (Err c.in_err-reply.field-0.0) (sym c.in-Some.ensures.is) c.new-reader.ensures was in
+    rw (p.1, p.2) (sym is)
+
+pub returns-in_err-end-clause-step : goal.returns-in_err-end-clause-step
+returns-in_err-end-clause-step c =
+    let p = err_from_is_err_and c.from_residual-in_err-end.result c.from_residual-in_err-end.ensures.1 in
+    let was = left_over (reply_at c.in-Some.called c.new-reader.result) c.in_ok-reply.reply c.reply.new.reader c.in_ok-reply.ensures.step (λ none. false≢true (c.in_err-end.ensures.1 none)) in
+    let is = reply_is c.in-Some.called c.args.procedure c.args.bytes.now c.new-reader.result (Err garbage) (sym c.in-Some.ensures.is) c.new-reader.ensures was in
+    rw (p.1, p.2) (sym is)
+
+pub returns-clause-step : goal.returns-clause-step
+returns-clause-step c =
+    let was = ended (reply_at c.in-Some.called c.new-reader.result) c.in_ok-reply.reply c.reply.new.reader c.in_ok-reply.ensures.step (c.in_ok-end.ensures.0 refl) in
+    sym (reply_is c.in-Some.called c.args.procedure c.args.bytes.now c.new-reader.result (Ok c.in_ok-reply.reply) (sym c.in-Some.ensures.is) c.new-reader.ensures was)

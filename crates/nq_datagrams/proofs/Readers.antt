@@ -1,0 +1,108 @@
+-- What the server and a client make of the bytes of a message.
+use Rattle.std.proofs.Common.{◌≡◌, ℕ, ◌<◌, ◌≤◌, Bool, true, false, List, length, Ok, refl, sym, ap, ◌∙◌, arith}
+use Rattle.std.specs.Prelude.{Option, Some, None, ◌==◌, ◌&&◌, if◌then◌else◌}
+use Rattle.std.proofs.lemmas.Bool.{eqb-true, le-ltb, lt-ltb}
+use Rattle.nq_base.specs.declared.Reply.{Reply}
+use Rattle.nq_base.specs.declared.Request.{Request}
+use Rattle.nq_base.specs.declared.Request.TheVariants.{Null, Attach, Lookup, Create, GetAttr, Read, Write, GetLease, Vacated, Evicted, Resize, Remove}
+use Rattle.nq_model.specs.Client.{Client, Ticket, begun}
+use Rattle.nq_model.specs.Hear.{hear, hear_reply, hear_call, inc_of, reply_counts, goes_on, replied}
+use Rattle.nq_model.specs.Message.{Message, call, reply, error, RpcError, rpc_mismatch, program_unavailable, program_mismatch, procedure_unavailable, garbage_arguments, too_long, datagram_of}
+use Rattle.nq_rpc.specs.declared.Outcome.TheVariants as outcome
+use Rattle.nq_rpc.specs.Reading.{message_at}
+use Rattle.nq_wire.specs.Procedure.{number_of}
+use Rattle.nq_wire.specs.Reading.{reply_in}
+use Rattle.nq_wire.specs.Reply.{results, IsReply, Answers}
+use Rattle.nq_wire.specs.Request.{procedure_of, IsRequest, HasSpelling}
+use Rattle.nq_datagrams.specs.Incoming.{longest_datagram, asked_as, called_as, read_as, datagram_in, notice_in, call_in, answer_in, reply_to, heard_as, heard_in, hears}
+use Rattle.nq_datagrams.specs.Laws.{IsOfTicket, ServerReadsMessages, ClientReadsMessages}
+use Rattle.nq_datagrams.specs.Messages.{call_message, error_outcome, message_of, FitsMessage, bytes_of}
+use Rattle.nq_datagrams.proofs.Written.{message-again, length-bytes_of, request-again, reply-again}
+
+-- ---- the server
+
+pub short-datagram : (bytes : List ℕ) → length bytes ≤ longest_datagram → datagram_in bytes ≡ read_as (message_at bytes)
+unfolding datagram_in
+short-datagram bytes short = ap (λ test. if test then too_long else read_as (message_at bytes)) (le-ltb longest_datagram (length bytes) short)
+
+pub long-datagram : (bytes : List ℕ) → longest_datagram < length bytes → datagram_in bytes ≡ too_long
+unfolding datagram_in
+long-datagram bytes long = ap (λ test. if test then too_long else read_as (message_at bytes)) (lt-ltb longest_datagram (length bytes) long)
+
+called-again : (xid : ℕ) (r : Request) → IsRequest r → HasSpelling r → read_as (Ok (call_message xid r)) ≡ datagram_of (call xid r)
+unfolding called_as
+called-again xid Null fits has = ap (asked_as xid 0) (request-again Null fits has)
+called-again xid (Attach who) fits has = ap (asked_as xid 1) (request-again (Attach who) fits has)
+called-again xid (Lookup who name) fits has = ap (asked_as xid 2) (request-again (Lookup who name) fits has)
+called-again xid (Create who seq name blocks) fits has = ap (asked_as xid 3) (request-again (Create who seq name blocks) fits has)
+called-again xid (GetAttr who file) fits has = ap (asked_as xid 4) (request-again (GetAttr who file) fits has)
+called-again xid (Read who q file block want) fits has = ap (asked_as xid 5) (request-again (Read who q file block want) fits has)
+called-again xid (Write who seq file block first last push body) fits has =
+    ap (asked_as xid 6) (request-again (Write who seq file block first last push body) fits has)
+called-again xid (GetLease who file want) fits has = ap (asked_as xid 7) (request-again (GetLease who file want) fits has)
+called-again xid (Vacated who file tag) fits has = ap (asked_as xid 8) (request-again (Vacated who file tag) fits has)
+called-again xid (Evicted who file tag) fits has = refl
+called-again xid (Resize who seq q file blocks) fits has = ap (asked_as xid 10) (request-again (Resize who seq q file blocks) fits has)
+called-again xid (Remove who seq q file) fits has = ap (asked_as xid 11) (request-again (Remove who seq q file) fits has)
+
+read-again : (m : Message) → FitsMessage m → read_as (Ok (message_of m)) ≡ datagram_of m
+read-again (call xid r) fits = called-again xid r fits.1 fits.2
+read-again (reply xid r) fits = refl
+read-again (error xid e) fits = refl
+
+pub server-reads-messages : ServerReadsMessages
+server-reads-messages m fits =
+    short-datagram (bytes_of m) (omega (arith, length-bytes_of m fits))
+    ∙ ap read_as (message-again m fits)
+    ∙ read-again m fits
+
+-- ---- a client
+
+heard-call : (c : Client) (number xid : ℕ) (r : Request) → IsRequest r → HasSpelling r → hears c number (heard_as c.ticket (Ok (call_message xid r))) ≡ hear_call c r
+unfolding call_in
+heard-call c number xid Null fits has = refl
+heard-call c number xid (Attach who) fits has = refl
+heard-call c number xid (Lookup who name) fits has = refl
+heard-call c number xid (Create who seq name blocks) fits has = refl
+heard-call c number xid (GetAttr who file) fits has = refl
+heard-call c number xid (Read who q file block want) fits has = refl
+heard-call c number xid (Write who seq file block first last push body) fits has = refl
+heard-call c number xid (GetLease who file want) fits has = refl
+heard-call c number xid (Vacated who file tag) fits has = refl
+heard-call c number xid (Evicted who file tag) fits has = ap (λ read. hears c number (notice_in xid read)) (request-again (Evicted who file tag) fits has)
+heard-call c number xid (Resize who seq q file blocks) fits has = refl
+heard-call c number xid (Remove who seq q file) fits has = refl
+
+heard-error : (c : Client) (number xid : ℕ) (o : Option Ticket) (e : RpcError) → hears c number (reply_to o xid (error_outcome e)) ≡ None
+unfolding reply_to
+heard-error c number xid None e = refl
+heard-error c number xid (Some t) rpc_mismatch = refl
+heard-error c number xid (Some t) program_unavailable = refl
+heard-error c number xid (Some t) program_mismatch = refl
+heard-error c number xid (Some t) procedure_unavailable = refl
+heard-error c number xid (Some t) garbage_arguments = refl
+
+-- a reply to another request is ignored, as is one where no request is under way
+heard-at : (c : Client) (number xid : ℕ) (a : Reply) (t : Ticket) (test : Bool) → c.ticket ≡ Some t → (xid == t.xid) ≡ test → (xid ≡ t.xid → Answers a (procedure_of t.request)) → IsReply a
+    → hears c number (if test then answer_in xid (reply_in (number_of (procedure_of t.request)) (results a)) else None) ≡ hear_reply c number xid a (Some t)
+heard-at c number xid a t true has e answers fits =
+    ap (λ read. hears c number (answer_in xid read)) (reply-again (procedure_of t.request) a (answers (eqb-true xid t.xid e)) fits)
+    ∙ ap (hear_reply c number xid a) has
+heard-at c number xid a t false has e answers fits =
+    sym (ap (λ test. if test && inc_of a == c.who.inc && reply_counts a t then Some (goes_on (replied (begun c) number t a)) else None) e)
+
+heard-reply : (c : Client) (number xid : ℕ) (a : Reply) (o : Option Ticket) → c.ticket ≡ o → IsOfTicket o (reply xid a) → IsReply a
+    → hears c number (reply_to o xid (outcome.Success (results a))) ≡ hear_reply c number xid a o
+unfolding reply_to
+heard-reply c number xid a None has own fits = refl
+heard-reply c number xid a (Some t) has own fits = heard-at c number xid a t (xid == t.xid) has refl own fits
+
+heard-again : (c : Client) (number : ℕ) (m : Message) → FitsMessage m → IsOfTicket c.ticket m → hears c number (heard_as c.ticket (Ok (message_of m))) ≡ hear c number m
+heard-again c number (call xid r) fits own = heard-call c number xid r fits.1 fits.2
+heard-again c number (reply xid r) fits own = heard-reply c number xid r c.ticket refl own fits.1
+heard-again c number (error xid e) fits own = heard-error c number xid c.ticket e
+
+pub client-reads-messages : ClientReadsMessages
+unfolding heard_in
+client-reads-messages c number m fits own =
+    ap (λ read. hears c number (heard_as c.ticket read)) (message-again m fits) ∙ heard-again c number m fits own

@@ -1,0 +1,3 @@
+pub mod Messages
+pub mod Incoming
+pub mod Laws
