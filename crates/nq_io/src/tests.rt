@@ -3,7 +3,7 @@
 use super::*;
 use std::alloc::Global;
 use std::io;
-use std::io::{ErrorKind, Read};
+use std::io::{ErrorKind, Read, Write};
 use std::test::Fail;
 
 #[test]
@@ -76,6 +76,59 @@ fn a_std_writer_is_a_sink(rt: HostRuntime) -> Result<(), Fail> {
     drop(sink);
     assert_eq!(rt; room, *b"abc");
     Ok(())
+}
+
+// Takes bytes, but for its first write or its first flush, as it is told.
+#[derive(Drop)]
+struct Stumbling {
+    writes_to_fail: u32,
+    flushes_to_fail: u32,
+    held: [u8; 4],
+    len: usize,
+}
+
+impl Write for Stumbling {
+    fn write(&mut self, buf: &[u8]) -> io::Result<usize> {
+        if self.writes_to_fail > 0 {
+            self.writes_to_fail -= 1;
+            return Err(ErrorKind::Interrupted.into());
+        }
+        let Some(byte) = buf.first() else {
+            return Ok(0);
+        };
+        if self.len >= 4 {
+            return Ok(0);
+        }
+        self.held[self.len] = *byte;
+        self.len += 1;
+        Ok(1)
+    }
+
+    fn flush(&mut self) -> io::Result<()> {
+        if self.flushes_to_fail > 0 {
+            self.flushes_to_fail -= 1;
+            return Err(ErrorKind::Other.into());
+        }
+        Ok(())
+    }
+}
+
+#[test]
+fn a_std_writer_that_fails_once_fails_one_put(rt: HostRuntime) {
+    for (writes_to_fail, flushes_to_fail, held) in [(1, 0, *b"cd--"), (0, 1, *b"abcd")] {
+        let mut writer = Stumbling {
+            writes_to_fail,
+            flushes_to_fail,
+            held: *b"----",
+            len: 0,
+        };
+        let mut sink = StdSink::new(&mut writer);
+        assert_eq!(rt; sink.put(b"ab"), Put::Failed);
+        assert_eq!(rt; sink.put(b"cd"), Put::All);
+        drop(sink);
+        assert_eq!(rt; writer.held, held);
+        assert_eq!(rt; writer.flushes_to_fail, 0);
+    }
 }
 
 // What comes of reading these bytes to their end: a word, and how many there are.

@@ -26,9 +26,10 @@ impl Model for Journal {
 }
 
 impl Journal {
-    /// The empty journal.
+    /// The empty journal. It takes no memory.
     pub fn new(alloc: Global) -> Result<Journal, NoMemory>
-        ensures { IfOk result (λ j. j.entries ≡ []) }
+        ensures made { IsOk result }
+        ensures empty { IfOk result (λ j. j.entries ≡ []) }
     {
         Ok(Journal {
             entries: Vec::new(alloc),
@@ -37,13 +38,14 @@ impl Journal {
 
     /// Makes room for `more` entries.
     pub fn reserve(&mut self, more: usize) -> Result<(), NoMemory>
-        ensures room { OnOk result (more ≤ self.new.spare) }
         ensures entries { self.new.entries ≡ self.old.entries }
+        ensures room { OnOk result (more ≤ self.new.spare) }
+        ensures refused { OnErr result (self.new ≡ self.old) }
+        ensures succeeds { more ≤ self.old.spare → IsOk result }
+        ensures spare { self.old.spare ≤ self.new.spare }
     {
-        match self.entries.try_reserve(more) {
-            Ok(()) => Ok(()),
-            Err(_) => Err(NoMemory::Memory),
-        }
+        self.entries.reserve(more)?;
+        Ok(())
     }
 
     /// Adds an entry at the end, without memory where room is reserved.
@@ -53,10 +55,8 @@ impl Journal {
         ensures succeeds { 1 ≤ self.old.spare → IsOk result }
         ensures spare { self.old.spare ≤ self.new.spare + 1 }
     {
-        match self.entries.push(entry) {
-            Ok(()) => Ok(()),
-            Err(_) => Err(NoMemory::Memory),
-        }
+        self.entries.push(entry)?;
+        Ok(())
     }
 
     /// How many entries there are.

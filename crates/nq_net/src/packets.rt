@@ -65,6 +65,7 @@ impl<'a> Packet<'a> {
         ensures ok { OnOk result (out.new.items ≡ out.old.items ++ self.now.bytes) }
         ensures err { OnErr result (out.new.items ≡ out.old.items) }
         ensures succeeds { vec_len out.old + length self.now.bytes ≤ vec_capacity out.old → IsOk result }
+        ensures room { vec_capacity out.old ≤ vec_capacity out.new }
     {
         out.reserve(self.len())?;
         out.extend_from_slice(self.front).unwrap();

@@ -10,6 +10,14 @@ use Rattle.nq_rpc.specs.declared.message.Outcome.{Outcome}
 use Rattle.nq_rpc.specs.declared.message.Message.{Message}
 use Rattle.nq_rpc.specs.Message.{Auth, IsAuth, auth, numbers, outcome, IsCall, IsOutcome, IsError, IsSpelled}
 
+-- the number of a fault
+abbrev pub fault_number : RpcFault → ℕ
+fault_number Short = 1
+fault_number BadKind = 2
+fault_number BadAuth = 3
+fault_number Xdr = 4
+fault_number Memory = 5
+
 -- what comes next in a message
 pub data Next : Type 0 where
   -- so many numbers, of any value

@@ -27,6 +27,18 @@ pub enum RpcFault {
     Memory,
 }
 
+impl RpcFault {
+    ghost use Rattle.std.specs.Prelude.{◌≡◌};
+    ghost use Rattle.nq_rpc.specs.Fault.{fault_number};
+
+    /// Its number.
+    pub fn number(self) -> u8
+        ensures { result ≡ fault_number self }
+    {
+        self as u8
+    }
+}
+
 impl From<XdrFault> for RpcFault {
     ghost use Rattle.std.specs.Prelude.{◌≡◌};
     ghost use Rattle.nq_rpc.specs.Reading.{fault_of};

@@ -59,6 +59,18 @@ fn results_of(outcome: Outcome) -> Result<Vec<u8>, &'static str> {
 }
 
 #[test]
+fn bytes_keep_their_room(rt: HostRuntime) -> Result<(), Fail> {
+    let mut room = Vec::with_capacity(rt.alloc(), 64)?;
+    room.push(7)?;
+    let capacity = room.capacity();
+    let bytes = Bytes::new(room);
+    assert_eq!(rt; bytes.as_bytes(), [7].as_slice());
+    assert_eq!(rt; bytes.into_vec().capacity(), capacity);
+    assert_eq!(rt; RpcFault::Xdr.number(), 4);
+    Ok(())
+}
+
+#[test]
 fn messages_are_read_in_place(rt: HostRuntime) -> Result<(), Fail> {
     let bytes = bytes_of(rt.alloc(), &LOOKUP)?;
     let arguments = match decode_in_place(&bytes)? {

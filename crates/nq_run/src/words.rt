@@ -1,6 +1,6 @@
 //! The words that say what to run.
 
-ghost use Rattle.std.specs.Prelude.{◌≡◌, ◌↔◌, ◌++◌, ◌∷◌, [], IfOk, OnOk, OnErr, IsTrue};
+ghost use Rattle.std.specs.Prelude.{◌≡◌, ◌↔◌, ◌++◌, ◌∷◌, [], IsOk, IfOk, OnOk, OnErr, IsTrue};
 ghost use Rattle.nq_run.specs.Replay.{IsReplay};
 
 use nq_base::NoMemory;
@@ -23,9 +23,10 @@ impl Model for Words {
 }
 
 impl Words {
-    /// No words.
+    /// No words. It takes no memory.
     pub fn new(alloc: Global) -> Result<Words, NoMemory>
-        ensures { IfOk result (λ words. words ≡ []) }
+        ensures made { IsOk result }
+        ensures empty { IfOk result (λ words. words ≡ []) }
     {
         Ok(Words {
             alloc,

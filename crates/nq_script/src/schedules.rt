@@ -1,6 +1,6 @@
 //! Schedules: lists of events.
 
-ghost use Rattle.std.specs.Prelude.{◌≡◌, ◌≤◌, ◌↔◌, ◌++◌, ◌∷◌, [], length, slice_get, IfOk, IfSome, IsNone, IsTrue, OnErr, OnOk};
+ghost use Rattle.std.specs.Prelude.{◌≡◌, ◌≤◌, ◌↔◌, ◌++◌, ◌∷◌, [], length, slice_get, IsOk, IfOk, IfSome, IsNone, IsTrue, OnErr, OnOk};
 
 use nq_base::{Event, NoMemory};
 use std::alloc::Global;
@@ -22,9 +22,10 @@ impl Model for Schedule {
 }
 
 impl Schedule {
-    /// The empty schedule.
+    /// The empty schedule. It takes no memory.
     pub fn new(alloc: Global) -> Result<Schedule, NoMemory>
-        ensures { IfOk result (λ s. s ≡ []) }
+        ensures made { IsOk result }
+        ensures empty { IfOk result (λ s. s ≡ []) }
     {
         Ok(Schedule {
             events: Vec::new(alloc),

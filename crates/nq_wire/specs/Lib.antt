@@ -1,3 +1,4 @@
+pub mod Fault
 pub mod Garbage
 pub mod Procedure
 pub mod Status

@@ -21,6 +21,18 @@ pub enum WireFault {
     Memory,
 }
 
+impl WireFault {
+    ghost use Rattle.std.specs.Prelude.{◌≡◌};
+    ghost use Rattle.nq_wire.specs.Fault.{fault_number};
+
+    /// Its number.
+    pub fn number(self) -> u8
+        ensures { result ≡ fault_number self }
+    {
+        self as u8
+    }
+}
+
 /// The bytes are not in the grammar.
 #[derive(Clone, Copy, Debug, PartialEq, Eq)]
 pub(crate) struct Garbage;

@@ -441,6 +441,7 @@ fn hostile_results_are_garbage(rt: HostRuntime) -> Result<(), Fail> {
         );
     }
     assert!(rt; matches!(decode_reply(alloc, 12, &[]), Err(WireFault::NoSuchProc)));
+    assert_eq!(rt; WireFault::Garbage.number(), 2);
     Ok(())
 }
 

@@ -139,9 +139,10 @@ impl Writer {
         &self.bytes
     }
 
-    /// The bytes that were written.
+    /// The bytes that were written, with the room that is left behind them.
     pub fn into_bytes(self) -> Vec<u8>
-        ensures { result.items ≡ self.bytes }
+        ensures bytes { result.items ≡ self.bytes }
+        ensures spare { vec_capacity result - vec_len result ≡ self.spare }
     {
         let Writer { bytes } = self;
         bytes
