@@ -2,10 +2,9 @@
 use Rattle.std.proofs.Common.{◌≡◌, true, List, [], ◌∷◌, ◌++◌, refl, arith}
 use Rattle.std.specs.List.{list_any}
 use Rattle.std.specs.Prelude.{All}
-use Rattle.nq_base.specs.Block.{zeros}
-use Rattle.nq_base.specs.declared.Call.{Call}
 use Rattle.nq_base.specs.declared.Event.{Event}
 use Rattle.nq_promises.specs.EndingsComeLate.{was_caching}
+use Rattle.law_endings.proofs.SomeLost.{delayed, rounds}
 use Rattle.law_endings.specs.EndingsMet.{is_silent_end, is_opening, EndsSometime}
 use Rattle.walk_run.proofs.NoCrash.{one-first, no-crash-within, no-crash-after}
 use Rattle.nq_promises.specs.Bounds.{BootsWithin}
@@ -27,28 +26,6 @@ use Rattle.nq_model.specs.Table.{empty_table, with_rows, after_draw}
 -- one host that wants terms of five ticks, and one file of one block
 abbrev one-host : Head
 one-host = record { hosts = 1; term = 5; longest = 5; files = (97 ∷ [], 1) ∷ [] }
-
--- a lease is asked for and granted, and the write is delayed; the newest event first
-delayed : List Event
-delayed = Event.Deliver 1 ∷ Event.Deliver 0 ∷ Event.Call 0 (Call.Write 1 0 zeros) ∷ []
-
--- thirteen rounds, the newest event first
-rounds : List Event
-rounds =
-    Event.ServerTick ∷ Event.ClientTick 0
-    ∷ Event.ServerTick ∷ Event.ClientTick 0
-    ∷ Event.ServerTick ∷ Event.ClientTick 0
-    ∷ Event.ServerTick ∷ Event.ClientTick 0
-    ∷ Event.ServerTick ∷ Event.ClientTick 0
-    ∷ Event.ServerTick ∷ Event.ClientTick 0
-    ∷ Event.ServerTick ∷ Event.ClientTick 0
-    ∷ Event.ServerTick ∷ Event.ClientTick 0
-    ∷ Event.ServerTick ∷ Event.ClientTick 0
-    ∷ Event.ServerTick ∷ Event.ClientTick 0
-    ∷ Event.ServerTick ∷ Event.ClientTick 0
-    ∷ Event.ServerTick ∷ Event.ClientTick 0
-    ∷ Event.ServerTick ∷ Event.ClientTick 0
-    ∷ []
 
 -- the lease ends in silence
 silent : List Event

@@ -16,6 +16,8 @@ use Rattle.nq_model.specs.World.{after_server, after_client, start, Head, run}
 use Rattle.nq_base.specs.declared.Call.{Call}
 use Rattle.nq_base.specs.declared.Event.{Event}
 use Rattle.nq_model.proofs.SkewTest.{skew-test-is-sound}
+use Rattle.nq_model.specs.Skew.{IsWithinSkew}
+use Rattle.nq_promises.specs.Bounds.{KeepsBounds}
 use Rattle.law_held.specs.Met.{HeldAreMet, has_held}
 
 -- one host, one file of one block
@@ -33,12 +35,18 @@ all-there : has_held (run one-host some-events) ≡ true
 unfolding filled zeros grant_of sharing_row caching_row shared_again renewed_row put_off free put_off_by_own granted no_lease begins_call is_called says_busy at_time sends_again fresh_client attached_client starts decides creates writes_through stores wrote stores_recovering resizes removes puts_off commits vacates_lease loses without_lease granted_lease holds caches_block purges knows_revision marks_through ends_push spends attached pauses cancels notes_notice new_file written_file resized_file fenced_file with_row with_files with_new_file sends_request after_seq after_number takes_push gives_up quiet drops says after_notices keeping keeping_with with_table attaches tells_later serves leases vacates ends_writing opens at_time_of_serverstep boot crash answers after_read reads_cached after_write marks_written empty_table with_rows after_draw after_server after_client start
 all-there = refl
 
+pub bounds : KeepsBounds 60 one-host some-events
+bounds = record { hosts = omega arith; first_long = omega arith; first_short = omega arith; boots = no-crash-within 60 some-events refl }
+
+pub within : IsWithinSkew 1 60 some-events
+within = skew-test-is-sound 1 60 some-events refl
+
 pub held-are-met : HeldAreMet
 held-are-met = record {
   most = 60;
   head = one-host;
   events = some-events;
-  bounds = record { hosts = omega arith; first_long = omega arith; first_short = omega arith; boots = no-crash-within 60 some-events refl };
-  within = skew-test-is-sound 1 60 some-events refl;
+  bounds = bounds;
+  within = within;
   met = all-there;
 }

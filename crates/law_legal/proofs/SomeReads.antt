@@ -1,8 +1,7 @@
 -- A client reads its own delayed write, stores it, gives its lease up, and reads it from the server.
-use Rattle.std.proofs.Common.{◌≡◌, true, refl, arith}
+use Rattle.std.proofs.Common.{◌≡◌, true, refl}
 use Rattle.nq_base.specs.Block.{filled, zeros}
-use Rattle.law_held.proofs.SomeHeld.{one-host, some-events}
-use Rattle.walk_run.proofs.NoCrash.{no-crash-within}
+use Rattle.law_held.proofs.SomeHeld.{one-host, some-events, bounds, within}
 use Rattle.nq_model.specs.Ask.{grant_of, sharing_row, caching_row, shared_again, renewed_row, put_off, free, put_off_by_own, granted, no_lease}
 use Rattle.nq_model.specs.ClientStep.{begins_call, is_called, says_busy, at_time, sends_again, fresh_client, attached_client, starts}
 use Rattle.nq_model.specs.Decide.{decides, creates, writes_through, stores, wrote, stores_recovering, resizes, removes, puts_off, commits}
@@ -14,7 +13,6 @@ use Rattle.nq_model.specs.ServerStep.{attaches, tells_later, serves, leases, vac
 use Rattle.nq_model.specs.Settle.{answers, after_read, reads_cached, after_write, marks_written}
 use Rattle.nq_model.specs.Table.{empty_table, with_rows, after_draw}
 use Rattle.nq_model.specs.World.{after_server, after_client, start, run}
-use Rattle.nq_model.proofs.SkewTest.{skew-test-is-sound}
 use Rattle.law_legal.specs.Met.{ReadsAreMet, has_reads}
 
 all-there : has_reads (run one-host some-events).journal ≡ true
@@ -26,7 +24,7 @@ reads-are-met = record {
   most = 60;
   head = one-host;
   events = some-events;
-  bounds = record { hosts = omega arith; first_long = omega arith; first_short = omega arith; boots = no-crash-within 60 some-events refl };
-  within = skew-test-is-sound 1 60 some-events refl;
+  bounds = bounds;
+  within = within;
   met = all-there;
 }

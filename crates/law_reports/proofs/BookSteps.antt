@@ -15,7 +15,7 @@ use Rattle.nq_base.specs.declared.Value.{Value}
 use Rattle.walk_client.proofs.ClientFacts.{fits_job}
 use Rattle.walk_client.proofs.PartCases.{answers-call-cases, if-broken-cases, takes-optional-cases, lease-done-cases, then-caches-cases, caches-write-cases, caches-push-cases, vacates-if-clean-cases}
 use Rattle.walk_client.proofs.RepliedCases.{IsNamed, looked_up, created, attributes, replied-cases}
-use Rattle.walk_client.proofs.SendCases.{pushed, send-cases}
+use Rattle.walk_client.proofs.SendCases.{send-moves, pushed}
 use Rattle.walk_client.proofs.SettleCases.{settle-cases}
 use Rattle.walk_client.proofs.StepCases.{call-cases, unless-cached-cases, tick-cases, evicted-cases, heard-cases}
 use Rattle.law_reports.proofs.Books.{Book, book_of, book_at, unsaved_on, after_loss, after_names, after_report, tells_losses, Closed}
@@ -95,21 +95,13 @@ module _ {P : Book → Type 0} (closed : Closed P) (j : List Entry) where
   given-up t file k = k
 
   send-next-keeps : (in_tick : Bool) (t : ClientStep) → K t → K (send_next in_tick t)
-  send-next-keeps in_tick t k = send-cases in_tick t K (record {
-    stays_asking = λ ticket is. k;
-    stays = λ free nothing. k;
-    pushing = λ file p free first same. pushed-one t file p first k;
-    creating = λ u name blocks free is. decided t _ _ k;
-    looking_up = λ u name free is. requested t _ _ k;
-    getting_attributes = λ u file free is. requested t _ _ k;
-    reading = λ u file block free is. requested t _ _ k;
-    fetching = λ u file block free is. requested t _ _ k;
-    writing = λ u file block body free is through. write-sent t file block body k;
-    leasing = λ u file block body free is through shares. requested t _ _ k;
-    putting = λ u file block body free is written. write-sent t file block body k;
-    resizing = λ u file blocks free is clean. decided (gives_up t file) _ _ (given-up t file k);
-    removing = λ u file free is clean. decided (gives_up t file) _ _ (given-up t file k);
-    renewing = λ file lease ticks free nothing unpaused due held same clean unnoticed. requested t _ _ k;
+  send-next-keeps in_tick t k = send-moves in_tick t K (record {
+    kept = k;
+    pushes = λ file p first. pushed-one t file p first k;
+    asks = λ job request. requested t job request k;
+    decides = λ request. decided t Job.for_call request k;
+    writes = λ file block body. write-sent t file block body k;
+    changes = λ file request. decided (gives_up t file) Job.for_call request (given-up t file k);
   })
 
   goes-on-keeps : (in_tick : Bool) (t : ClientStep) → K t → K (send_next in_tick (settle t))

@@ -8,8 +8,8 @@ use Rattle.nq_base.specs.declared.Push.{Push}
 use Rattle.nq_base.specs.declared.Request.{Request}
 use Rattle.nq_model.proofs.ClientLists.{lease-file, first-is-of}
 use Rattle.walk_client.proofs.ClientMoves.{some-same, none-some}
-use Rattle.nq_model.specs.Client.{Client, ClientStep, Job, for_call, renewing, pushing, Lease, Notice, Ticket, UnderWay, lease_on, notice_on, is_clean, first_dirty, file_of_lease, file_of_notice}
-use Rattle.nq_model.specs.Send.{least_with, sends_request, after_seq, base_of, takes_push, pushes_these, pushes, noticed_file, ending_file, read_want, want_of, sends_write, next_write, next_put, gives_up, next_change, asks, next_of_call, next_of_under_way, renews_lease, renews, renewed_file, is_to_renew, is_asking, then_renews, then_calls, pushes_due, then_pushes, then_ending, send_next, shares_live, least}
+use Rattle.nq_model.specs.Client.{Client, ClientStep, Job, for_call, renewing, Lease, Notice, Ticket, UnderWay, lease_on, notice_on, is_clean, first_dirty, file_of_lease, file_of_notice}
+use Rattle.nq_model.specs.Send.{least_with, sends_request, after_seq, pushes_these, pushes, noticed_file, ending_file, read_want, want_of, sends_write, next_write, next_put, gives_up, next_change, asks, next_of_call, next_of_under_way, renews_lease, renews, renewed_file, is_to_renew, is_asking, then_renews, then_calls, pushes_due, then_pushes, then_ending, send_next, shares_live, least}
 use Rattle.walk_server.proofs.Rows.{choice, number-same}
 use Rattle.walk_server.proofs.Tests.{is-at-most, none-there}
 
@@ -27,19 +27,7 @@ pub record IsFree (t : ClientStep) (u : UnderWay) : Type 0 where
 
 -- delayed writes are pushed
 abbrev pub pushed : ClientStep → Push → ClientStep
-pushed t p =
-    sends_request
-    (after_seq (takes_push t p))
-    pushing
-    (Request.Write
-    t.client.who
-    t.client.seq
-    p.file
-    p.block
-    p.first
-    p.last
-    (Some (base_of t.client p.file))
-    p.body)
+pushed t p = pushes_these t (Some p)
 
 -- the outcomes
 pub record SendCases (in_tick : Bool) (t : ClientStep) (Q : ClientStep → Type 0) : Type 0 where
@@ -301,3 +289,30 @@ send-cases in_tick t Q cases = case t.client.ticket refl
     case : (o : Option Ticket) → t.client.ticket ≡ o → Q (send_next in_tick t)
     case (Some ticket) e = subst Q (sym (asking-send in_tick t (ap is_some e))) (cases.stays_asking ticket e)
     case None e = free-send in_tick t Q cases e
+
+-- the small changes of which the outcomes are made, for what they keep whatever led to them
+pub record SendMoves (t : ClientStep) (Q : ClientStep → Type 0) : Type 0 where
+  pub kept : Q t
+  pub pushes : (file : ℕ) (p : Push) → first_dirty file t.client.dirty ≡ Some p → Q (pushed t p)
+  pub asks : (job : Job) (request : Request) → Q (sends_request t job request)
+  pub decides : (request : Request) → Q (sends_request (after_seq t) for_call request)
+  pub writes : (file block : ℕ) (body : List ℕ) → Q (sends_write t file block body)
+  pub changes : (file : ℕ) (request : Request) → Q (sends_request (after_seq (gives_up t file)) for_call request)
+
+pub send-moves : (in_tick : Bool) (t : ClientStep) (Q : ClientStep → Type 0) → SendMoves t Q → Q (send_next in_tick t)
+send-moves in_tick t Q m = send-cases in_tick t Q (record {
+  stays_asking = λ ticket is. m.kept;
+  stays = λ free nothing. m.kept;
+  pushing = λ file p free first same. m.pushes file p first;
+  creating = λ u name blocks free is. m.decides _;
+  looking_up = λ u name free is. m.asks for_call _;
+  getting_attributes = λ u file free is. m.asks for_call _;
+  reading = λ u file block free is. m.asks for_call _;
+  fetching = λ u file block free is. m.asks for_call _;
+  writing = λ u file block body free is through. m.writes file block body;
+  leasing = λ u file block body free is through shares. m.asks for_call _;
+  putting = λ u file block body free is written. m.writes file block body;
+  resizing = λ u file blocks free is clean. m.changes file _;
+  removing = λ u file free is clean. m.changes file _;
+  renewing = λ file lease ticks free nothing unpaused due held same clean unnoticed. m.asks renewing _;
+})

@@ -377,3 +377,28 @@ settle-settles t = settle-cases t Settled (record {
   sync_waits = λ u file is sync dirty. sync-waits t u file is sync dirty;
   others = λ u is needs. needs-reply t u is needs;
 })
+
+-- the small changes of which the outcomes are made, for what they keep whatever led to them
+pub record SettleMoves (t : ClientStep) (Q : ClientStep → Type 0) : Type 0 where
+  pub kept : Q t
+  pub answered : (v : ClientStep) (q : ℕ) (answer : Answer) → Q v → Q (answers v q answer None)
+  pub read : (u : UnderWay) (file block : ℕ) (body : List ℕ) → Q (reads_cached t u file block body)
+  pub delayed : (file block : ℕ) (body : List ℕ) → Q (delays t file block body)
+  pub marked : (v : ClientStep) (u : UnderWay) → Q v → Q (marks_written v u)
+
+pub settle-moves : (t : ClientStep) (Q : ClientStep → Type 0) → SettleMoves t Q → Q (settle t)
+settle-moves t Q m = settle-cases t Q (record {
+  idle = λ none. m.kept;
+  asking = λ u is own. m.kept;
+  read_out = λ u file block lease is read can out. m.answered t u.q Answer.Range m.kept;
+  reading = λ u file block lease body is read can within has. m.read u file block body;
+  read_waits = λ u file block is read waits. m.kept;
+  write_out = λ u sync file block body lease is write can out. m.answered t u.q Answer.Range m.kept;
+  write_full = λ u sync file block body lease is write can within full. m.answered t u.q Answer.DirtyFull m.kept;
+  writing = λ u file block body lease is write can within room. m.answered (delays t file block body) u.q (Answer.Ok Value.Nothing) (m.delayed file block body);
+  putting = λ u file block body lease is write unwritten can within room. m.marked (delays t file block body) u (m.delayed file block body);
+  write_waits = λ u sync file block body is write waits. m.kept;
+  syncing = λ u file is sync clean. m.answered t u.q (Answer.Ok Value.Nothing) m.kept;
+  sync_waits = λ u file is sync dirty. m.kept;
+  others = λ u is needs. m.kept;
+})

@@ -15,7 +15,7 @@ use Rattle.nq_base.specs.declared.Value.{Value}
 use Rattle.nq_base.specs.declared.Who.{Who}
 use Rattle.walk_client.proofs.PartCases.{answers-call-cases, vacates-noticed-cases, reports-cases, if-broken-cases, caches-write-cases, caches-push-cases, vacates-if-clean-cases}
 use Rattle.walk_client.proofs.SendCases.{send-cases, pushed}
-use Rattle.walk_client.proofs.SettleCases.{settle-cases}
+use Rattle.walk_client.proofs.SettleCases.{settle-moves}
 use Rattle.walk_client.proofs.StepCases.{call-cases, unless-cached-cases, tick-cases, evicted-cases}
 use Rattle.walk_client.proofs.ClientFacts.{changes_file, push_in}
 use Rattle.walk_client.proofs.ClientMoves.{some-same, none-some, keeps-or-cancels}
@@ -102,20 +102,12 @@ module _ (journal : List Entry) (first : ℕ → ℕ) (next : ℕ) (ps : List Pa
   written-mid t u h = h
 
   pub settle-mid : (t : ClientStep) → P t → P (settle t)
-  settle-mid t h = settle-cases t P (record {
-    idle = λ e. h;
-    asking = λ u e i. h;
-    read_out = λ u file block lease s r can past. answers-mid t u.q Answer.Range None h;
-    reading = λ u file block lease body s r can below has. cached-mid t u file block body h;
-    read_waits = λ u file block s r w. h;
-    write_out = λ u sync file block body lease s w can past. answers-mid t u.q Answer.Range None h;
-    write_full = λ u sync file block body lease s w can below full. answers-mid t u.q Answer.DirtyFull None h;
-    writing = λ u file block body lease s w can below room. answers-mid (delays t file block body) u.q (Answer.Ok Value.Nothing) None (delays-mid t file block body h);
-    putting = λ u file block body lease s w unwritten can below room. written-mid (delays t file block body) u (delays-mid t file block body h);
-    write_waits = λ u sync file block body s w waits. h;
-    syncing = λ u file s w clean. answers-mid t u.q (Answer.Ok Value.Nothing) None h;
-    sync_waits = λ u file s w clean. h;
-    others = λ u s needs. h;
+  settle-mid t h = settle-moves t P (record {
+    kept = h;
+    answered = λ v q answer k. answers-mid v q answer None k;
+    read = λ u file block body. cached-mid t u file block body h;
+    delayed = λ file block body. delays-mid t file block body h;
+    marked = λ v u k. written-mid v u k;
   })
 
   -- ---- the next request

@@ -3,7 +3,6 @@ use Rattle.std.proofs.Common.{◌≡◌, ℕ, Bool, true, false, List, [], Optio
 use Rattle.nq_base.specs.declared.Answer.{Answer}
 use Rattle.nq_base.specs.declared.Call.{Call}
 use Rattle.nq_base.specs.declared.Grant.{Grant}
-use Rattle.nq_base.specs.declared.Mode.{Mode}
 use Rattle.nq_base.specs.declared.Push.{Push}
 use Rattle.nq_base.specs.declared.Reply.{Reply}
 use Rattle.nq_base.specs.declared.Request.{Request}
@@ -11,8 +10,8 @@ use Rattle.nq_base.specs.declared.Tag.{Tag}
 use Rattle.nq_base.specs.declared.Value.{Value}
 use Rattle.walk_client.proofs.PartCases.{answers-call-cases, vacates-noticed-cases, reports-cases, if-broken-cases, takes-optional-cases, lease-done-cases, then-caches-cases, caches-write-cases, caches-push-cases, vacates-if-clean-cases}
 use Rattle.walk_client.proofs.RepliedCases.{RepliedCases, replied-cases}
-use Rattle.walk_client.proofs.SendCases.{pushed, send-cases}
-use Rattle.walk_client.proofs.SettleCases.{settle-cases}
+use Rattle.walk_client.proofs.SendCases.{send-moves, pushed}
+use Rattle.walk_client.proofs.SettleCases.{settle-moves}
 use Rattle.walk_client.proofs.StepCases.{call-cases, unless-cached-cases, tick-cases, evicted-cases, heard-cases}
 use Rattle.walk_client.proofs.ClientFacts.{fits_job}
 use Rattle.walk_endings.proofs.Waiting.{fold-losses}
@@ -20,7 +19,7 @@ use Rattle.nq_model.specs.Client.{Client, ClientStep, Job, for_call, Notice, Tic
 use Rattle.nq_model.specs.ClientStep.{begins_call, is_called, says_busy, client_call, at_time, sends_again, client_tick, starts, fresh_client, restart}
 use Rattle.nq_model.specs.Hear.{vacates_lease, vacates_noticed, loses, reports, without_lease, push_refused, breaks_chain, if_broken, holds, takes_grant, takes_optional, answers_call, caches_block, then_caches, purges, knows_revision, read_done, lease_done, marks_through, caches_write, write_done, ends_push, caches_push, push_done, spends, attached, pauses, cancels, notes_notice, evicted, replied, reply_counts, answer_of, goes_on, hear, all_dirty}
 use Rattle.nq_model.specs.Message.{Message}
-use Rattle.nq_model.specs.Send.{sends_request, after_seq, after_number, takes_push, sends_write, gives_up, read_want, want_of, send_next}
+use Rattle.nq_model.specs.Send.{sends_request, after_seq, after_number, takes_push, sends_write, gives_up, send_next}
 use Rattle.nq_model.specs.Settle.{answers, reads_cached, after_read, delays, marks_written, names_losses, settle}
 use Rattle.walk_tables.proofs.LogMoves.{timed}
 
@@ -49,20 +48,12 @@ unfolding marks_written
 marked t u h = h
 
 settled : (t : ClientStep) → IsUntimed t → IsUntimed (settle t)
-settled t h = settle-cases t IsUntimed (record {
-  idle = λ none. h;
-  asking = λ u is own. h;
-  read_out = λ u file block lease is read can out. answered t u.q Answer.Range None h;
-  reading = λ u file block lease body is read can within has. cached t u file block body h;
-  read_waits = λ u file block is read waits. h;
-  write_out = λ u sync file block body lease is write can out. answered t u.q Answer.Range None h;
-  write_full = λ u sync file block body lease is write can within full. answered t u.q Answer.DirtyFull None h;
-  writing = λ u file block body lease is write can within room. answered (delays t file block body) u.q (Answer.Ok Value.Nothing) None (delayed t file block body h);
-  putting = λ u file block body lease is write unwritten can within room. marked (delays t file block body) u (delayed t file block body h);
-  write_waits = λ u sync file block body is write waits. h;
-  syncing = λ u file is sync clean. answered t u.q (Answer.Ok Value.Nothing) None h;
-  sync_waits = λ u file is sync dirty. h;
-  others = λ u is needs. h;
+settled t h = settle-moves t IsUntimed (record {
+  kept = h;
+  answered = λ v q answer k. answered v q answer None k;
+  read = λ u file block body. cached t u file block body h;
+  delayed = λ file block body. delayed t file block body h;
+  marked = λ v u k. marked v u k;
 })
 
 -- ---- the next request
@@ -88,21 +79,13 @@ unfolding gives_up
 given-up t file h = h
 
 sent-next : (in_tick : Bool) (t : ClientStep) → IsUntimed t → IsUntimed (send_next in_tick t)
-sent-next in_tick t h = send-cases in_tick t IsUntimed (record {
-  stays_asking = λ ticket is. h;
-  stays = λ none nothing. h;
-  pushing = λ file p none found on. pushes t p h;
-  creating = λ u name blocks free is. decided t for_call (Request.Create t.client.who t.client.seq name blocks) h;
-  looking_up = λ u name free is. asked t for_call (Request.Lookup t.client.who name) h;
-  getting_attributes = λ u file free is. asked t for_call (Request.GetAttr t.client.who file) h;
-  reading = λ u file block free is. asked t for_call (Request.Read t.client.who u.q file block (read_want t.client file)) h;
-  fetching = λ u file block free is. asked t for_call (Request.Read t.client.who u.q file block None) h;
-  writing = λ u file block body free is shares. through t file block body h;
-  leasing = λ u file block body free is may alone. asked t for_call (Request.GetLease t.client.who file (want_of t.client Mode.Writing)) h;
-  putting = λ u file block body free is unwritten. through t file block body h;
-  resizing = λ u file blocks free is clean. decided (gives_up t file) for_call (Request.Resize t.client.who t.client.seq u.q file blocks) (given-up t file h);
-  removing = λ u file free is clean. decided (gives_up t file) for_call (Request.Remove t.client.who t.client.seq u.q file) (given-up t file h);
-  renewing = λ file lease tick none nothing may due held on clean unnoticed. asked t Job.renewing (Request.GetLease t.client.who lease.file (want_of t.client lease.mode)) h;
+sent-next in_tick t h = send-moves in_tick t IsUntimed (record {
+  kept = h;
+  pushes = λ file p first. pushes t p h;
+  asks = λ job request. asked t job request h;
+  decides = λ request. decided t for_call request h;
+  writes = λ file block body. through t file block body h;
+  changes = λ file request. decided (gives_up t file) for_call request (given-up t file h);
 })
 
 -- ---- replies and notices

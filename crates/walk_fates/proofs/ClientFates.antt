@@ -7,9 +7,8 @@ use Rattle.nq_base.specs.declared.HostRow.{HostRow}
 use Rattle.nq_base.specs.declared.Push.{Push}
 use Rattle.nq_base.specs.declared.PushBase.{PushBase}
 use Rattle.nq_base.specs.declared.Request.{Request}
-use Rattle.nq_base.specs.declared.Value.{Value}
 use Rattle.nq_base.specs.declared.Who.{Who}
-use Rattle.walk_client.proofs.SettleCases.{settle-cases}
+use Rattle.walk_client.proofs.SettleCases.{settle-moves}
 use Rattle.walk_client.proofs.SendCases.{send-cases, pushed}
 use Rattle.walk_client.proofs.ClientFacts.{push_in}
 use Rattle.walk_client.proofs.ClientMoves.{none-some}
@@ -99,20 +98,12 @@ module _ {line : HostRow} {ps : List Packet} {j : List Entry} where
   mid-marks t u m = m
 
   pub mid-settles : (t : ClientStep) → Mid line ps j t → Mid line ps j (settle t)
-  mid-settles t m = settle-cases t (Mid line ps j) (record {
-    idle = λ none. m;
-    asking = λ u is own. m;
-    read_out = λ u file block lease is read can out. mid-answers t u.q Answer.Range None m;
-    reading = λ u file block lease body is read can below has. mid-reads t u file block body m;
-    read_waits = λ u file block is read waits. m;
-    write_out = λ u sync file block body lease is write can out. mid-answers t u.q Answer.Range None m;
-    write_full = λ u sync file block body lease is write can below full. mid-answers t u.q Answer.DirtyFull None m;
-    writing = λ u file block body lease is write can below room. mid-answers (delays t file block body) u.q (Answer.Ok Value.Nothing) None (mid-delays t file block body m);
-    putting = λ u file block body lease is put written can below room. mid-marks (delays t file block body) u (mid-delays t file block body m);
-    write_waits = λ u sync file block body is write waits. m;
-    syncing = λ u file is sync clean. mid-answers t u.q (Answer.Ok Value.Nothing) None m;
-    sync_waits = λ u file is sync dirty. m;
-    others = λ u is needs. m;
+  mid-settles t m = settle-moves t (Mid line ps j) (record {
+    kept = m;
+    answered = λ v q answer k. mid-answers v q answer None k;
+    read = λ u file block body. mid-reads t u file block body m;
+    delayed = λ file block body. mid-delays t file block body m;
+    marked = λ v u k. mid-marks v u k;
   })
 
   -- ---- the next request

@@ -16,7 +16,7 @@ use Rattle.nq_base.specs.declared.Want.{Want}
 use Rattle.nq_base.specs.declared.Who.{Who}
 use Rattle.walk_client.proofs.RepliedCases.{replied-cases, OfCall, IsNamed, looked_up, created, attributes}
 use Rattle.walk_client.proofs.SendCases.{send-cases, IsFree}
-use Rattle.walk_client.proofs.SettleCases.{settle-cases, IsSettling, IsRead, Settled, ReadWaits, no_lease, no_block, settle-settles}
+use Rattle.walk_client.proofs.SettleCases.{settle-moves, settle-cases, IsSettling, IsRead, Settled, ReadWaits, no_lease, no_block, settle-settles}
 use Rattle.walk_client.proofs.StepCases.{call-cases, unless-cached-cases, tick-cases, evicted-cases, heard-cases}
 use Rattle.walk_client.proofs.ClientFacts.{Alone, fits_job}
 use Rattle.walk_client.proofs.ClientMoves.{none-some, some-same}
@@ -155,21 +155,7 @@ module _ (c : Client) (Valued : Entry → Type 0) where
 
   settled-quiet : (t : ClientStep) → Quiet t.sends → Quiet (settle t).sends
   unfolding answers reads_cached marks_written
-  settled-quiet t h = settle-cases t (λ s. Quiet s.sends) (record {
-    idle = λ e. h;
-    asking = λ u e f. h;
-    read_out = λ u file block lease is r can out. h;
-    reading = λ u file block lease body is r can within has. h;
-    read_waits = λ u file block is r waits. h;
-    write_out = λ u sync file block body lease is w can out. h;
-    write_full = λ u sync file block body lease is w can within full. h;
-    writing = λ u file block body lease is w can within room. h;
-    putting = λ u file block body lease is w unwritten can within room. h;
-    write_waits = λ u sync file block body is w waits. h;
-    syncing = λ u file is s clean. h;
-    sync_waits = λ u file is s dirty. h;
-    others = λ u is n. h;
-  })
+  settled-quiet t h = settle-moves t (λ s. Quiet s.sends) (record { kept = h; answered = λ v q answer k. k; read = λ u file block body. h; delayed = λ file block body. h; marked = λ v u k. k })
 
   -- ---- sending
 

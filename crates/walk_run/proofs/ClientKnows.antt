@@ -18,7 +18,7 @@ use Rattle.walk_run.proofs.Packets.{Asked, Told, Mail}
 use Rattle.walk_run.proofs.TagFacts.{IsDrawn, TagsFit, told-before, asked-before, tags-leases, used-from, dropped-from, tags-ticket, tags-adds, tags-vacates, tags-holds, tags-notes}
 use Rattle.walk_run.proofs.Worlds.{Going, going-closed}
 use Rattle.nq_model.specs.Client.{Lease, Notice, Ticket, Job, drop_lease, put_lease, used_lease, notice_on, drop_notice}
-use Rattle.nq_model.specs.Hear.{wants_of, inc_of, cancelled, granted_lease, noticed_tag, with_notice}
+use Rattle.nq_model.specs.Hear.{wants_of, inc_of, cancelled, granted_lease, with_notice}
 use Rattle.nq_model.specs.LeaseInterval.{requested_file}
 use Rattle.nq_model.specs.Message.{Packet, call, reply, asker, sequence_of}
 use Rattle.nq_model.specs.Server.{Server, standing}

@@ -100,21 +100,26 @@ module _ (s : Server) (sender next : ℕ) (d : Datagram) (Q : Kept → Phase →
 pub server-moves : (s : Server) (sender next : ℕ) (d : Datagram) (Q : Kept → Phase → Table → Type 0) → ServerMoves s d Q → Q (receive s sender next d).server.kept (receive s sender next d).server.phase (receive s sender next d).server.table
 server-moves s sender next d Q moves = (server-hears s sender next d (Holds s sender next d Q moves) (cases-from-moves s sender next d Q moves)).0
 
-no-claim : (s : Server) (d : Datagram) → ServerMoves s d (λ kept phase table. Unit {0})
-no-claim s d = record {
-  stays = tt;
-  decided = λ kept phase table who line e f q. tt;
-  attaching = λ who later. tt;
-  vacating = λ who file tag current. tt;
-  marking = λ file host access serves. tt;
-  marking_waiting = λ xid r who f want e wants asking own room. tt;
-  granting = λ xid r who f want row term e wants asking c g. tt;
-  creating = λ name blocks serves can. tt;
-  changing = λ who f file serves current found same c. tt;
-  storing = λ who f file base row serves current found same can. tt;
-  storing_recovering = λ f file until heard last p found same. tt;
-  removing = λ who f serves current found c. tt;
+-- what speaks of the kept longest term and of the phase alone changes only where delayed writes are stored in a recovery
+pub phase-moves : (s : Server) (d : Datagram) (R : (longest : ℕ) → Phase → Type 0) → R s.kept.longest s.phase → ((until heard : ℕ) (last : Option Table) → s.phase ≡ recovering until heard last → R s.kept.longest (recovering (max until (s.now + write_slack)) s.now last)) → ServerMoves s d (λ kept phase table. R kept.longest phase)
+unfolding with_row with_files with_new_file
+phase-moves s d R h stored = record {
+  stays = h;
+  decided = λ kept phase table who line e f q. q;
+  attaching = λ who later. h;
+  vacating = λ who file tag current. h;
+  marking = λ file host access serves. h;
+  marking_waiting = λ xid r who f want e wants asking own room. h;
+  granting = λ xid r who f want row term e wants asking c g. h;
+  creating = λ name blocks serves can. h;
+  changing = λ who f file serves current found same c. h;
+  storing = λ who f file base row serves current found same can. h;
+  storing_recovering = λ f file until heard last p found same. stored until heard last p;
+  removing = λ who f serves current found c. h;
 }
+
+no-claim : (s : Server) (d : Datagram) → ServerMoves s d (λ kept phase table. Unit {0})
+no-claim s d = phase-moves s d (λ longest phase. Unit {0}) tt (λ until heard last p. tt)
 
 -- a datagram leaves the longest term of the boot, and the time
 pub receive-keeps : (s : Server) (sender next : ℕ) (d : Datagram) → ((receive s sender next d).server.longest ≡ s.longest) × ((receive s sender next d).server.now ≡ s.now)

@@ -10,7 +10,7 @@ use Rattle.nq_model.specs.ServerStep.{receive, fence, tick, booted, boot, crash}
 use Rattle.nq_model.specs.Table.{Table}
 use Rattle.walk_server.proofs.KeptChanges.{length-with-row, found-replaced, find-not-removed, find-removed, found-added}
 use Rattle.walk_server.proofs.ServerCases.{found-file}
-use Rattle.walk_server.proofs.ServerMoves.{ServerMoves, server-moves, receive-keeps, tick-moves, tick-keeps}
+use Rattle.walk_server.proofs.ServerMoves.{phase-moves, ServerMoves, server-moves, receive-keeps, tick-moves, tick-keeps}
 
 -- the longest terms, of this boot and of the one that served last, are at least the shortest and at most this; while the
 -- server serves they are one
@@ -28,21 +28,7 @@ terms-recovering : (most : ℕ) (phase : Phase) (kept_longest longest until hear
 terms-recovering most phase kept_longest longest until heard last f = record { long = f.long; few = f.few; kept_long = f.kept_long; kept_few = f.kept_few; same = λ e. absurd (cc) }
 
 terms-moves : (most : ℕ) (s : Server) (d : Datagram) → TermsFitOf most s → ServerMoves s d (λ kept phase table. TermsFit most phase kept.longest s.longest)
-unfolding with_row with_files with_new_file
-terms-moves most s d f = record {
-  stays = f;
-  decided = λ kept phase table who line inc same q. q;
-  attaching = λ who later. f;
-  vacating = λ who file tag current. f;
-  marking = λ file host access serves. f;
-  marking_waiting = λ xid r who g want e wants asking own room. f;
-  granting = λ xid r who g want row term e wants asking c h. f;
-  creating = λ name blocks serves can. f;
-  changing = λ who g file serves current found same c. f;
-  storing = λ who g file base row serves current found same can. f;
-  storing_recovering = λ g file until heard last p found same. terms-recovering most s.phase s.kept.longest s.longest (max until (s.now + write_slack)) s.now last f;
-  removing = λ who g serves current found c. f;
-}
+terms-moves most s d f = phase-moves s d (λ longest phase. TermsFit most phase longest s.longest) f (λ until heard last p. terms-recovering most s.phase s.kept.longest s.longest (max until (s.now + write_slack)) s.now last f)
 
 pub terms-receive : (most : ℕ) (s : Server) (sender next : ℕ) (d : Datagram) → TermsFitOf most s → TermsFitOf most (receive s sender next d).server
 terms-receive most s sender next d f =
@@ -220,21 +206,7 @@ waits-more : (booted now longest until heard : ℕ) → Waits booted now longest
 waits-more booted now longest until heard w = record { after_leases = omega (arith, w.after_leases); after_writes = omega arith; heard_since = omega (arith, w.heard_since, w.heard_by_now); heard_by_now = omega arith }
 
 waits-moves : (booted : ℕ) (s : Server) (d : Datagram) → PhaseWaitsOf booted s → ServerMoves s d (λ kept phase table. PhaseWaits booted s.now kept.longest phase)
-unfolding with_row with_files with_new_file
-waits-moves booted s d f = record {
-  stays = f;
-  decided = λ kept phase table who line inc same q. q;
-  attaching = λ who later. f;
-  vacating = λ who file tag current. f;
-  marking = λ file host access serves. f;
-  marking_waiting = λ xid r who g want e wants asking own room. f;
-  granting = λ xid r who g want row term e wants asking c h. f;
-  creating = λ name blocks serves can. f;
-  changing = λ who g file serves current found same c. f;
-  storing = λ who g file base row serves current found same can. f;
-  storing_recovering = λ g file until heard last p found same. waits-more booted s.now s.kept.longest until heard (subst (PhaseWaits booted s.now s.kept.longest) p f);
-  removing = λ who g serves current found c. f;
-}
+waits-moves booted s d f = phase-moves s d (λ longest phase. PhaseWaits booted s.now longest phase) f (λ until heard last p. waits-more booted s.now s.kept.longest until heard (subst (PhaseWaits booted s.now s.kept.longest) p f))
 
 pub waits-receive : (booted : ℕ) (s : Server) (sender next : ℕ) (d : Datagram) → PhaseWaitsOf booted s → PhaseWaitsOf booted (receive s sender next d).server
 waits-receive booted s sender next d f =

@@ -15,7 +15,7 @@ use Rattle.nq_base.specs.declared.Tag.{Tag}
 use Rattle.nq_base.specs.declared.Value.{Value}
 use Rattle.nq_base.specs.declared.Who.{Who}
 use Rattle.walk_client.proofs.SendCases.{send-cases}
-use Rattle.walk_client.proofs.SettleCases.{settle-cases, CanRead, CanWrite}
+use Rattle.walk_client.proofs.SettleCases.{settle-moves, settle-cases, CanRead, CanWrite}
 use Rattle.walk_client.proofs.StepCases.{call-cases, unless-cached-cases, tick-cases, evicted-cases, heard-cases}
 use Rattle.walk_client.proofs.ClientFacts.{Alone, push_in}
 use Rattle.nq_model.proofs.ClientLists.{used-lease-found}
@@ -260,42 +260,14 @@ unpushed-alone c a free = case c.push refl
 
 settled-unpushed : (t : ClientStep) → Unpushed t.client → Unpushed (settle t).client
 unfolding answers after_read after_write marks_written reads_cached
-settled-unpushed t h = settle-cases t (λ s. Unpushed s.client) (record {
-  idle = λ e. h;
-  asking = λ u e f. h;
-  read_out = λ u file block lease is r can out. h;
-  reading = λ u file block lease body is r can within has. h;
-  read_waits = λ u file block is r waits. h;
-  write_out = λ u sync file block body lease is w can out. h;
-  write_full = λ u sync file block body lease is w can within full. h;
-  writing = λ u file block body lease is w can within room. h;
-  putting = λ u file block body lease is w unwritten can within room. h;
-  write_waits = λ u sync file block body is w waits. h;
-  syncing = λ u file is s clean. h;
-  sync_waits = λ u file is s dirty. h;
-  others = λ u is n. h;
-})
+settled-unpushed t h = settle-moves t (λ s. Unpushed s.client) (record { kept = h; answered = λ v q answer k. k; read = λ u file block body. h; delayed = λ file block body. h; marked = λ v u k. k })
 
 pub goes-on-accesses : (in_tick : Bool) (t : ClientStep) → PlainOf t → Unpushed t.client → Accesses t.client.who (send_next in_tick (settle t))
 goes-on-accesses in_tick t plain h = send-accesses t.client.who in_tick (settle t) (settled-unpushed t h) (settle-accesses t plain)
 
 who-kept : (t : ClientStep) → (settle t).client.who ≡ t.client.who
 unfolding answers after_read after_write marks_written reads_cached
-who-kept t = settle-cases t (λ s. s.client.who ≡ t.client.who) (record {
-  idle = λ e. refl;
-  asking = λ u e f. refl;
-  read_out = λ u file block lease is r can out. refl;
-  reading = λ u file block lease body is r can within has. refl;
-  read_waits = λ u file block is r waits. refl;
-  write_out = λ u sync file block body lease is w can out. refl;
-  write_full = λ u sync file block body lease is w can within full. refl;
-  writing = λ u file block body lease is w can within room. refl;
-  putting = λ u file block body lease is w unwritten can within room. refl;
-  write_waits = λ u sync file block body is w waits. refl;
-  syncing = λ u file is s clean. refl;
-  sync_waits = λ u file is s dirty. refl;
-  others = λ u is n. refl;
-})
+who-kept t = settle-moves t (λ s. s.client.who ≡ t.client.who) (record { kept = refl; answered = λ v q answer k. k; read = λ u file block body. refl; delayed = λ file block body. refl; marked = λ v u k. k })
 
 -- a cancelled request pushes nothing
 cancelled-unpushed : (c : Client) (file : ℕ) → Alone c → Unpushed (cancels (begun c) file).client

@@ -13,7 +13,7 @@ use Rattle.nq_base.specs.declared.Request.{Request}
 use Rattle.nq_base.specs.declared.Tag.{Tag}
 use Rattle.nq_base.specs.declared.Value.{Value}
 use Rattle.walk_client.proofs.RepliedCases.{replied-cases}
-use Rattle.walk_client.proofs.SendCases.{send-cases}
+use Rattle.walk_client.proofs.SendCases.{send-moves}
 use Rattle.walk_client.proofs.SettleCases.{settle-cases}
 use Rattle.walk_client.proofs.PartCases.{answers-call-cases, vacates-noticed-cases, reports-cases, if-broken-cases, takes-optional-cases, lease-done-cases, then-caches-cases, caches-write-cases, caches-push-cases, vacates-if-clean-cases}
 use Rattle.walk_client.proofs.StepCases.{call-cases, unless-cached-cases, tick-cases, evicted-cases, heard-cases}
@@ -343,21 +343,13 @@ module _ (c : Client) (q : Push) (tag : Tag) (Brings : Grant → Type 0) where
     go-push t p h = go t (takes_push t p) (plainly t (takes_push t p) [] refl refl) h
 
     go-sends : (in_tick : Bool) (t : ClientStep) → Follows t → Follows (send_next in_tick t)
-    go-sends in_tick t a = send-cases in_tick t Follows (record {
-      stays_asking = λ ticket e. a;
-      stays = λ free nothing. a;
-      pushing = λ file p free first of. go-request _ Job.pushing _ (go-seq (takes_push t p) (go-push t p a));
-      creating = λ u name blocks is e. go-request (after_seq t) Job.for_call _ (go-seq t a);
-      looking_up = λ u name is e. go-request t Job.for_call _ a;
-      getting_attributes = λ u file is e. go-request t Job.for_call _ a;
-      reading = λ u file block is e. go-request t Job.for_call _ a;
-      fetching = λ u file block is e. go-request t Job.for_call _ a;
-      writing = λ u file block body is e f. go-request (after_number t) Job.for_call _ (go-number t a);
-      leasing = λ u file block body is e f g. go-request t Job.for_call _ a;
-      putting = λ u file block body is e f. go-request (after_number t) Job.for_call _ (go-number t a);
-      resizing = λ u file blocks is e clean. go-request _ Job.for_call _ (go-seq (gives_up t file) (go-gives t file a));
-      removing = λ u file is e clean. go-request _ Job.for_call _ (go-seq (gives_up t file) (go-gives t file a));
-      renewing = λ file lease tick free nothing unpaused due held of clean unnoticed. go-request t Job.renewing _ a;
+    go-sends in_tick t a = send-moves in_tick t Follows (record {
+      kept = a;
+      pushes = λ file p first. go-request _ Job.pushing _ (go-seq (takes_push t p) (go-push t p a));
+      asks = λ job request. go-request t job request a;
+      decides = λ request. go-request (after_seq t) Job.for_call request (go-seq t a);
+      writes = λ file block body. go-request (after_number t) Job.for_call _ (go-number t a);
+      changes = λ file request. go-request _ Job.for_call request (go-seq (gives_up t file) (go-gives t file a));
     })
 
     -- ---- whole steps
