@@ -1,20 +1,20 @@
 -- Entries as clean blocks: a key is found where its block is, and at one place only.
-use Rattle.std.proofs.Common.{◌≡◌, ◌≤◌, ◌<◌, ℕ, ◌+◌, ◌-◌, ◌==◌, Bool, true, false, not, ◌&&◌, cond, List, [], ◌∷◌, ◌++◌, length, get_or, take, drop, map, Option, Some, None, is_some, refl, sym, ap, subst, ◌∙◌, arith, append_assoc, zero, suc, append-nil, add-one}
+use Rattle.std.proofs.Common.{◌≡◌, ◌≤◌, ◌<◌, ℕ, ◌+◌, ◌-◌, ◌==◌, Bool, true, false, not, ◌&&◌, cond, List, [], ◌∷◌, ◌++◌, length, get_or, take, drop, Option, Some, None, is_some, refl, sym, ap, subst, ◌∙◌, arith, append_assoc, zero, suc, append-nil, add-one}
 use Rattle.std.specs.Cmp.{IsEquivalence}
-use Rattle.std.specs.List.{filter, find, AllByRecursion, IsDistinct, slice_get}
+use Rattle.std.specs.List.{filter, AllByRecursion, IsDistinct, slice_get}
 use Rattle.std.specs.Map.{keys_of, lookup, lookup_entry, remove_entry, set_value}
 use Rattle.std.specs.Option.{option_map, option_map_or, option_to_list}
 use Rattle.std.specs.declared.boxed.Box.{Box}
 use Rattle.std.proofs.lemmas.Bool.Decides.{nat_tests}
-use Rattle.std.proofs.lemmas.List.{take_more, take_all, take_at, map_push, drop_more, drop_all, length_push, take-append-le}
+use Rattle.std.proofs.lemmas.List.{take_more, take_all, take_at, map_push, drop_more, length_push}
 use Rattle.std.proofs.lemmas.Map.{NonePasses}
 use Rattle.std.proofs.lemmas.Map.Entries.{none_past_head}
 use Rattle.std.proofs.lemmas.Map.Keys.{IsDistinct-head, IsDistinct-tail}
-use Rattle.lru.specs.LruCache.{LruCache, lru_cache, promoted, put_entries, last_entry}
+use Rattle.lru.specs.LruCache.{LruCache, promoted, put_entries, last_entry}
 use Rattle.lru.proofs.CallerLemmas.{Contains-lookup_entry}
 use Rattle.nq_cache.specs.Entries.{body_or, clean_of, clean_blocks, is_of_other, walked, Turns}
 use Rattle.nq_cache.specs.declared.entries.Key.{Key}
-use Rattle.nq_model.specs.Client.{Clean, is_clean_at, clean_at, drop_clean, purge}
+use Rattle.nq_model.specs.Client.{Clean, clean_at, drop_clean, purge}
 use Rattle.nq_model.specs.Settle.{touched, looked_up}
 use Rattle.nq_model.specs.Profile.{at_most}
 

@@ -1,8 +1,7 @@
 -- Keys are compared by their files and blocks.
-use Rattle.std.proofs.Common.{◌≡◌, ℕ, ◌==◌, ◌&&◌, refl, sym, arith}
+use Rattle.std.proofs.Common.{◌≡◌, ℕ, ◌==◌, ◌&&◌, arith}
 use Rattle.std.proofs.lemmas.Bool.Decides.{nat_tests}
 use Rattle.nq_cache.specs.contracts.entries.KeyPartialEq.TheImpl as keys
-use Rattle.nq_cache.specs.declared.entries.Key.{Key}
 use Rattle.nq_cache.proofs.Kept.{IsKeyEquality}
 
 flipped : (a b m n : ℕ) → ((a == b) && (m == n)) ≡ ((b == a) && (n == m))

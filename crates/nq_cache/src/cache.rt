@@ -131,8 +131,9 @@ impl Cache {
     pub fn retag(&mut self, file: FileId, rev: Rev) -> Result<(), NoMemory>
         ensures clean { self.new.clean ≡ self.old.clean }
         ensures put { OnOk result (self.new.revisions ≡ put_revision file rev self.old.revisions) }
-        ensures refused { OnErr result (self.new.revisions ≡ self.old.revisions) }
-        ensures there { IsSome (revision_of file self.old.revisions) → IsOk result × (self.old.spare ≤ self.new.spare) }
+        ensures refused { OnErr result (self.new ≡ self.old) }
+        ensures there { IsSome (revision_of file self.old.revisions) → IsOk result }
+        ensures kept { IsSome (revision_of file self.old.revisions) → self.new.spare ≡ self.old.spare }
         ensures succeeds { 1 ≤ self.old.spare → IsOk result }
         ensures spare { self.old.spare ≤ self.new.spare + 1 }
     {

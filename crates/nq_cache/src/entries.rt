@@ -124,7 +124,7 @@ pub(crate) fn cut(entries: &mut Entries)
     ensures room { entries.new.cap ≡ entries.old.cap }
 {
     if entries.len() > MOST {
-        drop(entries.pop_lru());
+        let _last = entries.pop_lru();
     }
 }
 

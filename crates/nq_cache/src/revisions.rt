@@ -1,6 +1,7 @@
 //! The revisions of files, in order of files.
 
 ghost use Rattle.std.specs.Prelude.{◌≡◌, ◌≤◌, ◌<◌, ◌+◌, ◌-◌, [], ◌∷◌, map, length, slice_set, slice_get, option_map, vec_len, vec_capacity, IsTrue, ◌↔◌, IsSomeAnd, IsSome, IsOk, IfOk, OnOk, OnErr};
+ghost use Rattle.std.specs.List.{insert};
 ghost use Rattle.nq_model.specs.Client.{revision_of, put_revision};
 ghost use Rattle.nq_cache.specs.Revisions.{revision, of_file, Ascends, IsPlace};
 
@@ -51,18 +52,28 @@ fn replace(known: &mut Vec<Known>, place: usize, new: Known)
     known[place] = new;
 }
 
+/// Puts a revision that is not there at a place, without memory.
+fn insert(known: &mut Vec<Known>, place: usize, new: Known)
+    requires within { place ≤ vec_len known.old }
+    requires room { vec_len known.old < vec_capacity known.old }
+    ensures items { known.new.items ≡ insert known.old.items place new }
+    ensures len { vec_len known.new ≡ vec_len known.old + 1 }
+    ensures capacity { vec_capacity known.old ≤ vec_capacity known.new }
+{
+    known.insert(place, new).unwrap();
+}
+
 /// Puts a revision at the place of its file.
 fn put(known: &mut Vec<Known>, file: FileId, rev: Rev) -> Result<(), NoMemory>
     requires { Ascends known.old.items }
     ensures put { OnOk result (map revision known.new.items ≡ put_revision file rev (map revision known.old.items)) }
-    ensures refused { OnErr result (known.new.items ≡ known.old.items) }
     ensures ascends { Ascends known.new.items }
-    ensures there { IsSome (revision_of file (map revision known.old.items)) → IsOk result × (vec_len known.new ≡ vec_len known.old) }
+    ensures refused { OnErr result ((known.new.items ≡ known.old.items) × (vec_len known.new ≡ vec_len known.old) × (vec_capacity known.new ≡ vec_capacity known.old)) }
+    ensures there { IsSome (revision_of file (map revision known.old.items)) → IsOk result }
+    ensures kept { IsSome (revision_of file (map revision known.old.items)) → (vec_len known.new ≡ vec_len known.old) × (vec_capacity known.new ≡ vec_capacity known.old) }
     ensures room { vec_len known.old < vec_capacity known.old → IsOk result }
     ensures len { vec_len known.new ≤ vec_len known.old + 1 }
-    ensures kept { OnErr result (vec_len known.new ≡ vec_len known.old) }
     ensures capacity { vec_capacity known.old ≤ vec_capacity known.new }
-    ensures full { OnErr result (vec_capacity known.old ≤ vec_len known.old) }
 {
     let place = place_of(known, file);
     let new = Known { file, rev };
@@ -70,7 +81,8 @@ fn put(known: &mut Vec<Known>, file: FileId, rev: Rev) -> Result<(), NoMemory>
         replace(known, place, new);
         Ok(())
     } else {
-        known.insert(place, new)?;
+        known.try_reserve(1)?;
+        insert(known, place, new);
         Ok(())
     }
 }
@@ -137,8 +149,9 @@ impl Revisions {
     /// Gives a file a revision.
     pub(crate) fn put(&mut self, file: FileId, rev: Rev) -> Result<(), NoMemory>
         ensures put { OnOk result (self.new.items ≡ put_revision file rev self.old.items) }
-        ensures refused { OnErr result (self.new.items ≡ self.old.items) }
-        ensures there { IsSome (revision_of file self.old.items) → IsOk result × (self.old.spare ≤ self.new.spare) }
+        ensures refused { OnErr result (self.new ≡ self.old) }
+        ensures there { IsSome (revision_of file self.old.items) → IsOk result }
+        ensures kept { IsSome (revision_of file self.old.items) → self.new.spare ≡ self.old.spare }
         ensures succeeds { 1 ≤ self.old.spare → IsOk result }
         ensures spare { self.old.spare ≤ self.new.spare + 1 }
     {

@@ -1,4 +1,4 @@
-use Rattle.std.proofs.Common.{◌≤◌, ◌-◌, length, sym, ◌∙◌, ap, refl, arith}
+use Rattle.std.proofs.Common.{◌≤◌, ◌-◌, length, ◌∙◌, ap, arith}
 use Rattle.nq_cache.specs.Entries.{clean_blocks}
 use Rattle.nq_cache.proofs.Kept.{put-entries}
 use Rattle.nq_cache.proofs.KeyLaws.{key_laws}

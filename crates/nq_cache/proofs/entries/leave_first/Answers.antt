@@ -1,4 +1,4 @@
-use Rattle.std.proofs.Common.{◌≡◌, ◌-◌, length, ap, ◌∙◌}
+use Rattle.std.proofs.Common.{◌-◌, length, ap, ◌∙◌}
 use Rattle.nq_cache.specs.Entries.{walked}
 use Rattle.nq_cache.proofs.Kept.{first_stays}
 use Rattle.nq_cache.proofs.entries.leave_first.Goals as goal

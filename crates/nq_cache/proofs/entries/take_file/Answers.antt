@@ -1,4 +1,4 @@
-use Rattle.std.proofs.Common.{◌≡◌, ◌-◌, length, ap, ◌∙◌}
+use Rattle.std.proofs.Common.{◌-◌, length, ap, ◌∙◌}
 use Rattle.nq_cache.specs.Entries.{walked}
 use Rattle.nq_cache.proofs.Kept.{purged}
 use Rattle.nq_cache.proofs.entries.take_file.Goals as goal

@@ -1,4 +1,4 @@
-use Rattle.std.proofs.Common.{◌≡◌, ◌-◌, ◌+◌, ◌∙◌, sym, ap, subst, length, arith}
+use Rattle.std.proofs.Common.{◌≡◌, ◌-◌, ◌+◌, ◌∙◌, ap, length, arith}
 use Rattle.nq_cache.specs.Entries.{walked}
 use Rattle.nq_cache.proofs.Kept.{walked-more}
 use Rattle.nq_cache.proofs.entries.walk.Goals as goal
