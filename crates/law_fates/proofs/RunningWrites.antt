@@ -1,5 +1,5 @@
 -- In every run a delayed write after which its host did not start again is of the incarnation that runs.
-use Rattle.std.proofs.Common.{◌≡◌, ◌≢◌, ℕ, zero, suc, ◌+◌, Bool, true, false, ◌==◌, List, [], ◌∷◌, ◌++◌, Option, Some, None, refl, sym, subst, ap, ◌∙◌, inl, inr}
+use Rattle.std.proofs.Common.{◌≡◌, ◌≢◌, ℕ, zero, suc, ◌+◌, Bool, true, false, ◌==◌, List, [], ◌∷◌, ◌++◌, Some, refl, sym, subst, ap, ◌∙◌, inl, inr}
 use Rattle.std.specs.Prelude.{slice_get, slice_set}
 use Rattle.nq_base.specs.Block.{value_of}
 use Rattle.nq_base.specs.declared.Entry.{Entry}
@@ -21,13 +21,13 @@ use Rattle.nq_model.specs.Skew.{IsWithinSkew}
 use Rattle.nq_model.specs.World.{Head, World, after_server, after_client, start, run}
 use Rattle.nq_promises.specs.Bounds.{KeepsBounds}
 use Rattle.walk_fates.proofs.ClientFates.{IsOwn, Mid}
-use Rattle.walk_fates.proofs.ServerTells.{AllQuiet, IsQuiet, Effects, without, goes_through, pushes, Moves, same_lines, attaches_one, decides_one, ServerTells}
+use Rattle.walk_fates.proofs.ServerTells.{IsQuiet, Effects, without, goes_through, pushes, Moves, same_lines, attaches_one, decides_one, ServerTells}
 use Rattle.walk_fates.proofs.StepFates.{mid-begins, mid-hears, mid-call-step, mid-tick-step}
 use Rattle.walk_client.proofs.ClientMoves.{some-same, none-some}
 use Rattle.walk_leases.proofs.WorldClocks.{call-still, tick-still}
 use Rattle.walk_run.proofs.Packets.{In, Told, in-get}
-use Rattle.walk_run.proofs.RunCases.{client_at, During, Keeps, run-keeps}
-use Rattle.walk_run.proofs.Worlds.{get-set-same, get-set-other, run-holds, to-told}
+use Rattle.walk_run.proofs.RunCases.{client_at, Keeps, run-keeps}
+use Rattle.walk_run.proofs.Worlds.{get-set-other, run-holds, to-told}
 use Rattle.walk_server.proofs.Rows.{same-number, number-same}
 
 -- ---- what is so of each place of a journal

@@ -1,33 +1,32 @@
 -- There is a schedule after which delayed writes had each fate: the premises of the laws are met.
-use Rattle.std.specs.Prelude.{◌≡◌, ℕ, List, Some, true, false, slice_get}
+use Rattle.std.specs.Prelude.{◌⊎◌, ℕ, List, [], ◌∷◌}
 use Rattle.nq_base.specs.declared.Entry.{Entry}
 use Rattle.nq_base.specs.declared.Event.{Event}
-use Rattle.nq_promises.specs.Bounds.{KeepsBounds}
-use Rattle.nq_model.specs.Client.{Client}
-use Rattle.nq_model.specs.Journal.{Exists, exists, covers, is_stored, is_lost}
+use Rattle.nq_model.specs.Fate.{IsDelayed, IsEnded, IsWaiting}
+use Rattle.nq_model.specs.Journal.{IsStored, IsLost}
 use Rattle.nq_model.specs.Skew.{IsWithinSkew}
-use Rattle.nq_model.specs.World.{Head, run}
-use Rattle.nq_promises.specs.WritesAreAccounted.{Encloses, IsDelayedBy}
+use Rattle.nq_model.specs.World.{Head, World, run}
+use Rattle.nq_promises.specs.Bounds.{KeepsBounds}
+use Rattle.nq_promises.specs.WritesAreAccounted.{IsStillUnsaved}
 
--- the premises are met, and not in vain: after some schedule within skew one delayed write of a running incarnation was
--- stored, a second was lost, and a third, which no S or L covers, lies within a dirty entry
+-- a fact of some entry, of what stands before it, and of what stands after it in the order of time
+abbrev pub AtSomePlace : (List Entry → Entry → List Entry → Type 0) → (after : List Entry) → List Entry → Type 0
+AtSomePlace Fact after [] = ⊥
+AtSomePlace Fact after (entry ∷ before) = Fact after entry before ⊎ AtSomePlace Fact (entry ∷ after) before
+
+-- one delayed write was stored, a second was lost, a third ended as its host started again, and a fourth, of the incarnation
+-- that runs, waits at its client
+pub record ShowsEachFate (w : World) : Type 0 where
+  pub stored : AtSomePlace (λ after write before. IsDelayed write × IsStored w.journal write) [] w.journal
+  pub lost : AtSomePlace (λ after write before. IsDelayed write × IsLost w.journal write) [] w.journal
+  pub ended : AtSomePlace (λ after write before. IsEnded w.journal after write) [] w.journal
+  pub waiting : AtSomePlace (λ after write before. IsWaiting w.journal after write × IsStillUnsaved w write) [] w.journal
+
+-- the premises are met, and not in vain: there is such a schedule, within bounds and within skew
 pub record HasEachFate : Type 0 where
   pub most : ℕ
   pub head : Head
   pub events : List Event
-  pub host : ℕ
-  pub client : Client
-  pub stored : Entry
-  pub lost : Entry
-  pub waiting : Entry
   pub bounds : KeepsBounds most head events
   pub within : IsWithinSkew head.hosts most events
-  pub runs : slice_get (run head events).clients host ≡ Some client
-  pub stored_there : Exists (λ entry. entry ≡ stored) (run head events).journal
-  pub lost_there : Exists (λ entry. entry ≡ lost) (run head events).journal
-  pub waiting_there : Exists (λ entry. entry ≡ waiting) (run head events).journal
-  pub is_stored : is_stored (run head events).journal stored ≡ true
-  pub is_lost : is_lost (run head events).journal lost ≡ true
-  pub delayed : IsDelayedBy client.who waiting
-  pub uncovered : exists (λ entry. covers entry waiting) (run head events).journal ≡ false
-  pub dirty : Exists (λ p. Encloses p waiting) client.dirty
+  pub shows : ShowsEachFate (run head events)

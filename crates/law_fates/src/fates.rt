@@ -21,8 +21,8 @@ pub fn each_write_has_its_fate_in_every_run()
     ensures { EachHasItsFateInEveryRun }
 {}
 
-/// There is such a schedule, after which one delayed write of a running incarnation was stored, a second was lost, and a third
-/// waits in a dirty entry.
+/// There is such a schedule, after which one delayed write was stored, a second was lost, a third ended as its host started
+/// again, and a fourth waits in a dirty entry of the incarnation that runs.
 pub fn each_fate_is_met()
     ensures { HasEachFate }
 {}

@@ -8,7 +8,7 @@ use Rattle.nq_base.specs.declared.Party.{Party}
 use Rattle.law_calls.proofs.OrderedCalls.{ordered-in-every-run, of-their-call-in-every-run}
 use Rattle.law_chains.proofs.ChainWorlds.{chain-fits}
 use Rattle.law_endings.proofs.ExcusesInRuns.{losses-excused}
-use Rattle.law_fates.proofs.FateLaws.{accounted, waiting}
+use Rattle.law_fates.proofs.FateLaws.{accounted, waiting, fates}
 use Rattle.law_held.proofs.HeldLaws.{held-in-every-run}
 use Rattle.nq_laws.proofs.CachedReads.{cached-in-every-run}
 use Rattle.nq_promises.specs.Headline.{HeadlineHolds, AtEveryMoment}
@@ -33,6 +33,7 @@ headline most head events bounds within =
       legal = legal-in-every-run most head events bounds within;
       accounted = accounted most head events bounds within;
       waiting = waiting most head events bounds within;
+      fates = fates most head events bounds within;
       excused = losses-excused chain-fits most head events bounds within;
       reported = reported-in-every-run head events;
       synchronized = synchronized-in-every-run most head events bounds within;

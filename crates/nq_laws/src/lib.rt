@@ -21,7 +21,8 @@ pub use law_endings::{
     losses_are_excused_in_every_run, unsaved_files_are_bound_or_excused_in_every_run,
 };
 pub use law_fates::{
-    each_fate_is_met, waiting_writes_are_unsaved_in_every_run, writes_are_accounted_in_every_run,
+    each_fate_is_met, each_write_has_its_fate_in_every_run,
+    waiting_writes_are_unsaved_in_every_run, writes_are_accounted_in_every_run,
 };
 pub use law_held::{held_are_met, kept_blocks_are_held_in_every_run};
 pub use law_leases::{lease_interval_in_every_run, lease_interval_is_met};

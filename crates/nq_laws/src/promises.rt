@@ -2,7 +2,7 @@
 
 ghost use Rattle.nq_promises.specs.CallsAreOrdered.{OrderedInEveryRun, ReadsAreOfTheirCallInEveryRun};
 ghost use Rattle.nq_promises.specs.LossesAreExcused.{LossesAreExcused};
-ghost use Rattle.nq_promises.specs.WritesAreAccounted.{AccountedInEveryRun, WaitingAreUnsavedInEveryRun};
+ghost use Rattle.nq_promises.specs.WritesAreAccounted.{AccountedInEveryRun, EachHasItsFateInEveryRun, WaitingAreUnsavedInEveryRun};
 ghost use Rattle.nq_promises.specs.BlocksAreHeld.{KeptBlocksAreHeldInEveryRun};
 ghost use Rattle.nq_promises.specs.CachedReadsAreAtOnce.{CachedAtOnceInEveryRun};
 ghost use Rattle.nq_promises.specs.Headline.{AtEveryMoment};
@@ -21,6 +21,7 @@ pub fn headline()
     ensures legal { ReadsAreLegalInEveryRun }
     ensures accounted { AccountedInEveryRun }
     ensures waiting { WaitingAreUnsavedInEveryRun }
+    ensures fates { EachHasItsFateInEveryRun }
     ensures excused { LossesAreExcused }
     ensures reported { ReportedInEveryRun }
     ensures synchronized { SynchronizedInEveryRun }

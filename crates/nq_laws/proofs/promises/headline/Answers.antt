@@ -1,7 +1,7 @@
 use Rattle.law_calls.proofs.OrderedCalls.{of-their-call-in-every-run, ordered-in-every-run}
 use Rattle.law_chains.proofs.ChainWorlds.{chain-fits}
 use Rattle.law_endings.proofs.ExcusesInRuns.{losses-excused}
-use Rattle.law_fates.proofs.FateLaws.{accounted, waiting}
+use Rattle.law_fates.proofs.FateLaws.{accounted, waiting, fates}
 use Rattle.law_held.proofs.HeldLaws.{held-in-every-run}
 use Rattle.nq_laws.proofs.CachedReads.{cached-in-every-run}
 use Rattle.nq_laws.proofs.HeadlineParts.{at-every-moment}
@@ -24,6 +24,9 @@ returns-clause-accounted c = accounted
 
 pub returns-clause-waiting : goal.returns-clause-waiting
 returns-clause-waiting c = waiting
+
+pub returns-clause-fates : goal.returns-clause-fates
+returns-clause-fates c = fates
 
 pub returns-clause-excused : goal.returns-clause-excused
 returns-clause-excused c = losses-excused chain-fits
