@@ -18,9 +18,10 @@ use Rattle.nq_model.specs.World.{after_server, after_client, start, Head, run}
 use Rattle.nq_base.specs.declared.Call.{Call}
 use Rattle.nq_base.specs.declared.Entry.{Entry}
 use Rattle.nq_base.specs.declared.Event.{Event}
-use Rattle.law_calls.specs.Met.{AreMet, is_delayed, went_through, is_resize, is_cached, is_counted_served}
+use Rattle.law_calls.specs.Met.{AreMet, went_through, is_resize, is_cached, is_counted_served}
 use Rattle.nq_model.proofs.SkewTest.{skew-test-is-sound}
 use Rattle.nq_model.specs.Journal.{exists}
+use Rattle.nq_model.specs.Fate.{is_delayed}
 
 -- one host, one file of one block
 abbrev one-host : Head

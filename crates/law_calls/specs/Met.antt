@@ -4,14 +4,10 @@ use Rattle.nq_base.specs.declared.Entry.{Entry}
 use Rattle.nq_base.specs.declared.Entry.TheVariants.{W, R, Z}
 use Rattle.nq_base.specs.declared.Event.{Event}
 use Rattle.nq_promises.specs.Bounds.{KeepsBounds}
+use Rattle.nq_model.specs.Fate.{is_delayed}
 use Rattle.nq_model.specs.Journal.{exists, is_counted}
 use Rattle.nq_model.specs.Skew.{IsWithinSkew}
 use Rattle.nq_model.specs.World.{Head, run}
-
--- whether an entry is a write that was delayed
-abbrev pub is_delayed : Entry → Bool
-is_delayed (W who file block number value false) = true
-is_delayed other = false
 
 -- whether an entry is a write that went through
 abbrev pub went_through : Entry → Bool

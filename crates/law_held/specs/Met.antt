@@ -1,20 +1,19 @@
 -- There is a schedule after which the server holds what was written: the premises of the law are met.
 use Rattle.std.specs.Prelude.{◌≡◌, ℕ, Bool, true, false, ◌&&◌, ◌==◌, List, Option, Some, None, slice_get}
 use Rattle.nq_base.specs.Block.{value_of}
-use Rattle.nq_base.specs.declared.Entry.{Entry}
-use Rattle.nq_base.specs.declared.Entry.TheVariants.{S}
 use Rattle.nq_base.specs.declared.Event.{Event}
+use Rattle.nq_base.specs.declared.Who.{Who}
 use Rattle.nq_promises.specs.Bounds.{KeepsBounds}
+use Rattle.nq_promises.specs.Witnesses.{is_store}
 use Rattle.nq_model.specs.Journal.{exists}
 use Rattle.nq_model.specs.Kept.{File, find_file}
 use Rattle.nq_model.specs.Skew.{IsWithinSkew}
 use Rattle.nq_model.specs.Synchronized.{held_value, last_length}
 use Rattle.nq_model.specs.World.{Head, World, run}
 
--- whether an entry stores writes
-abbrev pub is_store : Entry → Bool
-is_store (S who file block first last now) = true
-is_store other = false
+-- the incarnation that writes
+abbrev pub writer : Who
+writer = record { host = 0; inc = 1 }
 
 -- whether a block is there and has the value 7
 abbrev pub is_body_of_7 : Option (List ℕ) → Bool
@@ -31,9 +30,10 @@ abbrev pub has_7 : Option File → Bool
 has_7 None = false
 has_7 (Some file) = is_body_of_7 (slice_get file.bodies 0)
 
--- whether delayed writes were stored, the first block of file 1 has and is to have the value 7, and its length was changed to 2
+-- whether a delayed write to the first block of file 1 was stored, the block has and is to have the value 7, and the file's
+-- length was changed to 2
 abbrev pub has_held : World → Bool
-has_held w = exists is_store w.journal && has_7 (find_file 1 w.server.kept.files) && held_value w.journal 1 0 == 7 && is_2 (last_length w.journal 1)
+has_held w = exists (is_store writer 1 0 1) w.journal && has_7 (find_file 1 w.server.kept.files) && held_value w.journal 1 0 == 7 && is_2 (last_length w.journal 1)
 
 -- there is a schedule within skew after which it is so
 pub record HeldAreMet : Type 0 where

@@ -3,9 +3,10 @@ use Rattle.std.proofs.Common.{◌≡◌, true, List, [], ◌∷◌, refl, arith}
 use Rattle.nq_base.specs.Block.{filled, zeros}
 use Rattle.nq_base.specs.declared.Call.{Call}
 use Rattle.nq_base.specs.declared.Event.{Event}
-use Rattle.walk_run.proofs.NoCrash.{no-crash-within}
-use Rattle.law_leases.specs.Met.{IsMet, holds_running}
-use Rattle.std.specs.Prelude.{slice_get}
+use Rattle.walk_run.proofs.NoCrash.{no-crash-within, one-first}
+use Rattle.nq_promises.specs.Bounds.{BootsWithin}
+use Rattle.law_leases.specs.Met.{IsMet, IsMetInRecovery, holds_running, is_recovering}
+use Rattle.std.specs.Prelude.{slice_get, All}
 use Rattle.nq_model.proofs.SkewTest.{skew-test-is-sound}
 use Rattle.nq_model.specs.Ask.{grant_of, sharing_row, caching_row, shared_again, renewed_row, put_off, free, put_off_by_own, granted, no_lease}
 use Rattle.nq_model.specs.ClientStep.{begins_call, is_called, says_busy, at_time, sends_again, fresh_client, attached_client, starts}
@@ -41,4 +42,32 @@ is-met = record {
   bounds = record { hosts = omega arith; first_long = omega arith; first_short = omega arith; boots = no-crash-within 60 one-read refl };
   within = skew-test-is-sound 2 60 one-read refl;
   holds = holds-one;
+}
+
+-- then the server crashes: it recovers, and the client's lease runs on
+abbrev crashed : List Event
+crashed = Event.Crash 60 ∷ one-read
+
+boots-few : All (BootsWithin 60) crashed
+boots-few = one-first 60 (Event.Crash 60) one-read (omega arith, omega arith) (no-crash-within 60 one-read refl)
+
+holds-on : holds_running 1 (slice_get (run two-hosts crashed).clients 0) ≡ true
+unfolding filled zeros grant_of sharing_row caching_row shared_again renewed_row put_off free put_off_by_own granted no_lease begins_call is_called says_busy at_time sends_again fresh_client attached_client starts decides creates writes_through stores wrote stores_recovering resizes removes puts_off commits vacates_lease loses without_lease granted_lease holds caches_block purges knows_revision marks_through ends_push spends attached pauses cancels notes_notice new_file written_file resized_file fenced_file with_row with_files with_new_file sends_request after_seq after_number takes_push gives_up quiet drops says after_notices keeping keeping_with with_table attaches tells_later serves leases vacates ends_writing opens boot crash answers after_read reads_cached after_write marks_written empty_table with_rows after_draw after_server after_client start
+holds-on = refl
+
+recovers : is_recovering (run two-hosts crashed).server.phase ≡ true
+unfolding filled zeros grant_of sharing_row caching_row shared_again renewed_row put_off free put_off_by_own granted no_lease begins_call is_called says_busy at_time sends_again fresh_client attached_client starts decides creates writes_through stores wrote stores_recovering resizes removes puts_off commits vacates_lease loses without_lease granted_lease holds caches_block purges knows_revision marks_through ends_push spends attached pauses cancels notes_notice new_file written_file resized_file fenced_file with_row with_files with_new_file sends_request after_seq after_number takes_push gives_up quiet drops says after_notices keeping keeping_with with_table attaches tells_later serves leases vacates ends_writing opens boot crash answers after_read reads_cached after_write marks_written empty_table with_rows after_draw after_server after_client start
+recovers = refl
+
+pub is-met-in-recovery : IsMetInRecovery
+is-met-in-recovery = record {
+  most = 60;
+  head = two-hosts;
+  events = crashed;
+  host = 0;
+  file = 1;
+  bounds = record { hosts = omega arith; first_long = omega arith; first_short = omega arith; boots = boots-few };
+  within = skew-test-is-sound 2 60 crashed refl;
+  holds = holds-on;
+  recovers = recovers;
 }

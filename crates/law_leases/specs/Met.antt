@@ -1,7 +1,8 @@
 -- There is a schedule after which a client holds a lease that runs: the premises of the law are met.
-use Rattle.std.specs.Prelude.{◌&&◌, ℕ, Bool, false, List, Option, None, Some, IsTrue, nat_lt, slice_get}
+use Rattle.std.specs.Prelude.{◌&&◌, ℕ, Bool, true, false, List, Option, None, Some, IsTrue, nat_lt, slice_get}
 use Rattle.nq_base.specs.declared.Event.{Event}
 use Rattle.nq_model.specs.Client.{Client, Lease, lease_on}
+use Rattle.nq_model.specs.Server.{Phase, serving, recovering}
 use Rattle.nq_model.specs.Skew.{IsWithinSkew}
 use Rattle.nq_model.specs.Table.{caches}
 use Rattle.nq_model.specs.World.{Head, run}
@@ -27,3 +28,20 @@ pub record IsMet : Type 0 where
   pub bounds : KeepsBounds most head events
   pub within : IsWithinSkew head.hosts most events
   pub holds : IsTrue (holds_running file (slice_get (run head events).clients host))
+
+-- whether the server recovers
+abbrev pub is_recovering : Phase → Bool
+is_recovering serving = false
+is_recovering (recovering until heard last) = true
+
+-- and after some schedule a client holds such a lease while the server recovers
+pub record IsMetInRecovery : Type 0 where
+  pub most : ℕ
+  pub head : Head
+  pub events : List Event
+  pub host : ℕ
+  pub file : ℕ
+  pub bounds : KeepsBounds most head events
+  pub within : IsWithinSkew head.hosts most events
+  pub holds : IsTrue (holds_running file (slice_get (run head events).clients host))
+  pub recovers : IsTrue (is_recovering (run head events).server.phase)

@@ -1,6 +1,6 @@
 //! The lease interval.
 
-ghost use Rattle.law_leases.specs.Met.{IsMet};
+ghost use Rattle.law_leases.specs.Met.{IsMet, IsMetInRecovery};
 ghost use Rattle.nq_promises.specs.LeaseIntervals.{LeaseIntervalInEveryRun};
 
 /// The lease interval is kept after every schedule that is within skew over the longest term of all boots: while a caching
@@ -14,4 +14,9 @@ pub fn lease_interval_in_every_run()
 /// There is such a schedule, and a client that holds such a lease after it.
 pub fn lease_interval_is_met()
     ensures { IsMet }
+{}
+
+/// There is one after which a client holds such a lease while the server recovers.
+pub fn lease_interval_is_met_in_recovery()
+    ensures { IsMetInRecovery }
 {}

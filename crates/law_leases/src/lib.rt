@@ -4,4 +4,6 @@
 
 mod intervals;
 
-pub use intervals::{lease_interval_in_every_run, lease_interval_is_met};
+pub use intervals::{
+    lease_interval_in_every_run, lease_interval_is_met, lease_interval_is_met_in_recovery,
+};

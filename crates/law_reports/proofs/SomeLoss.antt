@@ -28,7 +28,7 @@ abbrev pub one-host : Head
 one-host = record { hosts = 1; term = 5; longest = 60; files = (97 ∷ [], 1) ∷ [] }
 
 abbrev body : List ℕ
-body = 0 ∷ 0 ∷ 0 ∷ 5 ∷ []
+body = filled 5
 
 -- host 0 writes; its lease ends while the push is under way, which is refused; the newest event first
 abbrev pub one-loss : List Event

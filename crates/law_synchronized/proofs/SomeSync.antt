@@ -25,7 +25,7 @@ abbrev one-host : Head
 one-host = record { hosts = 1; term = 30; longest = 60; files = (97 ∷ [], 1) ∷ [] }
 
 abbrev body : List ℕ
-body = 0 ∷ 0 ∷ 0 ∷ 5 ∷ []
+body = filled 5
 
 -- host 0 writes under a new lease, and syncs; the newest event first
 abbrev one-sync : List Event

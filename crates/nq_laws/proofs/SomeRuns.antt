@@ -6,7 +6,7 @@ use Rattle.nq_base.specs.declared.Call.{Call}
 use Rattle.nq_base.specs.declared.Event.{Event}
 use Rattle.nq_base.specs.declared.Loss.{Loss}
 use Rattle.nq_base.specs.declared.Who.{Who}
-use Rattle.nq_laws.specs.LawsAreMet.{in_order, is_delayed, is_lost_write, is_loss, is_store, is_silence, is_silence_of, is_crash, is_opening, is_start, is_read, is_cut, is_growth, is_write, is_refusal, LosesAfterSilence, LosesAfterRecovery, StoresAfterRestart, CutsAndGrows, LawsAreMet}
+use Rattle.nq_laws.specs.LawsAreMet.{is_refusal, LosesAfterSilence, LosesAfterRecovery, StoresAfterRestart, CutsAndGrows, LawsAreMet}
 use Rattle.walk_run.proofs.NoCrash.{one-first, no-crash-within, no-crash-after}
 use Rattle.nq_promises.specs.Bounds.{BootsWithin, KeepsBounds}
 use Rattle.nq_model.proofs.SkewTest.{skew-test-is-sound}
@@ -23,13 +23,14 @@ use Rattle.nq_model.specs.ServerStep.{attaches, tells_later, serves, leases, vac
 use Rattle.nq_model.specs.Settle.{answers, after_read, reads_cached, after_write, marks_written}
 use Rattle.nq_model.specs.Table.{empty_table, with_rows, after_draw}
 use Rattle.nq_model.specs.World.{Head, after_server, after_client, start, run}
+use Rattle.nq_promises.specs.Witnesses.{in_order, is_delayed_write, is_lost_write, is_loss, is_store, is_silence, is_silence_of, is_crash, is_opening, is_start, is_read, is_cut, is_growth, is_write}
 
 -- one host that wants short leases, and one file
 abbrev one-host : Head
 one-host = record { hosts = 1; term = 5; longest = 5; files = (97 ∷ [], 2) ∷ [] }
 
 abbrev body : List ℕ
-body = 0 ∷ 0 ∷ 0 ∷ 5 ∷ []
+body = filled 5
 
 abbrev first-one : Who
 first-one = record { host = 0; inc = 1 }
@@ -115,7 +116,7 @@ crashed-none-silent : exists is_silence (run one-host crashed).journal ≡ false
 unfolding filled zeros grant_of sharing_row caching_row shared_again renewed_row put_off free put_off_by_own granted no_lease begins_call is_called says_busy at_time at_server_time sends_again fresh_client attached_client starts decides creates writes_through stores wrote stores_recovering resizes removes puts_off commits vacates_lease loses without_lease granted_lease holds caches_block purges knows_revision marks_through ends_push spends attached pauses cancels notes_notice new_file written_file resized_file fenced_file with_row with_files with_new_file sends_request after_seq after_number takes_push gives_up quiet drops says after_notices keeping keeping_with with_table attaches tells_later serves leases vacates ends_writing opens boot crash answers after_read reads_cached after_write marks_written empty_table with_rows after_draw after_server after_client start
 crashed-none-silent = refl
 
-restarted-late : in_order (is_read (run one-host restarted).journal (next_incarnation first-one) 1 0 5 ∷ is_store first-one 1 0 1 ∷ is_start (next_incarnation first-one) ∷ is_delayed first-one 1 0 1 5 ∷ []) (run one-host restarted).journal ≡ true
+restarted-late : in_order (is_read (run one-host restarted).journal (next_incarnation first-one) 1 0 5 ∷ is_store first-one 1 0 1 ∷ is_start (next_incarnation first-one) ∷ is_delayed_write first-one 1 0 1 5 ∷ []) (run one-host restarted).journal ≡ true
 unfolding filled zeros grant_of sharing_row caching_row shared_again renewed_row put_off free put_off_by_own granted no_lease begins_call is_called says_busy at_time at_server_time sends_again fresh_client attached_client starts decides creates writes_through stores wrote stores_recovering resizes removes puts_off commits vacates_lease loses without_lease granted_lease holds caches_block purges knows_revision marks_through ends_push spends attached pauses cancels notes_notice new_file written_file resized_file fenced_file with_row with_files with_new_file sends_request after_seq after_number takes_push gives_up quiet drops says after_notices keeping keeping_with with_table attaches tells_later serves leases vacates ends_writing opens boot crash answers after_read reads_cached after_write marks_written empty_table with_rows after_draw after_server after_client start
 restarted-late = refl
 

@@ -28,3 +28,4 @@ pub mod TagsAreInOrder
 pub mod OneRequestPerSequence
 pub mod RowsStandApart
 pub mod RecoveriesWait
+pub mod Witnesses
