@@ -10,9 +10,10 @@ use Rattle.nq_base.specs.declared.Push.{Push}
 use Rattle.nq_base.specs.declared.Who.{Who}
 use Rattle.walk_calls.proofs.CallsFit.{entry_who}
 use Rattle.walk_client.proofs.ClientMoves.{some-same, none-some}
-use Rattle.nq_model.specs.Client.{Client, ClientStep, Ticket, UnderWay, losses_of, is_push_of, other_dirty}
+use Rattle.nq_model.proofs.ByFile.{of-added}
+use Rattle.nq_model.specs.Client.{Client, ClientStep, Ticket, UnderWay, losses_of, is_push_of, other_dirty, file_of_loss, add_losses}
 use Rattle.nq_model.specs.Hear.{loss_of, loss_entry, all_dirty, other_push, loses, waits_for, with_through, marks_through}
-use Rattle.nq_model.specs.Journal.{Throughout}
+use Rattle.nq_model.specs.Journal.{Throughout, Each}
 use Rattle.nq_promises.specs.LossesAreReported.{cleans}
 use Rattle.walk_run.proofs.Members.{in-filtered}
 use Rattle.walk_run.proofs.Packets.{In, in-append}
@@ -119,18 +120,21 @@ losses-kept who number file (e ∷ es) journal each h =
     (subst (λ z. KeptHere z (es ++ journal)) k.is tt, losses-kept who number file es journal (λ x i. each x (inr i)) h)
 
 -- losses of another file
-losses-other : (f file : ℕ) (losses : List Loss) (ps : List Push) → (f ≡ file → ⊥) → ((p : Push) → In ps p → p.file ≡ file) → losses_of f losses ≡ [] → losses_of f (losses ++ map loss_of ps) ≡ []
-losses-other f file [] [] apart each none = refl
-losses-other f file [] (p ∷ ps) apart each none = step (p.file == f) refl (losses-other f file [] ps apart (λ q i. each q (inr i)) refl)
+all-on : (file : ℕ) (ps : List Push) → ((p : Push) → In ps p → p.file ≡ file) → Each (λ l. l.file ≡ file) (map loss_of ps)
+all-on file [] each = tt
+all-on file (p ∷ ps) each = (each p (inl refl), all-on file ps (λ q i. each q (inr i)))
+
+none-other : (f file : ℕ) (ps : List Push) → (f ≡ file → ⊥) → ((p : Push) → In ps p → p.file ≡ file) → losses_of f (map loss_of ps) ≡ []
+none-other f file [] apart each = refl
+none-other f file (p ∷ ps) apart each = step (p.file == f) refl (none-other f file ps apart (λ q i. each q (inr i)))
   where
     step : (b : Bool) → (p.file == f) ≡ b → losses_of f (map loss_of ps) ≡ [] → (if b then loss_of p ∷ losses_of f (map loss_of ps) else losses_of f (map loss_of ps)) ≡ []
     step true e rest = absurd (apart (sym (same-number p.file f e) ∙ each p (inl refl)))
     step false e rest = rest
-losses-other f file (l ∷ losses) ps apart each none = step (l.file == f) none (λ n. losses-other f file losses ps apart each n)
-  where
-    step : (b : Bool) → (if b then l ∷ losses_of f losses else losses_of f losses) ≡ [] → (losses_of f losses ≡ [] → losses_of f (losses ++ map loss_of ps) ≡ []) → (if b then l ∷ losses_of f (losses ++ map loss_of ps) else losses_of f (losses ++ map loss_of ps)) ≡ []
-    step true n rest = absurd (cc)
-    step false n rest = rest n
+
+losses-other : (f file : ℕ) (losses : List Loss) (ps : List Push) → (f ≡ file → ⊥) → ((p : Push) → In ps p → p.file ≡ file) → losses_of f losses ≡ [] → losses_of f (add_losses file (map loss_of ps) losses) ≡ []
+losses-other f file losses ps apart each none =
+    of-added file_of_loss file f (map loss_of ps) losses (all-on file ps each) ∙ rw (none, none-other f file ps apart each) refl
 
 -- a call that waits for another file, or for none
 cleans-other : (file f : ℕ) (u : UnderWay) → Sparing file u → cleans f u.call ≡ true → f ≡ file → ⊥
@@ -155,7 +159,7 @@ pub spent-loses : {call : Option UnderWay} {line : HostRow} {journal : List Entr
 unfolding loses
 spent-loses {call = call} {line = line} {journal = journal} t file s = record {
   mid = record {
-    keeps = subst (λ j. KeepsOk (Sparing file) line c.who c.number c.call c.ticket (c.losses ++ map loss_of ps) (other_dirty file c.dirty) (other_push file c.push) j) (sym (append_assoc es t.entries journal)) (all-losses file es each s.free base);
+    keeps = subst (λ j. KeepsOk (Sparing file) line c.who c.number c.call c.ticket (add_losses file (map loss_of ps) c.losses) (other_dirty file c.dirty) (other_push file c.push) j) (sym (append_assoc es t.entries journal)) (all-losses file es each s.free base);
     above = m.above;
     kept = subst (Throughout KeptHere) (sym (append_assoc es t.entries journal)) (losses-kept c.who c.number file es (t.entries ++ journal) each m.kept);
     own = λ e i. owns e (in-append es t.entries e i);
@@ -196,7 +200,7 @@ spent-loses {call = call} {line = line} {journal = journal} t file s = record {
       step true e = none-some p e
       step false e = e
 
-  base : KeepsOk (Sparing file) line c.who c.number c.call c.ticket (c.losses ++ map loss_of ps) (other_dirty file c.dirty) (other_push file c.push) (t.entries ++ journal)
+  base : KeepsOk (Sparing file) line c.who c.number c.call c.ticket (add_losses file (map loss_of ps) c.losses) (other_dirty file c.dirty) (other_push file c.push) (t.entries ++ journal)
   base = record {
     fits = λ k u e. none-some k (sym s.free ∙ e);
     is_open = m.keeps.is_open;
