@@ -1,0 +1,100 @@
+//! What is held on a file.
+
+ghost use Rattle.std.specs.Prelude.{◌≡◌, option_map, option_copied};
+ghost use Rattle.nq_model.specs.Client.{is_live, lets_read, lets_write, renew_due};
+
+use crate::lease::Lease;
+use nq_base::{Mode, Ticks};
+
+/// What is held on a file.
+#[derive(Drop)]
+pub enum Held {
+    /// No lease.
+    Nothing,
+    /// A lease under which nothing is cached.
+    NonCaching(Lease),
+    /// A lease under which reads are answered from the cache.
+    Reading(Lease),
+    /// A lease under which writes are delayed as well.
+    Writing(Lease),
+}
+
+impl Held {
+    ghost use Rattle.nq_held.specs.Leases.{lease_of, plain_lease, mode_of, passes, as_used};
+
+    /// The lease, if one is held.
+    pub fn lease(&self) -> Option<&Lease>
+        ensures { option_copied result ≡ plain_lease self.now }
+    {
+        match self {
+            Held::Nothing => None,
+            Held::NonCaching(lease) | Held::Reading(lease) | Held::Writing(lease) => Some(lease),
+        }
+    }
+
+    /// The kind of the lease, if one is held.
+    pub fn mode(&self) -> Option<Mode>
+        ensures { result ≡ mode_of self.now }
+    {
+        match self {
+            Held::Nothing => None,
+            Held::NonCaching(_) => Some(Mode::NonCaching),
+            Held::Reading(_) => Some(Mode::Reading),
+            Held::Writing(_) => Some(Mode::Writing),
+        }
+    }
+
+    /// Whether a lease is held that runs.
+    pub fn live(&self, now: Ticks) -> bool
+        ensures { result ≡ passes (is_live now) (lease_of self.now) }
+    {
+        match self {
+            Held::Nothing => false,
+            Held::NonCaching(lease) | Held::Reading(lease) | Held::Writing(lease) => {
+                lease.is_live(now)
+            }
+        }
+    }
+
+    /// Whether a lease is held that runs and lets its holder cache.
+    pub fn caches(&self, now: Ticks) -> bool
+        ensures { result ≡ passes (lets_read now) (lease_of self.now) }
+    {
+        match self {
+            Held::Nothing | Held::NonCaching(_) => false,
+            Held::Reading(lease) | Held::Writing(lease) => lease.is_live(now),
+        }
+    }
+
+    /// Whether a lease is held that runs and lets its holder delay writes.
+    pub fn delays(&self, now: Ticks) -> bool
+        ensures { result ≡ passes (lets_write now) (lease_of self.now) }
+    {
+        match self {
+            Held::Nothing | Held::NonCaching(_) | Held::Reading(_) => false,
+            Held::Writing(lease) => lease.is_live(now),
+        }
+    }
+
+    /// Whether the lease is to be renewed: it caches, runs, was used and is about to end.
+    pub fn renew_due(&self, now: Ticks) -> bool
+        ensures { result ≡ passes (renew_due now) (lease_of self.now) }
+    {
+        match self {
+            Held::Nothing | Held::NonCaching(_) => false,
+            Held::Reading(lease) | Held::Writing(lease) => lease.is_live(now) && lease.is_due(now),
+        }
+    }
+
+    /// Notes that the lease was used.
+    pub fn mark_used(&mut self)
+        ensures { lease_of self.new ≡ option_map as_used (lease_of self.old) }
+    {
+        match self {
+            Held::Nothing => {}
+            Held::NonCaching(lease) => lease.used = true,
+            Held::Reading(lease) => lease.used = true,
+            Held::Writing(lease) => lease.used = true,
+        }
+    }
+}

@@ -1,0 +1,70 @@
+use super::*;
+use nq_base::{FileId, Grant, Mode, Rev, Tag, Ticks};
+
+const FILE: FileId = FileId(1);
+
+/// A grant of 30 ticks of a file of two blocks.
+fn grant(mode: Mode, number: u64, since: u64) -> Grant {
+    Grant {
+        mode,
+        term: 30,
+        tag: Tag { boot: 1, number },
+        since: Tag {
+            boot: 1,
+            number: since,
+        },
+        rev: Rev(0),
+        blocks: 2,
+    }
+}
+
+/// A reading lease with the tag 4, asked for at time 10.
+fn reading() -> Held {
+    let Taken { held, how } = Held::Nothing.take(FILE, &grant(Mode::Reading, 4, 4), Ticks(10));
+    match how {
+        Take::First | Take::Same | Take::Broken => held,
+    }
+}
+
+#[test]
+fn a_chain_is_broken_where_it_began_later(rt: HostRuntime) {
+    for (since, broken) in [(3, false), (4, false), (5, true)] {
+        let Taken { held, how } = reading().take(FILE, &grant(Mode::Writing, 6, since), Ticks(20));
+        assert!(rt; how.is_broken() == broken);
+        assert!(rt; held.delays(Ticks(49)));
+        assert!(rt; !held.delays(Ticks(50)));
+    }
+}
+
+#[test]
+fn a_first_lease_breaks_nothing(rt: HostRuntime) {
+    let Taken { held, how } = Held::Nothing.take(FILE, &grant(Mode::Writing, 6, 5), Ticks(20));
+    match how {
+        Take::First => {}
+        Take::Same | Take::Broken => assert!(rt; false),
+    }
+    assert!(rt; held.mode() == Some(Mode::Writing));
+    match held.lease() {
+        Some(lease) => assert!(rt; lease.blocks == 2 && lease.expiry == Ticks(50)),
+        None => assert!(rt; false),
+    }
+}
+
+#[test]
+fn a_term_counts_from_the_first_sending(rt: HostRuntime) {
+    let held = reading();
+    for (now, live) in [(10, true), (39, true), (40, false)] {
+        assert!(rt; held.live(Ticks(now)) == live);
+        assert!(rt; held.caches(Ticks(now)) == live);
+    }
+}
+
+#[test]
+fn a_lease_is_renewed_once_it_was_used_and_is_about_to_end(rt: HostRuntime) {
+    let mut held = reading();
+    assert!(rt; !held.renew_due(Ticks(38)));
+    held.mark_used();
+    for (now, due) in [(36, false), (37, true), (39, true), (40, false)] {
+        assert!(rt; held.renew_due(Ticks(now)) == due);
+    }
+}
