@@ -26,7 +26,7 @@ pub struct Space {
     pub blocks: u32,
 }
 
-/// A block that gets another body. It is not `Copy`, so that no body is copied by accident.
+/// A block that gets another body.
 #[derive(Drop)]
 pub struct BlockChange {
     /// The file.
