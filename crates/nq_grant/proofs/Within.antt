@@ -12,23 +12,23 @@ decided false = inr refl
 pub find-within : {X : Type 0} (p q : X → Bool) → ((x : X) → q x ≡ false → p x ≡ false) → (xs : List X) → find p (filter q xs) ≡ find p xs
 find-within p q fails [] = refl
 find-within p q fails (x ∷ xs) = elim (decided (q x)) [
-    inl e ↦ rw e (ap (λ o. if p x then Some x else o) (find-within p q fails xs))
+  | inl e ↦ rw e (ap (λ o. if p x then Some x else o) (find-within p q fails xs))
   | inr e ↦ rw (e, fails x e) (find-within p q fails xs)
-  ]
+]
 
 pub any-within : {X : Type 0} (p q : X → Bool) → ((x : X) → q x ≡ false → p x ≡ false) → (xs : List X) → list_any p (filter q xs) ≡ list_any p xs
 any-within p q fails [] = refl
 any-within p q fails (x ∷ xs) = elim (decided (q x)) [
-    inl e ↦ rw e (ap (λ b. p x || b) (any-within p q fails xs))
+  | inl e ↦ rw e (ap (λ b. p x || b) (any-within p q fails xs))
   | inr e ↦ rw (e, fails x e) (any-within p q fails xs)
-  ]
+]
 
 found-passes : {X : Type 0} (p : X → Bool) (x : X) (xs : List X) → find p xs ≡ Some x → p x ≡ true
 found-passes p x [] h = cc
 found-passes p x (y ∷ xs) h = elim (decided (p y)) [
-    inl e ↦ let found : Some y ≡ Some x = rw e at h in let same : y ≡ x = cc in rw (← same) e
+  | inl e ↦ let found : Some y ≡ Some x = rw e at h in let same : y ≡ x = cc in rw (← same) e
   | inr e ↦ let rest : find p xs ≡ Some x = rw e at h in found-passes p x xs rest
-  ]
+]
 
 same-key : (file host f h : ℕ) (row : Row) (rows : List Row) → f ≡ file → h ≡ host → find_row file host rows ≡ Some row → find_row f h rows ≡ Some row
 same-key file host f h row rows d e found = rw (d, e) found

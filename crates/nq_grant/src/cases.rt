@@ -177,12 +177,7 @@ fn ask_in_time(table: &mut Table, question: &Question) -> Asked
         file: question.file,
         host: question.who.host,
     });
-    match scan::first_in_the_way(
-        table,
-        question.file,
-        question.who.host,
-        question.access,
-    ) {
+    match scan::first_in_the_way(table, question.file, question.who.host, question.access) {
         Some(row) => put_off(table, question, row, &own),
         None => ask_freely(table, question, &own),
     }

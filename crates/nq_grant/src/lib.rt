@@ -6,7 +6,6 @@ mod cases;
 mod rows;
 mod scan;
 
-
 pub use cases::ask;
 pub use scan::conflict;
 

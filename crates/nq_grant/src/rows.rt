@@ -120,7 +120,11 @@ pub(crate) fn renewed(table: &Table, question: &Question, own: &Row, mode: Mode,
         mode: greater(own.mode, mode),
         tag: table.peek_tag(),
         until: Ticks(until.max(time + u64::from(term) + SKEW)),
-        heard: if becomes_writing { question.time } else { own.heard },
+        heard: if becomes_writing {
+            question.time
+        } else {
+            own.heard
+        },
         ..*own
     }
 }

@@ -46,7 +46,12 @@ pub(crate) fn is_file_shared(table: &Table, file: FileId, host: Host) -> bool
 }
 
 /// The row of the least host that is in the way of what this host is about to do with the file.
-pub(crate) fn first_in_the_way(table: &Table, file: FileId, host: Host, access: Access) -> Option<Row>
+pub(crate) fn first_in_the_way(
+    table: &Table,
+    file: FileId,
+    host: Host,
+    access: Access,
+) -> Option<Row>
     ensures { result ≡ find (conflicts file host access) table.now.rows }
 {
     first_of(table.rows_of(file), file, host, access)

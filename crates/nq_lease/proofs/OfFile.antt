@@ -109,13 +109,13 @@ from-behind file row (r ∷ rows) h s = (is-no-earlier file row r h s.0, from-be
 middle-of : (file : ℕ) (rows : List Row) → AreFrom file rows → AreInOrder rows → Middle (is_below file) (is_upto file) (is_of file) rows
 middle-of file [] h o = tt
 middle-of file (r ∷ rows) h o = elim (decided (nat_le r.file file)) [
-    inl e ↦ inl (e, is-same file r h.0 e, middle-of file rows h.1 o.1)
+  | inl e ↦ inl (e, is-same file r h.0 e, middle-of file rows h.1 o.1)
   | inr e ↦ inr (e, is-later file r e, all-behind file r rows e o.0)
-  ]
+]
 
 pub parts-of : (file : ℕ) (rows : List Row) → AreInOrder rows → Parts (is_below file) (is_upto file) (is_of file) rows
 parts-of file [] o = tt
 parts-of file (r ∷ rows) o = elim (decided (nat_lt r.file file)) [
-    inl e ↦ inl (e, is-upto file r e, is-earlier file r e, parts-of file rows o.1)
+  | inl e ↦ inl (e, is-upto file r e, is-earlier file r e, parts-of file rows o.1)
   | inr e ↦ inr (e, middle-of file (r ∷ rows) (e, from-behind file r rows e o.0) o)
-  ]
+]

@@ -74,9 +74,9 @@ passed-behind file host row (r ∷ rows) b h =
 pub split-at : (file host : ℕ) (rows : List Row) → AreInOrder rows → Split (is_before file host) (is_row_of file host) rows
 split-at file host [] h = tt
 split-at file host (r ∷ rows) h = elim (decided (is_before file host r)) [
-    inl e ↦ inl (e, before-is-other file host r e, split-at file host rows h.1)
+  | inl e ↦ inl (e, before-is-other file host r e, split-at file host rows h.1)
   | inr e ↦ inr (e, passed-behind file host r rows e h.0)
-  ]
+]
 
 -- ---- a row that is put in
 
@@ -113,9 +113,9 @@ insert-split row p q is (r ∷ rows) (inl s) h =
     insert-behind row r rows (is.behind r s.0)
     ∙ rw (s.0, one-more (prefix_len p rows)) (ap (λ l. r ∷ l) (insert-split row p q is rows s.2 rest))
 insert-split row p q is (r ∷ rows) (inr s) h = elim (decided (q r)) [
-    inl e ↦ let bad : Some r ≡ None = rw e at h in cc
+  | inl e ↦ let bad : Some r ≡ None = rw e at h in cc
   | inr e ↦ rw s.0 (insert-before row r rows (is.before r s.0 e))
-  ]
+]
 
 set-split : (row : Row) (p q : Row → Bool) → IsPlaceOf row p q → (rows : List Row) (old : Row) → Split p q rows → find q rows ≡ Some old → insert_row row (filter (λ r. not (q r)) rows) ≡ set rows (prefix_len p rows) row
 set-split row p q is [] old s h = cc
@@ -124,9 +124,9 @@ set-split row p q is (r ∷ rows) old (inl s) h =
     rw (s.0, s.1, one-more (prefix_len p rows)) (insert-behind row r (filter (λ x. not (q x)) rows) (is.behind r s.0)
     ∙ ap (λ l. r ∷ l) (set-split row p q is rows old s.2 rest))
 set-split row p q is (r ∷ rows) old (inr s) h = elim (decided (q r)) [
-    inl e ↦ rw (s.0, e, filter-none q rows (find-passed p q rows s.1)) (insert-front row p q is rows s.1)
+  | inl e ↦ rw (s.0, e, filter-none q rows (find-passed p q rows s.1)) (insert-front row p q is rows s.1)
   | inr e ↦ let bad : Some old ≡ None = sym h ∙ rw e (find-passed p q rows s.1) in cc
-  ]
+]
 
 place-of : (row : Row) → IsPlaceOf row (is_before row.file row.who.host) (is_row_of row.file row.who.host)
 place-of row = record { behind = not-behind row; before = is-behind row }
@@ -185,9 +185,9 @@ insert-in-order row (r ∷ rows) o none =
 drop-finds-none : {X : Type 0} (q : X → Bool) (xs : List X) → find q (filter (λ x. not (q x)) xs) ≡ None
 drop-finds-none q [] = refl
 drop-finds-none q (x ∷ xs) = elim (decided (q x)) [
-    inl e ↦ rw e (drop-finds-none q xs)
+  | inl e ↦ rw e (drop-finds-none q xs)
   | inr e ↦ rw (e, e) (drop-finds-none q xs)
-  ]
+]
 
 pub put-in-order : (row : Row) (rows : List Row) → AreInOrder rows → AreInOrder (put_row row rows)
 put-in-order row rows o =

@@ -38,9 +38,9 @@ find-split p q (x ∷ xs) (inr h) = rw (h.0, find-passed p q xs h.1) refl
 pub filter-none : {X : Type 0} (q : X → Bool) (xs : List X) → find q xs ≡ None → filter (λ x. not (q x)) xs ≡ xs
 filter-none q [] h = refl
 filter-none q (x ∷ xs) h = elim (decided (q x)) [
-    inl e ↦ let bad : Some x ≡ None = rw e at h in cc
+  | inl e ↦ let bad : Some x ≡ None = rw e at h in cc
   | inr e ↦ let none : find q xs ≡ None = rw e at h in rw e (ap (λ l. x ∷ l) (filter-none q xs none))
-  ]
+]
 
 -- a filter that leaves out what is there once
 pub filter-split : {X : Type 0} (p q : X → Bool) (xs : List X) (y : X) → Split p q xs → find q xs ≡ Some y → filter (λ x. not (q x)) xs ≡ remove xs (prefix_len p xs)
@@ -49,9 +49,9 @@ filter-split p q (x ∷ xs) y (inl s) h =
     let rest : find q xs ≡ Some y = rw s.1 at h in
     rw (s.0, s.1, one-more (prefix_len p xs)) (ap (λ l. x ∷ l) (filter-split p q xs y s.2 rest))
 filter-split p q (x ∷ xs) y (inr s) h = elim (decided (q x)) [
-    inl e ↦ rw (s.0, e) (filter-none q xs (find-passed p q xs s.1))
+  | inl e ↦ rw (s.0, e) (filter-none q xs (find-passed p q xs s.1))
   | inr e ↦ let bad : Some y ≡ None = sym h ∙ rw e (find-passed p q xs s.1) in cc
-  ]
+]
 
 -- what is found stands at the place
 pub get-split : {X : Type 0} (p q : X → Bool) (xs : List X) (y : X) → Split p q xs → find q xs ≡ Some y → slice_get xs (prefix_len p xs) ≡ Some y
@@ -60,6 +60,6 @@ get-split p q (x ∷ xs) y (inl s) h =
     let rest : find q xs ≡ Some y = rw s.1 at h in
     rw (s.0, one-more (prefix_len p xs)) (get-split p q xs y s.2 rest)
 get-split p q (x ∷ xs) y (inr s) h = elim (decided (q x)) [
-    inl e ↦ rw s.0 (rw e at h)
+  | inl e ↦ rw s.0 (rw e at h)
   | inr e ↦ let bad : Some y ≡ None = sym h ∙ rw e (find-passed p q xs s.1) in cc
-  ]
+]

@@ -26,9 +26,9 @@ times-more time x xs = sum_by-cons (λ t. if t == time then 1 else 0) x xs
 
 compared : (a b : ℕ) → (a < b) ⊎ (b ≤ a)
 compared a b = elim (decided (nat_lt a b)) [
-    inl e ↦ inl (grind (arith, nat_tests))
+  | inl e ↦ inl (grind (arith, nat_tests))
   | inr e ↦ inr (grind (arith, nat_tests))
-  ]
+]
 
 pub times-none : (time : ℕ) (xs : List ℕ) → ((k : ℕ) → k < length xs → get_or xs k 0 ≢ time) → times_of time xs ≡ 0
 times-none time [] h = refl
@@ -41,29 +41,29 @@ times-none time (x ∷ xs) h =
 apart : (ends : List ℕ) (time place : ℕ) → IsNonDecreasing ends → ((k d : ℕ) → k < place → get_or ends k d < time) → (place < length ends → time < get_or ends place 0) → times_of time ends ≡ 0
 apart ends time place rise before behind =
     times-none time ends (λ k lt e. elim (compared k place) [
-        inl below ↦ let less = before k 0 below in absurd (omega arith)
+      | inl below ↦ let less = before k 0 below in absurd (omega arith)
       | inr from ↦ let more = behind (omega arith) in let up = rise place k 0 from lt in absurd (omega arith)
-      ])
+    ])
 
 -- a time that is there stands at the first place that is not below it
 pub stands-at : (ends : List ℕ) (time place : ℕ) → IsNonDecreasing ends → ((k d : ℕ) → k < place → get_or ends k d < time) → ((k d : ℕ) → place ≤ k → k < length ends → time ≤ get_or ends k d) → 1 ≤ times_of time ends → (place < length ends) × (get_or ends place 0 ≡ time)
 stands-at ends time place rise before behind there = elim (compared place (length ends)) [
-    inl within ↦ elim (compared time (get_or ends place 0)) [
-        inl above ↦ let none = apart ends time place rise before (λ lt. above) in absurd (omega arith)
-      | inr here ↦ let low = behind place 0 (omega arith) within in (within, omega arith)
-      ]
-  | inr past ↦ let none = apart ends time place rise before (λ lt. absurd (omega arith)) in absurd (omega arith)
+  | inl within ↦ elim (compared time (get_or ends place 0)) [
+    | inl above ↦ let none = apart ends time place rise before (λ lt. above) in absurd (omega arith)
+    | inr here ↦ let low = behind place 0 (omega arith) within in (within, omega arith)
   ]
+  | inr past ↦ let none = apart ends time place rise before (λ lt. absurd (omega arith)) in absurd (omega arith)
+]
 
 -- a rising list without one of its times still rises
 pub rise-removed : (ends : List ℕ) (place : ℕ) → place < length ends → IsNonDecreasing ends → IsNonDecreasing (remove ends place)
 rise-removed ends place within rise i j d le lt = elim (compared i place) [
-    inl a ↦ elim (compared j place) [
-        inl b ↦ let x = get_or-remove_below ends place d i a within in let y = get_or-remove_below ends place d j b within in let up = rise i j d le (omega arith) in omega arith
-      | inr b ↦ let x = get_or-remove_below ends place d i a within in let y = get_or-remove_above ends place d j b within in let up = rise i (j + 1) d (omega arith) (omega (arith, length-remove ends place within)) in omega arith
-      ]
-  | inr a ↦ let x = get_or-remove_above ends place d i a within in let y = get_or-remove_above ends place d j (omega arith) within in let up = rise (i + 1) (j + 1) d (omega arith) (omega (arith, length-remove ends place within)) in omega arith
+  | inl a ↦ elim (compared j place) [
+    | inl b ↦ let x = get_or-remove_below ends place d i a within in let y = get_or-remove_below ends place d j b within in let up = rise i j d le (omega arith) in omega arith
+    | inr b ↦ let x = get_or-remove_below ends place d i a within in let y = get_or-remove_above ends place d j b within in let up = rise i (j + 1) d (omega arith) (omega (arith, length-remove ends place within)) in omega arith
   ]
+  | inr a ↦ let x = get_or-remove_above ends place d i a within in let y = get_or-remove_above ends place d j (omega arith) within in let up = rise (i + 1) (j + 1) d (omega arith) (omega (arith, length-remove ends place within)) in omega arith
+]
 
 pub times-removed : (ends : List ℕ) (place time end : ℕ) → place < length ends → get_or ends place 0 ≡ end → times_of time (remove ends place) + (if end == time then 1 else 0) ≡ times_of time ends
 times-removed ends place time end within at =
@@ -97,9 +97,9 @@ times-later time x xs h = rw (times-more time x xs) (omega arith)
 
 times-either : (time x : ℕ) (xs : List ℕ) → 1 ≤ times_of time (x ∷ xs) → (x ≡ time) ⊎ (1 ≤ times_of time xs)
 times-either time x xs h = elim (decided (x == time)) [
-    inl e ↦ inl (grind (arith, nat_tests))
+  | inl e ↦ inl (grind (arith, nat_tests))
   | inr e ↦ let more = rw (times-more time x xs, e) at h in inr (omega arith)
-  ]
+]
 
 first-least : (x : ℕ) → IsLeast x (x ∷ [])
 first-least x = record {
@@ -109,15 +109,15 @@ first-least x = record {
 
 more-least : (x m : ℕ) (xs : List ℕ) → IsLeast m xs → IsLeast (min x m) (x ∷ xs)
 more-least x m xs is = elim (compared x m) [
-    inl less ↦ let same : min x m ≡ x = omega arith in rw same (record {
-      among = times-first x xs;
-      lowest = λ time h. elim (times-either time x xs h) [ inl e ↦ omega arith | inr there ↦ let up = is.lowest time there in omega arith ];
-    })
+  | inl less ↦ let same : min x m ≡ x = omega arith in rw same (record {
+    among = times-first x xs;
+    lowest = λ time h. elim (times-either time x xs h) [ inl e ↦ omega arith | inr there ↦ let up = is.lowest time there in omega arith ];
+  })
   | inr more ↦ let same : min x m ≡ m = omega arith in rw same (record {
-      among = times-later m x xs is.among;
-      lowest = λ time h. elim (times-either time x xs h) [ inl e ↦ omega arith | inr there ↦ is.lowest time there ];
-    })
-  ]
+    among = times-later m x xs is.among;
+    lowest = λ time h. elim (times-either time x xs h) [ inl e ↦ omega arith | inr there ↦ is.lowest time there ];
+  })
+]
 
 least-nothing : (xs : List ℕ) → least xs ≡ None → xs ≡ []
 least-nothing [] h = refl
@@ -153,9 +153,9 @@ times-of-rows time rows = sum-of-map (λ t. if t == time then 1 else 0) end_of r
 in-list : (ends : List ℕ) (time : ℕ) → 1 ≤ times_of time ends → (k : ℕ) × (k < length ends) × (get_or ends k 0 ≡ time)
 in-list [] time h = absurd (omega arith)
 in-list (x ∷ xs) time h = elim (times-either time x xs h) [
-    inl e ↦ (0, omega arith, e)
+  | inl e ↦ (0, omega arith, e)
   | inr rest ↦ let there = in-list xs time rest in (suc there.0, omega (arith, there.1), there.2)
-  ]
+]
 
 -- the first of the ends is the least
 pub first-is-earliest : (rows : List Row) (ends : List ℕ) → AreEndsOf rows ends → slice_get ends 0 ≡ earliest rows

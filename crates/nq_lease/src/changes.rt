@@ -89,7 +89,14 @@ pub(crate) fn put(rows: &mut Vec<Row>, ends: &mut Vec<Ticks>, row: &Row) -> Resu
 }
 
 /// Takes the row of a file and a host out, which stands at this place.
-fn take_at(rows: &mut Vec<Row>, ends: &mut Vec<Ticks>, place: usize, old: &Row, file: FileId, host: Host)
+fn take_at(
+    rows: &mut Vec<Row>,
+    ends: &mut Vec<Ticks>,
+    place: usize,
+    old: &Row,
+    file: FileId,
+    host: Host,
+)
     requires kept { IsKept rows.old.items (vec_capacity rows.old) ends.old.items (vec_capacity ends.old) }
     requires place { place ≡ prefix_len (is_before file host) rows.old.items }
     requires there { find_row file host rows.old.items ≡ Some old.now }

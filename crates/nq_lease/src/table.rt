@@ -128,6 +128,13 @@ impl Table {
         self.ends.first().copied()
     }
 
+    /// How many tags were drawn.
+    pub fn drawn(&self) -> u64
+        ensures { result ≡ self.now.drawn }
+    {
+        self.drawn
+    }
+
     /// The tag that is drawn next.
     pub fn peek_tag(&self) -> Tag
         requires { self.now.drawn < 2 ^ 63 }

@@ -1,5 +1,6 @@
 use super::*;
 use nq_base::{Access, FileId, Host, Inc, Mode, NoMemory, Row, RowKey, Tag, Ticks, Who};
+use std::process::Abort;
 use std::test::Fail;
 
 fn row(file: u32, host: u32, mode: Mode, until: u64, heard: u64) -> Row {
@@ -37,7 +38,11 @@ fn the_earliest_end_is_the_least_of_all_rows(rt: HostRuntime) -> Result<(), Fail
     assert_eq!(rt; table.earliest().ok_or("none")?.0, 45);
     table.drop_row(key(2, 1));
     assert!(rt; table.earliest().is_none());
-    assert!(rt; table.put_row(row(2, 1, Mode::Writing, 40, u64::MAX)).is_ok());
+    assert!(rt;
+        table
+            .put_row(row(2, 1, Mode::Writing, 40, u64::MAX))
+            .is_ok()
+    );
     assert_eq!(rt; table.earliest().ok_or("none")?.0, u64::MAX);
     Ok(())
 }
@@ -58,7 +63,15 @@ fn rows_stand_in_order_of_files_then_hosts(rt: HostRuntime) -> Result<(), Fail> 
     }
     assert!(rt; table.nth(5).is_none());
     assert_eq!(rt; table.rows_of(FileId(2)).len(), 2);
-    assert_eq!(rt; table.nth_of(FileId(2), 1).ok_or("no such place")?.who.host.0, 1);
+    assert_eq!(rt;
+        table
+            .nth_of(FileId(2), 1)
+            .ok_or("no such place")?
+            .who
+            .host
+            .0,
+        1
+    );
     assert!(rt; table.nth_of(FileId(2), 2).is_none());
     table.drop_host(Host(0));
     assert_eq!(rt; table.len(), 3);
@@ -74,7 +87,11 @@ fn a_table_has_2048_rows_at_most(rt: HostRuntime) -> Result<(), Fail> {
     for file in 0..32 {
         for host in 0..64 {
             assert!(rt; !table.is_full());
-            assert!(rt; table.put_row(row(32 - file, host, Mode::Reading, 9, 0)).is_ok());
+            assert!(rt;
+                table
+                    .put_row(row(32 - file, host, Mode::Reading, 9, 0))
+                    .is_ok()
+            );
         }
     }
     assert!(rt; table.is_full());
@@ -89,14 +106,19 @@ fn a_table_has_2048_rows_at_most(rt: HostRuntime) -> Result<(), Fail> {
     Ok(())
 }
 
+fn drawn(rt: &impl Abort, table: &mut Table) -> Tag {
+    assert!(rt; table.drawn() < 9);
+    assert!(rt; table.peek_tag().number == table.drawn() + 1);
+    table.next_tag()
+}
+
 #[test]
 fn tags_are_drawn_in_order(rt: HostRuntime) -> Result<(), NoMemory> {
     let mut table = Table::new(rt.alloc(), 7)?;
     assert_eq!(rt; table.boot(), 7);
-    assert!(rt; table.peek_tag() == Tag { boot: 7, number: 1 });
-    assert!(rt; table.next_tag() == Tag { boot: 7, number: 1 });
-    assert!(rt; table.next_tag() == Tag { boot: 7, number: 2 });
-    assert!(rt; table.peek_tag() == Tag { boot: 7, number: 3 });
+    assert!(rt; drawn(&rt, &mut table) == Tag { boot: 7, number: 1 });
+    assert!(rt; drawn(&rt, &mut table) == Tag { boot: 7, number: 2 });
+    assert_eq!(rt; table.drawn(), 2);
     Ok(())
 }
 
