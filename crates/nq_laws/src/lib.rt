@@ -25,7 +25,9 @@ pub use law_fates::{
     waiting_writes_are_unsaved_in_every_run, writes_are_accounted_in_every_run,
 };
 pub use law_held::{held_are_met, kept_blocks_are_held_in_every_run};
-pub use law_leases::{lease_interval_in_every_run, lease_interval_is_met, lease_interval_is_met_in_recovery};
+pub use law_leases::{
+    lease_interval_in_every_run, lease_interval_is_met, lease_interval_is_met_in_recovery,
+};
 pub use law_legal::{reads_are_legal_in_every_run, reads_are_met};
 pub use law_reports::{
     losses_are_kept_until_named, losses_are_met, losses_are_reported_in_every_run,
