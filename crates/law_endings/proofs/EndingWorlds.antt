@@ -17,7 +17,7 @@ use Rattle.nq_promises.specs.Bounds.{KeepsBounds}
 use Rattle.nq_model.specs.Client.{ClientStep}
 use Rattle.nq_model.specs.ClientStep.{client_call, client_tick, restart}
 use Rattle.nq_model.specs.CutOff.{Given, last_grant, IsLateEnd, IsLongWait, IsLateOpening}
-use Rattle.nq_model.specs.Journal.{Throughout, Exists, same_who, Each}
+use Rattle.nq_model.specs.Journal.{Throughout, Exists, Each}
 use Rattle.nq_model.specs.Decide.{decides, creates, writes_through, stores, wrote, stores_recovering, resizes, removes, puts_off, commits}
 use Rattle.nq_model.specs.Kept.{find_file, with_files, with_new_file, with_row}
 use Rattle.nq_model.specs.Message.{Datagram, datagram_of}
@@ -25,7 +25,7 @@ use Rattle.nq_model.specs.Profile.{write_slack}
 use Rattle.nq_model.specs.Server.{serving, recovering, Server, ServerStep, quiet, drops, says, keeping, keeping_with, with_table, after_notices}
 use Rattle.nq_model.specs.ServerStep.{boot, is_over, attaches, vacates, tells_later, serves, leases, is_due, end_reading, at_time, opens, ends_writing, receive, tick, crash}
 use Rattle.nq_model.specs.Skew.{IsWithinSkew}
-use Rattle.nq_model.specs.Table.{Table, caches, is_writing, find_row, with_rows}
+use Rattle.nq_model.specs.Table.{Table, caches, is_writing, find_row, with_rows, same_who}
 use Rattle.nq_model.specs.World.{Head, World, after_server, after_client, sending_host, start, run}
 use Rattle.walk_run.proofs.RunCases.{Keeps, run-keeps}
 use Rattle.walk_run.proofs.Worlds.{run-holds}

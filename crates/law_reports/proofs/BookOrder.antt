@@ -17,7 +17,8 @@ use Rattle.nq_model.proofs.ByFile.{of-added}
 use Rattle.nq_model.proofs.Finding.{filter-swap}
 use Rattle.nq_model.specs.Client.{UnderWay, file_of_loss, losses_of, other_losses, add_losses}
 use Rattle.nq_model.specs.Hear.{loss_of, loss_entry, waits_for}
-use Rattle.nq_model.specs.Journal.{Each, same_who}
+use Rattle.nq_model.specs.Journal.{Each}
+use Rattle.nq_model.specs.Table.{same_who}
 
 -- ---- parts of a list
 

@@ -21,8 +21,9 @@ use Rattle.law_reports.proofs.Journals.{same-who, IsPast, Journals, journals-add
 use Rattle.nq_model.specs.Client.{losses_of, other_losses, span_of, span_list}
 use Rattle.nq_model.specs.ClientStep.{told, changed_file, losses_for}
 use Rattle.nq_model.specs.Hear.{waits_for}
-use Rattle.nq_model.specs.Journal.{Each, Exists, same_who, call_of, told_by, SpeaksOf}
+use Rattle.nq_model.specs.Journal.{Each, Exists, call_of, told_by, SpeaksOf}
 use Rattle.nq_model.specs.Reported.{IsNameOf, Names, IsReporting, IsUnnamed, IsSameSpan, NameLosses}
+use Rattle.nq_model.specs.Table.{same_who}
 
 -- ---- an entry that is no C, A or L
 

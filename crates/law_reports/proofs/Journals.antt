@@ -12,8 +12,9 @@ use Rattle.walk_server.proofs.Rows.{same-number, number-same}
 use Rattle.nq_promises.specs.LossesAreReported.{IsLossOf}
 use Rattle.law_reports.proofs.Tallies.{IsOne}
 use Rattle.law_reports.proofs.Told.{IsToldAt, IsCalled, Grows, grows, called-more, some-names-back, GoesOn, told-more}
-use Rattle.nq_model.specs.Journal.{Each, Exists, AtEachPlace, same_who, call_of, told_by}
+use Rattle.nq_model.specs.Journal.{Each, Exists, AtEachPlace, call_of, told_by}
 use Rattle.nq_model.specs.Reported.{Names}
+use Rattle.nq_model.specs.Table.{same_who}
 
 -- ---- incarnations
 

@@ -18,8 +18,9 @@ use Rattle.law_reports.proofs.Told.{IsToldAt, Grows, grows, some-names-back}
 use Rattle.law_reports.proofs.Journals.{same-who, Journals, journals-add, told-none}
 use Rattle.law_reports.proofs.JournalMoves.{loss_at}
 use Rattle.nq_model.specs.Hear.{loss_of, loss_entry}
-use Rattle.nq_model.specs.Journal.{Exists, AtEachPlace, same_who, call_of}
+use Rattle.nq_model.specs.Journal.{Exists, AtEachPlace, call_of}
 use Rattle.nq_model.specs.Reported.{loss_told, IsNameOf, Names, IsUnnamed, NameLosses}
+use Rattle.nq_model.specs.Table.{same_who}
 
 -- ---- an L
 

@@ -16,8 +16,9 @@ use Rattle.law_reports.proofs.Journals.{IsPast, Journals, other-who, told-none}
 use Rattle.law_reports.proofs.LossMoves.{lost_at, push_at}
 use Rattle.law_reports.proofs.Tallies.{IsOne, tally, tally-nil, tally-cons}
 use Rattle.law_reports.proofs.Told.{IsToldAt, IsCalled, Grows, grows, called-more, named-more, some-names-back, told-more}
-use Rattle.nq_model.specs.Journal.{Each, Exists, AtEachPlace, same_who, call_of, told_by}
+use Rattle.nq_model.specs.Journal.{Each, Exists, AtEachPlace, call_of, told_by}
 use Rattle.nq_model.specs.Reported.{loss_told, Names}
+use Rattle.nq_model.specs.Table.{same_who}
 
 -- a C, A or L is of another incarnation
 abbrev pub IsForeign : Who → Entry → Type 0

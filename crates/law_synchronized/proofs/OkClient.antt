@@ -18,7 +18,7 @@ use Rattle.walk_fates.proofs.ServerTells.{Tells}
 use Rattle.nq_model.specs.Client.{Client, ClientStep, for_call, Ticket, UnderWay, begun, losses_of}
 use Rattle.nq_model.specs.ClientStep.{told, begins_call, is_called, sends_unless_cached, says_busy, losses_for, changed_file, client_call, at_time, sends_again, client_tick, fresh_client, starts, next_incarnation, restart}
 use Rattle.nq_model.specs.Hear.{inc_of, replied, cancels, evicted, hear}
-use Rattle.nq_model.specs.Journal.{Exists, Throughout, IsAnswer, IsOpen, call_of, told_by, same_who}
+use Rattle.nq_model.specs.Journal.{Exists, Throughout, IsAnswer, IsOpen, call_of, told_by}
 use Rattle.nq_model.specs.Message.{Message, reply, sequence_of}
 use Rattle.nq_model.specs.Send.{send_next}
 use Rattle.nq_model.specs.Settle.{settle}
@@ -31,6 +31,7 @@ use Rattle.law_synchronized.proofs.OkFacts.{Made, IsOpenAs, IsFor, KeepsOf, All,
 use Rattle.law_synchronized.proofs.OkMoves.{open-more, put-more, made-more, numbered-more}
 use Rattle.law_synchronized.proofs.OkReplies.{mid-replied, mid-evicted}
 use Rattle.law_synchronized.proofs.OkSettle.{own-more, mid-names, mid-settles, End, mid-end, mid-sends, after-before}
+use Rattle.nq_model.specs.Table.{same_who}
 
 -- what is known of a client before its step
 pub record Ready (line : HostRow) (c : Client) (journal : List Entry) : Type 0 where

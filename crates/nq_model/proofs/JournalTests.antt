@@ -8,10 +8,11 @@ use Rattle.nq_base.specs.declared.Said.TheVariants.{OkBy}
 use Rattle.nq_base.specs.declared.Told.{Told}
 use Rattle.nq_base.specs.declared.Told.TheVariants.{Read, Fetch, Write, WriteSync, Attr, Sync, Resize, Remove}
 use Rattle.nq_base.specs.declared.Who.{Who}
-use Rattle.nq_model.specs.Journal.{Each, each, Exists, exists, AtMostOne, number_of, at_most_one, Throughout, throughout, Somewhere, somewhere, AtEachPlace, at_each_place, same_who, IsCall, is_call, IsAnswer, is_answer, IsOpen, is_open, SpeaksOf, speaks_of, IsReadBy, is_read_by, IsAnswerBy, is_answer_by, IsCounted, is_counted, IsWriteOn, is_write_on, IsWriteBy, is_write_by, IsThrough, is_through, value_written, IsWithin, is_within, Covers, covers, Stores, stores, Loses, loses, IsStored, is_stored, IsLost, is_lost, IsLastValue, last_value}
+use Rattle.nq_model.specs.Journal.{Each, each, Exists, exists, AtMostOne, number_of, at_most_one, Throughout, throughout, Somewhere, somewhere, AtEachPlace, at_each_place, IsCall, is_call, IsAnswer, is_answer, IsOpen, is_open, SpeaksOf, speaks_of, IsReadBy, is_read_by, IsAnswerBy, is_answer_by, IsCounted, is_counted, IsWriteOn, is_write_on, IsWriteBy, is_write_by, IsThrough, is_through, value_written, IsWithin, is_within, Covers, covers, Stores, stores, Loses, loses, IsStored, is_stored, IsLost, is_lost, IsLastValue, last_value}
 use mathlib.Core.Logic.{inl, inr}
 use Rattle.nq_model.specs.Tests.{Tells}
 use Rattle.nq_model.proofs.Telling.{yes, no, tells_alike, tells_and, tells_3, tells_5, tells_or, tells_not, tells_same, tells_le, not_told, not_so}
+use Rattle.nq_model.specs.Table.{same_who}
 
 -- ---- facts of entries and of their places
 

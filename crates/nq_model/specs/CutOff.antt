@@ -4,7 +4,8 @@ use Rattle.nq_base.specs.declared.Entry.{Entry}
 use Rattle.nq_base.specs.declared.Entry.TheVariants.{S, L, G, F, O, X}
 use Rattle.nq_base.specs.declared.Who.{Who}
 use Rattle.nq_model.specs.Profile.{skew, write_slack}
-use Rattle.nq_model.specs.Journal.{Each, each, Exists, exists, AtEachPlace, at_each_place, same_who, Loses, loses}
+use Rattle.nq_model.specs.Journal.{Each, each, Exists, exists, AtEachPlace, at_each_place, Loses, loses}
+use Rattle.nq_model.specs.Table.{same_who}
 
 -- ---- times, in ticks of the server's clock
 

@@ -115,7 +115,10 @@ without_lease t file = in_state t (record t.client { leases = drop_lease file t.
 -- that waits is told
 abbrev pub push_refused : ClientStep → (file : ℕ) → ClientStep
 push_refused t file =
-    reports (vacates_noticed (without_lease (loses t file) file) file (notice_on file t.client.notices)) file
+    let lost = loses t file in
+    let unleased = without_lease lost file in
+    let vacated = vacates_noticed unleased file (notice_on file t.client.notices) in
+    reports vacated file
 
 -- a lease as it is granted; its term counts from the first sending of the request
 unfoldable pub granted_lease : (file : ℕ) → Grant → (sent : ℕ) → Lease
@@ -136,7 +139,10 @@ breaks g (Some lease) = tag_below lease.tag g.since
 
 -- a broken chain over a file with delayed writes loses them
 abbrev pub breaks_chain : ClientStep → (file : ℕ) → ClientStep
-breaks_chain t file = reports (vacates_noticed (loses t file) file (notice_on file t.client.notices)) file
+breaks_chain t file =
+    let lost = loses t file in
+    let vacated = vacates_noticed lost file (notice_on file t.client.notices) in
+    reports vacated file
 
 abbrev pub if_broken : ClientStep → (file : ℕ) → Grant → ClientStep
 if_broken t file g =

@@ -14,6 +14,7 @@ use Rattle.nq_base.specs.declared.Said.TheVariants.{OkBy}
 use Rattle.nq_base.specs.declared.Told.{Told}
 use Rattle.nq_base.specs.declared.Told.TheVariants.{Read, Fetch, Write, WriteSync, Attr, Sync, Resize, Remove}
 use Rattle.nq_base.specs.declared.Who.{Who}
+use Rattle.nq_model.specs.Table.{same_who}
 
 -- ---- facts of entries and of their places
 
@@ -48,10 +49,6 @@ AtEachPlace Fact after [] = ⊤
 AtEachPlace Fact after (entry ∷ before) = Fact after entry before × AtEachPlace Fact (entry ∷ after) before
 
 -- ---- calls
-
--- whether two incarnations are one: the same number of the same host
-abbrev pub same_who : (a b : Who) → Bool
-same_who a b = (a.host == b.host) && (a.inc == b.inc)
 
 -- the entry is a C of call q of an incarnation
 abbrev pub IsCall : (who : Who) (q : ℕ) → Entry → Type 0

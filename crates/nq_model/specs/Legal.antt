@@ -7,8 +7,9 @@ use Rattle.nq_base.specs.declared.Said.TheVariants.{OkValue, OkBy}
 use Rattle.nq_base.specs.declared.Told.{Told}
 use Rattle.nq_base.specs.declared.Told.TheVariants.{Read, Fetch}
 use Rattle.nq_base.specs.declared.Who.{Who}
-use Rattle.nq_model.specs.Journal.{Exists, exists, AtMostOne, at_most_one, Throughout, throughout, same_who, IsReadBy, is_read_by, IsCounted, is_counted, call_of}
+use Rattle.nq_model.specs.Journal.{Exists, exists, AtMostOne, at_most_one, Throughout, throughout, IsReadBy, is_read_by, IsCounted, is_counted, call_of}
 use Rattle.nq_model.specs.Stands.{IsStandingValue, standing_value}
+use Rattle.nq_model.specs.Table.{same_who}
 
 -- the call is a `read` or a `fetch`
 abbrev pub IsReading : Option Told → Type 0

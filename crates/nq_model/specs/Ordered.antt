@@ -6,8 +6,9 @@ use Rattle.nq_base.specs.declared.Said.TheVariants.{Busy}
 use Rattle.nq_base.specs.declared.Told.{Told}
 use Rattle.nq_base.specs.declared.Told.TheVariants.{Write, WriteSync, Resize, Remove}
 use Rattle.nq_base.specs.declared.Who.{Who}
-use Rattle.nq_model.specs.Journal.{Each, each, Exists, exists, Throughout, throughout, AtEachPlace, at_each_place, same_who, IsCall, is_call, IsAnswer, is_answer, IsOpen, is_open, call_of, IsCounted, is_counted}
+use Rattle.nq_model.specs.Journal.{Each, each, Exists, exists, Throughout, throughout, AtEachPlace, at_each_place, IsCall, is_call, IsAnswer, is_answer, IsOpen, is_open, call_of, IsCounted, is_counted}
 use Rattle.nq_model.specs.Legal.{IsCountedBy, is_counted_by}
+use Rattle.nq_model.specs.Table.{same_who}
 
 -- ---- calls
 

@@ -8,7 +8,8 @@ use Rattle.nq_base.specs.declared.Span.{Span}
 use Rattle.nq_base.specs.declared.Told.{Told}
 use Rattle.nq_base.specs.declared.Told.TheVariants.{Write, WriteSync, Sync, Resize, Remove}
 use Rattle.nq_base.specs.declared.Who.{Who}
-use Rattle.nq_model.specs.Journal.{Exists, exists, AtEachPlace, at_each_place, same_who, IsAnswer, is_answer, call_of, SpeaksOf, speaks_of}
+use Rattle.nq_model.specs.Journal.{Exists, exists, AtEachPlace, at_each_place, IsAnswer, is_answer, call_of, SpeaksOf, speaks_of}
+use Rattle.nq_model.specs.Table.{same_who}
 
 -- ---- names
 

@@ -240,4 +240,8 @@ then_ending t = then_pushes t (ending_file t.client)
 -- the next request, where none is under way: a push for the least file with a notice; else one for the least file
 -- whose lease is about to end; else the call's request; else, in a tick's step, a renewal
 abbrev pub send_next : (in_tick : Bool) → ClientStep → ClientStep
-send_next in_tick t = then_renews in_tick (then_calls (then_ending (then_pushes t (noticed_file t.client))))
+send_next in_tick t =
+    let noticed = then_pushes t (noticed_file t.client) in
+    let ending = then_ending noticed in
+    let called = then_calls ending in
+    then_renews in_tick called

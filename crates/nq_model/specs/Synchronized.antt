@@ -6,8 +6,9 @@ use Rattle.nq_base.specs.declared.Said.TheVariants.{Ok, OkValue, OkBy}
 use Rattle.nq_base.specs.declared.Told.{Told}
 use Rattle.nq_base.specs.declared.Told.TheVariants.{WriteSync, Sync, Resize, Remove}
 use Rattle.nq_base.specs.declared.Who.{Who}
-use Rattle.nq_model.specs.Journal.{Each, each, Exists, exists, Throughout, throughout, Somewhere, somewhere, same_who, IsOpen, is_open, call_of, is_write_on, IsWriteBy, is_write_by, IsThrough, is_through, IsStored, is_stored, Loses, loses, since_cut, last_value}
+use Rattle.nq_model.specs.Journal.{Each, each, Exists, exists, Throughout, throughout, Somewhere, somewhere, IsOpen, is_open, call_of, is_write_on, IsWriteBy, is_write_by, IsThrough, is_through, IsStored, is_stored, Loses, loses, since_cut, last_value}
 use Rattle.nq_model.specs.Reported.{loss_told, Names, names}
+use Rattle.nq_model.specs.Table.{same_who}
 
 -- ---- a put
 

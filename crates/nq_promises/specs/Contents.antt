@@ -4,7 +4,7 @@ use Rattle.std.specs.Option.{option_or}
 use Rattle.nq_base.specs.declared.Entry.{Entry}
 use Rattle.nq_base.specs.declared.Entry.TheVariants.{W, S, F, Z}
 use Rattle.nq_base.specs.declared.Who.{Who}
-use Rattle.nq_model.specs.Journal.{same_who}
+use Rattle.nq_model.specs.Table.{same_who}
 
 -- whether an entry changes a file: a write that goes through, stored writes, another length, or a fence
 abbrev pub changes : Entry → (file : ℕ) → Bool

@@ -6,9 +6,9 @@ use Rattle.nq_base.specs.declared.Event.{Event}
 use Rattle.nq_base.specs.declared.Who.{Who}
 use Rattle.nq_promises.specs.Bounds.{KeepsBounds}
 use Rattle.nq_model.specs.CutOff.{IsLateEnd, IsLateOpening}
-use Rattle.nq_model.specs.Journal.{Throughout, same_who}
+use Rattle.nq_model.specs.Journal.{Throughout}
 use Rattle.nq_model.specs.Skew.{IsWithinSkew}
-use Rattle.nq_model.specs.Table.{caches}
+use Rattle.nq_model.specs.Table.{caches, same_who}
 use Rattle.nq_model.specs.World.{Head, run}
 
 -- the boot that served last: that of the last end of a recovery, or the first boot

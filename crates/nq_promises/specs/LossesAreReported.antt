@@ -8,9 +8,10 @@ use Rattle.nq_base.specs.declared.Event.{Event}
 use Rattle.nq_base.specs.declared.Loss.{Loss}
 use Rattle.nq_base.specs.declared.Who.{Who}
 use Rattle.nq_model.specs.Client.{Client, UnderWay, losses_of}
-use Rattle.nq_model.specs.Journal.{Exists, same_who}
+use Rattle.nq_model.specs.Journal.{Exists}
 use Rattle.nq_model.specs.Reported.{loss_told, Names, IsReported}
 use Rattle.nq_model.specs.World.{Head, run}
+use Rattle.nq_model.specs.Table.{same_who}
 
 -- the entry is an L of the incarnation that tells this loss
 abbrev pub IsLossOf : (who : Who) (loss : Loss) → Entry → Type 0

@@ -4,8 +4,9 @@ use Rattle.nq_base.specs.declared.Entry.{Entry}
 use Rattle.nq_base.specs.declared.Entry.TheVariants.{R, S, L, F, O, X, B, Z}
 use Rattle.nq_base.specs.declared.Loss.{Loss}
 use Rattle.nq_base.specs.declared.Who.{Who}
-use Rattle.nq_model.specs.Journal.{same_who, is_counted, is_through, is_within, is_write_on, value_written}
+use Rattle.nq_model.specs.Journal.{is_counted, is_through, is_within, is_write_on, value_written}
 use Rattle.nq_model.specs.Reported.{loss_told}
+use Rattle.nq_model.specs.Table.{same_who}
 
 -- whether some entry passes the first test, one before it the second, and so on
 abbrev pub in_order : List (Entry → Bool) → List Entry → Bool

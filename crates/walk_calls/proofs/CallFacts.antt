@@ -17,13 +17,14 @@ use Rattle.walk_calls.proofs.Placed.{IsCachedBy, Placed, Spaced, call-told}
 use Rattle.walk_calls.proofs.Quiet.{IsNoCall, open-more, open-before, OpenFits, ReadFits}
 use Rattle.nq_model.specs.Client.{UnderWay, for_call, Ticket}
 use Rattle.nq_model.specs.ClientStep.{told}
-use Rattle.nq_model.specs.Journal.{Each, Exists, Throughout, AtEachPlace, IsCall, IsAnswer, IsOpen, call_of, told_by, same_who}
+use Rattle.nq_model.specs.Journal.{Each, Exists, Throughout, AtEachPlace, IsCall, IsAnswer, IsOpen, call_of, told_by}
 use Rattle.nq_model.specs.Message.{Message, call, asker, sequence_of}
 use Rattle.nq_model.specs.Ordered.{IsCallBelow, HasOpen, IsOpenCall, IsBusyNext, IsBeforeCall, IsNumbered, IsResizeBy}
 use Rattle.walk_run.proofs.Members.{exists-in}
 use Rattle.walk_run.proofs.Packets.{In}
 use Rattle.walk_server.proofs.Incarnations.{who-same}
 use Rattle.walk_server.proofs.Rows.{same-number, number-same}
+use Rattle.nq_model.specs.Table.{same_who}
 
 -- ---- the records
 

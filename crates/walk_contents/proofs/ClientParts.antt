@@ -18,12 +18,12 @@ use Rattle.walk_contents.proofs.Histories.{NoChanges, delayed-more}
 use Rattle.nq_promises.specs.Contents.{changes, changes_of, delayed_by, delayed_value}
 use Rattle.nq_model.specs.Client.{Clean, ClientStep, Revision, Ticket, clean_at, drop_clean, dirty_at, put_revision, revision_of, revision_or_zero}
 use Rattle.nq_model.specs.Hear.{inc_of}
-use Rattle.nq_model.specs.Journal.{same_who}
 use Rattle.nq_model.specs.Message.{Message, Packet, call, reply, sequence_of}
 use Rattle.nq_model.specs.Settle.{with_write}
 use Rattle.walk_run.proofs.Packets.{In, in-last, Told}
 use Rattle.walk_server.proofs.Incarnations.{one-who}
 use Rattle.walk_server.proofs.Rows.{same-number, number-same}
+use Rattle.nq_model.specs.Table.{same_who}
 
 -- what of a client's step speaks of contents
 pub record Part : Type 0 where

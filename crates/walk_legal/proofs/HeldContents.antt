@@ -18,10 +18,11 @@ use Rattle.walk_legal.proofs.Stores.{Rests}
 use Rattle.nq_model.proofs.JournalTests.{tells_who}
 use Rattle.nq_model.proofs.Telling.{tells_4, tells_same}
 use Rattle.nq_model.specs.Tests.{Tells}
-use Rattle.nq_model.specs.Journal.{Throughout, same_who, cuts, IsWriteOn, Stores}
+use Rattle.nq_model.specs.Journal.{Throughout, cuts, IsWriteOn, Stores}
 use Rattle.walk_run.proofs.Packets.{In}
 use Rattle.walk_run.proofs.Worlds.{get-set-same, get-set-other}
 use Rattle.walk_server.proofs.Rows.{number-same}
+use Rattle.nq_model.specs.Table.{same_who}
 
 -- ---- entries that change no file, or another
 

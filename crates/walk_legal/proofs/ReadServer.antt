@@ -27,14 +27,14 @@ use Rattle.nq_model.proofs.JournalTests.{tells_who}
 use Rattle.nq_model.proofs.Lists.{exists-append}
 use Rattle.nq_model.proofs.Telling.{tells_4, tells_same}
 use Rattle.nq_model.specs.Client.{Client, UnderWay}
-use Rattle.nq_model.specs.Journal.{Each, Exists, Throughout, IsAnswerBy, IsCounted, same_who}
+use Rattle.nq_model.specs.Journal.{Each, Exists, Throughout, IsAnswerBy, IsCounted}
 use Rattle.nq_model.specs.Kept.{File, find_file}
 use Rattle.nq_model.specs.Legal.{GivesValue}
 use Rattle.nq_model.specs.Message.{reply}
 use Rattle.nq_model.specs.Server.{Server, ServerStep, to_host}
 use Rattle.nq_model.specs.ServerStep.{serves, grants}
 use Rattle.nq_model.specs.Stands.{IsStandingValue}
-use Rattle.nq_model.specs.Table.{Table}
+use Rattle.nq_model.specs.Table.{Table, same_who}
 use Rattle.nq_model.specs.Tests.{Tells}
 use Rattle.nq_model.specs.World.{World, after_server}
 use Rattle.walk_run.proofs.Sequences.{asked-before-server}

@@ -2,8 +2,8 @@
 use Rattle.std.proofs.Common.{◌≡◌, ℕ, true}
 use Rattle.std.proofs.lemmas.Bool.{and_parts}
 use Rattle.nq_base.specs.declared.Who.{Who}
-use Rattle.nq_model.specs.Journal.{same_who}
 use Rattle.walk_server.proofs.Rows.{same-number}
+use Rattle.nq_model.specs.Table.{same_who}
 
 pub who-of : (h i k j : ℕ) → h ≡ k → i ≡ j → Path Who (record { host = h; inc = i }) (record { host = k; inc = j })
 who-of h i k j e f = cc
