@@ -2,7 +2,7 @@
 
 ghost use Rattle.std.specs.Prelude.{◌≡◌, ◌⊎◌, ◌<◌, ℕ, Option, Some, IfOk, OnOk};
 ghost use Rattle.std.specs.Option.{ForSome};
-ghost use Rattle.nq_model.specs.Change.{Fits, row_of_found, file_after, heads_of, space_of};
+ghost use Rattle.nq_model.specs.Change.{Fits, IsOrderly, row_of_found, file_after, heads_of, space_of};
 ghost use Rattle.nq_model.specs.Kept.{Kept, find_file, find_name, host_row};
 ghost use Rattle.nq_model.specs.Profile.{most_hosts};
 ghost use Rattle.nq_keeper.specs.Keeping.{Reads, Commits, LeavesOne, LeavesTwo, HasBlockAt, NamesHost, body_at};
@@ -90,6 +90,9 @@ pub trait Keeper {
         ensures commits { Commits result change.now (content self.old) (content self.new) (faults self.old) (faults self.new) }
         ensures follows { follows self.old self.new }
         ensures leaves { LeavesTwo change.now (content self.old) (leaves self.old self.new) };
+
+    /// What is kept has the shape of a kept state.
+    ghost orderly: { (keeper : Self) (kept : Kept) → content keeper ≡ Some kept → IsOrderly kept };
 
     /// A keeper follows itself.
     ghost follows_itself: { (keeper : Self) → follows keeper keeper };

@@ -29,7 +29,7 @@ use Rattle.nq_model.proofs.AppliedChanges.{applied-fencing, applied-boot, applie
 use Rattle.nq_model.proofs.DecidedSteps.{admits-decided, receives-decided}
 use Rattle.nq_model.proofs.Finding.{choice}
 use Rattle.nq_model.proofs.Files.{found-id}
-use Rattle.nq_model.proofs.FreshFits.{next-free, fresh-fits, fencing-fits, heads-fit}
+use Rattle.nq_model.proofs.FreshFits.{orderly-within, next-free, fresh-fits, fencing-fits, heads-fit}
 
 -- nothing is changed
 unchanged : (before after : Kept) → after ≡ before → IsChangedOnce before after
@@ -45,7 +45,7 @@ module _ (s : Server) (within : IsWithinBounds s.kept) where
   decided-once who xid r by few (Fresh verdict value) = record {
     change = Some (fresh_change s.kept (gate_of s who r) r);
     is_applied = refl;
-    fits = fresh-fits s.kept (gate_of s who r) r who within by few;
+    fits = fresh-fits s.kept (gate_of s who r) r who (orderly-within s.kept within) by few;
   }
   decided-once who xid r by few (Again verdict value) = unchanged s.kept s.kept refl
   decided-once who xid r by few Old = unchanged s.kept s.kept refl
@@ -54,7 +54,7 @@ module _ (s : Server) (within : IsWithinBounds s.kept) where
 
   admits-once : (who : Who) (xid next : ℕ) (r : Request) → asker r ≡ Some who → is_decided_once r ≡ true → who.host < most_hosts → Once (admit s who xid next r (host_row s.kept who.host))
   admits-once who xid next r by once few =
-      subst Once (sym (admits-decided s who xid next r by once (next-free s.kept within))) (decided-once who xid r by few (decided s.kept (gate_of s who r) r))
+      subst Once (sym (admits-decided s who xid next r by once (next-free s.kept (orderly-within s.kept within)))) (decided-once who xid r by few (decided s.kept (gate_of s who r) r))
 
   -- ---- requests that change nothing that is kept
 
@@ -180,7 +180,7 @@ module _ (s : Server) (within : IsWithinBounds s.kept) where
   fences-once id (Some file) found = record {
     change = fencing_of (row_of_found (Some file));
     is_applied = applied-fencing s.kept (Some file) id found;
-    fits = fencing-fits s.kept file within (ap (λ i. find_file i s.kept.files) (found-id id s.kept.files file found) ∙ found);
+    fits = fencing-fits s.kept file (orderly-within s.kept within) (ap (λ i. find_file i s.kept.files) (found-id id s.kept.files file found) ∙ found);
   }
 
   ends-once : (now : ℕ) (rows : List Row) (o : Option Row) → Once (end_writing (at_time s now) rows o)
@@ -226,4 +226,4 @@ each-step-changes-once = record {
 
 -- requests that are decided once are decided from the kept state and the gate
 pub requests-are-decided : RequestsAreDecided
-requests-are-decided s sender xid next r who by once same few within = receives-decided s sender xid next r who by once same few (next-free s.kept within)
+requests-are-decided s sender xid next r who by once same few within = receives-decided s sender xid next r who by once same few (next-free s.kept (orderly-within s.kept within))

@@ -1,4 +1,4 @@
--- What a fresh request changes can be kept, where the kept state is within its bounds.
+-- What a fresh request changes can be kept, where the kept state is orderly.
 use Rattle.std.proofs.Common.{◌≡◌, ◌≢◌, ◌<◌, ◌≤◌, ℕ, ◌+◌, ◌-◌, ◌==◌, Bool, true, false, ◌||◌, List, [], ◌∷◌, ◌++◌, Option, Some, None, if◌then◌else◌, length, get_or, refl, sym, subst, ap, ◌∙◌, arith, length-append}
 use Rattle.std.specs.List.{All}
 use Rattle.std.specs.Prelude.{is_some, nat_lt, nat_le, IsSome, replicate}
@@ -17,7 +17,7 @@ use Rattle.nq_base.specs.declared.Request.{Request}
 use Rattle.nq_base.specs.declared.Request.TheVariants.{Attach, Create, Write, Resize, Remove}
 use Rattle.nq_base.specs.declared.Verdict.{Verdict}
 use Rattle.nq_base.specs.declared.Who.{Who}
-use Rattle.nq_model.specs.Change.{row_of, row_of_found, heads_of, space_of, IsNextFree, IsRowOf, FitsFile, HasBlock, Fits, IsFileWithin, AreApart, IsWithinBounds, raised_row, file_of, with_file, with_file_at, no_change, fencing, change_of_heads}
+use Rattle.nq_model.specs.Change.{row_of, row_of_found, heads_of, space_of, IsNextFree, IsRowOf, FitsFile, HasBlock, Fits, AreApart, IsOrderly, IsWithinBounds, raised_row, file_of, with_file, with_file_at, no_change, fencing, change_of_heads}
 use Rattle.nq_model.specs.Decided.{no_effect, creation, block_write, length_change, removal, effect_of_create, effect_of_push, effect_of_write_in, effect_of_write, effect_of_write_recovering, effect_of_resize, effect_of_remove, effect_of, change_with, fresh_change}
 use Rattle.nq_model.specs.Kept.{File, Kept, blocks_of, blocks_in_all, find_file, find_name, replace_file, resized}
 use Rattle.nq_model.specs.Message.{asker}
@@ -46,8 +46,8 @@ none-has id (f ∷ files) each =
     other-first id f (find_file id files) (f.id == id) refl (All-head (λ f. f.id ≢ id) f files each) (none-has id files (All-tail (λ f. f.id ≢ id) f files each))
 
 -- the next id is free, since all ids are below it
-pub next-free : (kept : Kept) → IsWithinBounds kept → IsNextFree kept
-next-free kept within = none-has kept.next kept.files (λ k d i same. let own = (within.files k d i).below_next in omega arith)
+pub next-free : (kept : Kept) → IsOrderly kept → IsNextFree kept
+next-free kept within = none-has kept.next kept.files (λ k d i same. let own = within.below k d i in omega arith)
 
 pub resized-length : (blocks : ℕ) (bodies : List (List ℕ)) → length (resized blocks bodies) ≡ blocks
 resized-length blocks bodies = omega (arith, length-take blocks (bodies ++ replicate blocks zeros), length-append bodies (replicate blocks zeros), length-replicate blocks zeros)
@@ -118,7 +118,7 @@ blocks-of-one f (x ∷ files) found = by (x.id == f.id) found (blocks-of-one f f
 
 -- ---- each effect
 
-module _ (kept : Kept) (within : IsWithinBounds kept) (who : Who) (few : who.host < most_hosts) (seq : ℕ) where
+module _ (kept : Kept) (within : IsOrderly kept) (who : Who) (few : who.host < most_hosts) (seq : ℕ) where
   -- a change without effect
   abbrev Keeps : Effect → Type 0
   Keeps e = Fits kept (change_with who seq e)
@@ -163,11 +163,11 @@ module _ (kept : Kept) (within : IsWithinBounds kept) (who : Who) (few : who.hos
         few_blocks = subst (λ files. blocks_in_all files ≤ most_blocks) (sym after) (omega (arith, blocks-replaced file f kept.files within.apart refl found, resized-length blocks f.bodies));
       }
 
-  file-within : (f : File) → find_file f.id kept.files ≡ Some f → IsFileWithin kept.next f
-  file-within f found = found-has (IsFileWithin kept.next) f.id kept.files f within.files found
+  file-length : (f : File) → find_file f.id kept.files ≡ Some f → (1 ≤ blocks_of f) × (blocks_of f ≤ most_blocks_of_file)
+  file-length f found = found-has (λ file. (1 ≤ blocks_of file) × (blocks_of file ≤ most_blocks_of_file)) f.id kept.files f within.lengths found
 
   raised-alike : (f : File) → find_file f.id kept.files ≡ Some f → FitsFile kept None (raised_row (row_of f) (blocks_of f))
-  raised-alike f found = let own = file-within f found in let all = within.few_blocks in raised-fits f (blocks_of f) found own.not_empty own.short (omega arith)
+  raised-alike f found = let own = file-length f found in let all = within.few_blocks in raised-fits f (blocks_of f) found own.0 own.1 (omega arith)
 
   keeps-write : (f : File) (block : ℕ) (body : List ℕ) → find_file f.id kept.files ≡ Some f → block < blocks_of f → Keeps (block_write (row_of f) block body)
   unfolding change_with block_write raised_row file_of
@@ -267,7 +267,7 @@ same-host : (r : Request) (w who : Who) → Some w ≡ Some who → who.host < m
 same-host r w who e few = let same : w ≡ who = cc in subst (λ v. v.host < most_hosts) (sym same) few
 
 -- the change of a fresh request can be kept
-pub fresh-fits : (kept : Kept) (gate : Gate) (r : Request) (who : Who) → IsWithinBounds kept → asker r ≡ Some who → who.host < most_hosts → Fits kept (fresh_change kept gate r)
+pub fresh-fits : (kept : Kept) (gate : Gate) (r : Request) (who : Who) → IsOrderly kept → asker r ≡ Some who → who.host < most_hosts → Fits kept (fresh_change kept gate r)
 fresh-fits kept gate (Attach w) who within by few = effect-fits kept within w (same-host (Attach w) w who by few) 0 gate (Attach w)
 fresh-fits kept gate (Create w n name blocks) who within by few = effect-fits kept within w (same-host (Attach w) w who by few) n gate (Create w n name blocks)
 fresh-fits kept gate (Write w n file block first last push body) who within by few = effect-fits kept within w (same-host (Attach w) w who by few) n gate (Write w n file block first last push body)
@@ -276,7 +276,7 @@ fresh-fits kept gate (Remove w n q file) who within by few = effect-fits kept wi
 fresh-fits kept gate other who within by few = nothing-fits kept
 
 -- a file that is fenced can be kept
-pub fencing-fits : (kept : Kept) (f : File) → IsWithinBounds kept → find_file f.id kept.files ≡ Some f → Fits kept (fencing (row_of f))
+pub fencing-fits : (kept : Kept) (f : File) → IsOrderly kept → find_file f.id kept.files ≡ Some f → Fits kept (fencing (row_of f))
 unfolding fencing
 fencing-fits kept f within found = record { file = raised-alike kept within (record { host = 0; inc = 0 }) (omega arith) 0 f found; block = tt; host = tt; heads = tt; removed = tt }
 
@@ -284,3 +284,14 @@ fencing-fits kept f within found = record { file = raised-alike kept within (rec
 pub heads-fit : (kept : Kept) (heads : Heads) → kept.next ≤ heads.next → Fits kept (change_of_heads heads)
 unfolding change_of_heads
 heads-fit kept heads stays = record { file = tt; block = tt; host = tt; heads = stays; removed = tt }
+
+-- a kept state within its bounds is orderly
+pub orderly-within : (kept : Kept) → IsWithinBounds kept → IsOrderly kept
+orderly-within kept within = record {
+  apart = within.apart;
+  below = λ k d i. (within.files k d i).below_next;
+  lengths = λ k d i. ((within.files k d i).not_empty, (within.files k d i).short);
+  few_files = within.few_files;
+  few_blocks = within.few_blocks;
+  all_hosts = within.all_hosts;
+}

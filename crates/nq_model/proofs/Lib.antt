@@ -8,6 +8,7 @@ pub mod EachChange
 pub mod Files
 pub mod Finding
 pub mod FreshFits
+pub mod FreshWithin
 pub mod JournalTests
 pub mod LegalTest
 pub mod Lists

@@ -23,7 +23,7 @@ use Rattle.nq_model.proofs.Finding.{choice, same-number, number-same, number-oth
 
 -- ---- a file in place of the one of its id and name
 
-replaced-id : (x g : File) (b : Bool) → (g.id == x.id) ≡ b → (if b then x else g).id ≡ g.id
+pub replaced-id : (x g : File) (b : Bool) → (g.id == x.id) ≡ b → (if b then x else g).id ≡ g.id
 replaced-id x g true e = sym (same-number g.id x.id e)
 replaced-id x g false e = refl
 
@@ -32,10 +32,10 @@ replaced-name x g true e named = sym (named (same-number g.id x.id e))
 replaced-name x g false e named = refl
 
 -- files of this id have this name
-abbrev AreNamed : File → List File → Type 0
+abbrev pub AreNamed : File → List File → Type 0
 AreNamed x files = All (λ g. g.id ≡ x.id → g.name ≡ x.name) files
 
-named-as-found : (x f : File) (files : List File) → AreApart files → find_file x.id files ≡ Some f → f.name ≡ x.name → AreNamed x files
+pub named-as-found : (x f : File) (files : List File) → AreApart files → find_file x.id files ≡ Some f → f.name ≡ x.name → AreNamed x files
 named-as-found x f [] apart found same = All-nil _
 named-as-found x f (g ∷ files) apart found same = by (g.id == x.id) refl found (named-as-found x f files apart.2)
   where
@@ -56,7 +56,7 @@ unnamed-replaced name x [] named none = refl
 unnamed-replaced name x (g ∷ files) named none =
     unnamed-first name g (if g.id == x.id then x else g) (find_name name files) (find_name name (replace_file x files)) (same_bytes g.name name) (replaced-name x g (g.id == x.id) refl (All-head (λ y. y.id ≡ x.id → y.name ≡ x.name) g files named)) refl (unnamed-replaced name x files (All-tail (λ y. y.id ≡ x.id → y.name ≡ x.name) g files named)) none
 
-apart-replaced : (x : File) (files : List File) → AreNamed x files → AreApart files → AreApart (replace_file x files)
+pub apart-replaced : (x : File) (files : List File) → AreNamed x files → AreApart files → AreApart (replace_file x files)
 apart-replaced x [] named apart = tt
 apart-replaced x (g ∷ files) named apart =
     let y : File = if g.id == x.id then x else g in
@@ -81,7 +81,7 @@ unnamed-filtered name p (g ∷ files) none = by (p g) (same_bytes g.name name) r
     by true false e h rest = rw e (rest h)
     by false false e h rest = rest h
 
-apart-filtered : (p : File → Bool) (files : List File) → AreApart files → AreApart (filter p files)
+pub apart-filtered : (p : File → Bool) (files : List File) → AreApart files → AreApart (filter p files)
 apart-filtered p [] apart = tt
 apart-filtered p (g ∷ files) apart =
     choice AreApart (p g) (g ∷ filter p files) (filter p files)
@@ -111,15 +111,15 @@ other-name : (name : List ℕ) (g : File) (rest : Option File) (c : Bool) → sa
 other-name name g rest true e none = absurd (cc)
 other-name name g rest false e none = (e, none)
 
-apart-added : (next : ℕ) (x : File) (files : List File) → All (IsFileWithin next) files → x.id ≡ next → find_name x.name files ≡ None → AreApart files → AreApart (files ++ x ∷ [])
+pub apart-added : (next : ℕ) (x : File) (files : List File) → All (λ f. f.id < next) files → x.id ≡ next → find_name x.name files ≡ None → AreApart files → AreApart (files ++ x ∷ [])
 apart-added next x [] each same none apart = (All-nil _, refl, tt)
 apart-added next x (g ∷ files) each same none apart =
-    let own : IsFileWithin next g = All-head (IsFileWithin next) g files each in
+    let own : g.id < next = All-head (λ f. f.id < next) g files each in
     let names = other-name x.name g (find_name x.name files) (same_bytes g.name x.name) refl none in
-    let last : g.id < x.id = let below = own.below_next in omega arith in (
+    let last : g.id < x.id = omega arith in (
       All-append (λ later. g.id < later.id) files (x ∷ []) apart.0 (All-cons (λ later. g.id < later.id) x [] last (All-nil _)),
       unnamed-added g.name x files (same-bytes-both x.name g.name ∙ names.0) apart.1,
-      apart-added next x files (All-tail (IsFileWithin next) g files each) same names.1 apart.2,
+      apart-added next x files (All-tail (λ f. f.id < next) g files each) same names.1 apart.2,
     )
 
 -- ---- the files together
@@ -151,11 +151,11 @@ files-below next later files more w = record {
   few_blocks = w.few_blocks;
 }
 
-fewer-files : (p : File → Bool) (files : List File) → length (filter p files) ≤ length files
+pub fewer-files : (p : File → Bool) (files : List File) → length (filter p files) ≤ length files
 fewer-files p [] = omega arith
 fewer-files p (g ∷ files) = let rest = fewer-files p files in choice (λ xs. length xs ≤ length (g ∷ files)) (p g) (g ∷ filter p files) (filter p files) (λ stays. omega arith) (λ goes. omega arith)
 
-fewer-blocks : (p : File → Bool) (files : List File) → blocks_in_all (filter p files) ≤ blocks_in_all files
+pub fewer-blocks : (p : File → Bool) (files : List File) → blocks_in_all (filter p files) ≤ blocks_in_all files
 fewer-blocks p [] = omega arith
 fewer-blocks p (g ∷ files) =
     let rest = fewer-blocks p files in
@@ -182,7 +182,7 @@ files-replaced next x f files w own found same fits = record {
 files-added : (next later : ℕ) (x : File) (files : List File) → FilesWithin next files → x.id ≡ next → next ≤ later → find_name x.name files ≡ None → IsFileWithin later x → length (files ++ x ∷ []) ≤ most_files → blocks_in_all (files ++ x ∷ []) ≤ most_blocks → FilesWithin later (files ++ x ∷ [])
 files-added next later x files w same more none own few_files few_blocks = record {
   each = All-append (IsFileWithin later) files (x ∷ []) (λ k d i. file-below next later (get_or files k d) more (w.each k d i)) (All-cons (IsFileWithin later) x [] own (All-nil _));
-  apart = apart-added next x files w.each same none w.apart;
+  apart = apart-added next x files (λ k d i. (w.each k d i).below_next) same none w.apart;
   few_files = few_files;
   few_blocks = few_blocks;
 }

@@ -214,6 +214,16 @@ pub record IsHostWithin (row : HostRow) : Type 0 where
 abbrev pub IsNextFree : Kept → Type 0
 IsNextFree kept = find_file kept.next kept.files ≡ None
 
+-- the shape of a kept state, whatever was kept in it: the files stand in order of their ids, which are below the next one;
+-- each has a length that a file can have and a name of its own; there are not too many files and blocks; each host has a row
+pub record IsOrderly (kept : Kept) : Type 0 where
+  pub apart : AreApart kept.files
+  pub below : All (λ file. file.id < kept.next) kept.files
+  pub lengths : All (λ file. (1 ≤ blocks_of file) × (blocks_of file ≤ most_blocks_of_file)) kept.files
+  pub few_files : length kept.files ≤ most_files
+  pub few_blocks : blocks_in_all kept.files ≤ most_blocks
+  pub all_hosts : length kept.hosts ≡ most_hosts
+
 -- the kept numbers are within their bounds: those that an image can have
 pub record IsWithinBounds (kept : Kept) : Type 0 where
   pub files : All (IsFileWithin kept.next) kept.files

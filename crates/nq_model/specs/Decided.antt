@@ -1,7 +1,8 @@
 -- How requests are decided that are decided once, from the kept state and a gate alone: ATTACH, CREATE, WRITE, RESIZE
 -- and REMOVE. A fresh one is kept with its effect in one change. The server's step is this, and what it does aside.
-use Rattle.std.specs.Prelude.{ℕ, ◌+◌, ◌-◌, ◌%◌, ◌==◌, Bool, true, false, ◌&&◌, ◌||◌, List, [], ◌∷◌, ◌++◌, Option, Some, None, find, length, max, nat_lt, nat_le, is_some, if◌then◌else◌}
+use Rattle.std.specs.Prelude.{◌<◌, ◌^◌, All, ℕ, ◌+◌, ◌-◌, ◌%◌, ◌==◌, Bool, true, false, ◌&&◌, ◌||◌, List, [], ◌∷◌, ◌++◌, Option, Some, None, find, length, max, nat_lt, nat_le, is_some, if◌then◌else◌}
 use Rattle.nq_base.specs.Block.{value_of}
+use Rattle.nq_base.specs.Name.{IsName}
 use Rattle.nq_base.specs.declared.Access.{Access}
 use Rattle.nq_base.specs.declared.Change.{Change}
 use Rattle.nq_base.specs.declared.Decided.{Decided}
@@ -24,7 +25,7 @@ use Rattle.nq_base.specs.declared.Verdict.{Verdict}
 use Rattle.nq_base.specs.declared.Verdict.TheVariants.{Done, Fenced, Exist, NoSpace, Invalid, Stale, TryLater}
 use Rattle.nq_base.specs.declared.Who.{Who}
 use Rattle.nq_model.specs.Ask.{conflicts, marked}
-use Rattle.nq_model.specs.Change.{raised_row, row_of_found, heads_of, space_of, applied, no_change}
+use Rattle.nq_model.specs.Change.{raised_row, row_of_found, heads_of, space_of, applied, no_change, IsBody}
 use Rattle.nq_model.specs.Decide.{in_the_way, verdict_reply}
 use Rattle.nq_model.specs.Kept.{Kept, blocks_in_all, find_file, find_name, host_row}
 use Rattle.nq_model.specs.Message.{Packet, reply, old_incarnation}
@@ -388,3 +389,16 @@ decided_step s who xid r (Again verdict value) = replies s who.host xid (answer_
 decided_step s who xid r Old = refuses s who xid Refusal.Old
 decided_step s who xid r OldIncarnation = drops s old_incarnation
 decided_step s who xid r NotAttached = refuses s who xid Refusal.NotAttached
+
+-- the numbers of a request that is decided once, its name and its body are within their bounds
+abbrev pub IsRequestWithin : Request → Type 0
+IsRequestWithin (Attach who) = who.inc < 2 ^ 31
+IsRequestWithin (Create who seq name blocks) = (who.inc < 2 ^ 31) × (seq < 2 ^ 61) × IsName name
+IsRequestWithin (Write who seq file block first last push body) = (who.inc < 2 ^ 31) × (seq < 2 ^ 61) × IsBody body
+IsRequestWithin (Resize who seq q file blocks) = (who.inc < 2 ^ 31) × (seq < 2 ^ 61)
+IsRequestWithin (Remove who seq q file) = (who.inc < 2 ^ 31) × (seq < 2 ^ 61)
+IsRequestWithin other = Unit {0}
+
+-- each revision can rise once more within its bound
+abbrev pub RevisionsCanRise : Kept → Type 0
+RevisionsCanRise kept = All (λ file. file.rev + 1 < 2 ^ 61) kept.files
