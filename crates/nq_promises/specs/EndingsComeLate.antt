@@ -5,16 +5,9 @@ use Rattle.nq_base.specs.declared.Entry.TheVariants.{G, F, O}
 use Rattle.nq_base.specs.declared.Who.{Who}
 use Rattle.nq_promises.specs.Bounds.{InEveryRun}
 use Rattle.nq_model.specs.CutOff.{IsLateEnd, IsLateOpening}
-<<<<<<< HEAD
 use Rattle.nq_model.specs.Journal.{Throughout}
-use Rattle.nq_model.specs.Skew.{IsWithinSkew}
 use Rattle.nq_model.specs.Table.{caches, same_who}
-use Rattle.nq_model.specs.World.{Head, run}
-=======
-use Rattle.nq_model.specs.Journal.{Throughout, same_who}
-use Rattle.nq_model.specs.Table.{caches}
 use Rattle.nq_model.specs.World.{run}
->>>>>>> c2b9093834ca5ff3e47a499853d2e0e4edb2693f
 
 -- the boot that served last: the one whose recovery ended last, or the first boot
 abbrev pub boot_opened : List Entry → ℕ
