@@ -15,6 +15,7 @@ pub mod LossesAreExcused
 pub mod LossesAreReported
 pub mod OksAreKept
 pub mod EndingsComeLate
+pub mod EventsSendFew
 -- what the server and the clients have
 pub mod BlocksAreHeld
 pub mod WritesAreUndisturbed

@@ -1,0 +1,4 @@
+pub mod ClientSends
+pub mod NoticeCounts
+pub mod ServerSends
+pub mod WorldSends
