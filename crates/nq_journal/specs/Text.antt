@@ -65,28 +65,6 @@ longest_words version longest = if version == 2 then decimal longest ∷ [] else
 abbrev pub of_who : List ℕ → Who → List (List ℕ) → List (List ℕ)
 of_who letter who words = letter ∷ decimal who.host ∷ decimal who.inc ∷ words
 
--- an entry that tells of a call: the call, a block that was read for it, a length that it changed, its answer
-abbrev pub IsOfCall : Entry → Type 0
-IsOfCall (Entry.C who q told) = Unit {0}
-IsOfCall (Entry.R who q file block value served) = Unit {0}
-IsOfCall (Entry.Z who q file from to) = Unit {0}
-IsOfCall (Entry.A who q said) = Unit {0}
-IsOfCall other = ⊥
-
--- an entry that tells of a write: that it was made, stored or lost
-abbrev pub IsOfWrite : Entry → Type 0
-IsOfWrite (Entry.W who file block number value through) = Unit {0}
-IsOfWrite (Entry.S who file block first last now) = Unit {0}
-IsOfWrite (Entry.L who file block first last) = Unit {0}
-IsOfWrite other = ⊥
-
--- an entry that tells of a lease: that it was granted, that it ended, or that a recovery ended
-abbrev pub IsOfLease : Entry → Type 0
-IsOfLease (Entry.G who file mode tag term now) = Unit {0}
-IsOfLease (Entry.F who file until heard now) = Unit {0}
-IsOfLease (Entry.O boot until heard now) = Unit {0}
-IsOfLease other = ⊥
-
 -- the words of an entry
 abbrev pub entry_words : (version : ℕ) → Entry → List (List ℕ)
 entry_words version (Entry.C who q told) = of_who (codes "C") who (decimal q ∷ told_words told)

@@ -1,13 +1,14 @@
 //! Writing the entries of a journal, a line each.
 
-ghost use Rattle.std.specs.Prelude.{◌≡◌, ℕ, [], ◌++◌, OnOk};
+ghost use Rattle.std.specs.Prelude.{◌≡◌, ◌<◌, ◌^◌, [], ◌++◌, OnOk};
+ghost use Rattle.std.specs.Fmt.{decimal};
 ghost use Rattle.std.specs.List.{flat_map};
 ghost use Rattle.nq_journal.specs.Words.{joined, spaced};
-ghost use Rattle.nq_journal.specs.Text.{Fits, FitsWho, FitsSource, IsOfCall, IsOfWrite, IsOfLease, entry_words, entry_line, of_who, way_word, mode_word, source_words, longest_words};
+ghost use Rattle.nq_journal.specs.Text.{Fits, FitsWho, FitsSource, entry_words, entry_line, of_who, way_word, mode_word, source_words, longest_words};
 
 use crate::NoMemory;
 use crate::write_words::{push_command, push_numbers, push_said, push_told, push_word};
-use nq_base::{Entry, Mode, Who};
+use nq_base::{BlockNo, Entry, FileId, Mode, Who};
 
 // Appends the letter of a line and the incarnation of which it tells.
 #[tactic(auto, unfolding(crate::specs::Words::joined))]
@@ -48,6 +49,14 @@ fn push_source(out: &mut Vec<u8>, served: Option<u64>) -> Result<(), NoMemory>
     }
 }
 
+// Appends a file and a block.
+fn push_place(out: &mut Vec<u8>, file: FileId, block: BlockNo) -> Result<(), NoMemory>
+    ensures written { OnOk result (out.new.items ≡ out.old.items ++ spaced (decimal file) ++ spaced (decimal block)) }
+    ensures fits { OnOk result ((file < 2 ^ 32) × (block < 2 ^ 32)) }
+{
+    push_numbers(out, &[u64::from(file.0), u64::from(block.0)])
+}
+
 // Appends the longest term, where the version tells it.
 fn push_longest(out: &mut Vec<u8>, version: u32, longest: u32) -> Result<(), NoMemory>
     ensures { OnOk result (out.new.items ≡ out.old.items ++ flat_map spaced (longest_words version longest)) }
@@ -58,11 +67,10 @@ fn push_longest(out: &mut Vec<u8>, version: u32, longest: u32) -> Result<(), NoM
     Ok(())
 }
 
-// Appends the words of an entry that tells of a call.
+// Appends the words of an entry.
 #[tactic(auto, unfolding(crate::specs::Words::joined))]
-fn push_of_call(out: &mut Vec<u8>, entry: &Entry) -> Result<(), NoMemory>
-    requires { IsOfCall entry.now }
-    ensures written { (version : ℕ) → OnOk result (out.new.items ≡ out.old.items ++ joined (entry_words version entry.now)) }
+fn push_words(out: &mut Vec<u8>, version: u32, entry: &Entry) -> Result<(), NoMemory>
+    ensures written { OnOk result (out.new.items ≡ out.old.items ++ joined (entry_words version entry.now)) }
     ensures fits { OnOk result (Fits entry.now) }
 {
     match entry {
@@ -70,6 +78,19 @@ fn push_of_call(out: &mut Vec<u8>, entry: &Entry) -> Result<(), NoMemory>
             push_who(out, b"C", who)?;
             push_numbers(out, &[*q])?;
             push_told(out, told)
+        }
+        Entry::W {
+            who,
+            file,
+            block,
+            number,
+            value,
+            through,
+        } => {
+            push_who(out, b"W", who)?;
+            push_place(out, *file, *block)?;
+            push_numbers(out, &[number.0, u64::from(*value)])?;
+            push_word(out, way_name(*through))
         }
         Entry::R {
             who,
@@ -80,61 +101,10 @@ fn push_of_call(out: &mut Vec<u8>, entry: &Entry) -> Result<(), NoMemory>
             served,
         } => {
             push_who(out, b"R", who)?;
-            push_numbers(
-                out,
-                &[*q, u64::from(file.0), u64::from(block.0), u64::from(*value)],
-            )?;
-            push_source(out, *served)
-        }
-        Entry::Z {
-            who,
-            q,
-            file,
-            from,
-            to,
-        } => {
-            push_who(out, b"Z", who)?;
-            push_numbers(
-                out,
-                &[*q, u64::from(file.0), u64::from(*from), u64::from(*to)],
-            )
-        }
-        Entry::A { who, q, said } => {
-            push_who(out, b"A", who)?;
             push_numbers(out, &[*q])?;
-            push_said(out, said)
-        }
-        _ => unreachable!(),
-    }
-}
-
-// Appends the words of an entry that tells of a write.
-#[tactic(auto, unfolding(crate::specs::Words::joined))]
-fn push_of_write(out: &mut Vec<u8>, entry: &Entry) -> Result<(), NoMemory>
-    requires { IsOfWrite entry.now }
-    ensures written { (version : ℕ) → OnOk result (out.new.items ≡ out.old.items ++ joined (entry_words version entry.now)) }
-    ensures fits { OnOk result (Fits entry.now) }
-{
-    match entry {
-        Entry::W {
-            who,
-            file,
-            block,
-            number,
-            value,
-            through,
-        } => {
-            push_who(out, b"W", who)?;
-            push_numbers(
-                out,
-                &[
-                    u64::from(file.0),
-                    u64::from(block.0),
-                    number.0,
-                    u64::from(*value),
-                ],
-            )?;
-            push_word(out, way_name(*through))
+            push_place(out, *file, *block)?;
+            push_numbers(out, &[u64::from(*value)])?;
+            push_source(out, *served)
         }
         Entry::S {
             who,
@@ -145,16 +115,8 @@ fn push_of_write(out: &mut Vec<u8>, entry: &Entry) -> Result<(), NoMemory>
             now,
         } => {
             push_who(out, b"S", who)?;
-            push_numbers(
-                out,
-                &[
-                    u64::from(file.0),
-                    u64::from(block.0),
-                    first.0,
-                    last.0,
-                    now.0,
-                ],
-            )
+            push_place(out, *file, *block)?;
+            push_numbers(out, &[first.0, last.0, now.0])
         }
         Entry::L {
             who,
@@ -164,23 +126,9 @@ fn push_of_write(out: &mut Vec<u8>, entry: &Entry) -> Result<(), NoMemory>
             last,
         } => {
             push_who(out, b"L", who)?;
-            push_numbers(
-                out,
-                &[u64::from(file.0), u64::from(block.0), first.0, last.0],
-            )
+            push_place(out, *file, *block)?;
+            push_numbers(out, &[first.0, last.0])
         }
-        _ => unreachable!(),
-    }
-}
-
-// Appends the words of an entry that tells of a lease.
-#[tactic(auto, unfolding(crate::specs::Words::joined))]
-fn push_of_lease(out: &mut Vec<u8>, entry: &Entry) -> Result<(), NoMemory>
-    requires { IsOfLease entry.now }
-    ensures written { (version : ℕ) → OnOk result (out.new.items ≡ out.old.items ++ joined (entry_words version entry.now)) }
-    ensures fits { OnOk result (Fits entry.now) }
-{
-    match entry {
         Entry::G {
             who,
             file,
@@ -216,27 +164,29 @@ fn push_of_lease(out: &mut Vec<u8>, entry: &Entry) -> Result<(), NoMemory>
             out.extend_from_slice(b"O")?;
             push_numbers(out, &[u64::from(*boot), until.0, heard.0, now.0])
         }
-        _ => unreachable!(),
-    }
-}
-
-// Appends the words of an entry.
-#[tactic(auto, unfolding(crate::specs::Words::joined))]
-fn push_words(out: &mut Vec<u8>, version: u32, entry: &Entry) -> Result<(), NoMemory>
-    ensures written { OnOk result (out.new.items ≡ out.old.items ++ joined (entry_words version entry.now)) }
-    ensures fits { OnOk result (Fits entry.now) }
-{
-    match entry {
-        Entry::C { .. } | Entry::R { .. } | Entry::Z { .. } | Entry::A { .. } => {
-            push_of_call(out, entry)
-        }
-        Entry::W { .. } | Entry::S { .. } | Entry::L { .. } => push_of_write(out, entry),
-        Entry::G { .. } | Entry::F { .. } | Entry::O { .. } => push_of_lease(out, entry),
         Entry::B { who } => push_who(out, b"B", who),
         Entry::X { boot, now, longest } => {
             out.extend_from_slice(b"X")?;
             push_numbers(out, &[u64::from(*boot), now.0])?;
             push_longest(out, version, *longest)
+        }
+        Entry::Z {
+            who,
+            q,
+            file,
+            from,
+            to,
+        } => {
+            push_who(out, b"Z", who)?;
+            push_numbers(
+                out,
+                &[*q, u64::from(file.0), u64::from(*from), u64::from(*to)],
+            )
+        }
+        Entry::A { who, q, said } => {
+            push_who(out, b"A", who)?;
+            push_numbers(out, &[*q])?;
+            push_said(out, said)
         }
     }
 }

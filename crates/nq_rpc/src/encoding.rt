@@ -37,8 +37,7 @@ fn put_auth(out: &mut Writer) -> Result<(), NoMemory>
     ensures spare { out.old.spare ≤ out.new.spare + 8 }
 {
     out.u32(AUTH_NULL)?;
-    out.opaque(&[])?;
-    Ok(())
+    out.opaque(&[])
 }
 
 fn put_bounds(low: u32, high: u32, out: &mut Writer) -> Result<(), NoMemory>
@@ -47,8 +46,7 @@ fn put_bounds(low: u32, high: u32, out: &mut Writer) -> Result<(), NoMemory>
     ensures spare { out.old.spare ≤ out.new.spare + 8 }
 {
     out.u32(low)?;
-    out.u32(high)?;
-    Ok(())
+    out.u32(high)
 }
 
 #[tactic(auto, unfolding(crate::specs::Message::numbers))]
@@ -62,8 +60,7 @@ fn put_numbers(call: &CallMessage, out: &mut Writer) -> Result<(), NoMemory>
     out.u32(call.rpcvers)?;
     out.u32(call.head.prog)?;
     out.u32(call.head.vers)?;
-    out.u32(call.head.procedure)?;
-    Ok(())
+    out.u32(call.head.procedure)
 }
 
 /// Begins an accepted reply.
@@ -74,8 +71,7 @@ fn put_accepted(stat: u32, out: &mut Writer) -> Result<(), NoMemory>
 {
     out.u32(number::MSG_ACCEPTED)?;
     put_auth(out)?;
-    out.u32(stat)?;
-    Ok(())
+    out.u32(stat)
 }
 
 /// Begins a denied reply.
@@ -85,8 +81,7 @@ fn put_denied(stat: u32, out: &mut Writer) -> Result<(), NoMemory>
     ensures spare { out.old.spare ≤ out.new.spare + 8 }
 {
     out.u32(number::MSG_DENIED)?;
-    out.u32(stat)?;
-    Ok(())
+    out.u32(stat)
 }
 
 #[tactic(auto, unfolding(crate::specs::Message::outcome))]
@@ -98,8 +93,7 @@ fn put_outcome(reply: &Outcome, out: &mut Writer) -> Result<(), NoMemory>
     match reply {
         Outcome::Success(results) => {
             put_accepted(number::SUCCESS, out)?;
-            out.append(results.as_bytes())?;
-            Ok(())
+            out.append(results.as_bytes())
         }
         Outcome::ProgUnavail => put_accepted(number::PROG_UNAVAIL, out),
         Outcome::ProgMismatch { low, high } => {
@@ -114,8 +108,7 @@ fn put_outcome(reply: &Outcome, out: &mut Writer) -> Result<(), NoMemory>
         }
         Outcome::AuthError(stat) => {
             put_denied(number::AUTH_ERROR, out)?;
-            out.u32(*stat)?;
-            Ok(())
+            out.u32(*stat)
         }
     }
 }
@@ -131,8 +124,7 @@ fn put(message: &Message, out: &mut Writer) -> Result<(), NoMemory>
             put_numbers(call, out)?;
             put_auth(out)?;
             put_auth(out)?;
-            out.append(call.arguments.as_bytes())?;
-            Ok(())
+            out.append(call.arguments.as_bytes())
         }
         Message::Reply(reply) => {
             out.u32(reply.xid)?;

@@ -17,8 +17,7 @@ pub(crate) fn put_who(who: &Who, out: &mut Writer) -> Result<(), NoMemory>
     ensures spare { out.old.spare ≤ out.new.spare + 8 }
 {
     out.u32(who.host.0)?;
-    out.u32(who.inc.0)?;
-    Ok(())
+    out.u32(who.inc.0)
 }
 
 #[tactic(auto, unfolding(crate::specs::Parts::tag_bytes))]
@@ -29,8 +28,7 @@ pub(crate) fn put_tag(tag: &Tag, out: &mut Writer) -> Result<(), NoMemory>
     ensures spare { out.old.spare ≤ out.new.spare + 12 }
 {
     out.u32(tag.boot)?;
-    out.u64(tag.number)?;
-    Ok(())
+    out.u64(tag.number)
 }
 
 fn mode_number(mode: Mode) -> u32
@@ -51,8 +49,7 @@ pub(crate) fn put_want(want: &Want, out: &mut Writer) -> Result<(), NoMemory>
     ensures spare { out.old.spare ≤ out.new.spare + 8 }
 {
     out.u32(mode_number(want.mode))?;
-    out.u32(want.term)?;
-    Ok(())
+    out.u32(want.term)
 }
 
 #[tactic(auto, unfolding(crate::specs::Parts::grant_bytes))]
@@ -67,8 +64,7 @@ fn put_grant(grant: &Grant, out: &mut Writer) -> Result<(), NoMemory>
     put_tag(&grant.tag, out)?;
     put_tag(&grant.since, out)?;
     out.u64(grant.rev.0)?;
-    out.u32(grant.blocks)?;
-    Ok(())
+    out.u32(grant.blocks)
 }
 
 #[tactic(auto, unfolding(crate::specs::Parts::base_bytes))]
@@ -79,8 +75,7 @@ fn put_base(push: &PushBase, out: &mut Writer) -> Result<(), NoMemory>
     ensures spare { out.old.spare ≤ out.new.spare + 12 }
 {
     out.u32(push.boot)?;
-    out.u64(push.base.0)?;
-    Ok(())
+    out.u64(push.base.0)
 }
 
 #[tactic(auto, unfolding(crate::specs::Parts::optional))]
@@ -96,8 +91,7 @@ pub(crate) fn put_optional_want(want: &Option<Want>, out: &mut Writer) -> Result
             put_want(want, out)
         }
         None => {
-            out.boolean(false)?;
-            Ok(())
+            out.boolean(false)
         }
     }
 }
@@ -115,8 +109,7 @@ pub(crate) fn put_optional_grant(grant: &Option<Grant>, out: &mut Writer) -> Res
             put_grant(grant, out)
         }
         None => {
-            out.boolean(false)?;
-            Ok(())
+            out.boolean(false)
         }
     }
 }
@@ -134,8 +127,7 @@ pub(crate) fn put_optional_base(push: &Option<PushBase>, out: &mut Writer) -> Re
             put_base(push, out)
         }
         None => {
-            out.boolean(false)?;
-            Ok(())
+            out.boolean(false)
         }
     }
 }
@@ -155,8 +147,7 @@ pub(crate) fn put_name(name: &Name, out: &mut Writer) -> Result<(), NoMemory>
     ensures succeeds { opaque_len (length name.now) ≤ out.old.spare → IsOk result }
     ensures spare { out.old.spare ≤ out.new.spare + opaque_len (length name.now) }
 {
-    out.opaque(name.as_bytes())?;
-    Ok(())
+    out.opaque(name.as_bytes())
 }
 
 /// Writes the body of a block, which is copied once.
@@ -166,6 +157,5 @@ pub(crate) fn put_body(body: &Block, out: &mut Writer) -> Result<(), NoMemory>
     ensures succeeds { 4100 ≤ out.old.spare → IsOk result }
     ensures spare { out.old.spare ≤ out.new.spare + 4100 }
 {
-    out.opaque(body.as_bytes())?;
-    Ok(())
+    out.opaque(body.as_bytes())
 }

@@ -39,8 +39,7 @@ fn put_status(inc: Inc, status: u32, out: &mut Writer) -> Result<(), NoMemory>
     ensures spare { out.old.spare ≤ out.new.spare + 8 }
 {
     out.u32(inc.0)?;
-    out.u32(status)?;
-    Ok(())
+    out.u32(status)
 }
 
 #[tactic(auto, unfolding(crate::specs::Reply::ok))]
@@ -68,19 +67,16 @@ fn put(reply: &Reply, out: &mut Writer) -> Result<(), NoMemory>
         Reply::Lookup { inc, file, blocks } => {
             put_ok(*inc, out)?;
             out.u32(file.0)?;
-            out.u32(*blocks)?;
-            Ok(())
+            out.u32(*blocks)
         }
         Reply::Create { inc, file } => {
             put_ok(*inc, out)?;
-            out.u32(file.0)?;
-            Ok(())
+            out.u32(file.0)
         }
         Reply::GetAttr { inc, blocks, rev } => {
             put_ok(*inc, out)?;
             out.u32(*blocks)?;
-            out.u64(rev.0)?;
-            Ok(())
+            out.u64(rev.0)
         }
         Reply::Read {
             inc,
@@ -95,8 +91,7 @@ fn put(reply: &Reply, out: &mut Writer) -> Result<(), NoMemory>
         }
         Reply::Write { inc, rev } | Reply::Resize { inc, rev } => {
             put_ok(*inc, out)?;
-            out.u64(rev.0)?;
-            Ok(())
+            out.u64(rev.0)
         }
         Reply::GetLease { inc, grant } => {
             put_ok(*inc, out)?;

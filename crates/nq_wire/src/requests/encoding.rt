@@ -1,9 +1,8 @@
 //! Writing arguments.
 
-ghost use Rattle.std.specs.Prelude.{◌≡◌, ◌⊎◌, ◌+◌, ◌≤◌, ◌++◌, length, IfSome, IfOk, OnOk, OnErr, IsOk};
+ghost use Rattle.std.specs.Prelude.{◌≡◌, ◌+◌, ◌≤◌, ◌++◌, length, IfSome, IfOk, OnOk, OnErr, IsOk};
 ghost use Rattle.nq_xdr.specs.Item.{word, hyper};
 ghost use Rattle.nq_wire.specs.Parts.{head, base_bytes, optional, optional_len, IsWho, IsPushBase};
-ghost use Rattle.nq_wire.specs.declared.procedure.Procedure.{Procedure};
 ghost use Rattle.nq_wire.specs.Procedure.{number_of};
 ghost use Rattle.nq_wire.specs.Request.{procedure_of, arguments, arguments_len, IsRequest, HasSpelling, IsArguments};
 
@@ -46,8 +45,7 @@ fn put_file(who: &Who, file: u32, out: &mut Writer) -> Result<(), NoMemory>
     ensures spare { out.old.spare ≤ out.new.spare + 12 }
 {
     put_who(who, out)?;
-    out.u32(file)?;
-    Ok(())
+    out.u32(file)
 }
 
 /// Writes who asks, and a sequence.
@@ -58,8 +56,7 @@ fn put_sequence(who: &Who, seq: u64, out: &mut Writer) -> Result<(), NoMemory>
     ensures spare { out.old.spare ≤ out.new.spare + 16 }
 {
     put_who(who, out)?;
-    out.u64(seq)?;
-    Ok(())
+    out.u64(seq)
 }
 
 /// Writes a file and a block.
@@ -69,8 +66,7 @@ fn put_place(file: u32, block: u32, out: &mut Writer) -> Result<(), NoMemory>
     ensures spare { out.old.spare ≤ out.new.spare + 8 }
 {
     out.u32(file)?;
-    out.u32(block)?;
-    Ok(())
+    out.u32(block)
 }
 
 /// Writes the numbers of the first and the last write, and what they rest on.
@@ -90,16 +86,28 @@ fn put_span(
     put_optional_base(push, out)
 }
 
-/// Writes the arguments of a request on a name, LOOKUP or CREATE.
+/// Writes who asks, a sequence, and the number of a call.
+fn put_of_call(who: &Who, seq: u64, call: u64, out: &mut Writer) -> Result<(), NoMemory>
+    ensures written { OnOk result (out.new.bytes ≡ out.old.bytes ++ head who.now ++ hyper seq ++ hyper call) }
+    ensures fits { OnOk result (IsWho who.now) }
+    ensures succeeds { 24 ≤ out.old.spare → IsOk result }
+    ensures spare { out.old.spare ≤ out.new.spare + 24 }
+{
+    put_sequence(who, seq, out)?;
+    out.u64(call)
+}
+
+/// Writes the arguments, item by item.
 #[tactic(auto, unfolding(crate::specs::Request::arguments))]
-fn put_on_name(request: &Request, out: &mut Writer) -> Result<(), NoMemory>
-    requires { (procedure_of request.now ≡ Procedure.Lookup) ⊎ (procedure_of request.now ≡ Procedure.Create) }
+fn put(request: &Request, out: &mut Writer) -> Result<(), NoMemory>
     ensures written { OnOk result (out.new.bytes ≡ out.old.bytes ++ arguments request.now) }
     ensures fits { OnOk result (IsRequest request.now) }
     ensures succeeds { arguments_len request.now ≤ out.old.spare → IsOk result }
     ensures spare { out.old.spare ≤ out.new.spare + arguments_len request.now }
 {
     match request {
+        Request::Null => Ok(()),
+        Request::Attach { who } => put_who(who, out),
         Request::Lookup { who, name } => {
             put_who(who, out)?;
             put_name(name, out)
@@ -112,60 +120,9 @@ fn put_on_name(request: &Request, out: &mut Writer) -> Result<(), NoMemory>
         } => {
             put_sequence(who, seq.0, out)?;
             put_name(name, out)?;
-            out.u32(*blocks)?;
-            Ok(())
+            out.u32(*blocks)
         }
-        _ => unreachable!(),
-    }
-}
-
-/// Writes the arguments of a request on a whole file, GETATTR, RESIZE or REMOVE.
-#[tactic(auto, unfolding(crate::specs::Request::arguments))]
-fn put_on_file(request: &Request, out: &mut Writer) -> Result<(), NoMemory>
-    requires { (procedure_of request.now ≡ Procedure.GetAttr) ⊎ (procedure_of request.now ≡ Procedure.Resize) ⊎ (procedure_of request.now ≡ Procedure.Remove) }
-    ensures written { OnOk result (out.new.bytes ≡ out.old.bytes ++ arguments request.now) }
-    ensures fits { OnOk result (IsRequest request.now) }
-    ensures succeeds { arguments_len request.now ≤ out.old.spare → IsOk result }
-    ensures spare { out.old.spare ≤ out.new.spare + arguments_len request.now }
-{
-    match request {
         Request::GetAttr { who, file } => put_file(who, file.0, out),
-        Request::Resize {
-            who,
-            seq,
-            call,
-            file,
-            blocks,
-        } => {
-            put_sequence(who, seq.0, out)?;
-            out.u64(*call)?;
-            put_place(file.0, *blocks, out)
-        }
-        Request::Remove {
-            who,
-            seq,
-            call,
-            file,
-        } => {
-            put_sequence(who, seq.0, out)?;
-            out.u64(*call)?;
-            out.u32(file.0)?;
-            Ok(())
-        }
-        _ => unreachable!(),
-    }
-}
-
-/// Writes the arguments of a request on a block, READ or WRITE.
-#[tactic(auto, unfolding(crate::specs::Request::arguments))]
-fn put_on_block(request: &Request, out: &mut Writer) -> Result<(), NoMemory>
-    requires { (procedure_of request.now ≡ Procedure.Read) ⊎ (procedure_of request.now ≡ Procedure.Write) }
-    ensures written { OnOk result (out.new.bytes ≡ out.old.bytes ++ arguments request.now) }
-    ensures fits { OnOk result (IsRequest request.now) }
-    ensures succeeds { arguments_len request.now ≤ out.old.spare → IsOk result }
-    ensures spare { out.old.spare ≤ out.new.spare + arguments_len request.now }
-{
-    match request {
         Request::Read {
             who,
             call,
@@ -192,20 +149,6 @@ fn put_on_block(request: &Request, out: &mut Writer) -> Result<(), NoMemory>
             put_span(first.0, last.0, push, out)?;
             put_body(body, out)
         }
-        _ => unreachable!(),
-    }
-}
-
-/// Writes the arguments of a request on a lease, GETLEASE, VACATED or EVICTED.
-#[tactic(auto, unfolding(crate::specs::Request::arguments))]
-fn put_on_lease(request: &Request, out: &mut Writer) -> Result<(), NoMemory>
-    requires { (procedure_of request.now ≡ Procedure.GetLease) ⊎ (procedure_of request.now ≡ Procedure.Vacated) ⊎ (procedure_of request.now ≡ Procedure.Evicted) }
-    ensures written { OnOk result (out.new.bytes ≡ out.old.bytes ++ arguments request.now) }
-    ensures fits { OnOk result (IsRequest request.now) }
-    ensures succeeds { arguments_len request.now ≤ out.old.spare → IsOk result }
-    ensures spare { out.old.spare ≤ out.new.spare + arguments_len request.now }
-{
-    match request {
         Request::GetLease { who, file, want } => {
             put_file(who, file.0, out)?;
             put_want(want, out)
@@ -214,27 +157,24 @@ fn put_on_lease(request: &Request, out: &mut Writer) -> Result<(), NoMemory>
             put_file(who, file.0, out)?;
             put_tag(tag, out)
         }
-        _ => unreachable!(),
-    }
-}
-
-#[tactic(auto, unfolding(crate::specs::Request::arguments))]
-fn put(request: &Request, out: &mut Writer) -> Result<(), NoMemory>
-    ensures written { OnOk result (out.new.bytes ≡ out.old.bytes ++ arguments request.now) }
-    ensures fits { OnOk result (IsRequest request.now) }
-    ensures succeeds { arguments_len request.now ≤ out.old.spare → IsOk result }
-    ensures spare { out.old.spare ≤ out.new.spare + arguments_len request.now }
-{
-    match request {
-        Request::Null => Ok(()),
-        Request::Attach { who } => put_who(who, out),
-        Request::Lookup { .. } | Request::Create { .. } => put_on_name(request, out),
-        Request::GetAttr { .. } | Request::Resize { .. } | Request::Remove { .. } => {
-            put_on_file(request, out)
+        Request::Resize {
+            who,
+            seq,
+            call,
+            file,
+            blocks,
+        } => {
+            put_of_call(who, seq.0, *call, out)?;
+            put_place(file.0, *blocks, out)
         }
-        Request::Read { .. } | Request::Write { .. } => put_on_block(request, out),
-        Request::GetLease { .. } | Request::Vacated { .. } | Request::Evicted { .. } => {
-            put_on_lease(request, out)
+        Request::Remove {
+            who,
+            seq,
+            call,
+            file,
+        } => {
+            put_of_call(who, seq.0, *call, out)?;
+            out.u32(file.0)
         }
     }
 }
