@@ -116,7 +116,15 @@ pub(crate) fn holds(entries: &Entries, key: &Key) -> bool
     entries.contains(key)
 }
 
-/// Lets the last block go where there is one too many.
+/// Takes the last block out.
+fn evict(entries: &mut Entries)
+    ensures evicted { entries.new.entries ≡ take (length entries.old.entries - 1) entries.old.entries }
+    ensures room { entries.new.cap ≡ entries.old.cap }
+{
+    drop(entries.pop_lru());
+}
+
+/// Takes the last block out where there is one too many.
 pub(crate) fn cut(entries: &mut Entries)
     requires { entries.old.cap ≡ 513 }
     ensures cut { clean_blocks entries.new.entries ≡ at_most most_clean (clean_blocks entries.old.entries) }
@@ -124,7 +132,7 @@ pub(crate) fn cut(entries: &mut Entries)
     ensures room { entries.new.cap ≡ entries.old.cap }
 {
     if entries.len() > MOST {
-        let _last = entries.pop_lru();
+        evict(entries);
     }
 }
 
@@ -148,7 +156,7 @@ fn turn(entries: &mut Entries, file: FileId)
         return;
     };
     if key.file == file {
-        drop(entries.pop_lru());
+        evict(entries);
     } else {
         entries.promote(&key);
     }

@@ -8,7 +8,7 @@ pub returns-then-len-gt-MOST-clause-cut : goal.returns-then-len-gt-MOST-clause-c
 returns-then-len-gt-MOST-clause-cut c =
     let few : length c.args.entries.now.entries ≤ c.args.entries.now.cap = c.len.ensures.valid.1 in
     let n : length c.args.entries.now.entries - 1 ≡ 512 = omega arith in
-    ap (λ x. clean_blocks x.entries) c.pop_lru-last.ensures.entries
+    ap clean_blocks c.evict.ensures.evicted
     ∙ ap (λ m. clean_blocks (take m c.args.entries.now.entries)) n
     ∙ at_most-entries 512 c.args.entries.now.entries
 

@@ -7,8 +7,8 @@ use Rattle.nq_cache.proofs.entries.turn.Goals as goal
 pub returns-then-eq-clause-turns : goal.returns-then-eq-clause-turns
 returns-then-eq-clause-turns c =
     subst
-    (λ x. Turns c.args.file c.args.entries.now.entries x.entries)
-    (sym c.pop_lru.ensures.entries)
+    (Turns c.args.file c.args.entries.now.entries)
+    (sym c.evict.ensures.evicted)
     (turn-drops c.args.file c.in-Some.key c.args.entries.now.entries c.in-Some.ensures (sym c.if-eq.ensures))
 
 pub returns-else-eq-clause-turns : goal.returns-else-eq-clause-turns

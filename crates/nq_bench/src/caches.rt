@@ -1,0 +1,31 @@
+//! The cache of a client, with so many blocks in it.
+
+use nq_base::{Block, BlockNo, FileId};
+use nq_cache::Cache;
+use std::alloc::Global;
+
+const FILE: FileId = FileId(1);
+
+/// Reads blocks that are there, one after the other and again from the first.
+pub(crate) fn read_often(alloc: Global, blocks: u32, times: u64) -> Option<u64> {
+    let mut cache = filled(alloc, blocks)?;
+    let mut into = Block::fill(0);
+    let mut sum: u64 = 0;
+    let mut block: u32 = 0;
+    for _ in 0..times {
+        if cache.get(FILE, BlockNo(block), &mut into) {
+            sum = sum.wrapping_add(u64::from(into.value()));
+        }
+        let next = block.wrapping_add(1);
+        block = if next < blocks { next } else { 0 };
+    }
+    Some(sum)
+}
+
+fn filled(alloc: Global, blocks: u32) -> Option<Cache> {
+    let mut cache = Cache::new(alloc).ok()?;
+    for block in 0..blocks {
+        cache.put(FILE, BlockNo(block), &Block::fill(block)).ok()?;
+    }
+    Some(cache)
+}
