@@ -1,5 +1,5 @@
 -- Rows in order, and where each stands.
-use Rattle.std.proofs.Common.{◌≡◌, ◌⊎◌, ℕ, ◌+◌, ◌≤◌, ◌<◌, Bool, true, false, not, ◌&&◌, ◌||◌, ◌==◌, List, [], ◌∷◌, ◌++◌, Option, Some, None, if◌then◌else◌, suc, zero, get_or, take, drop, set, length, refl, sym, ap, ◌∙◌, inl, inr, arith}
+use Rattle.std.proofs.Common.{◌≡◌, ◌⊎◌, ℕ, ◌+◌, ◌≤◌, ◌<◌, Bool, true, false, not, ◌&&◌, ◌||◌, ◌==◌, List, [], ◌∷◌, ◌++◌, Option, Some, None, if◌then◌else◌, suc, zero, get_or, take, drop, set, length, refl, sym, subst, ap, ◌∙◌, inl, inr, arith}
 use Rattle.std.specs.List.{find, filter, prefix_len, insert, remove, slice_get}
 use Rattle.std.specs.List.Sorted.{IsPartitionedBy, IsPartitionPoint}
 use Rattle.std.specs.Fn.{Called, ComputesKey}
@@ -199,3 +199,42 @@ place-from-clause p closed [] place o within clause says = omega arith
 place-from-clause p closed (d ∷ rows) place o within clause says =
     let point = IsPartitionPoint-from_clause p (d ∷ rows) place clause (parted p closed (d ∷ rows) o) says in
     sym (prefix_len_is p (d ∷ rows) place d within (λ k lt. point.0 k d (omega arith) lt) (λ lt. point.1 place d (omega arith) lt))
+
+-- ---- a row that is found by another test is that of its file and host
+
+own-key : (row : Row) → is_row_of row.file row.who.host row ≡ true
+own-key row = grind (arith, nat_tests)
+
+other-key : (a b : Row) → row_before a b ≡ true → is_row_of b.file b.who.host a ≡ false
+other-key a b h = grind (arith, nat_tests)
+
+found-behind : (p : Row → Bool) (a row : Row) (rows : List Row) → StandsBefore a rows → find p rows ≡ Some row → row_before a row ≡ true
+found-behind p a row [] s h = cc
+found-behind p a row (r ∷ rows) s h = elim (decided (p r)) [
+  | inl e ↦ let found : Some r ≡ Some row = rw e at h in let same : r ≡ row = cc in rw (← same) s.0
+  | inr e ↦ let rest : find p rows ≡ Some row = rw e at h in found-behind p a row rows s.1 rest
+]
+
+pub found-is-own : (p : Row → Bool) (row : Row) (rows : List Row) → AreInOrder rows → find p rows ≡ Some row → find_row row.file row.who.host rows ≡ Some row
+found-is-own p row [] o h = cc
+found-is-own p row (r ∷ rows) o h = elim (decided (p r)) [
+  | inl e ↦ let found : Some r ≡ Some row = rw e at h in let same : r ≡ row = cc in subst (λ x. find_row x.file x.who.host (r ∷ rows) ≡ Some x) same (here r rows)
+  | inr e ↦
+      let rest : find p rows ≡ Some row = rw e at h in
+      let other = other-key r row (found-behind p r row rows o.0 rest) in
+      later row r rows other (found-is-own p row rows o.1 rest)
+]
+  where
+    here : (r : Row) (rows : List Row) → find_row r.file r.who.host (r ∷ rows) ≡ Some r
+    here r rows = step (is_row_of r.file r.who.host r) (own-key r)
+      where
+        step : (b : Bool) → b ≡ true → (if b then Some r else find_row r.file r.who.host rows) ≡ Some r
+        step true e = refl
+        step false e = cc
+
+    later : (row r : Row) (rows : List Row) → is_row_of row.file row.who.host r ≡ false → find_row row.file row.who.host rows ≡ Some row → find_row row.file row.who.host (r ∷ rows) ≡ Some row
+    later row r rows e h = step (is_row_of row.file row.who.host r) e
+      where
+        step : (b : Bool) → b ≡ false → (if b then Some r else find_row row.file row.who.host rows) ≡ Some row
+        step true f = cc
+        step false f = h

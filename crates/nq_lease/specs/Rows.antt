@@ -1,7 +1,7 @@
 -- Rows in order of files, then hosts.
 use Rattle.std.specs.Prelude.{◌≡◌, ℕ, ◌==◌, Bool, true, ◌&&◌, ◌||◌, List, [], ◌∷◌, filter, map, nat_lt, nat_le, if◌then◌else◌}
-use Rattle.nq_base.specs.declared.Access.{Access}
 use Rattle.nq_base.specs.declared.Row.{Row}
+use Rattle.nq_base.specs.declared.RowKey.{RowKey}
 use Rattle.nq_model.specs.Table.{row_before}
 
 -- a row stands before each of these
@@ -13,6 +13,10 @@ StandsBefore row (r ∷ rows) = (row_before row r ≡ true) × StandsBefore row 
 abbrev pub AreInOrder : List Row → Type 0
 AreInOrder [] = Unit {0}
 AreInOrder (row ∷ rows) = StandsBefore row rows × AreInOrder rows
+
+-- what a row is looked up by
+abbrev pub key_of : Row → RowKey
+key_of row = record { file = row.file; host = row.who.host }
 
 -- whether a row stands before the place of a file and a host
 abbrev pub is_before : (file host : ℕ) → Row → Bool

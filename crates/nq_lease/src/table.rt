@@ -6,7 +6,7 @@ ghost use Rattle.nq_model.specs.Profile.{most_rows};
 ghost use Rattle.nq_model.specs.ServerStep.{end_reading};
 ghost use Rattle.nq_model.specs.Table.{empty_table, next_tag, find_row, put_row, drop_row, drop_host, drop_rows_of, with_rows, after_draw};
 ghost use Rattle.nq_lease.specs.Ends.{earliest};
-ghost use Rattle.nq_lease.specs.Rows.{rows_of};
+ghost use Rattle.nq_lease.specs.Rows.{AreInOrder, rows_of};
 
 use crate::changes::{self, Full, MOST_ROWS};
 use crate::rows;
@@ -64,7 +64,8 @@ impl Table {
 
     /// The rows, in order of files, then hosts.
     pub fn rows(&self) -> &[Row]
-        ensures { result.now ≡ self.now.rows }
+        ensures rows { result.now ≡ self.now.rows }
+        ensures ordered { AreInOrder self.now.rows }
     {
         self.rows.as_slice()
     }

@@ -1,0 +1,10 @@
+//! The ends of leases: a reading or non-caching row goes when its lease is over, a writing one when also the write slack
+//! has passed since then and since its last write was heard (Macklem 1994).
+#![tactic(auto)]
+
+mod ends;
+
+pub use ends::{due, end_reading};
+
+#[cfg(test)]
+mod tests;
