@@ -5,7 +5,7 @@ use Rattle.nq_base.specs.Block.{zeros}
 use Rattle.nq_base.specs.declared.Event.{Event}
 use Rattle.nq_base.specs.declared.Party.{Party}
 use Rattle.law_reports.proofs.BookSteps.{hear-keeps, tick-keeps, call-keeps}
-use Rattle.law_zeros.specs.Untouched.{AreZeros, UntouchedAreZerosInEveryRun}
+use Rattle.nq_promises.specs.UntouchedAreZeros.{AreZeros, UntouchedAreZerosInEveryRun}
 use Rattle.law_zeros.proofs.ZeroFiles.{Untouched, get-replicate}
 use Rattle.law_zeros.proofs.ZeroSteps.{received, ticked, crashed, was-closed}
 use Rattle.nq_model.specs.Client.{Client, ClientStep}

@@ -11,7 +11,7 @@ use Rattle.nq_base.specs.declared.Tag.{Tag}
 use Rattle.nq_base.specs.declared.Verdict.{Verdict}
 use Rattle.nq_base.specs.declared.Who.{Who}
 use Rattle.law_reports.proofs.Books.{Book, unsaved_on, after_loss, after_names, after_report, Closed}
-use Rattle.law_zeros.specs.Untouched.{AreZeros}
+use Rattle.nq_promises.specs.UntouchedAreZeros.{AreZeros}
 use Rattle.law_zeros.proofs.ZeroFiles.{NoCut, Untouched, zeros-idle, zeros-written, zeros-fenced, zeros-resized, zeros-made, zeros-removed}
 use Rattle.nq_model.proofs.Finding.{number-same}
 use Rattle.nq_model.specs.Client.{UnderWay}

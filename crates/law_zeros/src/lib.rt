@@ -2,7 +2,7 @@
 //! stands in `proofs/`.
 #![tactic(auto)]
 
-ghost use Rattle.law_zeros.specs.Untouched.{UntouchedAreZerosInEveryRun};
+ghost use Rattle.nq_promises.specs.UntouchedAreZeros.{UntouchedAreZerosInEveryRun};
 
 /// After every schedule each block of a kept file that no write that went through and no stored write has touched, since its file
 /// last got it, is zeros, all 4096 bytes of it. No clock matters to it.

@@ -45,4 +45,5 @@ pub use law_undisturbed::{
     unsaved_files_are_bound_or_fenced_in_every_run,
 };
 pub use met::laws_are_met;
+pub use law_zeros::untouched_blocks_are_zeros_in_every_run;
 pub use promises::headline;
