@@ -1,12 +1,14 @@
 //! The program `nq_bench`: does one thing many times, to be timed from outside, and prints a number that stands on
 //! all that came out. Its words are what, which way and how often: `lookup`, `lookup-reply` or `read-reply` with
 //! `encode` or `decode`, `journal` with `print` or `parse`, or `skew` with `all` or `clients`,
-//! or `cache` with 1, 32 or 512, the number of blocks in it.
+//! or `cache` with 1, 32 or 512, the number of blocks in it,
+//! or `leases` with `row`, `put`, `drop`, `ask`, `clash` or `tick`.
 #![tactic(auto)]
 
 mod caches;
 mod datagrams;
 mod journals;
+mod leases;
 mod skews;
 
 use std::alloc::Global;
@@ -47,6 +49,7 @@ fn done(alloc: Global, what: &str, way: &str, times: u64) -> Option<u64> {
         ("cache", "1") => caches::read_often(alloc, 1, times),
         ("cache", "32") => caches::read_often(alloc, 32, times),
         ("cache", "512") => caches::read_often(alloc, 512, times),
+        ("leases", way) => leases::often(alloc, way, times),
         _ => None,
     }
 }
