@@ -1,11 +1,21 @@
 //! The delayed writes of a client.
 
-ghost use Rattle.std.specs.Prelude.{◌≡◌, ◌≤◌, ◌↔◌, [], None, IsTrue, IsSome, IfSome, IfOk};
-ghost use Rattle.nq_model.specs.Client.{is_clean_in, is_push_of, push_passes};
+ghost use Rattle.std.specs.Prelude.{◌≡◌, ◌≤◌, ◌<◌, ◌+◌, ◌++◌, ◌↔◌, [], None, false, length, is_some, slice_get, unwrap_or, IsTrue, IsSome, IfSome, IfNone, IsOk, IfOk, OnOk, OnErr};
+ghost use Rattle.std.specs.Option.{option_copied};
+ghost use Rattle.nq_model.specs.Client.{is_push_of, push_passes, dirty_at, first_dirty, drop_dirty, other_dirty, is_clean_in};
+ghost use Rattle.nq_model.specs.Hear.{all_dirty_in, losses_in, other_push};
+ghost use Rattle.nq_model.specs.Profile.{most_dirty};
+ghost use Rattle.nq_model.specs.Settle.{dirty_body, pending_in, is_full_in, write_in};
+ghost use Rattle.nq_dirty.specs.declared.fault.DirtyFault.{DirtyFault};
 
 use crate::clean::Clean;
-use crate::entries::{Entries, has_file};
-use nq_base::{Block, FileId, NoMemory, Push};
+use crate::entries::{
+    Entries, Key, add, add_losses, count, has_file, holds, nth, overwrite, read, reserve,
+    take_file, take_first,
+};
+use crate::fault::DirtyFault;
+use crate::under_way;
+use nq_base::{Block, BlockNo, FileId, Losses, NoMemory, Number, Push};
 use std::alloc::Global;
 use std::marker::Model;
 
@@ -34,9 +44,13 @@ impl Model for Dirty {
 }
 
 impl Dirty {
+    /// The most blocks that are delayed or under way.
+    pub const MOST: usize = 1024;
+
     /// No delayed writes.
     pub fn new(alloc: Global) -> Result<Dirty, NoMemory>
-        ensures { IfOk result (λ d. (d.dirty ≡ []) × (d.push ≡ None)) }
+        ensures made { IsOk result }
+        ensures empty { IfOk result (λ d. (d.dirty ≡ []) × (d.push ≡ None)) }
     {
         Ok(Dirty {
             entries: Entries::new(alloc),
@@ -45,25 +59,173 @@ impl Dirty {
         })
     }
 
+    /// Makes room for so many blocks that are not dirty yet.
+    ///
+    /// # Errors
+    ///
+    /// Only want of memory.
+    pub fn reserve(&mut self, blocks: usize) -> Result<(), NoMemory>
+        ensures dirty { self.new.dirty ≡ self.old.dirty }
+        ensures push { self.new.push ≡ self.old.push }
+        ensures room { OnOk result (blocks ≤ self.new.spare) }
+        ensures succeeds { blocks ≤ self.old.spare → IsOk result }
+        ensures spare { self.old.spare ≤ self.new.spare }
+    {
+        reserve(&mut self.entries, &mut self.free, blocks)
+    }
+
+    /// Delays a write. A block that is in the list keeps its place and its first write; another goes to the end.
+    ///
+    /// # Errors
+    ///
+    /// `Full` exactly where 1024 blocks are delayed or under way and this one is not in the list. Else only want of
+    /// memory, and none is wanted for a block in the list, nor for another where room is reserved.
+    pub fn write(
+        &mut self,
+        file: FileId,
+        block: BlockNo,
+        number: Number,
+        body: &Block,
+    ) -> Result<(), DirtyFault>
+        ensures written { OnOk result (self.new.dirty ≡ write_in file block number body.now self.old.dirty) }
+        ensures refused { OnErr result (self.new.dirty ≡ self.old.dirty) }
+        ensures push { self.new.push ≡ self.old.push }
+
+        ensures full { (result ≡ Err DirtyFault.Full) ↔ IsTrue (is_full_in file block self.old.dirty self.old.push) }
+        ensures there { IsSome (dirty_at file block self.old.dirty) → IsOk result × (self.old.spare ≤ self.new.spare) }
+        ensures succeeds { is_full_in file block self.old.dirty self.old.push ≡ false → 1 ≤ self.old.spare → IsOk result }
+        ensures spare { self.old.spare ≤ self.new.spare + 1 }
+    {
+        let key = Key { file, block };
+        if overwrite(&mut self.entries, &key, number, body) {
+            return Ok(());
+        }
+        if self.pending() == Dirty::MOST {
+            return Err(DirtyFault::Full);
+        }
+        reserve(&mut self.entries, &mut self.free, 1)?;
+        add(&mut self.entries, &mut self.free, key, number, body);
+        Ok(())
+    }
+
+    /// Moves the first delayed writes of a file from the list to the push under way; None where the list has none of
+    /// the file. The order of the rest stays.
+    pub fn next(&mut self, file: FileId) -> Option<Push>
+        requires { self.old.push ≡ None }
+        ensures first { result ≡ first_dirty file self.old.dirty }
+        ensures others { IfSome result (λ p. self.new.dirty ≡ drop_dirty p.file p.block self.old.dirty) }
+        ensures under_way { self.new.push ≡ result }
+        ensures unchanged { IfNone result (self.new ≡ self.old) }
+        ensures spare { self.old.spare ≤ self.new.spare }
+    {
+        let push = take_first(&mut self.entries, file)?;
+        self.push = Some(under_way::copy_of(&push));
+        Some(push)
+    }
+
+    /// The push under way, if there is one.
+    pub fn under_way(&self) -> Option<&Push>
+        ensures { option_copied result ≡ self.now.push }
+    {
+        self.push.as_ref()
+    }
+
+    /// Ends the push under way, which is of this file: it was stored.
+    pub fn stored(&mut self, file: FileId)
+        requires { IsTrue (push_passes (is_push_of file) self.old.push) }
+        ensures { self.new ≡ record self.old { push = None } }
+    {
+        self.push = None;
+    }
+
+    /// Moves all delayed writes of a file to `into`: those under way first, then those of the list in their order.
+    ///
+    /// # Errors
+    ///
+    /// Only want of memory, and none is wanted where `into` has room. Then no writes are moved.
+    pub fn lose(&mut self, file: FileId, into: &mut Losses) -> Result<(), NoMemory>
+        ensures lost { OnOk result (into.new.items ≡ into.old.items ++ losses_in file self.old.dirty self.old.push) }
+        ensures others { OnOk result (self.new.dirty ≡ other_dirty file self.old.dirty) }
+        ensures push { OnOk result (self.new.push ≡ other_push file self.old.push) }
+        ensures refused { OnErr result ((self.new ≡ self.old) × (into.new ≡ into.old)) }
+        ensures succeeds { length (all_dirty_in file self.old.dirty self.old.push) ≤ into.old.spare → IsOk result }
+        ensures spare { self.old.spare ≤ self.new.spare }
+    {
+        let lost = self.pending_of(file);
+        into.reserve(lost)?;
+        under_way::lose(&mut self.push, file, into);
+        add_losses(&self.entries, file, into);
+        take_file(&mut self.entries, file);
+        Ok(())
+    }
+
+    /// Whether a block has delayed writes, in the list or under way. The body of the last one is then copied.
+    pub fn get(&self, file: FileId, block: BlockNo, into: &mut Block) -> bool
+        ensures found { result ≡ is_some (dirty_body file block self.now.dirty self.now.push) }
+        ensures body { into.new ≡ unwrap_or (dirty_body file block self.now.dirty self.now.push) into.old }
+    {
+        let key = Key { file, block };
+        read(&self.entries, &key, into) || under_way::read(&self.push, &key, into)
+    }
+
+    /// Whether a block is in the list.
+    pub fn holds(&self, file: FileId, block: BlockNo) -> bool
+        ensures { result ≡ is_some (dirty_at file block self.now.dirty) }
+    {
+        holds(&self.entries, &Key { file, block })
+    }
+
+    /// Whether a write of this block finds no room.
+    pub fn is_full(&self, file: FileId, block: BlockNo) -> bool
+        ensures { result ≡ is_full_in file block self.now.dirty self.now.push }
+    {
+        self.pending() >= Dirty::MOST && !self.holds(file, block)
+    }
+
+    /// How many blocks are delayed or under way.
+    pub fn pending(&self) -> usize
+        ensures pending { result ≡ pending_in self.now.dirty self.now.push }
+        ensures few { result ≤ most_dirty }
+    {
+        self.entries.len() + usize::from(self.push.is_some())
+    }
+
+    /// How many blocks of a file are delayed or under way.
+    pub fn pending_of(&self, file: FileId) -> usize
+        ensures pending { result ≡ length (all_dirty_in file self.now.dirty self.now.push) }
+        ensures few { result ≤ most_dirty }
+    {
+        let listed = count(&self.entries, file);
+        if under_way::is_of(&self.push, file) {
+            listed + 1
+        } else {
+            listed
+        }
+    }
+
+    /// The delayed writes at a place of the list; None where the place is not below its length.
+    pub fn nth(&self, place: usize) -> Option<Push>
+        ensures { result ≡ slice_get self.now.dirty place }
+    {
+        nth(&self.entries, place)
+    }
+
+    /// Whether a file has no delayed writes, neither in the list nor under way.
+    pub fn is_clean(&self, file: FileId) -> bool
+        ensures { result ≡ is_clean_in file self.now.dirty self.now.push }
+    {
+        !has_file(&self.entries, file) && !under_way::is_of(&self.push, file)
+    }
+
     /// The file as a clean one, where it has no delayed writes, neither in the list nor under way.
     pub fn clean(&self, file: FileId) -> Option<Clean<'_>>
         ensures clean { IsSome result ↔ IsTrue (is_clean_in file self.now.dirty self.now.push) }
         ensures value { IfSome result (λ c. c ≡ record { file = file; dirty = self.now.dirty; push = self.now.push }) }
     {
-        if has_file(&self.entries, file) || is_under_way(&self.push, file) {
-            None
-        } else {
+        if self.is_clean(file) {
             Some(Clean::new(self, file))
+        } else {
+            None
         }
-    }
-}
-
-/// Whether the push under way, if there is one, is of this file.
-fn is_under_way(push: &Option<Push>, file: FileId) -> bool
-    ensures { result ≡ push_passes (is_push_of file) push.now }
-{
-    match push {
-        Some(push) => push.file == file,
-        None => false,
     }
 }

@@ -6,6 +6,7 @@ mod clean;
 mod dirty;
 mod entries;
 mod fault;
+mod under_way;
 
 pub use clean::Clean;
 pub use dirty::Dirty;
