@@ -2,4 +2,5 @@
 #![tactic(auto)]
 
 mod asking;
+mod deciding;
 mod effects;
