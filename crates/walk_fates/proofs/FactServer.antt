@@ -13,7 +13,7 @@ use Rattle.walk_client.proofs.ClientFacts.{push_in}
 use Rattle.walk_client.proofs.ClientMoves.{some-same, none-some}
 use Rattle.walk_fates.proofs.FactMoves.{IsOfOther, quiet-other, behind-more, facts-others, facts-packets}
 use Rattle.walk_fates.proofs.JournalMoves.{covers-before}
-use Rattle.walk_fates.proofs.ServerTells.{AllQuiet, Effects, without, goes_through, pushes, Decides, Attaches, Moves, same_lines, attaches_one, decides_one}
+use Rattle.walk_fates.proofs.ServerTells.{DecidedAt, decided-at, AllQuiet, Effects, without, goes_through, pushes, Decides, Attaches, Moves, same_lines, attaches_one, decides_one}
 use Rattle.walk_fates.proofs.WritesFit.{CoversNumber, IsDirty, IsDecidedAs, PushStands, waits, stored, IsPushed, LiesWithin, ListFits, IsOpenPush, Facts}
 use Rattle.nq_model.specs.Client.{Ticket}
 use Rattle.nq_model.specs.Journal.{Covers}
@@ -159,32 +159,20 @@ module _ (s : Server) (t : ServerStep) (who : Who) (xid number seq : ℕ) (ticke
     abbrev request : Request
     request = k.r
 
-    asked-here : Asked ps who.host k.x k.r
-    asked-here = subst (λ n. Asked ps n k.x k.r) (sym same) k.asked
-
-    was-inc : line.inc ≡ k.w.inc
-    was-inc = ap (λ n. (host_row s.kept n).inc) same ∙ k.inc
-
-    was-below : line.seq < k.seq
-    was-below = let a = k.above in let e : line.seq ≡ (host_row s.kept k.w.host).seq = ap (λ n. (host_row s.kept n).seq) same in omega arith
-
-    is-inc : after.inc ≡ k.w.inc
-    is-inc = ap (λ n. (host_row t.server.kept n).inc) same ∙ k.inc_after
-
-    is-seq : after.seq ≡ k.seq
-    is-seq = ap (λ n. (host_row t.server.kept n).seq) same ∙ k.seq_after
+    here : DecidedAt ps s t k who.host
+    here = decided-at ps s t k who.host same
 
     -- then no request of the host is open
     none-open : (w : Who) (p : Push) → IsOpenPush after (ps ++ t.sends) who.host w p → ⊥
     none-open w p o =
         let r : Request = Request.Write w o.seq p.file p.block p.first p.last (Some o.base) p.body in
-        let e = is-inc in
-        let n = is-seq in
-        let i = was-inc in
-        let below = was-below in
+        let e = here.is_inc in
+        let n = here.is_seq in
+        let i = here.was_inc in
+        let below = here.was_below in
         let up = o.above in
         let kept = o.kept in
-        let mine : IsOpenAt line ps who.host k.x k.r = record { who = k.w; seq = k.seq; asked = asked-here; by = k.by; kept = was-inc; draws = k.draws; above = was-below } in
+        let mine : IsOpenAt line ps who.host k.x k.r = record { who = k.w; seq = k.seq; asked = here.asked; by = k.by; kept = here.was_inc; draws = k.draws; above = here.was_below } in
         let other : IsOpenAt line ps who.host o.xid r = record { who = w; seq = o.seq; asked = old o.xid r o.asked; by = refl; kept = omega arith; draws = refl; above = omega arith } in
         let one = (b.one k.x o.xid k.r r mine other).1 in
         let number : k.seq ≡ o.seq = some-same k.seq o.seq (sym k.draws ∙ ap sequence_of one) in
@@ -192,33 +180,33 @@ module _ (s : Server) (t : ServerStep) (who : Who) (xid number seq : ℕ) (ticke
 
     -- a push under way is what is decided
     is-it : (p : Push) → push ≡ Some p → (w : k.w ≡ who) × (push_in k.r ≡ Some p)
-    is-it p is = (one-who k.w who (sym same) mine, case (b.settled kept k.x k.r k.w k.seq asked-here k.by mine k.draws))
+    is-it p is = (one-who k.w who (sym same) mine, case (b.settled kept k.x k.r k.w k.seq here.asked k.by mine k.draws))
       where
         kept : line.inc ≡ who.inc
         kept = b.pushing p is
 
         mine : k.w.inc ≡ who.inc
-        mine = sym was-inc ∙ kept
+        mine = sym here.was_inc ∙ kept
 
         case : IsSettled ticket line.seq k.x k.seq → push_in k.r ≡ Some p
-        case (inl below) = let up = was-below in absurd (omega arith)
+        case (inl below) = let up = here.was_below in absurd (omega arith)
         case (inr u) =
             let h = b.facts.under_way p is in
             let one : h.request ≡ u.0 = some-same h.request u.0 (sym h.asks ∙ u.1) in
-            let asks : u.0.request ≡ k.r = (b.mail.asked k.x k.r k.w asked-here k.by).same mine u.0 u.1 u.2 in
+            let asks : u.0.request ≡ k.r = (b.mail.asked k.x k.r k.w here.asked k.by).same mine u.0 u.1 u.2 in
             ap push_in (sym asks ∙ ap (λ z. z.request) (sym one)) ∙ h.pushes
 
     seq-is : (p : Push) (u : Ticket) (n : ℕ) → push ≡ Some p → ticket ≡ Some u → sequence_of u.request ≡ Some n → n ≡ k.seq
-    seq-is p u n is has sq = case (b.settled (b.pushing p is) k.x k.r k.w k.seq asked-here k.by mine k.draws)
+    seq-is p u n is has sq = case (b.settled (b.pushing p is) k.x k.r k.w k.seq here.asked k.by mine k.draws)
       where
         mine : k.w.inc ≡ who.inc
-        mine = sym was-inc ∙ b.pushing p is
+        mine = sym here.was_inc ∙ b.pushing p is
 
         case : IsSettled ticket line.seq k.x k.seq → n ≡ k.seq
-        case (inl below) = let up = was-below in absurd (omega arith)
+        case (inl below) = let up = here.was_below in absurd (omega arith)
         case (inr v) =
             let one : v.0 ≡ u = some-same v.0 u (sym v.1 ∙ has) in
-            let asks : v.0.request ≡ k.r = (b.mail.asked k.x k.r k.w asked-here k.by).same mine v.0 v.1 v.2 in
+            let asks : v.0.request ≡ k.r = (b.mail.asked k.x k.r k.w here.asked k.by).same mine v.0 v.1 v.2 in
             some-same n k.seq (sym sq ∙ ap (λ z. sequence_of z.request) (sym one) ∙ ap sequence_of asks ∙ k.draws)
 
     -- no later incarnation
@@ -227,7 +215,7 @@ module _ (s : Server) (t : ServerStep) (who : Who) (xid number seq : ℕ) (ticke
       covers : (w : Who) → w.host ≡ who.host → who.inc < w.inc → (file block n : ℕ) → CoversNumber journal w file block n → ⊥
 
     inc-past : k.w.inc ≤ who.inc
-    inc-past = (b.mail.asked k.x k.r k.w asked-here k.by).inc
+    inc-past = (b.mail.asked k.x k.r k.w here.asked k.by).inc
 
     -- the facts after it, but for the push under way
     decides : (e : List Entry) → PastFits (e ++ j) → ListFits who number dirty push (e ++ j) → ((p : Push) (u : Ticket) (n : ℕ) → push ≡ Some p → ticket ≡ Some u → sequence_of u.request ≡ Some n → IsPushed line who number n j p → IsPushed after who number n (e ++ j) p) → Result e
@@ -263,7 +251,7 @@ module _ (s : Server) (t : ServerStep) (who : Who) (xid number seq : ℕ) (ticke
 
         stands : (p : Push) (n : ℕ) → push ≡ Some p → n ≡ k.seq → PushStands line who n (es ++ j) p → PushStands after who n (es ++ j) p
         stands p n is number (waits undone clear) = waits (not-done p n is why) clear
-        stands p n is number (stored now d i) = let at = d.decided in let below = was-below in absurd (omega arith)
+        stands p n is number (stored now d i) = let at = d.decided in let below = here.was_below in absurd (omega arith)
 
     -- a write goes through
     through : (sq f bl first last : ℕ) (bd : List ℕ) → k.r ≡ Request.Write k.w sq f bl first last None bd → Result (W k.w f bl first (value_of bd) true ∷ [])
@@ -280,7 +268,7 @@ module _ (s : Server) (t : ServerStep) (who : Who) (xid number seq : ℕ) (ticke
         writes g c n v th e =
             let w : k.w ≡ who = cc in
             let m : first ≡ n = cc in
-            let drawn = b.facts.sent.drawn k.x sq f bl first last None bd (subst (λ z. Asked ps who.host k.x (Request.Write z sq f bl first last None bd)) w (subst (λ r. Asked ps who.host k.x r) asks asked-here)) in
+            let drawn = b.facts.sent.drawn k.x sq f bl first last None bd (subst (λ z. Asked ps who.host k.x (Request.Write z sq f bl first last None bd)) w (subst (λ r. Asked ps who.host k.x r) asks here.asked)) in
             let a = drawn.0 in
             let z = drawn.1 in
             (omega arith, cc)
@@ -301,7 +289,7 @@ module _ (s : Server) (t : ServerStep) (who : Who) (xid number seq : ℕ) (ticke
         late-covers w home later g c n (inr h) = b.facts.past_covers w home later g c n h
 
         asked-by : k.w ≡ who → Asked ps who.host k.x (Request.Write who sq f bl first last (Some base) bd)
-        asked-by w = subst (λ z. Asked ps who.host k.x (Request.Write z sq f bl first last (Some base) bd)) w (subst (λ r. Asked ps who.host k.x r) asks asked-here)
+        asked-by w = subst (λ z. Asked ps who.host k.x (Request.Write z sq f bl first last (Some base) bd)) w (subst (λ r. Asked ps who.host k.x r) asks here.asked)
 
         covers : (g c n : ℕ) → Covers (S k.w f bl first last now) (W who g c n 0 false) → (n < number) × ((q : Push) → In dirty q → q.file ≡ g → q.block ≡ c → n < q.first)
         covers g c n k' =
@@ -327,7 +315,7 @@ module _ (s : Server) (t : ServerStep) (who : Who) (xid number seq : ℕ) (ticke
             record {
               behind = behind-more (S k.w f bl first last now) d.behind;
               below = d.below;
-              stands = stored now (record { inc = is-inc ∙ ap (λ z. z.inc) it.0; decided = is-seq ∙ sym (seq-is p u n is has sn); told = sym verdict-is ∙ done }) own;
+              stands = stored now (record { inc = here.is_inc ∙ ap (λ z. z.inc) it.0; decided = here.is_seq ∙ sym (seq-is p u n is has sn); told = sym verdict-is ∙ done }) own;
             }
 
     effects : Effects k.w k.r (host_row t.server.kept k.w.host).verdict t.entries → Result t.entries

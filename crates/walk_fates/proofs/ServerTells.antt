@@ -96,6 +96,17 @@ pub record Decides (ps : List Packet) (s : Server) (t : ServerStep) : Type 0 whe
   pub effects : Effects w r (host_row t.server.kept w.host).verdict t.entries
   pub others : (host : ℕ) → (host ≡ w.host → ⊥) → host_row t.server.kept host ≡ host_row s.kept host
 
+-- the same, at the host whose request it is
+pub record DecidedAt (ps : List Packet) (s : Server) (t : ServerStep) (k : Decides ps s t) (host : ℕ) : Type 0 where
+  pub asked : Asked ps host k.x k.r
+  pub was_inc : (host_row s.kept host).inc ≡ k.w.inc
+  pub was_below : (host_row s.kept host).seq < k.seq
+  pub is_inc : (host_row t.server.kept host).inc ≡ k.w.inc
+  pub is_seq : (host_row t.server.kept host).seq ≡ k.seq
+
+pub decided-at : (ps : List Packet) (s : Server) (t : ServerStep) (k : Decides ps s t) (host : ℕ) → host ≡ k.w.host → DecidedAt ps s t k host
+decided-at ps s t k host same = subst (DecidedAt ps s t k) (sym same) (record { asked = k.asked; was_inc = k.inc; was_below = k.above; is_inc = k.inc_after; is_seq = k.seq_after })
+
 -- a later incarnation begins
 pub record Attaches (ps : List Packet) (s : Server) (t : ServerStep) : Type 0 where
   pub x : ℕ

@@ -11,7 +11,7 @@ use Rattle.nq_base.specs.declared.Who.{Who}
 use Rattle.walk_client.proofs.ClientFacts.{push_in}
 use Rattle.walk_client.proofs.ClientMoves.{some-same}
 use Rattle.walk_fates.proofs.JournalMoves.{covers-more}
-use Rattle.walk_fates.proofs.ServerTells.{IsQuiet, AllQuiet, Effects, without, goes_through, pushes, Decides, Attaches, Moves, same_lines, attaches_one, decides_one}
+use Rattle.walk_fates.proofs.ServerTells.{DecidedAt, decided-at, IsQuiet, AllQuiet, Effects, without, goes_through, pushes, Decides, Attaches, Moves, same_lines, attaches_one, decides_one}
 use Rattle.walk_fates.proofs.WritesFit.{IsClear, IsOpenPush, WritesFit}
 use Rattle.walk_legal.proofs.EarlierStores.{Earlier, push-behind}
 use Rattle.nq_model.specs.Client.{Client}
@@ -99,31 +99,19 @@ module _ (s : Server) (t : ServerStep) (c : Client) (ps : List Packet) (j : List
   -- ---- a request of this host is decided
 
   module _ (k : Decides ps s t) (same : c.who.host ≡ k.w.host) where
-    asked-here : Asked ps c.who.host k.x k.r
-    asked-here = subst (λ n. Asked ps n k.x k.r) (sym same) k.asked
-
-    was-inc : line.inc ≡ k.w.inc
-    was-inc = ap (λ n. (host_row s.kept n).inc) same ∙ k.inc
-
-    was-below : line.seq < k.seq
-    was-below = let a = k.above in let e : line.seq ≡ (host_row s.kept k.w.host).seq = ap (λ n. (host_row s.kept n).seq) same in omega arith
-
-    is-inc : after.inc ≡ k.w.inc
-    is-inc = ap (λ n. (host_row t.server.kept n).inc) same ∙ k.inc_after
-
-    is-seq : after.seq ≡ k.seq
-    is-seq = ap (λ n. (host_row t.server.kept n).seq) same ∙ k.seq_after
+    here : DecidedAt ps s t k c.who.host
+    here = decided-at ps s t k c.who.host same
 
     none-open : (w : Who) (p : Push) → IsOpenPush after (ps ++ t.sends) c.who.host w p → ⊥
     none-open w p o =
         let r : Request = Request.Write w o.seq p.file p.block p.first p.last (Some o.base) p.body in
-        let e = is-inc in
-        let n = is-seq in
-        let i = was-inc in
-        let below = was-below in
+        let e = here.is_inc in
+        let n = here.is_seq in
+        let i = here.was_inc in
+        let below = here.was_below in
         let up = o.above in
         let kept = o.kept in
-        let mine : IsOpenAt line ps c.who.host k.x k.r = record { who = k.w; seq = k.seq; asked = asked-here; by = k.by; kept = was-inc; draws = k.draws; above = was-below } in
+        let mine : IsOpenAt line ps c.who.host k.x k.r = record { who = k.w; seq = k.seq; asked = here.asked; by = k.by; kept = here.was_inc; draws = k.draws; above = here.was_below } in
         let other : IsOpenAt line ps c.who.host o.xid r = record { who = w; seq = o.seq; asked = old o.xid r o.asked; by = refl; kept = omega arith; draws = refl; above = omega arith } in
         let one = (b.one k.x o.xid k.r r mine other).1 in
         let number : k.seq ≡ o.seq = some-same k.seq o.seq (sym k.draws ∙ ap sequence_of one) in
@@ -131,20 +119,20 @@ module _ (s : Server) (t : ServerStep) (c : Client) (ps : List Packet) (j : List
 
     -- a push under way is what is decided
     is-it : (p : Push) → c.push ≡ Some p → push_in k.r ≡ Some p
-    is-it p is = case (b.settled kept k.x k.r k.w k.seq asked-here k.by mine k.draws)
+    is-it p is = case (b.settled kept k.x k.r k.w k.seq here.asked k.by mine k.draws)
       where
         kept : line.inc ≡ c.who.inc
         kept = b.pushing p is
 
         mine : k.w.inc ≡ c.who.inc
-        mine = sym was-inc ∙ kept
+        mine = sym here.was_inc ∙ kept
 
         case : IsSettled c.ticket line.seq k.x k.seq → push_in k.r ≡ Some p
-        case (inl below) = let up = was-below in absurd (omega arith)
+        case (inl below) = let up = here.was_below in absurd (omega arith)
         case (inr u) =
             let g = b.facts.under_way p is in
             let one : g.request ≡ u.0 = some-same g.request u.0 (sym g.asks ∙ u.1) in
-            let asks : u.0.request ≡ k.r = (b.mail.asked k.x k.r k.w asked-here k.by).same mine u.0 u.1 u.2 in
+            let asks : u.0.request ≡ k.r = (b.mail.asked k.x k.r k.w here.asked k.by).same mine u.0 u.1 u.2 in
             ap push_in (sym asks ∙ ap (λ z. z.request) (sym one)) ∙ g.pushes
 
     stores-own : (sq f bl first last now : ℕ) (base : PushBase) (bd : List ℕ) → k.r ≡ Request.Write k.w sq f bl first last (Some base) bd → (p : Push) → c.push ≡ Some p → IsClear (S k.w f bl first last now ∷ j) c.who p.file p.block p.first p.last → (n : ℕ) → Stores (S k.w f bl first last now) (W c.who p.file p.block n 0 false) → ⊥

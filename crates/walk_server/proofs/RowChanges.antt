@@ -294,23 +294,26 @@ pub found-any : (p : Row → Bool) (rows : List Row) (r : Row) → HasUniqueKeys
 found-any p [] r unique h = cc
 found-any p (y ∷ rows) r unique h = any-step p y r rows unique.0 (λ e. found-any p rows r unique.1 e) (p y) h
 
+-- a row of another host is not the asker's
+not-holder : (r : Row) (h host : ℕ) → h ≢ host → r.who.host ≡ h → not (r.who.host == host) ≡ true
+not-holder r h host other e = by (r.who.host == host) refl
+  where
+    by : (b : Bool) → (r.who.host == host) ≡ b → not b ≡ true
+    by false g = refl
+    by true g = absurd (other (sym e ∙ same-number _ _ g))
+
+-- where two parts of a test hold, it fails by the third
+third-false : (a b c : Bool) → a ≡ true → b ≡ true → (a && b && c) ≡ false → c ≡ false
+third-false true true c x y z = z
+third-false true false c x y z = absurd (cc)
+third-false false b c x y z = absurd (cc)
+
 -- where no row conflicts, each other host's row of the file lets the asker go on
 pub no-clash : (file host : ℕ) (access : Access) (h : ℕ) (rows : List Row) (r : Row) → find (conflicts file host access) rows ≡ None → find_row file h rows ≡ Some r → h ≢ host → mode_conflicts access r.mode ≡ false
 no-clash file host access h rows r none found other =
     let out : conflicts file host access r ≡ false = find-none (conflicts file host access) (is_row_of file h) r rows none found in
     let k = of-key file h r (find-passes (is_row_of file h) r rows found) in
-    by (mode_conflicts access r.mode) (number-same _ _ k.0) (differs k.1) out
-  where
-    differs : r.who.host ≡ h → not (r.who.host == host) ≡ true
-    differs e = not-host (r.who.host == host) refl
-      where
-        not-host : (b : Bool) → (r.who.host == host) ≡ b → not b ≡ true
-        not-host false g = refl
-        not-host true g = absurd (other (sym e ∙ same-number _ _ g))
-
-    by : (b : Bool) → (r.file == file) ≡ true → not (r.who.host == host) ≡ true → (r.file == file && not (r.who.host == host) && b) ≡ false → b ≡ false
-    by false x y z = refl
-    by true x y z = let bad : (r.file == file && not (r.who.host == host) && true) ≡ true = and_from _ _ (and_from _ _ x y) refl in cc
+    third-false (r.file == file) (not (r.who.host == host)) (mode_conflicts access r.mode) (number-same _ _ k.0) (not-holder r h host other k.1) out
 
 -- a row that conflicts is another host's row of the file
 pub record IsClash (file host : ℕ) (access : Access) (r : Row) : Type 0 where
@@ -340,20 +343,9 @@ pub not-shared : (file host h : ℕ) (rows : List Row) (r : Row) → list_any (s
 not-shared file host h rows r none found other =
     let out : shares file host r ≡ false = find-none (shares file host) (is_row_of file h) r rows (any-none (shares file host) rows none) found in
     let k = of-key file h r (find-passes (is_row_of file h) r rows found) in
-    by (caches r.mode) r.evicting (number-same _ _ k.0) (differs k.1) out
+    by (caches r.mode) r.evicting (third-false (r.file == file) (not (r.who.host == host)) (not (caches r.mode) || r.evicting) (number-same _ _ k.0) (not-holder r h host other k.1) out)
   where
-    differs : r.who.host ≡ h → not (r.who.host == host) ≡ true
-    differs e = not-host (r.who.host == host) refl
-      where
-        not-host : (b : Bool) → (r.who.host == host) ≡ b → not b ≡ true
-        not-host false g = refl
-        not-host true g = absurd (other (sym e ∙ same-number _ _ g))
-
-    joined : (a : Bool) → (r.file == file) ≡ true → not (r.who.host == host) ≡ true → (r.file == file && not (r.who.host == host) && a) ≡ false → a ≡ false
-    joined false x y z = refl
-    joined true x y z = let bad : (r.file == file && not (r.who.host == host) && true) ≡ true = and_from _ _ (and_from _ _ x y) refl in cc
-
-    by : (a b : Bool) → (r.file == file) ≡ true → not (r.who.host == host) ≡ true → (r.file == file && not (r.who.host == host) && (not a || b)) ≡ false → (a ≡ true) × (b ≡ false)
-    by true false x y z = (refl, refl)
-    by true true x y z = let bad : true ≡ false = joined true x y z in cc
-    by false b x y z = let bad : true ≡ false = joined true x y z in cc
+    by : (a b : Bool) → (not a || b) ≡ false → (a ≡ true) × (b ≡ false)
+    by true false z = (refl, refl)
+    by true true z = absurd (cc)
+    by false b z = absurd (cc)
