@@ -28,4 +28,5 @@ pub mod TagsAreInOrder
 pub mod OneRequestPerSequence
 pub mod RowsStandApart
 pub mod RecoveriesWait
+-- tests of entries, by which schedules are shown to lead to what the laws speak of
 pub mod Witnesses
