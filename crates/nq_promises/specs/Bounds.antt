@@ -1,15 +1,15 @@
--- The bounds to which a schedule keeps: how many hosts there may be, and how long a longest term.
+-- The bounds to which a schedule keeps: how many hosts there are, and how long the longest terms are.
 use Rattle.std.specs.Prelude.{◌≤◌, ℕ, List, All}
 use Rattle.nq_base.specs.declared.Event.{Event}
 use Rattle.nq_model.specs.Profile.{shortest_term, most_hosts}
 use Rattle.nq_model.specs.World.{Head}
 
--- a boot chooses a longest term that is no shorter than the shortest one and no longer than this
+-- a server that boots chooses a longest term that is not below the shortest term and not above this number
 abbrev pub BootsWithin : (most : ℕ) → Event → Type 0
 BootsWithin most (Event.Crash longest) = (shortest_term ≤ longest) × (longest ≤ most)
 BootsWithin most other = Unit {0}
 
--- a schedule keeps to bounds: no more hosts than there may be, and no boot with a longest term beyond this
+-- a schedule has no more hosts than there may be, and its server never chooses a longest term above this number
 pub record KeepsBounds (most : ℕ) (head : Head) (events : List Event) : Type 0 where
   pub hosts : head.hosts ≤ most_hosts
   pub first_long : shortest_term ≤ head.longest

@@ -1,4 +1,4 @@
--- Cached at once, in every run.
+-- A client answers a cached read at once, in every run.
 use Rattle.std.specs.Prelude.{◌≡◌, ℕ, List, Some, slice_get}
 use Rattle.nq_base.specs.declared.Call.{Call}
 use Rattle.nq_base.specs.declared.Event.{Event}
@@ -7,8 +7,8 @@ use Rattle.nq_model.specs.Client.{Lease, Client}
 use Rattle.nq_model.specs.ClientStep.{client_call}
 use Rattle.nq_model.specs.World.{Head, run}
 
--- after every schedule, whatever was lost, repeated, reordered or restarted, and however the clocks ran, a read or fetch
--- of what a client has under a lease that runs is answered in its own step (Macklem 1994)
+-- after every schedule, whatever packets were lost, repeated or reordered, whoever restarted and however the clocks ran, a
+-- client that has a block under a lease that runs answers a read or fetch of it in the step of that call (Macklem 1994)
 abbrev pub CachedAtOnceInEveryRun : Type 0
 CachedAtOnceInEveryRun =
     (head : Head) (events : List Event) (host : ℕ) (c : Client) (file block : ℕ) (lease : Lease) (body : List ℕ)

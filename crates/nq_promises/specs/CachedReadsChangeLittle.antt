@@ -1,5 +1,5 @@
--- What a cached read changes, in every run: its client's count of calls, the mark that the lease was used, and the order of
--- the clean blocks (Macklem 1994).
+-- A cached read changes little, in every run: the count of the client's calls, the mark that it used the lease, and the
+-- order of its clean blocks (Macklem 1994).
 use Rattle.std.specs.Prelude.{◌≡◌, ◌≢◌, ◌⊎◌, ℕ, ◌+◌, List, ◌∷◌, Some, None, slice_get, true}
 use Rattle.nq_base.specs.Block.{value_of}
 use Rattle.nq_base.specs.declared.Call.{Call}
@@ -15,16 +15,16 @@ use Rattle.nq_model.specs.CachedAtOnce.{HasCached}
 abbrev pub ReadsBlock : Call → (file block : ℕ) → Type 0
 ReadsBlock op file block = (op ≡ Call.Read file block) ⊎ (op ≡ Call.Fetch file block)
 
--- a client is as it was, but for the number of its last call, the mark that the lease on a file was used, and the order of
--- its clean blocks, of which none came and none went
+-- a client is as it was, but for the number of its last call, the mark that it used the lease on a file, and the order of
+-- its clean blocks. It has the same clean blocks as before
 pub record IsAsItWas (before after : Client) (file : ℕ) (lease : Lease) : Type 0 where
   pub rest : after ≡ record before { calls = before.calls + 1; leases = after.leases; clean = after.clean }
   pub used : lease_on file after.leases ≡ Some (record lease { used = true })
   pub other_leases : (other : ℕ) → other ≢ file → lease_on other after.leases ≡ lease_on other before.leases
   pub clean : (other block : ℕ) → clean_at other block after.clean ≡ clean_at other block before.clean
 
--- a world is as it was, but for one client, which is as above, and for three entries of the journal: the call, the cached
--- read and its answer
+-- a world is as it was, but for one client, which changed as above, and for three new entries of the journal: the call, the
+-- cached read and the answer
 pub record ChangesNothingElse (before after : World) (host : ℕ) (c : Client) (op : Call) (file block : ℕ) (lease : Lease) (body : List ℕ) : Type 0 where
   pub client : Client
   pub there : slice_get after.clients host ≡ Some client
@@ -39,7 +39,7 @@ pub record ChangesNothingElse (before after : World) (host : ℕ) (c : Client) (
       ∷ Entry.C c.who (c.calls + 1) (told op)
       ∷ before.journal
 
--- after every schedule a read or fetch of what a client has under a lease that runs changes nothing else
+-- after every schedule, a client that answers a read or fetch from its cache under a lease that runs changes nothing else
 abbrev pub CachedReadsChangeNothingElse : Type 0
 CachedReadsChangeNothingElse =
     (head : Head) (events : List Event) (host : ℕ) (c : Client) (op : Call) (file block : ℕ) (lease : Lease) (body : List ℕ)

@@ -1,4 +1,4 @@
--- Each client's calls and what they make stand in order, in every run.
+-- Each client's calls stand in order, and so do the entries that they make, in every run.
 use Rattle.std.specs.Prelude.{ℕ, List}
 use Rattle.nq_base.specs.declared.Event.{Event}
 use Rattle.nq_promises.specs.Bounds.{KeepsBounds}
@@ -15,7 +15,7 @@ OrderedInEveryRun =
     → IsWithinSkew head.hosts most events
     → IsOrdered (run head events).journal
 
--- after every schedule within skew the counted reads of the journal are of their calls
+-- after every schedule within skew each counted read of the journal is of the file and block for which its call asked
 abbrev pub ReadsAreOfTheirCallInEveryRun : Type 0
 ReadsAreOfTheirCallInEveryRun =
     (most : ℕ) (head : Head) (events : List Event)

@@ -1,4 +1,4 @@
--- The history of a file's contents, as a journal tells it. A journal's newest entry comes first.
+-- What was in a file at each of its revisions, as a journal tells it. The newest entry of a journal comes first.
 use Rattle.std.specs.Prelude.{ℕ, ◌+◌, ◌==◌, Bool, false, ◌&&◌, List, [], ◌∷◌, ◌++◌, Option, Some, None, take, replicate, slice_set, nat_lt, unwrap_or, if◌then◌else◌}
 use Rattle.std.specs.Option.{option_or}
 use Rattle.nq_base.specs.declared.Entry.{Entry}
@@ -19,24 +19,24 @@ abbrev pub changes_of : List Entry → (file : ℕ) → ℕ
 changes_of [] file = 0
 changes_of (entry ∷ before) file = if changes entry file then changes_of before file + 1 else changes_of before file
 
--- the value of an entry, if it is this delayed write
+-- the value that an entry writes, if it is this delayed write
 abbrev pub delayed_by : Entry → (who : Who) (file block number : ℕ) → Option ℕ
 delayed_by (W by f b n value false) who file block number =
     if same_who by who && f == file && b == block && n == number then Some value else None
 delayed_by other who file block number = None
 
--- the value of an incarnation's delayed write of this number to a block, as the first entry of it tells
+-- the value of an incarnation's delayed write of this number to a block, as the first such entry tells it
 abbrev pub delayed_value : List Entry → (who : Who) (file block number : ℕ) → Option ℕ
 delayed_value [] who file block number = None
 delayed_value (entry ∷ before) who file block number =
     option_or (delayed_value before who file block number) (delayed_by entry who file block number)
 
--- blocks that are cut, or to which zeros are added, until there are so many
+-- blocks are cut off, or zeros are added, until there are so many
 abbrev pub with_length : (blocks : ℕ) → List ℕ → List ℕ
 with_length blocks values = take blocks (values ++ replicate blocks 0)
 
--- a file's values after a change of it: a write that goes through sets its block to its value, stored writes set theirs to
--- the value of the last of them, another length cuts blocks or adds zeros, and a fence changes nothing
+-- a file's values after a change of it. A write that goes through sets its block to its value. Stored writes set their
+-- block to the value of the last of them. Another length cuts blocks off or adds zeros. A fence changes nothing
 abbrev pub after_change : Entry → (before : List Entry) → List ℕ → List ℕ
 after_change (W who file block number value through) before values = slice_set values block value
 after_change (S who file block first last now) before values =
@@ -44,7 +44,7 @@ after_change (S who file block first last now) before values =
 after_change (Z who q file from to) before values = with_length to values
 after_change other before values = values
 
--- the value of each block of a file after so many of its changes, from zeros of its first length
+-- the value of each block of a file after so many changes of it. It was made with this length, of zeros
 abbrev pub content_at : List Entry → (first file rev : ℕ) → List ℕ
 content_at [] first file rev = replicate first 0
 content_at (entry ∷ before) first file rev =

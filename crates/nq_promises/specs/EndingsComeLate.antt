@@ -1,4 +1,4 @@
--- The ends of writing leases come late enough, in every run (Macklem 1994, write slack and recovery).
+-- The server ends writing leases only when it is late enough, in every run (Macklem 1994, write slack and recovery).
 use Rattle.std.specs.Prelude.{◌≡◌, ℕ, Bool, true, false, ◌&&◌, ◌==◌, List, [], ◌∷◌, ⊤, if◌then◌else◌}
 use Rattle.nq_base.specs.declared.Entry.{Entry}
 use Rattle.nq_base.specs.declared.Entry.TheVariants.{G, F, O}
@@ -11,21 +11,21 @@ use Rattle.nq_model.specs.Skew.{IsWithinSkew}
 use Rattle.nq_model.specs.Table.{caches, same_who}
 use Rattle.nq_model.specs.World.{Head, run}
 
--- the boot that served last: that of the last end of a recovery, or the first boot
+-- the boot that served last: the one whose recovery ended last, or the first boot
 abbrev pub boot_opened : List Entry → ℕ
 boot_opened [] = 1
 boot_opened (O boot until heard now ∷ before) = boot
 boot_opened (other ∷ before) = boot_opened before
 
--- whether the last grant to an incarnation on a file let it cache, and was of this boot
+-- whether the last grant that an incarnation got on a file let it cache, and this boot gave it
 abbrev pub was_caching : (boot : ℕ) → List Entry → (who : Who) (file : ℕ) → Bool
 was_caching boot [] who file = false
 was_caching boot (G by f mode tag term now ∷ before) who file =
     if same_who by who && (f == file) then caches mode && tag.boot == boot else was_caching boot before who file
 was_caching boot (other ∷ before) who file = was_caching boot before who file
 
--- an F comes late enough for its incarnation and file, and an O for each incarnation and file whose last grant let it cache
--- and was of the boot that served last
+-- an F comes late enough for its incarnation and file. An O comes late enough for each incarnation and file whose last
+-- grant let it cache and was given by the boot that served last
 abbrev pub IsLate : Entry → (before : List Entry) → Type 0
 IsLate (F who file until heard now) before = IsLateEnd before who file until heard now
 IsLate (O boot until heard now) before =
@@ -34,8 +34,8 @@ IsLate (O boot until heard now) before =
     → IsLateOpening before who file boot now
 IsLate other before = ⊤
 
--- after every schedule that is within skew over the longest term of all boots, whatever was lost, repeated, reordered or
--- restarted, and however often the server crashed
+-- each F and O does, after every schedule that is within skew over the longest term of all boots, whatever packets were
+-- lost, repeated or reordered, whoever restarted, and however often the server crashed
 abbrev pub EndingsComeLate : Type 0
 EndingsComeLate =
     (most : ℕ) (head : Head) (events : List Event)

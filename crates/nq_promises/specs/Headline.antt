@@ -1,4 +1,4 @@
--- The headline: what is promised to people who share files, of every run of the protocol.
+-- The headline: what every run of the protocol promises to people who share files.
 use Rattle.std.specs.Prelude.{◌≡◌, ◌++◌, ℕ, List, Some, slice_get}
 use Rattle.nq_base.specs.declared.Call.{Call}
 use Rattle.nq_base.specs.declared.Entry.{Entry}
@@ -19,7 +19,8 @@ use Rattle.nq_model.specs.Skew.{IsWithinSkew}
 use Rattle.nq_model.specs.Synchronized.{IsSynchronized}
 use Rattle.nq_model.specs.World.{Head, World, run}
 
--- a read or fetch of what a client has, under a lease that runs by its own clock, is answered in its own step and sends nothing
+-- a client that has a block, under a lease that runs by its own clock, answers a read or fetch of it at once and sends
+-- nothing
 abbrev pub CachedReadsAreAtOnce : World → Type 0
 CachedReadsAreAtOnce w =
     (host : ℕ) (c : Client) (file block : ℕ) (lease : Lease) (body : List ℕ)
@@ -28,7 +29,7 @@ CachedReadsAreAtOnce w =
     → AnswersAtOnce c (Call.Read file block) file block body (client_call c (Call.Read file block))
     × AnswersAtOnce c (Call.Fetch file block) file block body (client_call c (Call.Fetch file block))
 
--- the headline, of a world that a schedule leads to
+-- the headline holds of a world to which a schedule leads
 pub record HeadlineHolds (w : World) : Type 0 where
   -- the journal keeps each client's order, and each counted read is of its call
   pub ordered : IsOrdered w.journal
@@ -40,9 +41,9 @@ pub record HeadlineHolds (w : World) : Type 0 where
   pub accounted : IsAccounted w.journal
   pub waiting : WaitingAreUnsaved w
   pub fates : EachHasItsFate w
-  -- what is lost was cut off beyond write slack
+  -- a client that lost a write was cut off for longer than the write slack
   pub excused : IsExcused w.journal
-  -- survivors report it by name
+  -- a client that goes on names each loss
   pub reported : IsReported w.journal
   -- synchronized writes that were answered ok are never missing, and the server has what was written
   pub synchronized : IsSynchronized w.journal
@@ -50,14 +51,14 @@ pub record HeadlineHolds (w : World) : Type 0 where
   -- a cached read under a live lease is answered at once
   pub cached : CachedReadsAreAtOnce w
 
--- at a moment of a schedule: the headline holds, and from there on the journal only grows
+-- at a moment of a schedule the headline holds, and from there on the journal only grows
 pub record HoldsAt (head : Head) (later earlier : List Event) : Type 0 where
   pub holds : HeadlineHolds (run head earlier)
   pub more : List Entry
   pub grows : (run head (later ++ earlier)).journal ≡ more ++ (run head earlier).journal
 
--- for every schedule of calls, deliveries, ticks, restarts and crashes that keeps to bounds and is within skew, at each of its
--- moments, since each beginning of such a schedule is one
+-- this holds at each moment of every schedule of calls, deliveries, ticks, restarts and crashes that keeps to the bounds
+-- and is within skew. Each beginning of such a schedule is one, too
 abbrev pub AtEveryMoment : Type 0
 AtEveryMoment =
     (most : ℕ) (head : Head) (later earlier : List Event)

@@ -1,4 +1,4 @@
--- Losses are excused in every run: a file with delayed writes is bound, or an entry of the journal excuses their loss
+-- Each loss is excused, in every run: a client loses delayed writes only after its writing lease has ended, late enough
 -- (Macklem 1994).
 use Rattle.std.specs.Prelude.{◌≡◌, ◌⊎◌, ℕ, true, false, List, Some, slice_get}
 use Rattle.nq_base.specs.declared.Entry.{Entry}
@@ -15,8 +15,8 @@ use Rattle.nq_model.specs.Skew.{IsWithinSkew}
 use Rattle.nq_model.specs.Table.{is_writing, find_row, tag_below}
 use Rattle.nq_model.specs.World.{Head, World, run}
 
--- after every schedule that is within skew over the longest term of all boots, whatever was lost, repeated, reordered or
--- restarted, and however often the server crashed: each loss of the journal is excused
+-- after every schedule that is within skew over the longest term of all boots, whatever packets were lost, repeated or
+-- reordered, whoever restarted, and however often the server crashed, each loss of the journal is excused
 abbrev pub LossesAreExcused : Type 0
 LossesAreExcused =
     (most : ℕ) (head : Head) (events : List Event)
@@ -24,14 +24,14 @@ LossesAreExcused =
     → IsWithinSkew head.hosts most events
     → IsExcused (run head events).journal
 
--- a client has delayed writes: in its list, or under way
+-- these delayed writes are at a client: in its list, or under way
 pub data IsUnsaved (c : Client) (p : Push) : Type 0 where
   listed : (place : ℕ) → slice_get c.dirty place ≡ Some p → IsUnsaved c p
   under_way : c.push ≡ Some p → IsUnsaved c p
 
--- a file is bound at a client: it is held for writing, and the client's own row stands, lets it write, began its chain no
--- later than the tag that is held, and has no earlier tag. While the server recovers, the row stands in the table with which
--- the last boot served
+-- a file is bound at a client. The client holds it for writing, and its own row stands and lets it write. The row's chain
+-- began no later than the tag that the client holds, and the row's tag is no earlier than that. While the server recovers,
+-- the row stands in the table with which the last boot served
 pub record IsBoundAt (w : World) (c : Client) (file : ℕ) : Type 0 where
   pub lease : Lease
   pub held : lease_on file c.leases ≡ Some lease
@@ -43,12 +43,13 @@ pub record IsBoundAt (w : World) (c : Client) (file : ℕ) : Type 0 where
   pub began : tag_below lease.tag row.since ≡ false
   pub goes_on : tag_below row.tag lease.tag ≡ false
 
--- the loss of delayed writes would be excused: going back, an entry that ends their lease comes before the first of them
+-- the loss of these delayed writes would be excused: going back in the journal, an entry that ends their lease comes before
+-- the first of them
 abbrev pub IsExcusedLoss : (journal : List Entry) → Who → Push → Type 0
 IsExcusedLoss journal who p = EndsFirst (L who p.file p.block p.first p.last) who p.file journal
 
--- after every such schedule: each file that is not clean at a client is bound, or the loss of each of its delayed writes
--- would be excused
+-- after every such schedule, a file of which a client has delayed writes is bound at that client, or the loss of each of
+-- these writes would be excused
 abbrev pub UnsavedFilesAreBoundOrExcused : Type 0
 UnsavedFilesAreBoundOrExcused =
     (most : ℕ) (head : Head) (events : List Event) (host : ℕ) (c : Client) (file : ℕ)

@@ -1,4 +1,4 @@
--- What is answered ok is kept, in every run (RFC 1813, FILE_SYNC).
+-- What the server and the clients answered ok is kept, in every run (RFC 1813, FILE_SYNC).
 use Rattle.std.specs.Prelude.{ℕ, List}
 use Rattle.nq_base.specs.declared.Event.{Event}
 use Rattle.nq_promises.specs.Bounds.{KeepsBounds}

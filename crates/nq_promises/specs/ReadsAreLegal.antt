@@ -1,4 +1,4 @@
--- Reads are legal, in every run.
+-- Each counted read gives the latest write that stands for it, in every run.
 use Rattle.std.specs.Prelude.{ℕ, List}
 use Rattle.nq_base.specs.declared.Event.{Event}
 use Rattle.nq_promises.specs.Bounds.{KeepsBounds}

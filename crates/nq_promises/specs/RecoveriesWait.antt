@@ -1,4 +1,5 @@
--- A recovery waits: for the leases of the boot that served last, and after each write that it hears (Macklem 1994).
+-- A server that recovers waits for the leases of the boot that served last, and after each write that it stores (Macklem
+-- 1994).
 use Rattle.std.specs.Prelude.{◌≡◌, ◌≤◌, ℕ, ◌+◌, List, Some, slice_get, Option}
 use Rattle.nq_base.specs.declared.Entry.{Entry}
 use Rattle.nq_base.specs.declared.Who.{Who}
@@ -8,7 +9,7 @@ use Rattle.nq_model.specs.Server.{recovering}
 use Rattle.nq_model.specs.Table.{Table}
 use Rattle.nq_promises.specs.ServerAlone.{Coming, server_after, first_boot, booted_last, entries_since_boot}
 
--- delayed writes were stored at this time, by the entries
+-- the entries say that delayed writes were stored at this time
 pub record WasStoredAt (entries : List Entry) (at : ℕ) : Type 0 where
   pub place : ℕ
   pub who : Who
@@ -18,15 +19,14 @@ pub record WasStoredAt (entries : List Entry) (at : ℕ) : Type 0 where
   pub last : ℕ
   pub there : slice_get entries place ≡ Some (Entry.S who file block first last at)
 
--- a recovery does not end before the longest lease that the last boot granted has ended, by the slowest clock, and the
--- write slack has passed; nor before the write slack has passed since a write was last heard, that is since each write that
--- was stored in it
+-- the recovery ends only when the longest lease that the last boot granted has ended by the slowest clock, and the write
+-- slack has passed after that. It ends only when the write slack has passed since the server last stored a write in it
 pub record WaitsLong (booted longest until heard : ℕ) (entries : List Entry) : Type 0 where
   pub for_leases : booted + longest + (skew + write_slack) ≤ until
   pub for_writes : heard + write_slack ≤ until
   pub hears_writes : (at : ℕ) → WasStoredAt entries at → at ≤ heard
 
--- from whatever kept state a server boots and whatever comes to it: while it recovers, it waits so long
+-- from whatever kept state a server boots, and whatever comes to it, it waits so long while it recovers
 abbrev pub RecoveryWaits : Type 0
 RecoveryWaits =
     (kept : Kept) (longest now : ℕ) (came : List Coming) (until heard : ℕ) (last : Option Table)

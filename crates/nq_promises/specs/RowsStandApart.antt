@@ -1,4 +1,4 @@
--- The rows of the lease table stand apart, whatever comes to the server (Gray and Cheriton 1989; Macklem 1994).
+-- Leases never conflict, whatever comes to the server (Gray and Cheriton 1989; Macklem 1994).
 use Rattle.std.specs.Prelude.{◌≡◌, ◌≢◌, ◌≤◌, ℕ, true, false, List, [], Some, filter, length, Option}
 use Rattle.nq_base.specs.declared.Row.{Row}
 use Rattle.nq_model.specs.Kept.{Kept, host_row}
@@ -10,7 +10,7 @@ use Rattle.nq_promises.specs.ServerAlone.{Coming, step_for, server_after, first_
 abbrev pub HasOneRowEach : List Row → Type 0
 HasOneRowEach rows = (file host : ℕ) → length (filter (is_row_of file host) rows) ≤ 1
 
--- each row is of the incarnation of its host that is kept
+-- each row is of the incarnation that the server keeps of its host
 abbrev pub AreOfKeptIncarnations : Kept → List Row → Type 0
 AreOfKeptIncarnations kept rows =
     (file host : ℕ) (row : Row) → find_row file host rows ≡ Some row → row.who.inc ≡ (host_row kept host).inc
@@ -34,7 +34,8 @@ KeepsTags before after =
     → find_row file host after ≡ Some r
     → (r.tag ≡ row.tag) × (r.evicting ≡ true)
 
--- the rows of a server stand apart; while it recovers there are none; and whatever comes next, tags are kept
+-- the rows of a server stand apart. While it recovers there are none. Whatever comes next, rows that are to go keep their
+-- tags
 pub record StandApart (s : Server) : Type 0 where
   pub one_each : HasOneRowEach s.table.rows
   pub current : AreOfKeptIncarnations s.kept s.table.rows
@@ -42,7 +43,7 @@ pub record StandApart (s : Server) : Type 0 where
   pub none_recovering : (until heard : ℕ) (last : Option Table) → s.phase ≡ recovering until heard last → s.table.rows ≡ []
   pub keeps_tags : (c : Coming) → KeepsTags s.table.rows (step_for s c).server.table.rows
 
--- from whatever kept state a server boots, at whatever time and with whatever longest term, and whatever comes to it: its
+-- from whatever kept state a server boots, at whatever time and with whatever longest term, and whatever comes to it, its
 -- rows stand apart
 abbrev pub RowsStandApart : Type 0
 RowsStandApart = (kept : Kept) (longest now : ℕ) (came : List Coming) → StandApart (server_after (first_boot kept longest now) came)

@@ -1,4 +1,4 @@
--- A server alone: whatever comes to it, in any order.
+-- A server alone, to which anything may come, in any order.
 use Rattle.std.specs.Prelude.{ℕ, ◌+◌, List, [], ◌∷◌, ◌++◌, None}
 use Rattle.nq_base.specs.declared.Entry.{Entry}
 use Rattle.nq_model.specs.Kept.{Kept}
@@ -6,8 +6,8 @@ use Rattle.nq_model.specs.Message.{Datagram}
 use Rattle.nq_model.specs.Server.{Server, ServerStep}
 use Rattle.nq_model.specs.ServerStep.{receive, tick, boot, crash}
 
--- what may come to a server: a datagram of any content from any host, when the packet of this number is sent next; ticks
--- of its clock, which goes on by so much; or a crash, after which it boots with this longest term
+-- what may come to a server: a datagram of any content from any host, where this is the number of the next packet; ticks,
+-- by which its clock goes on by so much; or a crash, after which it boots with this longest term
 pub data Coming : Type 0 where
   datagram : (sender next : ℕ) → Datagram → Coming
   ticks : (passed : ℕ) → Coming
@@ -19,7 +19,7 @@ step_for s (datagram sender next d) = receive s sender next d
 step_for s (ticks passed) = tick s (s.now + passed)
 step_for s (crashes longest) = crash s longest
 
--- the server after all that came, which is told with the latest first
+-- the server after all that came. The latest comes first in the list
 abbrev pub server_after : Server → List Coming → Server
 server_after s [] = s
 server_after s (c ∷ earlier) = (step_for (server_after s earlier) c).server
@@ -28,7 +28,7 @@ server_after s (c ∷ earlier) = (step_for (server_after s earlier) c).server
 abbrev pub first_boot : Kept → (longest now : ℕ) → Server
 first_boot kept longest now = boot kept longest now None
 
--- when it booted last
+-- the time at which it booted last
 abbrev pub booted_last : Server → List Coming → ℕ
 booted_last s [] = s.now
 booted_last s (crashes longest ∷ earlier) = (server_after s earlier).now

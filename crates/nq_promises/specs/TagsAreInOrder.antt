@@ -1,4 +1,4 @@
--- The tags of leases, in every run: they are drawn in order, and what was given up is past (Macklem 1994).
+-- The server draws the tags of leases in order, in every run, and what a client gave up is past (Macklem 1994).
 use Rattle.std.specs.Prelude.{◌≡◌, ◌≤◌, ◌<◌, ◌⊎◌, ℕ, true, List, ◌++◌, Some, slice_get}
 use Rattle.nq_base.specs.declared.Event.{Event}
 use Rattle.nq_base.specs.declared.Grant.{Grant}
@@ -17,8 +17,9 @@ use Rattle.nq_model.specs.Table.{Table, find_row, next_tag, tag_below}
 use Rattle.nq_model.specs.World.{Head, World, run}
 use Rattle.nq_promises.specs.Bounds.{KeepsBounds}
 
--- a tag is known in a world: of a lease that a client holds, or of a notice that waits; in a VACATED or an EVICTED that was
--- sent; the one of a grant that was sent, or the first of its chain; the latest of a row that stands, or its first
+-- a tag is known in a world. It is that of a lease that a client holds, or of a notice that waits. Or it was sent in a
+-- VACATED, in an EVICTED, or in a grant, as its own tag or the first of its chain. Or a row that stands has it, as its
+-- latest or first
 pub data IsKnown (w : World) (tag : Tag) : Type 0 where
   of_lease : (host file : ℕ) (c : Client) (lease : Lease) → slice_get w.clients host ≡ Some c → lease_on file c.leases ≡ Some lease → lease.tag ≡ tag → IsKnown w tag
   of_notice : (host file : ℕ) (c : Client) (n : Notice) → slice_get w.clients host ≡ Some c → notice_on file c.notices ≡ Some n → n.tag ≡ tag → IsKnown w tag
@@ -29,8 +30,8 @@ pub data IsKnown (w : World) (tag : Tag) : Type 0 where
   of_row : (file host : ℕ) (row : Row) → find_row file host (standing w.server).rows ≡ Some row → row.tag ≡ tag → IsKnown w tag
   of_chain : (file host : ℕ) (row : Row) → find_row file host (standing w.server).rows ≡ Some row → row.since ≡ tag → IsKnown w tag
 
--- a tag was drawn: at some moment of the run the table of the boot that it names stood, and it was among the tags that this
--- table had drawn, which are numbered from 1 on
+-- a tag was drawn: at some moment of the run the table of the boot that it names stood, and the tag was among those that
+-- this table had drawn. They are numbered from 1 on
 pub record WasDrawn (head : Head) (events : List Event) (tag : Tag) : Type 0 where
   pub later : List Event
   pub earlier : List Event
@@ -39,19 +40,19 @@ pub record WasDrawn (head : Head) (events : List Event) (tag : Tag) : Type 0 whe
   pub counted : 1 ≤ tag.number
   pub among : tag.number ≤ (standing (run head earlier).server).drawn
 
--- a tag is no later than the table that stands: of an earlier boot, or of the same one and among those that it has drawn
+-- a tag is not later than the table that stands: an earlier boot drew it, or this table has drawn it already
 abbrev pub IsUpTo : Table → Tag → Type 0
 IsUpTo table tag = (tag.boot < table.boot) ⊎ ((tag.boot ≡ table.boot) × (tag.number ≤ table.drawn))
 
--- a tag was drawn by the boot that it names, which is no later than the one whose table stands, and is below each tag that
--- the server draws next, now or after any further events
+-- the boot that a tag names has drawn it. That boot is not later than the one whose table stands. The tag is below each tag
+-- that the server draws next, now or after any further events
 pub record IsInOrder (head : Head) (events : List Event) (tag : Tag) : Type 0 where
   pub drawn : WasDrawn head events tag
   pub up_to_now : IsUpTo (standing (run head events).server) tag
   pub below_next : (later : List Event) → tag_below tag (next_tag (run head (later ++ events)).server.table) ≡ true
 
--- after every schedule that is within skew over the longest term of all boots, whatever was lost, repeated, reordered or
--- restarted, and however often the server crashed: each tag that is known was drawn, in order
+-- after every schedule that is within skew over the longest term of all boots, whatever packets were lost, repeated or
+-- reordered, whoever restarted, and however often the server crashed, each tag that is known was drawn in order
 abbrev pub TagsAreDrawnInOrder : Type 0
 TagsAreDrawnInOrder =
     (most : ℕ) (head : Head) (events : List Event) (tag : Tag)
@@ -60,17 +61,17 @@ TagsAreDrawnInOrder =
     → IsKnown (run head events) tag
     → IsInOrder head events tag
 
--- a table is no earlier than another: of a later boot, or of the same one, which has drawn no fewer tags
+-- a table is not earlier than another: it is of a later boot, or it is of the same boot and has drawn no fewer tags
 abbrev pub IsNoEarlier : (before after : Table) → Type 0
 IsNoEarlier before after = (before.boot < after.boot) ⊎ ((before.boot ≡ after.boot) × (before.drawn ≤ after.drawn))
 
--- whatever happens, the boot of the table that stands only rises, and in one boot the count of its tags
+-- whatever happens, the boot of the table that stands only rises, and within one boot the number of its tags only rises
 abbrev pub StandingTableGrows : Type 0
 StandingTableGrows =
     (head : Head) (later events : List Event)
     → IsNoEarlier (standing (run head events).server) (standing (run head (later ++ events)).server)
 
--- the running incarnation of a host's client gave up the lease with a tag on a file: it sent VACATED
+-- the running incarnation of a host's client gave up the lease with this tag on a file: it sent VACATED
 pub record GaveUp (w : World) (host : ℕ) (c : Client) (file : ℕ) (tag : Tag) : Type 0 where
   pub k : ℕ
   pub packet : Packet
@@ -81,14 +82,16 @@ pub record GaveUp (w : World) (host : ℕ) (c : Client) (file : ℕ) (tag : Tag)
   pub says : packet.message ≡ call xid (Request.Vacated who file tag)
   pub running : who.inc ≡ c.who.inc
 
--- a tag is past for a client: it is below that of the lease that it holds on the file, below that of each grant on the
--- file that it can still take, and below each tag that the server draws next, now or after any further events
+-- a tag is past for a client. It is below the tag of the lease that the client holds on the file, and below that of each
+-- grant on the file that it can still take. It is below each tag that the server draws next, now or after any further
+-- events
 pub record IsPast (head : Head) (events : List Event) (host : ℕ) (c : Client) (file : ℕ) (tag : Tag) : Type 0 where
   pub held : (lease : Lease) → lease_on file c.leases ≡ Some lease → tag_below tag lease.tag ≡ true
   pub takeable : (ticket : Ticket) (g : Grant) → CanTake (run head events) host c ticket file g → tag_below tag g.tag ≡ true
   pub below_next : (later : List Event) → tag_below tag (next_tag (run head (later ++ events)).server.table) ≡ true
 
--- after every such schedule what a client gave up is past: it neither holds it, nor can take it, nor is it drawn again
+-- after every such schedule, what a client gave up is past: the client neither holds it nor can take it, and the server
+-- never draws it again
 abbrev pub VacatedTagsArePast : Type 0
 VacatedTagsArePast =
     (most : ℕ) (head : Head) (events : List Event) (host : ℕ) (c : Client) (file : ℕ) (tag : Tag)

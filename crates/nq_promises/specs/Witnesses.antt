@@ -87,7 +87,8 @@ abbrev pub is_cached_read : (who : Who) (file block value : ℕ) → Entry → B
 is_cached_read who file block value (R by q f b v None) = same_who by who && (f == file) && (b == block) && (v == value)
 is_cached_read who file block value other = false
 
--- whether the entry is a read of an incarnation that the server served, that gives this value of a block and that is counted
+-- whether the entry is a read of an incarnation that the server served, that gives this value of a block and that is
+-- counted
 abbrev pub is_served_read : (whole : List Entry) (who : Who) (file block value : ℕ) → Entry → Bool
 is_served_read whole who file block value (R by q f b v (Some packet)) =
     same_who by who && (f == file) && (b == block) && (v == value) && is_counted whole (R by q f b v (Some packet))

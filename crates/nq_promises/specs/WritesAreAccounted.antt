@@ -20,7 +20,7 @@ AccountedInEveryRun =
     → IsWithinSkew head.hosts most events
     → IsAccounted (run head events).journal
 
--- delayed writes that a client has are of the write's file and block, and their numbers enclose the write's
+-- these delayed writes of a client are of the write's file and block, and their numbers enclose the write's number
 abbrev pub Encloses : Push → (write : Entry) → Type 0
 Encloses p (W who file block number value through) = (p.file ≡ file) × (p.block ≡ block) × (p.first ≤ number) × (number ≤ p.last)
 Encloses p other = ⊥
@@ -30,7 +30,7 @@ abbrev pub UnderWayEncloses : Option Push → (write : Entry) → Type 0
 UnderWayEncloses None write = ⊥
 UnderWayEncloses (Some p) write = Encloses p write
 
--- a write lies within a dirty entry or the push under way of a client, of its file and block, whose numbers enclose it
+-- a client still has a write: it lies within one of the delayed writes in its list, or within the push under way
 abbrev pub IsUnsaved : Client → (write : Entry) → Type 0
 IsUnsaved c write = Exists (λ p. Encloses p write) c.dirty ⊎ UnderWayEncloses c.push write
 
@@ -41,7 +41,7 @@ IsDelayedBy who other = ⊥
 
 -- ---- writes that wait
 
--- each delayed write of a running incarnation that no S or L covers is unsaved at its client
+-- a client that runs still has each delayed write of its incarnation that no S or L covers
 abbrev pub WaitingAreUnsaved : World → Type 0
 WaitingAreUnsaved w =
     (host : ℕ) (c : Client)
@@ -58,20 +58,20 @@ WaitingAreUnsavedInEveryRun =
 
 -- ---- the fate of each write
 
--- a write of an incarnation is unsaved at the running client of that very incarnation
+-- the client that runs is of the very incarnation that made the write, and still has it
 pub record IsAtItsClient (w : World) (who : Who) (write : Entry) : Type 0 where
   pub client : Client
   pub runs : slice_get w.clients who.host ≡ Some client
   pub same : client.who ≡ who
   pub unsaved : IsUnsaved client write
 
--- a write is unsaved at the running client of its incarnation
+-- the client that made the write runs, and still has it
 abbrev pub IsStillUnsaved : World → (write : Entry) → Type 0
 IsStillUnsaved w (W who file block number value through) = IsAtItsClient w who (W who file block number value through)
 IsStillUnsaved w other = ⊥
 
 -- the fate of a delayed write: it is stored; or it is missing, since it is lost or its host started again after it; or it
--- waits, unsaved, at the running client of its incarnation
+-- waits, and the client that made it runs and still has it
 abbrev pub HasFate : World → (after : List Entry) → (write : Entry) → Type 0
 HasFate w after write = IsStored w.journal write ⊎ IsMissing w.journal after write ⊎ IsWaiting w.journal after write × IsStillUnsaved w write
 
