@@ -1,12 +1,10 @@
 -- The server keeps in each block what the journal says.
 use Rattle.std.specs.Prelude.{◌≡◌, ◌≤◌, ℕ, List, Some, slice_get}
 use Rattle.nq_base.specs.Block.{value_of}
-use Rattle.nq_base.specs.declared.Event.{Event}
-use Rattle.nq_promises.specs.Bounds.{KeepsBounds}
+use Rattle.nq_promises.specs.Bounds.{InEveryRun}
 use Rattle.nq_model.specs.Kept.{File, blocks_of, find_file}
-use Rattle.nq_model.specs.Skew.{IsWithinSkew}
 use Rattle.nq_model.specs.Synchronized.{held_value, last_length}
-use Rattle.nq_model.specs.World.{Head, World, run}
+use Rattle.nq_model.specs.World.{World, run}
 
 -- each block that the server keeps has the value of the last write on it that went through or was stored and that no later
 -- Z cut off, or 0 where there is none. Beyond a file's length nothing is held, and its length is the one of the last Z on
@@ -18,8 +16,4 @@ pub record KeptBlocksAreHeld (w : World) : Type 0 where
 
 -- this holds after every schedule within skew, however often the server crashed
 abbrev pub KeptBlocksAreHeldInEveryRun : Type 0
-KeptBlocksAreHeldInEveryRun =
-    (most : ℕ) (head : Head) (events : List Event)
-    → KeepsBounds most head events
-    → IsWithinSkew head.hosts most events
-    → KeptBlocksAreHeld (run head events)
+KeptBlocksAreHeldInEveryRun = InEveryRun (λ head events. KeptBlocksAreHeld (run head events))

@@ -2,6 +2,7 @@
 use Rattle.std.specs.Prelude.{◌≤◌, ℕ, List, All}
 use Rattle.nq_base.specs.declared.Event.{Event}
 use Rattle.nq_model.specs.Profile.{shortest_term, most_hosts}
+use Rattle.nq_model.specs.Skew.{IsWithinSkew}
 use Rattle.nq_model.specs.World.{Head}
 
 -- a server that boots chooses a longest term that is not below the shortest term and not above this number
@@ -15,3 +16,12 @@ pub record KeepsBounds (most : ℕ) (head : Head) (events : List Event) : Type 0
   pub first_long : shortest_term ≤ head.longest
   pub first_short : head.longest ≤ most
   pub boots : All (BootsWithin most) events
+
+-- after every schedule that keeps to the bounds and is within skew over the longest term of all boots, this holds of its head
+-- and its events
+abbrev pub InEveryRun : (Head → List Event → Type 0) → Type 0
+InEveryRun P =
+    (most : ℕ) (head : Head) (events : List Event)
+    → KeepsBounds most head events
+    → IsWithinSkew head.hosts most events
+    → P head events

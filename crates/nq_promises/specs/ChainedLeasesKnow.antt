@@ -1,17 +1,15 @@
 -- The holder of a chained lease knows the kept revision of the file, in every run (Macklem 1994).
-use Rattle.std.specs.Prelude.{◌≡◌, ℕ, true, false, List, Some, slice_get}
-use Rattle.nq_base.specs.declared.Event.{Event}
+use Rattle.std.specs.Prelude.{◌≡◌, ℕ, true, false, Some, slice_get}
 use Rattle.nq_base.specs.declared.Grant.{Grant}
 use Rattle.nq_base.specs.declared.Row.{Row}
 use Rattle.nq_promises.specs.Chained.{IsChained, has_done_write, KnowsFile}
-use Rattle.nq_promises.specs.Bounds.{KeepsBounds}
+use Rattle.nq_promises.specs.Bounds.{InEveryRun}
 use Rattle.nq_model.specs.Client.{Client, Lease, Ticket, Revision, lease_on, revision_of}
 use Rattle.nq_model.specs.Kept.{host_row}
 use Rattle.nq_model.specs.LeaseInterval.{CanTake}
 use Rattle.nq_model.specs.Server.{standing}
-use Rattle.nq_model.specs.Skew.{IsWithinSkew}
 use Rattle.nq_model.specs.Table.{caches}
-use Rattle.nq_model.specs.World.{Head, World, run}
+use Rattle.nq_model.specs.World.{World, run}
 
 -- the client knows a revision of the file, and the server keeps the file at the one that follows from it, with the length
 -- that the lease has
@@ -48,8 +46,4 @@ pub record ChainsKnow (w : World) : Type 0 where
 -- both hold after every schedule that is within skew over the longest term of all boots, whatever packets were lost,
 -- repeated or reordered, whoever restarted, and however often the server crashed
 abbrev pub ChainedLeasesKnowTheFile : Type 0
-ChainedLeasesKnowTheFile =
-    (most : ℕ) (head : Head) (events : List Event)
-    → KeepsBounds most head events
-    → IsWithinSkew head.hosts most events
-    → ChainsKnow (run head events)
+ChainedLeasesKnowTheFile = InEveryRun (λ head events. ChainsKnow (run head events))

@@ -2,14 +2,12 @@
 use Rattle.std.specs.Prelude.{◌≡◌, ℕ, Bool, true, false, ◌&&◌, ◌==◌, List, [], ◌∷◌, ⊤, if◌then◌else◌}
 use Rattle.nq_base.specs.declared.Entry.{Entry}
 use Rattle.nq_base.specs.declared.Entry.TheVariants.{G, F, O}
-use Rattle.nq_base.specs.declared.Event.{Event}
 use Rattle.nq_base.specs.declared.Who.{Who}
-use Rattle.nq_promises.specs.Bounds.{KeepsBounds}
+use Rattle.nq_promises.specs.Bounds.{InEveryRun}
 use Rattle.nq_model.specs.CutOff.{IsLateEnd, IsLateOpening}
 use Rattle.nq_model.specs.Journal.{Throughout}
-use Rattle.nq_model.specs.Skew.{IsWithinSkew}
 use Rattle.nq_model.specs.Table.{caches, same_who}
-use Rattle.nq_model.specs.World.{Head, run}
+use Rattle.nq_model.specs.World.{run}
 
 -- the boot that served last: the one whose recovery ended last, or the first boot
 abbrev pub boot_opened : List Entry → ℕ
@@ -37,8 +35,4 @@ IsLate other before = ⊤
 -- each F and O does, after every schedule that is within skew over the longest term of all boots, whatever packets were
 -- lost, repeated or reordered, whoever restarted, and however often the server crashed
 abbrev pub EndingsComeLate : Type 0
-EndingsComeLate =
-    (most : ℕ) (head : Head) (events : List Event)
-    → KeepsBounds most head events
-    → IsWithinSkew head.hosts most events
-    → Throughout IsLate (run head events).journal
+EndingsComeLate = InEveryRun (λ head events. Throughout IsLate (run head events).journal)

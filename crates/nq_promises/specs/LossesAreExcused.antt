@@ -7,7 +7,7 @@ use Rattle.nq_base.specs.declared.Event.{Event}
 use Rattle.nq_base.specs.declared.Push.{Push}
 use Rattle.nq_base.specs.declared.Row.{Row}
 use Rattle.nq_base.specs.declared.Who.{Who}
-use Rattle.nq_promises.specs.Bounds.{KeepsBounds}
+use Rattle.nq_promises.specs.Bounds.{KeepsBounds, InEveryRun}
 use Rattle.nq_model.specs.Client.{Client, Lease, is_clean, lease_on}
 use Rattle.nq_model.specs.CutOff.{EndsFirst, IsExcused}
 use Rattle.nq_model.specs.Server.{standing}
@@ -18,11 +18,7 @@ use Rattle.nq_model.specs.World.{Head, World, run}
 -- after every schedule that is within skew over the longest term of all boots, whatever packets were lost, repeated or
 -- reordered, whoever restarted, and however often the server crashed, each loss of the journal is excused
 abbrev pub LossesAreExcused : Type 0
-LossesAreExcused =
-    (most : ℕ) (head : Head) (events : List Event)
-    → KeepsBounds most head events
-    → IsWithinSkew head.hosts most events
-    → IsExcused (run head events).journal
+LossesAreExcused = InEveryRun (λ head events. IsExcused (run head events).journal)
 
 -- these delayed writes are at a client: in its list, or under way
 pub data IsUnsaved (c : Client) (p : Push) : Type 0 where

@@ -4,13 +4,12 @@ use Rattle.nq_base.specs.declared.Event.{Event}
 use Rattle.nq_base.specs.declared.Reply.{Reply}
 use Rattle.nq_base.specs.declared.Request.{Request}
 use Rattle.nq_base.specs.declared.Who.{Who}
-use Rattle.nq_promises.specs.Bounds.{KeepsBounds}
+use Rattle.nq_promises.specs.Bounds.{InEveryRun}
 use Rattle.nq_model.specs.Client.{Client, Ticket}
 use Rattle.nq_model.specs.Hear.{inc_of}
 use Rattle.nq_model.specs.Kept.{host_row}
 use Rattle.nq_model.specs.Message.{Packet, call, reply, asker, sequence_of}
 use Rattle.nq_model.specs.Server.{to_host}
-use Rattle.nq_model.specs.Skew.{IsWithinSkew}
 use Rattle.nq_model.specs.World.{Head, World, from_host, run}
 
 -- the packet at this place brings a host's request of this number, in which an incarnation asks with this sequence
@@ -56,11 +55,7 @@ pub record OpensOne (w : World) : Type 0 where
 
 -- after every schedule within skew
 abbrev pub OneOpenInEveryRun : Type 0
-OneOpenInEveryRun =
-    (most : ℕ) (head : Head) (events : List Event)
-    → KeepsBounds most head events
-    → IsWithinSkew head.hosts most events
-    → OpensOne (run head events)
+OneOpenInEveryRun = InEveryRun (λ head events. OpensOne (run head events))
 
 -- the reply at this place comes after a request of its number from that host, by the incarnation that the reply names
 pub record IsAnswer (packets : List Packet) (place host xid : ℕ) (a : Reply) : Type 0 where

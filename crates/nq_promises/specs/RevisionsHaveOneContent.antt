@@ -11,13 +11,12 @@ use Rattle.nq_base.specs.declared.Verdict.{Verdict}
 use Rattle.nq_base.specs.declared.Who.{Who}
 use Rattle.nq_promises.specs.Contents.{changes_of, delayed_value, content_at}
 use Rattle.nq_promises.specs.Told.{IsReached, HasValue, TellsContents, IsDoneAs}
-use Rattle.nq_promises.specs.Bounds.{KeepsBounds}
+use Rattle.nq_promises.specs.Bounds.{InEveryRun}
 use Rattle.nq_model.specs.Client.{Client, Clean, Revision, Ticket, clean_at, dirty_at, revision_of, revision_or_zero}
 use Rattle.nq_model.specs.Hear.{inc_of}
 use Rattle.nq_model.specs.Kept.{File, blocks_of, find_file, host_row}
 use Rattle.nq_model.specs.Message.{call, reply, sequence_of}
 use Rattle.nq_model.specs.Server.{to_host}
-use Rattle.nq_model.specs.Skew.{IsWithinSkew}
 use Rattle.nq_model.specs.World.{Head, World, from_host, start, run}
 
 -- ---- first lengths
@@ -46,11 +45,7 @@ pub record FilesAreTheirHistory (first : ℕ → ℕ) (w : World) : Type 0 where
 
 -- this holds after every schedule within skew, however often the server crashed
 abbrev pub FilesAreTheirHistoryInEveryRun : Type 0
-FilesAreTheirHistoryInEveryRun =
-    (most : ℕ) (head : Head) (events : List Event)
-    → KeepsBounds most head events
-    → IsWithinSkew head.hosts most events
-    → FilesAreTheirHistory (first_length head events) (run head events)
+FilesAreTheirHistoryInEveryRun = InEveryRun (λ head events. FilesAreTheirHistory (first_length head events) (run head events))
 
 -- ---- what clients have, and what they are told
 
@@ -70,11 +65,7 @@ pub record CleanBlocksHaveTheirRevision (first : ℕ → ℕ) (w : World) : Type
 
 -- this holds after every schedule within skew
 abbrev pub CleanBlocksHaveTheirRevisionInEveryRun : Type 0
-CleanBlocksHaveTheirRevisionInEveryRun =
-    (most : ℕ) (head : Head) (events : List Event)
-    → KeepsBounds most head events
-    → IsWithinSkew head.hosts most events
-    → CleanBlocksHaveTheirRevision (first_length head events) (run head events)
+CleanBlocksHaveTheirRevisionInEveryRun = InEveryRun (λ head events. CleanBlocksHaveTheirRevision (first_length head events) (run head events))
 
 -- ---- delayed writes
 
@@ -85,11 +76,7 @@ pub record PushesCarryTheirLastWrite (w : World) : Type 0 where
 
 -- this holds after every schedule within skew
 abbrev pub PushesCarryTheirLastWriteInEveryRun : Type 0
-PushesCarryTheirLastWriteInEveryRun =
-    (most : ℕ) (head : Head) (events : List Event)
-    → KeepsBounds most head events
-    → IsWithinSkew head.hosts most events
-    → PushesCarryTheirLastWrite (run head events)
+PushesCarryTheirLastWriteInEveryRun = InEveryRun (λ head events. PushesCarryTheirLastWrite (run head events))
 
 -- ---- changes that were asked for
 
@@ -107,8 +94,4 @@ DoneRequestsAreChanges first w =
 
 -- this holds after every schedule within skew
 abbrev pub DoneRequestsAreChangesInEveryRun : Type 0
-DoneRequestsAreChangesInEveryRun =
-    (most : ℕ) (head : Head) (events : List Event)
-    → KeepsBounds most head events
-    → IsWithinSkew head.hosts most events
-    → DoneRequestsAreChanges (first_length head events) (run head events)
+DoneRequestsAreChangesInEveryRun = InEveryRun (λ head events. DoneRequestsAreChanges (first_length head events) (run head events))

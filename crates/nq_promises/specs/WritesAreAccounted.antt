@@ -2,23 +2,17 @@
 use Rattle.std.specs.Prelude.{◌≡◌, ◌≤◌, ◌⊎◌, ℕ, List, [], Option, Some, None, false, slice_get}
 use Rattle.nq_base.specs.declared.Entry.{Entry}
 use Rattle.nq_base.specs.declared.Entry.TheVariants.{W}
-use Rattle.nq_base.specs.declared.Event.{Event}
 use Rattle.nq_base.specs.declared.Push.{Push}
 use Rattle.nq_base.specs.declared.Who.{Who}
-use Rattle.nq_promises.specs.Bounds.{KeepsBounds}
+use Rattle.nq_promises.specs.Bounds.{InEveryRun}
 use Rattle.nq_model.specs.Client.{Client}
 use Rattle.nq_model.specs.Fate.{IsAccounted, IsDelayed, IsMissing, IsWaiting}
 use Rattle.nq_model.specs.Journal.{Each, Exists, AtEachPlace, Covers, IsStored}
-use Rattle.nq_model.specs.Skew.{IsWithinSkew}
-use Rattle.nq_model.specs.World.{Head, World, run}
+use Rattle.nq_model.specs.World.{World, run}
 
 -- after every schedule within skew the journal accounts for its delayed writes
 abbrev pub AccountedInEveryRun : Type 0
-AccountedInEveryRun =
-    (most : ℕ) (head : Head) (events : List Event)
-    → KeepsBounds most head events
-    → IsWithinSkew head.hosts most events
-    → IsAccounted (run head events).journal
+AccountedInEveryRun = InEveryRun (λ head events. IsAccounted (run head events).journal)
 
 -- these delayed writes of a client are of the write's file and block, and their numbers enclose the write's number
 abbrev pub Encloses : Push → (write : Entry) → Type 0
@@ -50,11 +44,7 @@ WaitingAreUnsaved w =
 
 -- after every schedule within skew
 abbrev pub WaitingAreUnsavedInEveryRun : Type 0
-WaitingAreUnsavedInEveryRun =
-    (most : ℕ) (head : Head) (events : List Event)
-    → KeepsBounds most head events
-    → IsWithinSkew head.hosts most events
-    → WaitingAreUnsaved (run head events)
+WaitingAreUnsavedInEveryRun = InEveryRun (λ head events. WaitingAreUnsaved (run head events))
 
 -- ---- the fate of each write
 
@@ -81,8 +71,4 @@ EachHasItsFate w = AtEachPlace (λ after write before. IsDelayed write → HasFa
 
 -- after every schedule within skew
 abbrev pub EachHasItsFateInEveryRun : Type 0
-EachHasItsFateInEveryRun =
-    (most : ℕ) (head : Head) (events : List Event)
-    → KeepsBounds most head events
-    → IsWithinSkew head.hosts most events
-    → EachHasItsFate (run head events)
+EachHasItsFateInEveryRun = InEveryRun (λ head events. EachHasItsFate (run head events))

@@ -9,7 +9,7 @@ use Rattle.nq_base.specs.declared.Request.{Request}
 use Rattle.nq_base.specs.declared.Who.{Who}
 use Rattle.nq_promises.specs.Chained.{has_done_write, due}
 use Rattle.nq_promises.specs.LossesAreExcused.{IsUnsaved, IsBoundAt, IsExcusedLoss}
-use Rattle.nq_promises.specs.Bounds.{KeepsBounds}
+use Rattle.nq_promises.specs.Bounds.{KeepsBounds, InEveryRun}
 use Rattle.nq_model.specs.Client.{Client, Lease, Revision, lease_on, is_clean, revision_of}
 use Rattle.nq_model.specs.Journal.{Covers, Exists}
 use Rattle.nq_model.specs.Kept.{File, Kept, find_file, host_row}
@@ -92,8 +92,4 @@ BoundWritesAreUndisturbed w =
 
 -- both hold after every schedule within skew
 abbrev pub DelayedWritesAreUndisturbed : Type 0
-DelayedWritesAreUndisturbed =
-    (most : ℕ) (head : Head) (events : List Event)
-    → KeepsBounds most head events
-    → IsWithinSkew head.hosts most events
-    → BoundWritesAreUndisturbed (run head events) × OpenPushesAreUndisturbed (run head events)
+DelayedWritesAreUndisturbed = InEveryRun (λ head events. BoundWritesAreUndisturbed (run head events) × OpenPushesAreUndisturbed (run head events))
