@@ -10,6 +10,7 @@ use Rattle.law_chains.proofs.ChainWorlds.{chain-fits}
 use Rattle.law_endings.proofs.ExcusesInRuns.{losses-excused}
 use Rattle.law_fates.proofs.FateLaws.{accounted, waiting, fates}
 use Rattle.law_held.proofs.HeldLaws.{held-in-every-run}
+use Rattle.law_zeros.proofs.ZeroRuns.{untouched}
 use Rattle.nq_laws.proofs.CachedReads.{cached-in-every-run}
 use Rattle.nq_promises.specs.Headline.{HeadlineHolds, AtEveryMoment}
 use Rattle.walk_run.proofs.NoCrash.{bounds-before}
@@ -38,6 +39,7 @@ headline most head events bounds within =
       reported = reported-in-every-run head events;
       synchronized = synchronized-in-every-run most head events bounds within;
       kept = held-in-every-run most head events bounds within;
+      untouched = untouched head events;
       cached = λ host c file block lease body is ready. cached-in-every-run head events host c file block lease body is ready;
     }
 

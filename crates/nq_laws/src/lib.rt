@@ -44,5 +44,6 @@ pub use law_undisturbed::{
     bound_and_fenced_are_met, delayed_writes_are_undisturbed_in_every_run,
     unsaved_files_are_bound_or_fenced_in_every_run,
 };
+pub use law_zeros::untouched_blocks_are_zeros_in_every_run;
 pub use met::laws_are_met;
 pub use promises::headline;

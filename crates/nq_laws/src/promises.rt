@@ -8,6 +8,7 @@ ghost use Rattle.nq_promises.specs.CachedReadsAreAtOnce.{CachedAtOnceInEveryRun}
 ghost use Rattle.nq_promises.specs.Headline.{AtEveryMoment};
 ghost use Rattle.nq_promises.specs.ReadsAreLegal.{ReadsAreLegalInEveryRun};
 ghost use Rattle.nq_promises.specs.LossesAreReported.{ReportedInEveryRun};
+ghost use Rattle.nq_promises.specs.UntouchedAreZeros.{UntouchedAreZerosInEveryRun};
 ghost use Rattle.nq_promises.specs.OksAreKept.{SynchronizedInEveryRun};
 
 /// For every schedule of calls, losses, repeats, reorderings, ticks within skew, restarts and crashes, the journal keeps each
@@ -26,6 +27,7 @@ pub fn headline()
     ensures reported { ReportedInEveryRun }
     ensures synchronized { SynchronizedInEveryRun }
     ensures kept { KeptBlocksAreHeldInEveryRun }
+    ensures untouched { UntouchedAreZerosInEveryRun }
     ensures cached { CachedAtOnceInEveryRun }
     ensures always { AtEveryMoment }
 {}

@@ -5,6 +5,7 @@ use Rattle.nq_base.specs.declared.Entry.{Entry}
 use Rattle.nq_base.specs.declared.Event.{Event}
 use Rattle.nq_promises.specs.WritesAreAccounted.{WaitingAreUnsaved, EachHasItsFate}
 use Rattle.nq_promises.specs.BlocksAreHeld.{KeptBlocksAreHeld}
+use Rattle.nq_promises.specs.UntouchedAreZeros.{AreZeros}
 use Rattle.nq_model.specs.CachedAtOnce.{HasCached, AnswersAtOnce}
 use Rattle.nq_promises.specs.Bounds.{KeepsBounds}
 use Rattle.nq_model.specs.Client.{Client, Lease}
@@ -48,6 +49,8 @@ pub record HeadlineHolds (w : World) : Type 0 where
   -- synchronized writes that were answered ok are never missing, and the server has what was written
   pub synchronized : IsSynchronized w.journal
   pub kept : KeptBlocksAreHeld w
+  -- what no write has touched is zeros, all 4096 bytes of a block
+  pub untouched : AreZeros w.server.kept.files w.journal
   -- a cached read under a live lease is answered at once
   pub cached : CachedReadsAreAtOnce w
 

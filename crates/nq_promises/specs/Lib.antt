@@ -5,6 +5,7 @@ pub mod Chained
 pub mod Contents
 pub mod Told
 pub mod Undisturbed
+pub mod UntouchedAreZeros
 -- the headline
 pub mod Headline
 -- journals

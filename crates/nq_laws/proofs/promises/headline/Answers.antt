@@ -3,6 +3,7 @@ use Rattle.law_chains.proofs.ChainWorlds.{chain-fits}
 use Rattle.law_endings.proofs.ExcusesInRuns.{losses-excused}
 use Rattle.law_fates.proofs.FateLaws.{accounted, waiting, fates}
 use Rattle.law_held.proofs.HeldLaws.{held-in-every-run}
+use Rattle.law_zeros.proofs.ZeroRuns.{untouched}
 use Rattle.nq_laws.proofs.CachedReads.{cached-in-every-run}
 use Rattle.nq_laws.proofs.HeadlineParts.{at-every-moment}
 use Rattle.nq_laws.proofs.promises.headline.Goals as goal
@@ -39,6 +40,9 @@ returns-clause-synchronized c = synchronized-in-every-run
 
 pub returns-clause-kept : goal.returns-clause-kept
 returns-clause-kept c = held-in-every-run
+
+pub returns-clause-untouched : goal.returns-clause-untouched
+returns-clause-untouched c = untouched
 
 pub returns-clause-cached : goal.returns-clause-cached
 returns-clause-cached c = cached-in-every-run

@@ -1,0 +1,3 @@
+pub mod ZeroFiles
+pub mod ZeroSteps
+pub mod ZeroRuns
