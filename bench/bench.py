@@ -1,6 +1,6 @@
 #!/usr/bin/env python3
 """Times `nqnfs replay` on inputs that it makes, and prints events per second and peak memory; or times `nq_bench`, and
-prints datagrams and megabytes, or calls of the server's parts, per second.
+prints datagrams and megabytes, or calls of the parts of server and client, per second.
 
     bench/bench.py PROGRAM [--words WORD ...]
     bench/bench.py PROGRAM --codecs
@@ -126,16 +126,30 @@ LEASES = [
     ("a tick at which no row ends", "tick", 30_000_000),
 ]
 
+# Reads from a client's cache: of all its blocks in turn, or of one of them again and again.
+CACHE_READS = 2_000_000
+CACHES = [
+    ("a cached read, 1 block", "1"),
+    ("a cached read, 32 blocks in turn", "32"),
+    ("a cached read, 512 blocks in turn", "512"),
+    ("a cached read, one of 512 blocks", "1-of-512"),
+]
+
 
 def parts(program):
-    """Prints how fast the server's parts are."""
+    """Prints how fast the parts of server and client are."""
     rounds = {}
     for way in ("clients", "all"):
         rounds[way] = (often(program, ["skew", way], SKEW_ROUNDS)[0] - often(program, ["skew", way], 0)[0]) / SKEW_ROUNDS
+    reads = [
+        (name, (often(program, ["cache", way], CACHE_READS)[0] - often(program, ["cache", way], 0)[0]) / CACHE_READS)
+        for name, way in CACHES
+    ]
     for name, each in (
         ("a host's clock ticks", rounds["clients"] / 64),
         ("the server's clock ticks, 64 hosts", rounds["all"] - rounds["clients"]),
         ("any clock ticks, 64 hosts in turn", rounds["all"] / 65),
+        *reads,
     ):
         print(f"{name:36} {each * 1e9:8,.1f} ns {1 / each:14,.0f} per second")
     for name, way, times in LEASES:

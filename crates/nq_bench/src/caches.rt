@@ -6,8 +6,8 @@ use std::alloc::Global;
 
 const FILE: FileId = FileId(1);
 
-/// Reads blocks that are there, one after the other and again from the first.
-pub(crate) fn read_often(alloc: Global, blocks: u32, times: u64) -> Option<u64> {
+/// Reads the first `read` of so many blocks, one after the other and again from the first.
+pub(crate) fn read_often(alloc: Global, blocks: u32, read: u32, times: u64) -> Option<u64> {
     let mut cache = filled(alloc, blocks)?;
     let mut into = Block::fill(0);
     let mut sum: u64 = 0;
@@ -17,7 +17,7 @@ pub(crate) fn read_often(alloc: Global, blocks: u32, times: u64) -> Option<u64> 
             sum = sum.wrapping_add(u64::from(into.value()));
         }
         let next = block.wrapping_add(1);
-        block = if next < blocks { next } else { 0 };
+        block = if next < read { next } else { 0 };
     }
     Some(sum)
 }

@@ -3,7 +3,7 @@ use Rattle.std.proofs.Common.{◌≡◌, ◌≤◌, ◌<◌, ℕ, ◌+◌, ◌-�
 use Rattle.std.specs.Cmp.{IsEquivalence}
 use Rattle.std.specs.List.{filter, AllByRecursion, IsDistinct, slice_get}
 use Rattle.std.specs.Map.{keys_of, lookup, lookup_entry, remove_entry, set_value}
-use Rattle.std.specs.Option.{option_map, option_map_or, option_to_list}
+use Rattle.std.specs.Option.{option_map, option_map_or, option_to_list, unwrap_or}
 use Rattle.std.specs.declared.boxed.Box.{Box}
 use Rattle.std.proofs.lemmas.Bool.Decides.{nat_tests}
 use Rattle.std.proofs.lemmas.List.{take_more, take_all, take_at, map_push, drop_more, length_push}
@@ -12,10 +12,10 @@ use Rattle.std.proofs.lemmas.Map.Entries.{none_past_head}
 use Rattle.std.proofs.lemmas.Map.Keys.{IsDistinct-head, IsDistinct-tail}
 use Rattle.lru.specs.LruCache.{LruCache, promoted, put_entries, last_entry}
 use Rattle.lru.proofs.CallerLemmas.{Contains-lookup_entry}
-use Rattle.nq_cache.specs.Entries.{body_or, clean_of, clean_blocks, is_of_other, walked, Turns}
+use Rattle.nq_cache.specs.Entries.{clean_of, clean_blocks, is_of_other, walked, Turns}
 use Rattle.nq_cache.specs.declared.entries.Key.{Key}
 use Rattle.nq_model.specs.Client.{Clean, clean_at, drop_clean, purge}
-use Rattle.nq_model.specs.Settle.{touched, looked_up}
+use Rattle.nq_model.specs.Settle.{clean_body, touched, looked_up}
 use Rattle.nq_model.specs.Profile.{at_most}
 
 -- two keys are one where their files and blocks are
@@ -100,13 +100,13 @@ module _ (eq : Key → Key → Bool) (laws : IsKeyEquality eq) where
     valued : (es : List (Key × Box (List ℕ) Z)) → is_some (lookup (eq key) es) ≡ is_some (lookup_entry (eq key) es)
     valued es = ap is_some (looked es) ∙ mapped (λ f. f.1) (lookup_entry (eq key) es)
 
-    body-of : (before : List ℕ) (o : Option (Key × Box (List ℕ) Z)) → body_or before (option_map clean_of o) ≡ value_or before (option_map (λ f. f.1) o)
+    body-of : (before : List ℕ) (o : Option (Key × Box (List ℕ) Z)) → unwrap_or (clean_body (option_map clean_of o)) before ≡ value_or before (option_map (λ f. f.1) o)
     body-of before None = refl
     body-of before (Some e) = refl
 
     -- what is found of a block is the value of its key
-    pub body_or-entries : (before : List ℕ) (es : List (Key × Box (List ℕ) Z)) → body_or before (clean_at key.file key.block (clean_blocks es)) ≡ value_or before (lookup (eq key) es)
-    body_or-entries before es = ap (body_or before) (clean_at-entries es) ∙ body-of before (lookup_entry (eq key) es) ∙ ap (value_or before) (sym (looked es))
+    pub found_body-entries : (before : List ℕ) (es : List (Key × Box (List ℕ) Z)) → unwrap_or (clean_body (clean_at key.file key.block (clean_blocks es))) before ≡ value_or before (lookup (eq key) es)
+    found_body-entries before es = ap (λ o. unwrap_or (clean_body o) before) (clean_at-entries es) ∙ body-of before (lookup_entry (eq key) es) ∙ ap (value_or before) (sym (looked es))
 
     -- it is there exactly where its key is
     pub is_there : (es : List (Key × Box (List ℕ) Z)) → is_some (clean_at key.file key.block (clean_blocks es)) ≡ is_some (lookup (eq key) es)

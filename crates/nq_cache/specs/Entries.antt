@@ -16,11 +16,6 @@ clean_blocks entries = map clean_of entries
 abbrev pub is_of_other : {Z : Type 0} → ℕ → Key × Box (List ℕ) Z → Bool
 is_of_other file e = not (e.0.file == file)
 
--- what a reader finds of a block that is or is not there
-abbrev pub body_or : List ℕ → Option Clean → List ℕ
-body_or before None = before
-body_or before (Some k) = k.body
-
 -- the last entry goes to the front, or goes if it is of the file
 abbrev pub Turns : {Z : Type 0} → (file : ℕ) → (before after : List (Key × Box (List ℕ) Z)) → Type 0
 Turns {Z} file before after =

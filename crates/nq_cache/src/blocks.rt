@@ -1,10 +1,9 @@
 //! The clean blocks of a client.
 
-ghost use Rattle.std.specs.Prelude.{◌≡◌, ◌≤◌, [], length, is_some, IsSome, IsOk, OnOk, OnErr, IfOk};
+ghost use Rattle.std.specs.Prelude.{◌≡◌, ◌≤◌, [], length, is_some, unwrap_or, IsSome, IsOk, OnOk, OnErr, IfOk};
 ghost use Rattle.nq_model.specs.Client.{clean_at, drop_clean, purge, put_clean};
 ghost use Rattle.nq_model.specs.Profile.{most_clean};
-ghost use Rattle.nq_model.specs.Settle.{looked_up};
-ghost use Rattle.nq_cache.specs.Entries.{body_or};
+ghost use Rattle.nq_model.specs.Settle.{clean_body, looked_up};
 
 use crate::entries::{
     Entries, Key, MOST, bring_forward, cut, holds, leave_first, put_first, read, take_file,
@@ -46,7 +45,7 @@ impl Blocks {
     /// Copies a block that is there, and brings it to the front.
     pub(crate) fn get(&mut self, key: &Key, into: &mut Block) -> bool
         ensures found { result ≡ is_some (clean_at key.now.file key.now.block self.old) }
-        ensures body { into.new ≡ body_or into.old (clean_at key.now.file key.now.block self.old) }
+        ensures body { into.new ≡ unwrap_or (clean_body (clean_at key.now.file key.now.block self.old)) into.old }
         ensures order { self.new ≡ looked_up key.now.file key.now.block self.old }
     {
         read(&self.entries, key, into);

@@ -1,10 +1,9 @@
 //! The cache of a client.
 
-ghost use Rattle.std.specs.Prelude.{◌≡◌, ◌≤◌, ◌+◌, [], length, is_some, option_map, IsSome, IsOk, OnOk, OnErr, IfOk};
+ghost use Rattle.std.specs.Prelude.{◌≡◌, ◌≤◌, ◌+◌, [], length, is_some, unwrap_or, option_map, IsSome, IsOk, OnOk, OnErr, IfOk};
 ghost use Rattle.nq_model.specs.Client.{clean_at, drop_clean, purge, put_clean, revision_of, put_revision};
 ghost use Rattle.nq_model.specs.Profile.{most_clean};
-ghost use Rattle.nq_model.specs.Settle.{looked_up};
-ghost use Rattle.nq_cache.specs.Entries.{body_or};
+ghost use Rattle.nq_model.specs.Settle.{clean_body, looked_up};
 
 use crate::blocks::Blocks;
 use crate::entries::Key;
@@ -45,7 +44,7 @@ impl Cache {
     /// Whether a block is there. Its body is then copied, and the block comes to the front.
     pub fn get(&mut self, file: FileId, block: BlockNo, into: &mut Block) -> bool
         ensures found { result ≡ is_some (clean_at file block self.old.clean) }
-        ensures body { into.new ≡ body_or into.old (clean_at file block self.old.clean) }
+        ensures body { into.new ≡ unwrap_or (clean_body (clean_at file block self.old.clean)) into.old }
         ensures order { self.new ≡ record self.old { clean = looked_up file block self.old.clean } }
     {
         self.clean.get(&Key { file, block }, into)

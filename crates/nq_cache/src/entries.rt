@@ -1,11 +1,11 @@
 //! Clean blocks on an `LruCache`: it has room for one more than there may be, so that a block can be put in before
 //! another goes.
 
-ghost use Rattle.std.specs.Prelude.{◌≡◌, ◌≤◌, ◌<◌, ◌+◌, ◌-◌, ◌∷◌, ◌++◌, [], false, true, length, take, drop, filter, is_some, option_map, IsSome, IsOk, OnOk, OnErr, IfOk, IsTrue, if◌then◌else◌};
+ghost use Rattle.std.specs.Prelude.{◌≡◌, ◌≤◌, ◌<◌, ◌+◌, ◌-◌, ◌∷◌, ◌++◌, [], false, true, length, take, drop, filter, is_some, unwrap_or, option_map, IsSome, IsOk, OnOk, OnErr, IfOk, IsTrue, if◌then◌else◌};
 ghost use Rattle.nq_model.specs.Client.{clean_at, drop_clean, purge, put_clean};
 ghost use Rattle.nq_model.specs.Profile.{most_clean, at_most};
-ghost use Rattle.nq_model.specs.Settle.{looked_up};
-ghost use Rattle.nq_cache.specs.Entries.{clean_blocks, walked, Turns, StaysFirst, body_or};
+ghost use Rattle.nq_model.specs.Settle.{clean_body, looked_up};
+ghost use Rattle.nq_cache.specs.Entries.{clean_blocks, walked, Turns, StaysFirst};
 ghost use Rattle.lru.specs.LruCache.{last_entry};
 
 use lru::LruCache;
@@ -98,7 +98,7 @@ pub(crate) fn take_out(entries: &mut Entries, key: &Key)
 /// Copies the body of a block, if it is there.
 pub(crate) fn read(entries: &Entries, key: &Key, into: &mut Block) -> bool
     ensures found { result ≡ is_some (clean_at key.now.file key.now.block (clean_blocks entries.now.entries)) }
-    ensures body { into.new ≡ body_or into.old (clean_at key.now.file key.now.block (clean_blocks entries.now.entries)) }
+    ensures body { into.new ≡ unwrap_or (clean_body (clean_at key.now.file key.now.block (clean_blocks entries.now.entries))) into.old }
 {
     match entries.peek(key) {
         Some(kept) => {

@@ -1,5 +1,6 @@
 use super::*;
-use nq_base::{FileId, Grant, Mode, Rev, Tag, Ticks};
+use nq_base::{FileId, Grant, Mode, NoMemory, Rev, Tag, Ticks};
+use nq_dirty::Dirty;
 
 const FILE: FileId = FileId(1);
 
@@ -67,4 +68,17 @@ fn a_lease_is_renewed_once_it_was_used_and_is_about_to_end(rt: HostRuntime) {
     for (now, due) in [(36, false), (37, true), (39, true), (40, false)] {
         assert!(rt; held.renew_due(Ticks(now)) == due);
     }
+}
+
+#[test]
+#[tactic(auto, unfolding(nq_model::specs::Hear::granted_lease))]
+fn a_lease_of_a_clean_file_is_given_up(rt: HostRuntime) -> Result<(), NoMemory> {
+    let dirty = Dirty::new(rt.alloc())?;
+    let Taken { held, how } = Held::Nothing.take(FILE, &grant(Mode::Writing, 4, 4), Ticks(10));
+    assert!(rt; !how.is_broken());
+    match dirty.clean(FILE) {
+        Some(clean) => assert!(rt; held.give_up(&clean).mode() == None),
+        None => assert!(rt; false),
+    }
+    Ok(())
 }
