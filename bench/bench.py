@@ -113,7 +113,7 @@ def codecs(program):
 
 
 # Rounds of the test of skew: each ticks 64 hosts' clocks, and with "all" the server's too.
-SKEW_ROUNDS = 100_000
+SKEW_ROUNDS = 1_000_000
 
 
 # What is done with a lease table of 2,048 rows, and how often.
