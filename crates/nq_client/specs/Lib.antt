@@ -1,0 +1,2 @@
+pub mod ByFile
+pub mod Leases

@@ -1,0 +1,4 @@
+//! The client.
+#![tactic(auto)]
+
+mod leases;
