@@ -39,6 +39,13 @@ same-file m n h = grind (arith, nat_tests)
 apart-above : (m n : ℕ) → n ≤ m → (m == n) ≡ false → n < m
 apart-above m n le h = grind (arith, nat_tests)
 
+same-if-equal : (m n : ℕ) → (m == n) ≡ true → m ≡ n
+same-if-equal m n h = grind (arith, nat_tests)
+
+none-same : {A : Type 0} (file : ℕ) (b : Bool) (k : A) → b ≡ true → (if b then Some k else None) ≡ None → ⊥
+none-same file true k e h = cc
+none-same file false k e h = cc
+
 -- a list as the model looks in it, takes from it and puts into it
 module _ {A B : Type 0} (file_of : B → ℕ) (view : A → B) where
   -- the file of an element
@@ -310,3 +317,17 @@ module _ {A B : Type 0} (file_of : B → ℕ) (view : A → B) where
       ∙ ap (λ xs. map view (take place ks) ++ xs) (same-above file change (drop place ks) of (above-place file ks place a at none))
       ∙ sym (map-append view (take place ks) (drop place ks))
       ∙ ap (map view) (take-append-drop place ks)
+
+  of_file-step : (file : ℕ) (b : Bool) (k x : A) → (key k == file) ≡ b → (if b then Some k else None) ≡ Some x → (Some k ≡ Some x) × (key x ≡ file)
+  of_file-step file true k x e h = let s : k ≡ x = cc in (h, subst (λ y. key y ≡ file) s (same-if-equal (key k) file e))
+  of_file-step file false k x e h = absurd cc
+
+  -- what was found at a place stands there and is of the file
+  pub of_file-some : (file : ℕ) (o : Option A) (x : A) → of_file key file o ≡ Some x → (o ≡ Some x) × (key x ≡ file)
+  of_file-some file None x h = absurd cc
+  of_file-some file (Some k) x h = of_file-step file (key k == file) k x refl h
+
+  -- where nothing was found at a place nothing of the file stands there
+  pub of_file-none : (file : ℕ) (o : Option A) → of_file key file o ≡ None → ¬ IsSomeAnd o (λ k. key k ≡ file)
+  of_file-none file None h = λ some. some
+  of_file-none file (Some k) h = λ same. none-same file (key k == file) k (same-file (key k) file same) h

@@ -1,6 +1,6 @@
 //! The leases that a client holds, in order of files.
 
-ghost use Rattle.std.specs.Prelude.{◌≡◌, ◌≤◌, ◌<◌, ◌+◌, ◌-◌, [], map, length, slice_get, slice_set, option_map, vec_len, vec_capacity, Some, IsSome, IsOk, OnOk, OnErr, IsTrue, ◌↔◌, IsSomeAnd};
+ghost use Rattle.std.specs.Prelude.{◌≡◌, ◌≤◌, ◌<◌, ◌+◌, ◌-◌, [], map, length, slice_get, slice_set, option_map, vec_len, vec_capacity, Some, IsSome, IsOk, OnOk, OnErr, true};
 ghost use Rattle.std.specs.List.{insert, remove};
 ghost use Rattle.nq_held.specs.Leases.{lease_of, of_kind};
 ghost use Rattle.nq_model.specs.Client.{lease_on, drop_lease, put_lease, used_lease};
@@ -131,8 +131,9 @@ fn mark(rows: &mut Vec<Row>, file: FileId)
     ensures capacity { vec_capacity rows.new ≡ vec_capacity rows.old }
 {
     let place = place_of(rows, file);
-    if let Some(row) = at(rows, place, file) {
-        replace(rows, place, used(row));
+    match at(rows, place, file) {
+        Some(row) => replace(rows, place, used(row)),
+        None => {}
     }
 }
 
