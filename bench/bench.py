@@ -116,6 +116,16 @@ def codecs(program):
 SKEW_ROUNDS = 100_000
 
 
+# What is done with a lease table of 2,048 rows, and how often.
+LEASES = [
+    ("a row is looked up", "row", 3_000_000),
+    ("a row is put in place of another", "put", 1_000_000),
+    ("a row is dropped, and put in again", "drop", 300_000),
+    ("a lease is renewed", "ask", 1_000_000),
+    ("64 readers are in the way", "clash", 300_000),
+    ("a tick at which no row ends", "tick", 30_000_000),
+]
+
 # Reads from a client's cache: of all its blocks in turn, or of one of them again and again.
 CACHE_READS = 2_000_000
 CACHES = [
@@ -141,6 +151,9 @@ def parts(program):
         ("any clock ticks, 64 hosts in turn", rounds["all"] / 65),
         *reads,
     ):
+        print(f"{name:36} {each * 1e9:8,.1f} ns {1 / each:14,.0f} per second")
+    for name, way, times in LEASES:
+        each = (often(program, ["leases", way], times)[0] - often(program, ["leases", way], 0)[0]) / times
         print(f"{name:36} {each * 1e9:8,.1f} ns {1 / each:14,.0f} per second")
     return 0
 

@@ -1,8 +1,9 @@
 //! Datagrams of a LOOKUP, of its reply and of the reply to a READ, written and read.
 
 use nq_base::{Block, FileId, Host, Inc, Name, PushBase, Reply, Request, Rev, Who};
-use nq_rpc::{Bytes, CallMessage, Head, Message, Outcome, ReplyMessage, decode, encode};
-use nq_wire::{Procedure, decode_reply, decode_request, encode_reply, encode_request};
+use nq_rpc::{Head, LentMessage, LentOutcome, begin_call, begin_reply, decode_in_place};
+use nq_wire::{Procedure, decode_reply, decode_request, encode_reply_into, encode_request_into};
+use nq_xdr::Writer;
 use std::alloc::Global;
 
 const PROGRAM: u32 = 0x2000_4e51;
@@ -15,27 +16,23 @@ fn lookup(alloc: Global, xid: u32) -> Option<Vec<u8>> {
         },
         name: Name::new(b"a")?,
     };
-    let arguments = encode_request(alloc, &request).ok()?;
-    let call = CallMessage {
-        head: Head {
-            xid,
-            prog: PROGRAM,
-            vers: 1,
-            procedure: Procedure::Lookup.number(),
-        },
-        rpcvers: 2,
-        arguments: Bytes::new(arguments),
+    let head = Head {
+        xid,
+        prog: PROGRAM,
+        vers: 1,
+        procedure: Procedure::Lookup.number(),
     };
-    encode(alloc, &Message::Call(call)).ok()
+    let mut out = Writer::new(alloc).ok()?;
+    begin_call(&head, &mut out).ok()?;
+    encode_request_into(&request, &mut out).ok()?;
+    Some(out.into_bytes())
 }
 
 fn reply(alloc: Global, xid: u32, reply: &Reply) -> Option<Vec<u8>> {
-    let results = encode_reply(alloc, reply).ok()?;
-    let reply = ReplyMessage {
-        xid,
-        outcome: Outcome::Success(Bytes::new(results)),
-    };
-    encode(alloc, &Message::Reply(reply)).ok()
+    let mut out = Writer::new(alloc).ok()?;
+    begin_reply(xid, &mut out).ok()?;
+    encode_reply_into(reply, &mut out).ok()?;
+    Some(out.into_bytes())
 }
 
 fn lookup_reply() -> Reply {
@@ -92,11 +89,11 @@ fn encode_replies(alloc: Global, times: u64, said: &Reply) -> Option<u64> {
 
 /// A number that stands on what the datagram asks.
 fn request_in(alloc: Global, bytes: &[u8]) -> Option<u64> {
-    let Message::Call(call) = decode(alloc, bytes).ok()? else {
+    let LentMessage::Call(call) = decode_in_place(bytes).ok()? else {
         return None;
     };
     let xid = u64::from(call.head.xid);
-    match decode_request(alloc, call.head.procedure, call.arguments.as_bytes()) {
+    match decode_request(alloc, call.head.procedure, call.arguments) {
         Ok(Request::Lookup { who, .. }) => Some(xid + u64::from(who.host.0)),
         Ok(
             Request::Write {
@@ -110,15 +107,14 @@ fn request_in(alloc: Global, bytes: &[u8]) -> Option<u64> {
 
 /// A number that stands on what the datagram answers.
 fn reply_in(alloc: Global, procedure: Procedure, bytes: &[u8]) -> Option<u64> {
-    let Message::Reply(reply) = decode(alloc, bytes).ok()? else {
+    let LentMessage::Reply(reply) = decode_in_place(bytes).ok()? else {
         return None;
     };
-    let ReplyMessage { xid, outcome } = reply;
-    let Outcome::Success(results) = outcome else {
+    let LentOutcome::Success(results) = reply.outcome else {
         return None;
     };
-    let xid = u64::from(xid);
-    match decode_reply(alloc, procedure.number(), results.as_bytes()).ok()? {
+    let xid = u64::from(reply.xid);
+    match decode_reply(alloc, procedure.number(), results).ok()? {
         Reply::Lookup { blocks, .. } => Some(xid + u64::from(blocks)),
         Reply::Read { body, .. } => Some(xid + u64::from(body.value())),
         _ => None,

@@ -1,2 +1,3 @@
+pub mod Incarnations
 pub mod Readers
 pub mod Written

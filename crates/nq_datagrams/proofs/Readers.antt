@@ -1,7 +1,9 @@
 -- What the server and a client make of the bytes of a message.
-use Rattle.std.proofs.Common.{◌≡◌, ℕ, ◌<◌, ◌≤◌, Bool, true, false, List, length, Ok, refl, sym, ap, ◌∙◌, arith}
+use Rattle.std.proofs.Common.{◌≡◌, ℕ, ◌<◌, ◌≤◌, Bool, true, false, List, length, Ok, refl, sym, ap, ◌∙◌, arith, Err, Result}
 use Rattle.std.specs.Prelude.{Option, Some, None, ◌==◌, ◌&&◌, if◌then◌else◌}
-use Rattle.std.proofs.lemmas.Bool.{eqb-true, le-ltb, lt-ltb}
+use Rattle.std.proofs.lemmas.Bool.{and_left, and_right, cases_eq, eqb-true, ne_eqb, le-ltb, lt-ltb}
+use Rattle.std.specs.Prelude.{◌⊎◌}
+use mathlib.Core.Logic.{inl, inr}
 use Rattle.nq_base.specs.declared.Reply.{Reply}
 use Rattle.nq_base.specs.declared.Request.{Request}
 use Rattle.nq_base.specs.declared.Request.TheVariants.{Null, Attach, Lookup, Create, GetAttr, Read, Write, GetLease, Vacated, Evicted, Resize, Remove}
@@ -10,6 +12,7 @@ use Rattle.nq_model.specs.Hear.{hear, hear_reply, hear_call, inc_of, reply_count
 use Rattle.nq_model.specs.Message.{Message, call, reply, error, RpcError, rpc_mismatch, program_unavailable, program_mismatch, procedure_unavailable, garbage_arguments, too_long, datagram_of}
 use Rattle.nq_rpc.specs.declared.Outcome.TheVariants as outcome
 use Rattle.nq_rpc.specs.Reading.{message_at}
+use Rattle.nq_wire.specs.declared.WireFault.{WireFault}
 use Rattle.nq_wire.specs.Procedure.{number_of}
 use Rattle.nq_wire.specs.Reading.{reply_in}
 use Rattle.nq_wire.specs.Reply.{results, IsReply, Answers}
@@ -17,6 +20,7 @@ use Rattle.nq_wire.specs.Request.{procedure_of, IsRequest, HasSpelling}
 use Rattle.nq_datagrams.specs.Incoming.{longest_datagram, asked_as, called_as, read_as, datagram_in, notice_in, call_in, answer_in, reply_to, heard_as, heard_in, hears}
 use Rattle.nq_datagrams.specs.Laws.{IsOfTicket, ServerReadsMessages, ClientReadsMessages}
 use Rattle.nq_datagrams.specs.Messages.{call_message, error_outcome, message_of, FitsMessage, bytes_of}
+use Rattle.nq_datagrams.proofs.Incarnations.{inc-again}
 use Rattle.nq_datagrams.proofs.Written.{message-again, length-bytes_of, request-again, reply-again}
 
 -- ---- the server
@@ -82,22 +86,43 @@ heard-error c number xid (Some t) program_mismatch = refl
 heard-error c number xid (Some t) procedure_unavailable = refl
 heard-error c number xid (Some t) garbage_arguments = refl
 
+-- a reply to another incarnation is ignored
+ignored : (c : Client) (number xid : ℕ) (a : Reply) (t : Ticket) → (inc_of a ≡ c.who.inc → ⊥) → hear_reply c number xid a (Some t) ≡ None
+ignored c number xid a t other =
+    let inc : (inc_of a == c.who.inc) ≡ false = ne_eqb (inc_of a) c.who.inc other in
+    let none : (xid == t.xid && inc_of a == c.who.inc && reply_counts a t) ≡ false =
+    and_left (xid == t.xid && inc_of a == c.who.inc) (reply_counts a t) (and_right (xid == t.xid) (inc_of a == c.who.inc) inc)
+    in
+    ap (λ test. if test then Some (goes_on (replied (begun c) number t a)) else None) none
+
+-- also where it is read by another procedure
+ignored-read : (c : Client) (number xid : ℕ) (a : Reply) (t : Ticket) (read : Result Reply WireFault) → c.ticket ≡ Some t → (inc_of a ≡ c.who.inc → ⊥) → IsReply a → reply_in (number_of (procedure_of t.request)) (results a) ≡ read → hears c number (answer_in xid read) ≡ None
+ignored-read c number xid a t (Err e) has other fits is = refl
+ignored-read c number xid a t (Ok b) has other fits is =
+    ap (hear_reply c number xid b) has ∙ ignored c number xid b t (λ e. other (sym (inc-again (procedure_of t.request) a b fits is) ∙ e))
+
+-- a reply to the request under way
+heard-own : (c : Client) (number xid : ℕ) (a : Reply) (t : Ticket) → c.ticket ≡ Some t → (inc_of a ≡ c.who.inc → Answers a (procedure_of t.request)) → IsReply a → (inc_of a ≡ c.who.inc) ⊎ (inc_of a ≡ c.who.inc → ⊥)
+    → hears c number (answer_in xid (reply_in (number_of (procedure_of t.request)) (results a))) ≡ hear_reply c number xid a (Some t)
+heard-own c number xid a t has answers fits (inl own) =
+    ap (λ read. hears c number (answer_in xid read)) (reply-again (procedure_of t.request) a (answers own) fits) ∙ ap (hear_reply c number xid a) has
+heard-own c number xid a t has answers fits (inr other) =
+    ignored-read c number xid a t (reply_in (number_of (procedure_of t.request)) (results a)) has other fits refl ∙ sym (ignored c number xid a t other)
+
 -- a reply to another request is ignored, as is one where no request is under way
-heard-at : (c : Client) (number xid : ℕ) (a : Reply) (t : Ticket) (test : Bool) → c.ticket ≡ Some t → (xid == t.xid) ≡ test → (xid ≡ t.xid → Answers a (procedure_of t.request)) → IsReply a
+heard-at : (c : Client) (number xid : ℕ) (a : Reply) (t : Ticket) (test : Bool) → c.ticket ≡ Some t → (xid == t.xid) ≡ test → (xid ≡ t.xid → inc_of a ≡ c.who.inc → Answers a (procedure_of t.request)) → IsReply a
     → hears c number (if test then answer_in xid (reply_in (number_of (procedure_of t.request)) (results a)) else None) ≡ hear_reply c number xid a (Some t)
-heard-at c number xid a t true has e answers fits =
-    ap (λ read. hears c number (answer_in xid read)) (reply-again (procedure_of t.request) a (answers (eqb-true xid t.xid e)) fits)
-    ∙ ap (hear_reply c number xid a) has
+heard-at c number xid a t true has e answers fits = heard-own c number xid a t has (answers (eqb-true xid t.xid e)) fits (cases_eq (inc_of a) c.who.inc)
 heard-at c number xid a t false has e answers fits =
     sym (ap (λ test. if test && inc_of a == c.who.inc && reply_counts a t then Some (goes_on (replied (begun c) number t a)) else None) e)
 
-heard-reply : (c : Client) (number xid : ℕ) (a : Reply) (o : Option Ticket) → c.ticket ≡ o → IsOfTicket o (reply xid a) → IsReply a
+heard-reply : (c : Client) (number xid : ℕ) (a : Reply) (o : Option Ticket) → c.ticket ≡ o → IsOfTicket c (reply xid a) → IsReply a
     → hears c number (reply_to o xid (outcome.Success (results a))) ≡ hear_reply c number xid a o
 unfolding reply_to
 heard-reply c number xid a None has own fits = refl
-heard-reply c number xid a (Some t) has own fits = heard-at c number xid a t (xid == t.xid) has refl own fits
+heard-reply c number xid a (Some t) has own fits = heard-at c number xid a t (xid == t.xid) has refl (own t has) fits
 
-heard-again : (c : Client) (number : ℕ) (m : Message) → FitsMessage m → IsOfTicket c.ticket m → hears c number (heard_as c.ticket (Ok (message_of m))) ≡ hear c number m
+heard-again : (c : Client) (number : ℕ) (m : Message) → FitsMessage m → IsOfTicket c m → hears c number (heard_as c.ticket (Ok (message_of m))) ≡ hear c number m
 heard-again c number (call xid r) fits own = heard-call c number xid r fits.1 fits.2
 heard-again c number (reply xid r) fits own = heard-reply c number xid r c.ticket refl own fits.1
 heard-again c number (error xid e) fits own = heard-error c number xid c.ticket e

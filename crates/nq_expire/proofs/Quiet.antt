@@ -1,7 +1,7 @@
 -- Where the earliest end of all rows is still to come, no row ends.
-use Rattle.std.proofs.Common.{◌≡◌, ◌⊎◌, ◌≤◌, ◌<◌, ◌+◌, ℕ, Bool, true, false, List, [], ◌∷◌, Option, Some, None, not, ◌&&◌, if◌then◌else◌, max, min, map, refl, sym, ap, ◌∙◌, inl, inr, arith}
+use Rattle.std.proofs.Common.{◌≡◌, ◌<◌, ◌+◌, ℕ, Bool, true, false, List, [], ◌∷◌, Option, Some, None, not, ◌&&◌, if◌then◌else◌, max, min, refl, ap, arith}
 use Rattle.std.specs.Prelude.{nat_le}
-use Rattle.std.specs.List.{find, filter}
+use Rattle.std.specs.List.{find}
 use Rattle.std.specs.Option.{option_map, IfSome}
 use Rattle.std.proofs.lemmas.Bool.Decides.{nat_tests}
 use Rattle.nq_base.specs.declared.Row.{Row}
@@ -10,7 +10,7 @@ use Rattle.nq_base.specs.declared.Mode.TheVariants.{NonCaching, Reading, Writing
 use Rattle.nq_base.specs.declared.RowKey.{RowKey}
 use Rattle.nq_model.specs.Table.{is_writing, row_end, find_row}
 use Rattle.nq_model.specs.ServerStep.{is_over, is_due, end_reading}
-use Rattle.nq_lease.specs.Ends.{end_of, least, lesser, earliest}
+use Rattle.nq_lease.specs.Ends.{end_of, lesser, earliest}
 use Rattle.nq_lease.specs.Rows.{AreInOrder, key_of}
 use Rattle.nq_lease.proofs.Order.{found-is-own}
 

@@ -1,10 +1,10 @@
 //! Which rows end at a time. Where none does, that costs one look at the table.
 
-ghost use Rattle.std.specs.Prelude.{◌≡◌, ◌<◌, IsTrue, IfSome, None, find, filter};
+ghost use Rattle.std.specs.Prelude.{◌≡◌, ◌<◌, IsTrue, IfSome, None, find};
 ghost use Rattle.std.specs.Option.{option_map};
 ghost use Rattle.nq_model.specs.ServerStep.{is_due as is_row_due, end_reading as without_ended};
 ghost use Rattle.nq_model.specs.Table.{find_row, with_rows};
-ghost use Rattle.nq_lease.specs.Rows.{AreInOrder, key_of as key_of_row};
+ghost use Rattle.nq_lease.specs.Rows.{key_of as key_of_row};
 
 use nq_base::{Mode, Row, RowKey, Ticks};
 use nq_lease::Table;

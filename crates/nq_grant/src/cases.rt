@@ -1,11 +1,11 @@
 //! The cases of a question, of which the first that fits decides.
 
-ghost use Rattle.std.specs.Prelude.{◌≡◌, ◌+◌, ◌-◌, ◌^◌, ◌<◌, ◌≤◌, Some, None, IsSome, IsOk, length, find, false, true};
+ghost use Rattle.std.specs.Prelude.{◌≡◌, ◌+◌, ◌^◌, ◌<◌, ◌≤◌, Some, None, IsSome, length, false};
 ghost use Rattle.std.specs.Option.{ForSome};
 ghost use Rattle.nq_model.specs.Ask.{ask as asked_of, ask_freely as asked_freely, ask_for, put_off as told_to_wait, with_waiting, begin as begun, renew as renews, share_again as shares_again, granted as grants};
 ghost use Rattle.nq_base.specs.declared.Asked.{Asked};
 ghost use Rattle.nq_model.specs.Profile.{most_rows};
-ghost use Rattle.nq_model.specs.Table.{after_draw, put_row, find_row, caches, next_tag};
+ghost use Rattle.nq_model.specs.Table.{after_draw, put_row, find_row, caches};
 
 use crate::{rows, scan};
 use nq_base::{Asked, Clash, Question, Row, RowKey, Want};

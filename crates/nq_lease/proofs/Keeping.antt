@@ -1,6 +1,6 @@
 -- Changes of rows with their ends.
 use Rattle.std.proofs.Common.{◌≡◌, ◌≤◌, ◌<◌, ◌==◌, ℕ, ◌+◌, Bool, true, List, Some, None, if◌then◌else◌, get_or, set, length, refl, sym, subst, ap, ◌∙◌, arith}
-use Rattle.std.specs.List.{count_by, prefix_len, insert, remove, find, filter}
+use Rattle.std.specs.List.{count_by, prefix_len, insert, remove, filter}
 use Rattle.std.specs.List.Sorted.{IsNonDecreasing}
 use Rattle.std.specs.Prelude.{not}
 use Rattle.std.proofs.lemmas.Bool.Decides.{nat_tests}
@@ -11,11 +11,11 @@ use Rattle.std.proofs.lemmas.List.Edits.{length-insert, length-remove}
 use Rattle.std.proofs.lemmas.Option.{slice_get_within, get_or_from_slice_get}
 use Rattle.nq_base.specs.declared.Row.{Row}
 use Rattle.nq_model.specs.Profile.{most_rows}
-use Rattle.nq_model.specs.Table.{is_row_of, find_row, drop_row, put_row}
+use Rattle.nq_model.specs.Table.{is_row_of, find_row, drop_row}
 use Rattle.nq_lease.specs.Rows.{AreInOrder, is_before}
 use Rattle.nq_lease.specs.Ends.{end_of}
 use Rattle.nq_lease.specs.Kept.{AreEndsOf, IsKept}
-use Rattle.nq_lease.proofs.Splits.{get-split, filter-none, filter-split}
+use Rattle.nq_lease.proofs.Splits.{get-split, filter-split}
 use Rattle.nq_lease.proofs.Order.{split-at, put-old, put-new, put-in-order, filter-in-order}
 use Rattle.nq_lease.proofs.Times.{times_of}
 

@@ -1,17 +1,15 @@
 -- Rows that are marked as evicting.
-use Rattle.std.proofs.Common.{◌≡◌, ◌≤◌, ◌<◌, ◌==◌, ℕ, ◌+◌, Bool, true, false, List, [], ◌∷◌, ◌++◌, if◌then◌else◌, get_or, set, map, take, drop, length, refl, sym, subst, ap, ◌∙◌, inl, inr, arith}
+use Rattle.std.proofs.Common.{◌≡◌, ◌≤◌, ◌<◌, ◌==◌, ℕ, ◌+◌, Bool, true, false, List, [], ◌∷◌, ◌++◌, if◌then◌else◌, get_or, set, map, take, drop, length, refl, sym, subst, ap, ◌∙◌, arith}
 use Rattle.std.specs.List.{count_by, prefix_len}
 use Rattle.std.proofs.lemmas.List.{take-map, take-append-drop, length-map, set-get_or}
 use Rattle.std.proofs.lemmas.List.Edits.{map_over_more}
-use Rattle.std.proofs.lemmas.Bool.Decides.{nat_tests}
 use Rattle.nq_base.specs.declared.Access.{Access}
 use Rattle.nq_base.specs.declared.Row.{Row}
-use Rattle.nq_model.specs.Ask.{conflicts, mode_conflicts, marked}
+use Rattle.nq_model.specs.Ask.{conflicts, marked}
 use Rattle.nq_model.specs.Table.{row_before}
 use Rattle.nq_lease.specs.Rows.{StandsBefore, AreInOrder, is_of, is_below, is_upto}
 use Rattle.nq_lease.specs.Ends.{end_of}
-use Rattle.nq_lease.specs.Kept.{AreEndsOf, IsKept}
-use Rattle.nq_lease.proofs.Splits.{decided}
+use Rattle.nq_lease.specs.Kept.{IsKept}
 use Rattle.nq_lease.proofs.OfFile.{parts-of, take-before, drop-behind}
 use Rattle.nq_lease.proofs.Times.{sum-of-map}
 

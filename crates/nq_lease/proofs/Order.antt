@@ -1,6 +1,6 @@
 -- Rows in order, and where each stands.
-use Rattle.std.proofs.Common.{◌≡◌, ◌⊎◌, ℕ, ◌+◌, ◌≤◌, ◌<◌, Bool, true, false, not, ◌&&◌, ◌||◌, ◌==◌, List, [], ◌∷◌, ◌++◌, Option, Some, None, if◌then◌else◌, suc, zero, get_or, take, drop, set, length, refl, sym, subst, ap, ◌∙◌, inl, inr, arith}
-use Rattle.std.specs.List.{find, filter, prefix_len, insert, remove, slice_get}
+use Rattle.std.proofs.Common.{◌≡◌, ℕ, ◌+◌, ◌≤◌, ◌<◌, Bool, true, false, not, List, [], ◌∷◌, Some, None, if◌then◌else◌, suc, zero, get_or, set, length, refl, sym, subst, ap, ◌∙◌, inl, inr, arith}
+use Rattle.std.specs.List.{find, filter, prefix_len, insert}
 use Rattle.std.specs.List.Sorted.{IsPartitionedBy, IsPartitionPoint}
 use Rattle.std.specs.Fn.{Called, ComputesKey}
 use Rattle.std.proofs.lemmas.List.Sorted.{IsPartitionPoint-from_clause}
@@ -12,7 +12,7 @@ use Rattle.std.proofs.lemmas.Bool.Decides.{nat_tests}
 use Rattle.nq_base.specs.declared.Row.{Row}
 use Rattle.nq_model.specs.Table.{is_row_of, find_row, drop_row, row_before, insert_row, put_row}
 use Rattle.nq_lease.specs.Rows.{StandsBefore, AreInOrder, is_before}
-use Rattle.nq_lease.proofs.Splits.{Passed, Split, decided, find-passed, filter-none, filter-split}
+use Rattle.nq_lease.proofs.Splits.{Passed, Split, decided, find-passed, filter-none}
 
 -- ---- two rows
 

@@ -1,6 +1,6 @@
 -- Lists of which the first elements pass one test, perhaps the next one another, and the others neither.
-use Rattle.std.proofs.Common.{◌≡◌, ◌⊎◌, ℕ, ◌+◌, ◌<◌, Bool, true, false, not, List, [], ◌∷◌, ◌++◌, Option, Some, None, if◌then◌else◌, suc, zero, take, drop, set, length, refl, sym, ap, ◌∙◌, inl, inr, arith}
-use Rattle.std.specs.List.{find, filter, prefix_len, insert, remove, slice_get}
+use Rattle.std.proofs.Common.{◌≡◌, ◌⊎◌, ℕ, ◌+◌, Bool, true, false, not, List, [], ◌∷◌, Option, Some, None, if◌then◌else◌, suc, refl, sym, ap, ◌∙◌, inl, inr, arith}
+use Rattle.std.specs.List.{find, filter, prefix_len, remove, slice_get}
 
 -- none of these passes either test
 abbrev pub Passed : {X : Type 0} → (p q : X → Bool) → List X → Type 0

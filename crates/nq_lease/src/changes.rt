@@ -1,6 +1,6 @@
 //! Changes of rows together with the times at which they end. None takes memory.
 
-ghost use Rattle.std.specs.Prelude.{◌≡◌, ◌<◌, ◌≤◌, ◌↔◌, length, filter, map, slice_set, insert, remove, vec_len, vec_capacity, Some, None, OnOk, OnErr, IsErr, IsNone};
+ghost use Rattle.std.specs.Prelude.{◌≡◌, ◌<◌, ◌≤◌, ◌↔◌, length, slice_set, insert, vec_len, vec_capacity, Some, None, OnOk, OnErr, IsErr};
 ghost use Rattle.std.specs.List.{prefix_len};
 ghost use Rattle.nq_model.specs.Ask.{marked};
 ghost use Rattle.nq_model.specs.Profile.{most_rows};

@@ -1,6 +1,6 @@
 //! The times at which rows end.
 
-ghost use Rattle.std.specs.Prelude.{◌≡◌, ℕ, ◌+◌, ◌<◌, ◌≤◌, ◌==◌, length, slice_index_or, count_by, map, IsSome, vec_len, vec_capacity, if◌then◌else◌};
+ghost use Rattle.std.specs.Prelude.{◌≡◌, ℕ, ◌+◌, ◌<◌, ◌≤◌, ◌==◌, length, slice_index_or, count_by, map, vec_len, vec_capacity, if◌then◌else◌};
 ghost use Rattle.std.specs.List.Sorted.{IsNonDecreasing};
 ghost use Rattle.nq_lease.specs.Ends.{end_of as end_of_row};
 ghost use Rattle.nq_lease.specs.Kept.{AreEndsOf};

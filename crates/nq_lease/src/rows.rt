@@ -1,8 +1,8 @@
 //! Rows in order of files, then hosts.
 
-ghost use Rattle.std.specs.Prelude.{◌≡◌, ◌-◌, ◌<◌, ◌≤◌, ◌==◌, nat_lt, nat_le, take, drop, set, insert, remove, map, filter, length, slice_get, vec_len, vec_capacity, if◌then◌else◌};
+ghost use Rattle.std.specs.Prelude.{◌≡◌, ◌≤◌, length, slice_get};
 ghost use Rattle.std.specs.List.{prefix_len};
-ghost use Rattle.nq_model.specs.Ask.{conflicts, mode_conflicts, marked};
+ghost use Rattle.nq_model.specs.Ask.{conflicts, mode_conflicts};
 ghost use Rattle.nq_model.specs.Table.{find_row, is_row_of};
 ghost use Rattle.nq_lease.specs.Rows.{AreInOrder, is_before, is_below, is_upto, rows_of};
 

@@ -1,6 +1,6 @@
 //! The table.
 
-ghost use Rattle.std.specs.Prelude.{◌≡◌, ◌+◌, ◌-◌, ◌*◌, ◌^◌, ◌<◌, ◌≤◌, ◌↔◌, length, map, slice_get, None, IsTrue, IsErr, IfOk, OnOk, OnErr};
+ghost use Rattle.std.specs.Prelude.{◌≡◌, ◌^◌, ◌<◌, ◌≤◌, ◌↔◌, length, slice_get, None, IsTrue, IsErr, IfOk, OnOk, OnErr};
 ghost use Rattle.nq_model.specs.Ask.{marked};
 ghost use Rattle.nq_model.specs.Profile.{most_rows};
 ghost use Rattle.nq_model.specs.ServerStep.{end_reading};

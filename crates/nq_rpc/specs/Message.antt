@@ -2,6 +2,7 @@
 use Rattle.std.specs.Prelude.{◌≡◌, ℕ, ◌+◌, ◌^◌, ◌<◌, ◌≤◌, List, [], ◌++◌, length}
 use Rattle.nq_xdr.specs.Item.{word, opaque}
 use Rattle.nq_rpc.specs.declared.message.CallMessage.{CallMessage}
+use Rattle.nq_rpc.specs.declared.message.Head.{Head}
 use Rattle.nq_rpc.specs.declared.message.Outcome.{Outcome}
 use Rattle.nq_rpc.specs.declared.message.Outcome.TheVariants.{Success, ProgUnavail, ProgMismatch, ProcUnavail, GarbageArgs, RpcMismatch, AuthError}
 use Rattle.nq_rpc.specs.declared.message.Message.{Message}
@@ -44,6 +45,14 @@ outcome (AuthError stat) verifier = word 1 ++ word 1 ++ word stat
 unfoldable pub spelling : Message → Auth → Auth → List ℕ
 spelling (Call m) credential verifier = numbers m ++ auth credential ++ auth verifier ++ m.arguments
 spelling (Reply r) credential verifier = word r.xid ++ word 1 ++ outcome r.outcome verifier
+
+-- a call of version 2 of RPC with these arguments
+abbrev pub call_with : Head → List ℕ → Message
+call_with head arguments = Call (record { head = head; rpcvers = 2; arguments = arguments })
+
+-- a reply with these results
+abbrev pub reply_with : (xid : ℕ) → List ℕ → Message
+reply_with xid results = Reply (record { xid = xid; outcome = Success results })
 
 -- ---- what has a spelling
 

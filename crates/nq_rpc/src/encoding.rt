@@ -1,12 +1,16 @@
 //! Writing messages.
 
-ghost use Rattle.std.specs.Prelude.{◌≡◌, ◌+◌, ◌≤◌, ◌++◌, IfOk, IsOk, OnOk, OnErr};
+ghost use Rattle.std.specs.Prelude.{◌≡◌, ℕ, List, ◌+◌, ◌≤◌, ◌++◌, IfOk, IsOk, OnOk, OnErr};
 ghost use Rattle.nq_xdr.specs.Item.{word};
-ghost use Rattle.nq_rpc.specs.Message.{auth, null, numbers, outcome, spelling, outcome_len, spelling_len};
+ghost use Rattle.nq_rpc.specs.declared.message.Message.TheVariants.{Call};
+ghost use Rattle.nq_rpc.specs.Message.{auth, null, outcome, spelling, call_with, reply_with, outcome_len, spelling_len};
 
-use crate::{CallMessage, Message, NoMemory, Outcome, number};
+use crate::{Head, Message, NoMemory, Outcome, number};
 use nq_xdr::Writer;
 use std::alloc::Global;
+
+/// The version of RPC (RFC 1057 section 8).
+const RPC_VERSION: u32 = 2;
 
 /// The flavor of AUTH_NULL (RFC 1057 section 9.1).
 const AUTH_NULL: u32 = 0;
@@ -49,18 +53,23 @@ fn put_bounds(low: u32, high: u32, out: &mut Writer) -> Result<(), NoMemory>
     out.u32(high)
 }
 
-#[tactic(auto, unfolding(crate::specs::Message::numbers))]
-fn put_numbers(call: &CallMessage, out: &mut Writer) -> Result<(), NoMemory>
-    ensures written { OnOk result (out.new.bytes ≡ out.old.bytes ++ numbers call.now) }
-    ensures succeeds { 24 ≤ out.old.spare → IsOk result }
-    ensures spare { out.old.spare ≤ out.new.spare + 24 }
+/// Writes what stands before the arguments of a call.
+#[tactic(auto, unfolding(crate::specs::Message::numbers, crate::specs::Message::spelling))]
+fn put_head(head: &Head, rpcvers: u32, out: &mut Writer) -> Result<(), NoMemory>
+    ensures written { OnOk result ((arguments : List ℕ)
+        → out.new.bytes ++ arguments ≡ out.old.bytes ++ spelling (Call (record { head = head.now; rpcvers = rpcvers; arguments = arguments })) null null) }
+    ensures succeeds { 40 ≤ out.old.spare → IsOk result }
+    ensures spare { out.old.spare ≤ out.new.spare + 40 }
 {
-    out.u32(call.head.xid)?;
+    out.u32(head.xid)?;
     out.u32(number::CALL)?;
-    out.u32(call.rpcvers)?;
-    out.u32(call.head.prog)?;
-    out.u32(call.head.vers)?;
-    out.u32(call.head.procedure)
+    out.u32(rpcvers)?;
+    out.u32(head.prog)?;
+    out.u32(head.vers)?;
+    out.u32(head.procedure)?;
+    put_auth(out)?;
+    put_auth(out)?;
+    Ok(())
 }
 
 /// Begins an accepted reply.
@@ -121,9 +130,7 @@ fn put(message: &Message, out: &mut Writer) -> Result<(), NoMemory>
 {
     match message {
         Message::Call(call) => {
-            put_numbers(call, out)?;
-            put_auth(out)?;
-            put_auth(out)?;
+            put_head(&call.head, call.rpcvers, out)?;
             out.append(call.arguments.as_bytes())
         }
         Message::Reply(reply) => {
@@ -132,6 +139,37 @@ fn put(message: &Message, out: &mut Writer) -> Result<(), NoMemory>
             put_outcome(&reply.outcome, out)
         }
     }
+}
+
+/// Begins a call of RPC version 2 behind what `out` holds: whatever is written behind it are its arguments, which so are
+/// copied once. Memory is wanted only where `out` has too little room.
+pub fn begin_call(head: &Head, out: &mut Writer) -> Result<(), NoMemory>
+    ensures written { OnOk result ((arguments : List ℕ)
+        → out.new.bytes ++ arguments ≡ out.old.bytes ++ spelling (call_with head.now arguments) null null) }
+    ensures refused { OnErr result (out.new ≡ out.old) }
+    ensures succeeds { 40 ≤ out.old.spare → IsOk result }
+    ensures spare { out.old.spare ≤ out.new.spare + 40 }
+{
+    out.reserve(40)?;
+    put_head(head, RPC_VERSION, out).unwrap();
+    Ok(())
+}
+
+/// Begins a reply with results behind what `out` holds: whatever is written behind it are its results, which so are copied
+/// once. Memory is wanted only where `out` has too little room.
+#[tactic(auto, unfolding(crate::specs::Message::spelling, crate::specs::Message::outcome))]
+pub fn begin_reply(xid: u32, out: &mut Writer) -> Result<(), NoMemory>
+    ensures written { OnOk result ((results : List ℕ)
+        → out.new.bytes ++ results ≡ out.old.bytes ++ spelling (reply_with xid results) null null) }
+    ensures refused { OnErr result (out.new ≡ out.old) }
+    ensures succeeds { 24 ≤ out.old.spare → IsOk result }
+    ensures spare { out.old.spare ≤ out.new.spare + 24 }
+{
+    out.reserve(24)?;
+    out.u32(xid).unwrap();
+    out.u32(number::REPLY).unwrap();
+    put_accepted(number::SUCCESS, out).unwrap();
+    Ok(())
 }
 
 /// Writes the message behind what `out` holds, with AUTH_NULL for its credential and its verifier

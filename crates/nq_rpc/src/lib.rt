@@ -16,11 +16,11 @@ mod number;
 
 pub use bytes::Bytes;
 pub use decoding::{decode, decode_in_place};
-pub use encoding::{encode, encode_into};
+pub use encoding::{begin_call, begin_reply, encode, encode_into};
 pub use fault::RpcFault;
 pub use lent::{LentCall, LentMessage, LentOutcome, LentReply};
-pub use nq_memory::NoMemory;
 pub use message::{CallMessage, Head, Message, Outcome, ReplyMessage};
+pub use nq_memory::NoMemory;
 
 #[cfg(test)]
 mod tests;

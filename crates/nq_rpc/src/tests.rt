@@ -116,6 +116,10 @@ fn a_call_is_read_and_written(rt: HostRuntime) -> Result<(), Fail> {
         call.arguments.as_bytes(),
         [0, 0, 0, 1, 0, 0, 0, 1, 0, 0, 0, 1, 97, 0, 0, 0].as_slice()
     );
+    let mut out = Writer::new(rt.alloc())?;
+    begin_call(&head, &mut out)?;
+    out.append(call.arguments.as_bytes())?;
+    assert_eq!(rt; out.as_bytes(), bytes.as_slice());
     Ok(())
 }
 
@@ -132,6 +136,10 @@ fn a_reply_is_read_and_written(rt: HostRuntime) -> Result<(), Fail> {
         results.as_slice(),
         [0, 0, 0, 1, 0, 0, 0, 0, 0, 0, 0, 1, 0, 0, 0, 1].as_slice()
     );
+    let mut out = Writer::new(rt.alloc())?;
+    begin_reply(1, &mut out)?;
+    out.append(&results)?;
+    assert_eq!(rt; out.as_bytes(), bytes.as_slice());
     Ok(())
 }
 

@@ -1,6 +1,5 @@
-use Rattle.std.proofs.Common.{◌≡◌, ◌<◌, Some, None, sym, ◌∙◌, arith}
+use Rattle.std.proofs.Common.{◌<◌, sym, ◌∙◌, arith}
 use Rattle.std.proofs.lemmas.Bool.Decides.{nat_tests}
-use Rattle.nq_lease.specs.Ends.{earliest}
 use Rattle.nq_expire.proofs.Quiet.{all-after-none, all-after, none-due, none-over}
 use Rattle.nq_expire.proofs.ends.is_quiet.Goals as goal
 

@@ -1,4 +1,4 @@
-use Rattle.std.proofs.Common.{◌≡◌, Some, sym, ◌∙◌, ap}
+use Rattle.std.proofs.Common.{sym, ◌∙◌}
 use Rattle.nq_grant.proofs.Within.{own-found}
 use Rattle.nq_grant.proofs.cases.ask_freely.Goals as goal
 

@@ -1,6 +1,5 @@
-use Rattle.std.proofs.Common.{◌≡◌, Bool, false, refl, ap, ◌∙◌}
+use Rattle.std.proofs.Common.{refl, ap, ◌∙◌}
 use Rattle.std.specs.List.{find}
-use Rattle.nq_base.specs.declared.Row.{Row}
 use Rattle.nq_lease.specs.Rows.{is_of}
 use Rattle.nq_model.specs.Ask.{conflicts}
 use Rattle.nq_grant.proofs.Within.{find-within}

@@ -1,8 +1,7 @@
-use Rattle.std.proofs.Common.{◌≡◌, ◌≤◌, ◌<◌, ◌++◌, length, set, take, drop, vec_capacity, refl, sym, ap, ◌∙◌, arith}
+use Rattle.std.proofs.Common.{◌≡◌, ◌<◌, length, refl, sym, ap, ◌∙◌, arith}
 use Rattle.std.proofs.lemmas.List.{length-set}
 use Rattle.std.specs.List.{prefix_len}
 use Rattle.nq_lease.specs.Rows.{is_below, is_upto}
-use Rattle.nq_model.specs.Ask.{marked, conflicts}
 use Rattle.nq_lease.proofs.Marking.{marks-begin, marks-end, marks-one, marks-none}
 use Rattle.nq_lease.proofs.changes.mark.Goals as goal
 use Rattle.nq_lease.proofs.changes.mark.Goals.{then-is_in_the_way, else-is_in_the_way}

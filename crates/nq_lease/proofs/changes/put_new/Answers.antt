@@ -1,9 +1,8 @@
-use Rattle.std.proofs.Common.{◌≡◌, ◌<◌, arith, sym, ap, ◌∙◌, vec_capacity, vec_len, length}
+use Rattle.std.proofs.Common.{arith, sym, ◌∙◌, vec_capacity}
 use Rattle.std.proofs.lemmas.List.Sums.{prefix_len-le-length}
 use Rattle.nq_lease.specs.Rows.{is_before}
 use Rattle.nq_lease.proofs.Order.{put-new}
 use Rattle.nq_lease.proofs.Keeping.{kept-added}
-use Rattle.nq_lease.specs.Ends.{end_of}
 use Rattle.nq_lease.proofs.changes.put_new.Goals as goal
 
 pub add-requires-2-clause-place : goal.add-requires-2-clause-place

@@ -1,7 +1,6 @@
-use Rattle.std.proofs.Common.{◌≡◌, ◌<◌, arith, sym, ap, ◌∙◌, vec_capacity, vec_len, length}
+use Rattle.std.proofs.Common.{arith, sym, ◌∙◌, vec_capacity}
 use Rattle.nq_lease.proofs.Order.{put-old}
-use Rattle.nq_lease.proofs.Keeping.{StandsAt, stands, end-there, kept-replaced}
-use Rattle.nq_lease.specs.Ends.{end_of}
+use Rattle.nq_lease.proofs.Keeping.{stands, end-there, kept-replaced}
 use Rattle.nq_lease.proofs.changes.replace.Goals as goal
 
 pub take-requires-clause-there : goal.take-requires-clause-there

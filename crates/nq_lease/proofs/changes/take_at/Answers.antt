@@ -1,4 +1,4 @@
-use Rattle.std.proofs.Common.{◌≡◌, ◌<◌, arith, sym, ap, ◌∙◌, vec_capacity, vec_len, length}
+use Rattle.std.proofs.Common.{arith, sym, ◌∙◌, vec_capacity}
 use Rattle.nq_lease.proofs.Keeping.{stands, end-there, drop-is-remove, kept-taken}
 use Rattle.nq_lease.proofs.changes.take_at.Goals as goal
 

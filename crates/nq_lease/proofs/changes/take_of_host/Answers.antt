@@ -1,6 +1,5 @@
-use Rattle.std.proofs.Common.{◌≡◌, ◌==◌, rules, arith, sym, ap, ◌∙◌, vec_capacity, vec_len, length}
+use Rattle.std.proofs.Common.{◌==◌, rules, arith}
 use Rattle.std.specs.Prelude.{not}
-use Rattle.nq_model.specs.ServerStep.{is_over}
 use Rattle.std.proofs.lemmas.Fn.{filter_same}
 use Rattle.nq_lease.proofs.Keeping.{kept-filtered}
 use Rattle.nq_lease.proofs.changes.take_of_host.Goals as goal

@@ -1,6 +1,5 @@
-use Rattle.std.proofs.Common.{◌≡◌, map, arith, sym, ap, ◌∙◌}
+use Rattle.std.proofs.Common.{ap, ◌∙◌}
 use Rattle.std.proofs.lemmas.List.Sorted.{IsNonDecreasingBy-from_sort}
-use Rattle.nq_lease.specs.Ends.{end_of}
 use Rattle.nq_lease.proofs.Times.{times_of, times-moved, times-of-rows}
 use Rattle.nq_lease.proofs.ends.fill.Goals as goal
 

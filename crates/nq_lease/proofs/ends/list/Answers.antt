@@ -1,4 +1,4 @@
-use Rattle.std.proofs.Common.{◌≡◌, ◌++◌, ◌∷◌, [], ◌<◌, ◌+◌, length, map, take, arith, sym, ap, ◌∙◌}
+use Rattle.std.proofs.Common.{◌≡◌, arith, ap}
 use Rattle.std.proofs.lemmas.List.{map_more}
 use Rattle.nq_lease.specs.Ends.{end_of}
 use Rattle.nq_lease.proofs.ends.list.Goals as goal

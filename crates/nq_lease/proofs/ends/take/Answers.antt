@@ -1,5 +1,4 @@
-use Rattle.std.proofs.Common.{◌≡◌, ◌<◌, ◌≤◌, ℕ, List, get_or, length, arith, rules, refl, sym, ap, subst, ◌∙◌}
-use Rattle.std.proofs.lemmas.List.{get_or_read}
+use Rattle.std.proofs.Common.{◌≡◌, ◌<◌, ◌≤◌, ℕ, List, get_or, length, arith, subst}
 use Rattle.std.specs.List.Sorted.{IsNonDecreasing}
 use Rattle.nq_lease.proofs.Times.{times_of, stands-at, rise-removed, times-removed}
 use Rattle.nq_lease.proofs.ends.take.Goals as goal

@@ -1,4 +1,4 @@
-use Rattle.std.proofs.Common.{◌≡◌, Bool, true, false, Option, Some, None, refl, sym, ◌∙◌, ap}
+use Rattle.std.proofs.Common.{◌≡◌, Bool, true, false, Some, None, refl, sym, ◌∙◌, ap}
 use Rattle.std.specs.Bool.{then_some}
 use Rattle.std.specs.List.{slice_get, prefix_len}
 use Rattle.nq_base.specs.declared.Row.{Row}

@@ -1,6 +1,5 @@
 use Rattle.std.proofs.Common.{rules}
-use Rattle.std.specs.Prelude.{nat_lt, nat_le}
-use Rattle.nq_lease.specs.Rows.{is_below, is_upto}
+use Rattle.nq_lease.specs.Rows.{is_upto}
 use Rattle.nq_lease.proofs.Order.{closed-upto, place-from-clause}
 use Rattle.nq_lease.proofs.rows.end_of.Goals as goal
 

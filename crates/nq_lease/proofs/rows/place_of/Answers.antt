@@ -1,5 +1,4 @@
 use Rattle.std.proofs.Common.{rules}
-use Rattle.std.specs.Prelude.{nat_lt, nat_le}
 use Rattle.nq_lease.specs.Rows.{is_before}
 use Rattle.nq_lease.proofs.Order.{closed-before, place-from-clause}
 use Rattle.nq_lease.proofs.rows.place_of.Goals as goal

@@ -1,5 +1,4 @@
-use Rattle.std.proofs.Common.{◌≡◌, ◌≤◌, ◌-◌, length, take, drop, arith, rules, refl}
-use Rattle.std.specs.List.{prefix_len}
+use Rattle.std.proofs.Common.{refl}
 use Rattle.std.proofs.lemmas.List.Sums.{prefix_len-le-length}
 use Rattle.nq_lease.specs.Rows.{is_of, is_below, is_upto}
 use Rattle.nq_lease.proofs.OfFile.{parts-of, parts-le}

@@ -1,4 +1,4 @@
-use Rattle.std.proofs.Common.{◌≡◌, sym, ap, ◌∙◌}
+use Rattle.std.proofs.Common.{ap, ◌∙◌}
 use Rattle.std.specs.List.{slice_get}
 use Rattle.nq_lease.proofs.Times.{first-is-earliest}
 use Rattle.nq_lease.proofs.table.Table.earliest.Goals as goal

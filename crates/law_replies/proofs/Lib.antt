@@ -1,0 +1,2 @@
+pub mod ReplyWorlds
+pub mod ServerReplies

@@ -1,0 +1,37 @@
+-- What a call that decides a request does. Below, `told` is what the keeper told of its content before the call, and `tells`
+-- is what it tells after it.
+use Rattle.std.specs.Prelude.{◌≡◌, ◌⊎◌, ℕ, Option, Some, None, Result, Ok, Err}
+use Rattle.std.specs.Option.{ForSome}
+use Rattle.nq_base.specs.declared.Change.{Change}
+use Rattle.nq_base.specs.declared.Decided.{Decided}
+use Rattle.nq_base.specs.declared.Effect.{Effect}
+use Rattle.nq_base.specs.declared.Decided.TheVariants.{Fresh}
+use Rattle.nq_base.specs.declared.Who.{Who}
+use Rattle.nq_io.specs.Faults.{Rose}
+use Rattle.nq_keeper.specs.declared.KeepFault.{KeepFault}
+use Rattle.nq_keeper.specs.declared.KeepFault.TheVariants.{Failed, Memory}
+use Rattle.nq_keeper.specs.Keeping.{StaysOrEnds, told_after}
+use Rattle.nq_model.specs.Change.{IsWithinBounds, applied_if}
+use Rattle.nq_model.specs.Decided.{change_with}
+use Rattle.nq_model.specs.Kept.{Kept}
+
+-- a call gives this decision and keeps this change, if there is one. After a fault nothing is kept, and the keeper may tell
+-- nothing from then on
+abbrev pub Gives : (Kept → Decided) → (Kept → Option Change) → Result Decided KeepFault → (told tells : Option Kept) → (before now : ℕ) → Type 0
+Gives decision change (Ok d) told tells before now =
+    ForSome told (λ kept. IsWithinBounds kept → (d ≡ decision kept) × (tells ≡ Some (applied_if kept (change kept))))
+    × (now ≡ before)
+Gives decision change (Err Memory) told tells before now = (tells ≡ told) × (now ≡ before)
+Gives decision change (Err Failed) told tells before now = StaysOrEnds told tells × Rose before now
+
+-- a stop leaves what was kept before the change, or after it
+abbrev pub LeavesGiven : (Kept → Option Change) → (told : Option Kept) → (Option Kept → Type 0) → Type 0
+LeavesGiven change told leaves =
+    ForSome told (λ kept. IsWithinBounds kept → (found : Option Kept) → leaves found → (found ≡ Some kept) ⊎ (found ≡ Some (applied_if kept (change kept))))
+
+-- an effect is kept with the row of the host that asked
+abbrev pub Concludes : Who → (seq : ℕ) → Effect → Result Decided KeepFault → (told tells : Option Kept) → (before now : ℕ) → Type 0
+Concludes who seq effect (Ok d) told tells before now =
+    (d ≡ Fresh effect.verdict effect.value) × (tells ≡ told_after (change_with who seq effect) told) × (now ≡ before)
+Concludes who seq effect (Err Memory) told tells before now = (tells ≡ told) × (now ≡ before)
+Concludes who seq effect (Err Failed) told tells before now = StaysOrEnds told tells × Rose before now

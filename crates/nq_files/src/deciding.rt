@@ -1,0 +1,54 @@
+//! Requests that are decided once.
+
+ghost use Rattle.std.specs.Prelude.{◌≡◌, ◌<◌, ℕ, IfOk, Some, None, true};
+ghost use Rattle.std.specs.Option.{ForSome};
+ghost use Rattle.nq_keeper.specs.Keeping.{Reads, LeavesOne, LeavesTwo};
+ghost use Rattle.nq_model.specs.Change.{Fits};
+ghost use Rattle.nq_model.specs.Decided.{decided, change_of, change_with, is_decided_once, sequence_decided, attach_decided, if_fresh, or_fresh, effect_of};
+ghost use Rattle.nq_model.specs.Kept.{host_row};
+ghost use Rattle.nq_model.specs.Profile.{most_hosts};
+ghost use Rattle.nq_files.specs.Capped.{capped};
+ghost use Rattle.nq_files.specs.Deciding.{Gives, LeavesGiven, Concludes};
+
+use crate::{asking, effects};
+use nq_base::{Decided, Effect, Gate, Request, Seq, Verdict, Who};
+use nq_keeper::{KeepFault, Keeper};
+
+/// Keeps an effect with the row of the host that asked, in one change.
+fn conclude<K: Keeper>(
+    keeper: &mut K,
+    who: Who,
+    seq: Seq,
+    effect: Effect,
+) -> Result<Decided, KeepFault>
+    requires host { who.host < most_hosts }
+    requires fits { ForSome (K.content keeper.old) (λ kept. Fits kept (change_with who seq effect)) }
+    ensures concludes { Concludes who seq effect result (K.content keeper.old) (K.content keeper.new) (K.faults keeper.old) (K.faults keeper.new) }
+    ensures follows { K.follows keeper.old keeper.new }
+    ensures leaves { LeavesTwo (change_with who seq effect) (K.content keeper.old) (K.leaves keeper.old keeper.new) }
+{
+    let decided = Decided::Fresh {
+        verdict: effect.verdict,
+        value: effect.value,
+    };
+    let change = effects::change_of(who, seq, effect);
+    keeper.commit(&change)?;
+    Ok(decided)
+}
+
+/// Decides a fresh request, and keeps it.
+fn decide_fresh<K: Keeper>(
+    keeper: &mut K,
+    request: &Request,
+    gate: Gate,
+    who: Who,
+    seq: Seq,
+) -> Result<Decided, KeepFault>
+    requires { who.host < most_hosts }
+    ensures gives { Gives (λ kept. or_fresh None (effect_of kept gate request.now)) (λ kept. Some (change_with who seq (effect_of kept gate request.now))) result (K.content keeper.old) (K.content keeper.new) (K.faults keeper.old) (K.faults keeper.new) }
+    ensures follows { K.follows keeper.old keeper.new }
+    ensures leaves { LeavesGiven (λ kept. Some (change_with who seq (effect_of kept gate request.now))) (K.content keeper.old) (K.leaves keeper.old keeper.new) }
+{
+    let effect = asking::effect(keeper, request, gate)?;
+    conclude(keeper, who, seq, effect)
+}
