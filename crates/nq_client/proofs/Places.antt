@@ -297,12 +297,12 @@ module _ {A B : Type 0} (file_of : B → ℕ) (view : A → B) where
       let a' : Ascends key (take place ks ++ k ∷ drop (suc place) ks) = subst (Ascends key) split a in
       let above : AllAbove file (drop (suc place) ks) = above-weaker file (key k) (drop (suc place) ks) (omega arith) (behind-above (take place ks) (drop (suc place) ks) k a') in
       let now : map view (take place ks ++ new ∷ drop (suc place) ks) ≡ map change (map view (take place ks ++ k ∷ drop (suc place) ks)) =
-          map-append view (take place ks) (new ∷ drop (suc place) ks)
-          ∙ ap (λ x. map view (take place ks) ++ x ∷ map view (drop (suc place) ks)) is
-          ∙ ap (λ xs. map view (take place ks) ++ change (view k) ∷ xs) (sym (same-above file change (drop (suc place) ks) of above))
-          ∙ sym (same-below file change (take place ks) (k ∷ drop (suc place) ks) of at.before) in
+      map-append view (take place ks) (new ∷ drop (suc place) ks)
+      ∙ ap (λ x. map view (take place ks) ++ x ∷ map view (drop (suc place) ks)) is
+      ∙ ap (λ xs. map view (take place ks) ++ change (view k) ∷ xs) (sym (same-above file change (drop (suc place) ks) of above))
+      ∙ sym (same-below file change (take place ks) (k ∷ drop (suc place) ks) of at.before) in
       let put : IsChanged change ks (take place ks ++ new ∷ drop (suc place) ks) =
-          subst (λ xs. IsChanged change xs (take place ks ++ new ∷ drop (suc place) ks)) (sym split) (now, ascends-replaced (take place ks) (drop (suc place) ks) k new (e ∙ sym f) a') in
+      subst (λ xs. IsChanged change xs (take place ks ++ new ∷ drop (suc place) ks)) (sym split) (now, ascends-replaced (take place ks) (drop (suc place) ks) k new (e ∙ sym f) a') in
       subst (IsChanged change ks) (sym (set_split ks place new g.1)) put
 
   -- what is of a file is changed in its place

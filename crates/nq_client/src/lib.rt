@@ -2,3 +2,6 @@
 #![tactic(auto)]
 
 mod leases;
+mod notices;
+mod reading;
+mod state;
