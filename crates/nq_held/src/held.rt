@@ -1,6 +1,6 @@
 //! What is held on a file.
 
-ghost use Rattle.std.specs.Prelude.{◌≡◌, IfSome, option_map, option_copied};
+ghost use Rattle.std.specs.Prelude.{◌≡◌, Some, IfSome, option_map, option_copied};
 ghost use Rattle.nq_model.specs.Client.{is_live, lets_read, lets_write, renew_due};
 
 use crate::lease::Lease;
@@ -21,7 +21,18 @@ pub enum Held {
 }
 
 impl Held {
-    ghost use Rattle.nq_held.specs.Leases.{lease_of, plain_lease, mode_of, passes, as_used};
+    ghost use Rattle.nq_held.specs.Leases.{of_kind, lease_of, plain_lease, mode_of, passes, as_used};
+
+    /// A lease of a kind, as it is held.
+    pub fn of_kind(mode: Mode, lease: Lease) -> Held
+        ensures { lease_of result ≡ Some (of_kind mode lease) }
+    {
+        match mode {
+            Mode::NonCaching => Held::NonCaching(lease),
+            Mode::Reading => Held::Reading(lease),
+            Mode::Writing => Held::Writing(lease),
+        }
+    }
 
     /// The lease, if one is held.
     pub fn lease(&self) -> Option<&Lease>

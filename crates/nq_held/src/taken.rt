@@ -7,7 +7,7 @@ ghost use Rattle.nq_model.specs.Table.{tag_below};
 
 use crate::held::Held;
 use crate::lease::Lease;
-use nq_base::{FileId, Grant, Mode, Tag, Ticks};
+use nq_base::{FileId, Grant, Tag, Ticks};
 
 /// How a grant follows on what was held. It must be looked at: it cannot be dropped.
 pub enum Take {
@@ -96,9 +96,5 @@ fn granted(file: FileId, grant: &Grant, sent: Ticks) -> Held
         blocks: grant.blocks,
         used: false,
     };
-    match grant.mode {
-        Mode::NonCaching => Held::NonCaching(lease),
-        Mode::Reading => Held::Reading(lease),
-        Mode::Writing => Held::Writing(lease),
-    }
+    Held::of_kind(grant.mode, lease)
 }

@@ -1,0 +1,151 @@
+//! The leases that a client holds, in order of files.
+
+ghost use Rattle.std.specs.Prelude.{◌≡◌, ◌≤◌, ◌<◌, ◌+◌, ◌-◌, [], map, length, slice_get, slice_set, option_map, vec_len, vec_capacity, Some, IsSome, IsOk, OnOk, OnErr, true};
+ghost use Rattle.std.specs.List.{insert, remove};
+ghost use Rattle.nq_held.specs.Leases.{lease_of, of_kind};
+ghost use Rattle.nq_model.specs.Client.{lease_on, drop_lease, put_lease, used_lease};
+ghost use Rattle.nq_client.specs.ByFile.{Ascends, IsPlace, of_file};
+ghost use Rattle.nq_client.specs.Leases.{lease_in, file_of_row};
+
+use nq_base::{FileId, Mode, NoMemory};
+use nq_held::{Held, Lease};
+use std::alloc::Global;
+use std::marker::Model;
+
+/// A lease with its kind.
+#[derive(Clone, Copy)]
+struct Row {
+    mode: Mode,
+    lease: Lease,
+}
+
+/// The leases that a client holds, one for a file. Clauses see them in order of files, and for how many more files there
+/// is room before memory is wanted.
+#[derive(Drop)]
+pub(crate) struct Leases {
+    rows: Vec<Row>,
+}
+
+impl Model for Leases {
+    ghost use Rattle.std.specs.Prelude.{◌-◌, map, vec_len, vec_capacity};
+    ghost use Rattle.nq_client.specs.ByFile.{Ascends};
+    ghost use Rattle.nq_client.specs.Leases.{LeaseList, lease_in, file_of_row};
+
+    ghost Value = { LeaseList };
+
+    ghost view = { λ l. record { items = map lease_in l.rows.items; spare = vec_capacity l.rows - vec_len l.rows } };
+
+    ghost invariant = { λ l. Ascends file_of_row l.rows.items };
+}
+
+impl Leases {
+    /// No leases. It takes no memory.
+    pub(crate) fn new(alloc: Global) -> Leases
+        ensures { result.items ≡ [] }
+    {
+        Leases {
+            rows: Vec::new(alloc),
+        }
+    }
+
+    /// What is held on a file.
+    pub(crate) fn on(&self, file: FileId) -> Held
+        ensures { lease_of result ≡ lease_on file self.now.items }
+    {
+        held(find(&self.rows, file))
+    }
+
+    /// Makes room for the leases of `files` files on which none is held.
+    pub(crate) fn reserve(&mut self, files: usize) -> Result<(), NoMemory>
+        ensures items { self.new.items ≡ self.old.items }
+        ensures room { OnOk result (files ≤ self.new.spare) }
+        ensures refused { OnErr result (self.new ≡ self.old) }
+        ensures succeeds { files ≤ self.old.spare → IsOk result }
+        ensures spare { self.old.spare ≤ self.new.spare }
+    {
+        self.rows.try_reserve(files)?;
+        Ok(())
+    }
+
+    /// Notes that the lease on a file was used, if one is held.
+    pub(crate) fn mark_used(&mut self, file: FileId)
+        ensures items { self.new.items ≡ used_lease file self.old.items }
+        ensures spare { self.new.spare ≡ self.old.spare }
+    {
+        mark(&mut self.rows, file);
+    }
+}
+
+/// A row as it is held.
+fn held(row: Option<Row>) -> Held
+    ensures { lease_of result ≡ option_map lease_in row }
+{
+    match row {
+        Some(row) => Held::of_kind(row.mode, row.lease),
+        None => Held::Nothing,
+    }
+}
+
+/// Where the row of a file stands, or would stand.
+fn place_of(rows: &[Row], file: FileId) -> usize
+    requires { Ascends file_of_row rows.now }
+    ensures { IsPlace file_of_row file rows.now result }
+{
+    rows.partition_point(|row| row.lease.file < file)
+}
+
+/// What stands at the place of a file, if that is of the file.
+fn at(rows: &[Row], place: usize, file: FileId) -> Option<Row>
+    ensures { result ≡ of_file file_of_row file (slice_get rows.now place) }
+{
+    match rows.get(place) {
+        Some(row) if row.lease.file == file => Some(*row),
+        _ => None,
+    }
+}
+
+/// The row of a file.
+fn find(rows: &[Row], file: FileId) -> Option<Row>
+    requires { Ascends file_of_row rows.now }
+    ensures { option_map lease_in result ≡ lease_on file (map lease_in rows.now) }
+{
+    at(rows, place_of(rows, file), file)
+}
+
+/// Puts a row in the place of another.
+fn replace(rows: &mut Vec<Row>, place: usize, row: Row)
+    requires { place < vec_len rows.old }
+    ensures items { rows.new.items ≡ slice_set rows.old.items place row }
+    ensures len { vec_len rows.new ≡ vec_len rows.old }
+    ensures capacity { vec_capacity rows.new ≡ vec_capacity rows.old }
+{
+    rows[place] = row;
+}
+
+/// Notes that the lease of a file was used.
+fn mark(rows: &mut Vec<Row>, file: FileId)
+    requires { Ascends file_of_row rows.old.items }
+    ensures marked { map lease_in rows.new.items ≡ used_lease file (map lease_in rows.old.items) }
+    ensures ascends { Ascends file_of_row rows.new.items }
+    ensures len { vec_len rows.new ≡ vec_len rows.old }
+    ensures capacity { vec_capacity rows.new ≡ vec_capacity rows.old }
+{
+    let place = place_of(rows, file);
+    match at(rows, place, file) {
+        Some(row) => replace(rows, place, used(row)),
+        None => {}
+    }
+}
+
+/// A row whose lease was used.
+fn used(row: Row) -> Row
+    ensures { result ≡ record row { lease = record row.lease { used = true } } }
+{
+    Row {
+        mode: row.mode,
+        lease: Lease {
+            used: true,
+            ..row.lease
+        },
+    }
+}

@@ -1,0 +1,111 @@
+//! What a client knows.
+
+ghost use Rattle.std.specs.Prelude.{◌≡◌, IfOk};
+ghost use Rattle.nq_model.specs.ClientStep.{attached_client};
+ghost use Rattle.nq_client.specs.State.{client_of};
+
+use crate::leases::Leases;
+use crate::notices::Notices;
+use nq_base::{Call, Losses, NoMemory, Number, Request, Seq, Ticks, Who};
+use nq_cache::Cache;
+use nq_dirty::Dirty;
+use nq_pending::Ticket;
+use std::alloc::Global;
+
+/// What a request is for.
+#[derive(Clone, Copy)]
+pub(crate) enum Job {
+    /// The beginning of the incarnation.
+    Attaching,
+    /// The call under way.
+    ForCall,
+    /// The renewal of a lease.
+    Renewing,
+    /// Delayed writes.
+    Pushing,
+}
+
+/// The request under way.
+pub(crate) struct Asked {
+    pub(crate) ticket: Ticket,
+    pub(crate) request: Request,
+    pub(crate) job: Job,
+}
+
+/// The call under way.
+#[derive(Drop)]
+pub(crate) struct UnderWay {
+    /// Its number, from 1 in each incarnation.
+    pub(crate) q: u64,
+    pub(crate) call: Call,
+    /// Whether its write is to go through.
+    pub(crate) through: bool,
+    /// Whether its write was delayed already.
+    pub(crate) written: bool,
+}
+
+/// What a client knows. Times are in ticks of its clock.
+pub(crate) struct State {
+    pub(crate) who: Who,
+    /// The term that it wants, in ticks.
+    pub(crate) term: u32,
+    pub(crate) time: Ticks,
+    pub(crate) attached: bool,
+    /// The number of its last call.
+    pub(crate) calls: u64,
+    pub(crate) call: Option<UnderWay>,
+    pub(crate) asked: Option<Asked>,
+    /// Until when it makes no request.
+    pub(crate) pause: Ticks,
+    /// The sequence of its next request that is decided once.
+    pub(crate) seq: Seq,
+    /// The number of its next request.
+    pub(crate) xid: u32,
+    /// The number of its next write.
+    pub(crate) number: Number,
+    pub(crate) leases: Leases,
+    pub(crate) notices: Notices,
+    /// Losses that no answer named yet, in order of files.
+    pub(crate) losses: Losses,
+    pub(crate) dirty: Dirty,
+    pub(crate) cache: Cache,
+    /// How many calls, datagrams and ticks it took in.
+    pub(crate) taken: u64,
+}
+
+impl State {
+    /// A client that is attached from the start.
+    #[tactic(auto, unfolding(nq_model::specs::ClientStep::attached_client, nq_model::specs::ClientStep::fresh_client))]
+    pub(crate) fn attached(
+        alloc: Global,
+        who: Who,
+        term: u32,
+        time: Ticks,
+    ) -> Result<State, NoMemory>
+        ensures client { IfOk result (λ s. client_of s ≡ attached_client who term time) }
+        ensures taken { IfOk result (λ s. s.taken ≡ 0) }
+    {
+        let cache = Cache::new(alloc)?;
+        let dirty = Dirty::new(alloc)?;
+        let losses = Losses::new(alloc)?;
+        Ok(State {
+            who,
+            term,
+            time,
+            attached: true,
+            calls: 0,
+            call: None,
+            asked: None,
+            pause: Ticks(0),
+            seq: Seq(1),
+            xid: 1,
+            number: Number(1),
+            leases: Leases::new(alloc),
+            notices: Notices::new(alloc),
+            losses,
+            dirty,
+            cache,
+            taken: 0,
+        })
+    }
+}
