@@ -1,3 +1,4 @@
 pub mod Capping
 pub mod Concluding
 pub mod Leaving
+pub mod Sequences

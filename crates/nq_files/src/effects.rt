@@ -1,6 +1,6 @@
 //! What a fresh request comes to, by what is kept. Nothing here reads or changes a keeper.
 
-ghost use Rattle.std.specs.Prelude.{◌≡◌, ◌<◌, ◌≤◌, ℕ};
+ghost use Rattle.std.specs.Prelude.{◌≡◌, ◌<◌, nat_lt};
 ghost use Rattle.nq_model.specs.Change.{raised_row};
 ghost use Rattle.nq_model.specs.Decided.{decided_before, change_with, no_effect, creation, block_write, length_change, removal, effect_of_create, effect_of_push, effect_of_write_in, effect_of_write, effect_of_resize, effect_of_remove};
 ghost use Rattle.nq_files.specs.Capped.{capped, capped_row};
@@ -240,9 +240,16 @@ pub(crate) fn remove(conflict: bool, row: Option<FileRow>) -> Effect
     }
 }
 
+/// Whether an incarnation is later than the one that is attached.
+pub(crate) fn is_later(who: &Who, line: &HostRow) -> bool
+    ensures { result ≡ nat_lt line.now.inc who.now.inc }
+{
+    line.inc < who.inc
+}
+
 /// What is said of a request that is not fresh, by the kept row of its host.
-pub(crate) fn said_before(who: Who, seq: Seq, line: &HostRow) -> Option<Decided>
-    ensures { result ≡ decided_before who seq line.now }
+pub(crate) fn said_before(who: &Who, seq: Seq, line: &HostRow) -> Option<Decided>
+    ensures { result ≡ decided_before who.now seq line.now }
 {
     if who.inc < line.inc {
         Some(Decided::OldIncarnation)
