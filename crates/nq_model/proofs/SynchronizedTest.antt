@@ -9,7 +9,7 @@ use Rattle.nq_base.specs.declared.Told.TheVariants.{Read, Fetch, WriteSync, Sync
 use Rattle.nq_base.specs.declared.Who.{Who}
 use Rattle.nq_model.specs.Journal.{call_of}
 use Rattle.nq_model.specs.OfTheirCall.{Reads, reads, IsOfItsCall, is_of_its_call, AreOfTheirCall, are_of_their_call}
-use Rattle.nq_model.specs.Synchronized.{IsPutKept, is_put_kept, IsDelayedBy, is_delayed_by, IsNamedLoss, is_named_loss, IsSettled, is_settled, IsSettledResize, is_settled_resize, IsKept, is_kept, IsKeptAt, is_kept_at, IsSynchronized, is_synchronized}
+use Rattle.nq_model.specs.Synchronized.{IsPutKept, is_put_kept, IsDelayedOn, is_delayed_on, IsNamedLoss, is_named_loss, IsSettled, is_settled, IsSettledResize, is_settled_resize, IsKept, is_kept, IsKeptAt, is_kept_at, IsSynchronized, is_synchronized}
 use Rattle.nq_model.specs.Reported.{loss_told}
 use Rattle.nq_model.specs.Tests.{Tells, TellsLaw}
 use Rattle.nq_model.proofs.Telling.{yes, no, tells_and, tells_3, tells_or, tells_implies, tells_same}
@@ -21,9 +21,9 @@ use Rattle.nq_model.proofs.LossTests.{tells_names}
 tells_put_kept : (answered : List Entry) (who : Who) (q : ℕ) (write : Entry) (before : List Entry) → Tells (is_put_kept answered who q write before) (IsPutKept answered who q write before)
 tells_put_kept answered who q write before = tells_3 (tells_write_by who write) (tells_open before who q) (tells_or (tells_through write) (tells_stored answered write))
 
-tells_delayed_by : (who : Who) (file : ℕ) (entry : Entry) → Tells (is_delayed_by who file entry) (IsDelayedBy who file entry)
-tells_delayed_by who file (W by f block number value false) = tells_and tells_who tells_same
-tells_delayed_by who file other = no
+tells_delayed_on : (who : Who) (file : ℕ) (entry : Entry) → Tells (is_delayed_on who file entry) (IsDelayedOn who file entry)
+tells_delayed_on who file (W by f block number value false) = tells_and tells_who tells_same
+tells_delayed_on who file other = no
 
 tells_named_loss : (whole answered : List Entry) (write entry : Entry) → Tells (is_named_loss whole answered write entry) (IsNamedLoss whole answered write entry)
 tells_named_loss whole answered write (L who file block first last) =
@@ -32,7 +32,7 @@ tells_named_loss whole answered write other = no
 
 tells_settled : (whole stores answered : List Entry) (who : Who) (file : ℕ) (write : Entry) → Tells (is_settled whole stores answered who file write) (IsSettled whole stores answered who file write)
 tells_settled whole stores answered who file write =
-    tells_implies (tells_delayed_by who file write) (tells_or (tells_stored stores write) (tells_exists (tells_named_loss whole answered write) whole))
+    tells_implies (tells_delayed_on who file write) (tells_or (tells_stored stores write) (tells_exists (tells_named_loss whole answered write) whole))
 
 tells_settled_resize : (whole answered : List Entry) (who : Who) (q file : ℕ) (entry : Entry) (before : List Entry) → Tells (is_settled_resize whole answered who q file entry before) (IsSettledResize whole answered who q file entry before)
 tells_settled_resize whole answered who q file (Z by n f from to) before = tells_3 tells_who tells_same (tells_each (tells_settled whole before answered who file) answered)

@@ -4,7 +4,7 @@ use Rattle.nq_base.specs.declared.Entry.{Entry}
 use Rattle.nq_base.specs.declared.Entry.TheVariants.{S, L, G, F, O, X}
 use Rattle.nq_base.specs.declared.Who.{Who}
 use Rattle.nq_model.specs.Profile.{skew, write_slack}
-use Rattle.nq_model.specs.Journal.{Each, each, Exists, exists, AtEachPlace, at_each_place, Loses, loses}
+use Rattle.nq_model.specs.Journal.{Each, each, Exists, exists, AtEachPlace, at_each_place, Loses, loss_covers}
 use Rattle.nq_model.specs.Table.{same_who}
 
 -- ---- times, in ticks of the server's clock
@@ -103,11 +103,11 @@ ends who file other before = false
 
 abbrev pub ends_first : (loss : Entry) (who : Who) (file : ℕ) → List Entry → Bool
 ends_first loss who file [] = false
-ends_first loss who file (entry ∷ before) = ends who file entry before || not (loses loss entry) && ends_first loss who file before
+ends_first loss who file (entry ∷ before) = ends who file entry before || not (loss_covers loss entry) && ends_first loss who file before
 
 abbrev pub is_cut_off : (after : List Entry) → Entry → (before : List Entry) → Bool
 is_cut_off after (L who file block first last) before =
-    ends_first (L who file block first last) who file before && not (exists (loses (L who file block first last)) after)
+    ends_first (L who file block first last) who file before && not (exists (loss_covers (L who file block first last)) after)
 is_cut_off after other before = true
 
 abbrev pub is_excused : (journal : List Entry) → Bool

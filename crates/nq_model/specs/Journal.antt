@@ -262,16 +262,16 @@ covers (S who file block first last now) write = is_within who file block first 
 covers (L who file block first last) write = is_within who file block first last write
 covers other write = false
 
-abbrev pub stores : Entry → (write : Entry) → Bool
-stores (S who file block first last now) write = is_within who file block first last write
-stores other write = false
+abbrev pub store_covers : Entry → (write : Entry) → Bool
+store_covers (S who file block first last now) write = is_within who file block first last write
+store_covers other write = false
 
-abbrev pub loses : Entry → (write : Entry) → Bool
-loses (L who file block first last) write = is_within who file block first last write
-loses other write = false
+abbrev pub loss_covers : Entry → (write : Entry) → Bool
+loss_covers (L who file block first last) write = is_within who file block first last write
+loss_covers other write = false
 
 abbrev pub is_stored : (entries : List Entry) (write : Entry) → Bool
-is_stored entries write = exists (λ entry. stores entry write) entries
+is_stored entries write = exists (λ entry. store_covers entry write) entries
 
 abbrev pub is_lost : (entries : List Entry) (write : Entry) → Bool
-is_lost entries write = exists (λ entry. loses entry write) entries
+is_lost entries write = exists (λ entry. loss_covers entry write) entries

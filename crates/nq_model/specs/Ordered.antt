@@ -162,17 +162,17 @@ is_write_of before who file block number value (Some q) =
 abbrev pub is_write_in_order : (before : List Entry) (who : Who) (file block number value : ℕ) → Bool
 is_write_in_order before who file block number value = is_write_of before who file block number value (open_call before who before)
 
-abbrev pub resizes : (file to : ℕ) → Option Told → Bool
-resizes file to (Some (Resize f blocks)) = (f == file) && (blocks == to)
-resizes file to (Some (Remove f)) = (f == file) && (to == 0)
-resizes file to other = false
+abbrev pub call_resizes : (file to : ℕ) → Option Told → Bool
+call_resizes file to (Some (Resize f blocks)) = (f == file) && (blocks == to)
+call_resizes file to (Some (Remove f)) = (f == file) && (to == 0)
+call_resizes file to other = false
 
 abbrev pub is_resize_by : (who : Who) (q : ℕ) → Entry → Bool
 is_resize_by who q (Z by n file from to) = same_who by who && (n == q)
 is_resize_by who q other = false
 
 abbrev pub is_resize_in_order : (before : List Entry) (who : Who) (q file to : ℕ) → Bool
-is_resize_in_order before who q file to = is_open before who q && resizes file to (call_of before who q) && not (exists (is_resize_by who q) before)
+is_resize_in_order before who q file to = is_open before who q && call_resizes file to (call_of before who q) && not (exists (is_resize_by who q) before)
 
 abbrev pub is_read_in_order : (whole before : List Entry) (who : Who) (q : ℕ) → Bool
 is_read_in_order whole before who q = is_open before who q && not (exists (is_counted_by whole who q) before)

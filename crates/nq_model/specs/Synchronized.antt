@@ -6,7 +6,7 @@ use Rattle.nq_base.specs.declared.Said.TheVariants.{Ok, OkValue, OkBy}
 use Rattle.nq_base.specs.declared.Told.{Told}
 use Rattle.nq_base.specs.declared.Told.TheVariants.{WriteSync, Sync, Resize, Remove}
 use Rattle.nq_base.specs.declared.Who.{Who}
-use Rattle.nq_model.specs.Journal.{Each, each, Exists, exists, Throughout, throughout, Somewhere, somewhere, IsOpen, is_open, call_of, is_write_on, IsWriteBy, is_write_by, IsThrough, is_through, IsStored, is_stored, Loses, loses, since_cut, last_value}
+use Rattle.nq_model.specs.Journal.{Each, each, Exists, exists, Throughout, throughout, Somewhere, somewhere, IsOpen, is_open, call_of, is_write_on, IsWriteBy, is_write_by, IsThrough, is_through, IsStored, is_stored, Loses, loss_covers, since_cut, last_value}
 use Rattle.nq_model.specs.Reported.{loss_told, Names, names}
 use Rattle.nq_model.specs.Table.{same_who}
 
@@ -19,9 +19,9 @@ IsPutKept answered who q write before = IsWriteBy who write × IsOpen before who
 -- ---- a sync, a resize, a removal
 
 -- the entry is a delayed write of an incarnation on a file
-abbrev pub IsDelayedBy : (who : Who) (file : ℕ) → Entry → Type 0
-IsDelayedBy who file (W by f block number value false) = (by ≡ who) × (f ≡ file)
-IsDelayedBy who file other = ⊥
+abbrev pub IsDelayedOn : (who : Who) (file : ℕ) → Entry → Type 0
+IsDelayedOn who file (W by f block number value false) = (by ≡ who) × (f ≡ file)
+IsDelayedOn who file other = ⊥
 
 -- the entry is an L that covers the write, and an A before the answer names it
 abbrev pub IsNamedLoss : (whole answered : List Entry) (write : Entry) → Entry → Type 0
@@ -33,7 +33,7 @@ IsNamedLoss whole answered write other = ⊥
 -- the answer names
 abbrev pub IsSettled : (whole stores answered : List Entry) (who : Who) (file : ℕ) (write : Entry) → Type 0
 IsSettled whole stores answered who file write =
-    IsDelayedBy who file write → IsStored stores write ⊎ Exists (IsNamedLoss whole answered write) whole
+    IsDelayedOn who file write → IsStored stores write ⊎ Exists (IsNamedLoss whole answered write) whole
 
 -- the entry is the Z of call q, and each delayed write of the incarnation on the file before the answer is covered by an S
 -- before the Z, or by an L that an A before the answer names
@@ -88,18 +88,18 @@ last_length (other ∷ before) file = last_length before file
 abbrev pub is_put_kept : (answered : List Entry) (who : Who) (q : ℕ) (write : Entry) (before : List Entry) → Bool
 is_put_kept answered who q write before = is_write_by who write && is_open before who q && (is_through write || is_stored answered write)
 
-abbrev pub is_delayed_by : (who : Who) (file : ℕ) → Entry → Bool
-is_delayed_by who file (W by f block number value false) = same_who by who && (f == file)
-is_delayed_by who file other = false
+abbrev pub is_delayed_on : (who : Who) (file : ℕ) → Entry → Bool
+is_delayed_on who file (W by f block number value false) = same_who by who && (f == file)
+is_delayed_on who file other = false
 
 abbrev pub is_named_loss : (whole answered : List Entry) (write : Entry) → Entry → Bool
 is_named_loss whole answered write (L who file block first last) =
-    loses (L who file block first last) write && exists (names whole who (loss_told file block first last)) answered
+    loss_covers (L who file block first last) write && exists (names whole who (loss_told file block first last)) answered
 is_named_loss whole answered write other = false
 
 abbrev pub is_settled : (whole stores answered : List Entry) (who : Who) (file : ℕ) (write : Entry) → Bool
 is_settled whole stores answered who file write =
-    not (is_delayed_by who file write) || (is_stored stores write || exists (is_named_loss whole answered write) whole)
+    not (is_delayed_on who file write) || (is_stored stores write || exists (is_named_loss whole answered write) whole)
 
 abbrev pub is_settled_resize : (whole answered : List Entry) (who : Who) (q file : ℕ) → Entry → (before : List Entry) → Bool
 is_settled_resize whole answered who q file (Z by n f from to) before =
