@@ -1,5 +1,5 @@
 -- Delayed writes are lost only by a client that was cut off beyond write slack (Macklem 1994, write slack and recovery).
-use Rattle.std.specs.Prelude.{◌≡◌, ◌≤◌, ◌+◌, ◌⊎◌, ℕ, List, [], ◌∷◌, Option, Some, None, IsSomeAnd, Bool, true, false, not, ◌&&◌, ◌||◌, ◌==◌, nat_le, if◌then◌else◌, ⊤}
+use Rattle.std.specs.Prelude.{◌≡◌, ◌≤◌, ◌+◌, ℕ, List, [], ◌∷◌, ◌++◌, Option, Some, None, IsSomeAnd, Bool, true, false, not, ◌&&◌, ◌||◌, ◌==◌, nat_le, if◌then◌else◌, ⊤}
 use Rattle.nq_base.specs.declared.Entry.{Entry}
 use Rattle.nq_base.specs.declared.Entry.TheVariants.{S, L, G, F, O, X}
 use Rattle.nq_base.specs.declared.Who.{Who}
@@ -58,10 +58,15 @@ Ends who file (F by f until heard now) before = (by ≡ who) × (f ≡ file) × 
 Ends who file (O boot until heard now) before = IsLateOpening before who file boot now
 Ends who file other before = ⊥
 
--- going back from an L, an entry that ends its client's lease on the file comes before the first write that the L covers
-abbrev pub EndsFirst : (loss : Entry) (who : Who) (file : ℕ) → List Entry → Type 0
-EndsFirst loss who file [] = ⊥
-EndsFirst loss who file (entry ∷ before) = Ends who file entry before ⊎ ¬ Loses loss entry × EndsFirst loss who file before
+-- among the entries before an L there is one that ends its client's lease on the file, and the L covers no write that is
+-- later than that one
+pub record EndsFirst (loss : Entry) (who : Who) (file : ℕ) (before : List Entry) : Type 0 where
+  pub later : List Entry
+  pub ending : Entry
+  pub earlier : List Entry
+  pub splits : before ≡ later ++ ending ∷ earlier
+  pub ends : Ends who file ending earlier
+  pub none_after : ¬ Exists (Loses loss) later
 
 -- an L is cut off: an entry that ends its client's lease on the file stands after every write that the L covers and before
 -- the L

@@ -52,13 +52,17 @@ abbrev pub IsNamedNext : (whole : List Entry) (who : Who) (loss : Loss) → Entr
 IsNamedNext whole who loss (C by q told) (next ∷ after) = IsAnswer by q next × Names whole who loss next
 IsNamedNext whole who loss call after = ⊥
 
--- going on from an L, the first C that has to report it is answered at once by an A that names it, unless an A before
--- that C names it
-abbrev pub IsReportedIn : (whole : List Entry) (who : Who) (loss : Loss) → List Entry → Type 0
-IsReportedIn whole who loss [] = ⊤
-IsReportedIn whole who loss (entry ∷ after) =
-    (MustReport whole who loss.file entry → IsNamedNext whole who loss entry after)
-    × (¬ MustReport whole who loss.file entry → ¬ Names whole who loss entry → IsReportedIn whole who loss after)
+-- in a list, the first entry that `Must` does what it must, unless an entry before it makes that `Needless`
+abbrev pub FirstThat : (Must : Entry → Type 0) (Does : Entry → (after : List Entry) → Type 0) (Needless : Entry → Type 0) → List Entry → Type 0
+FirstThat Must Does Needless [] = ⊤
+FirstThat Must Does Needless (entry ∷ after) =
+    (Must entry → Does entry after) × (¬ Must entry → ¬ Needless entry → FirstThat Must Does Needless after)
+
+-- among the entries after an L, the first C that has to report it is answered at once by an A that names it, unless an A
+-- before that C names it
+abbrev pub IsReportedIn : (whole : List Entry) (who : Who) (loss : Loss) (after : List Entry) → Type 0
+IsReportedIn whole who loss after =
+    FirstThat (MustReport whole who loss.file) (IsNamedNext whole who loss) (Names whole who loss) after
 
 -- ---- each name is of a loss
 
@@ -125,10 +129,14 @@ abbrev pub is_named_next : (whole : List Entry) (who : Who) (loss : Loss) → En
 is_named_next whole who loss (C by q told) (next ∷ after) = is_answer by q next && names whole who loss next
 is_named_next whole who loss call after = false
 
-abbrev pub is_reported_in : (whole : List Entry) (who : Who) (loss : Loss) → List Entry → Bool
-is_reported_in whole who loss [] = true
-is_reported_in whole who loss (entry ∷ after) =
-    (not (must_report whole who loss.file entry) || is_named_next whole who loss entry after) && (must_report whole who loss.file entry || (names whole who loss entry || is_reported_in whole who loss after))
+abbrev pub first_that : (must : Entry → Bool) (does : Entry → (after : List Entry) → Bool) (needless : Entry → Bool) → List Entry → Bool
+first_that must does needless [] = true
+first_that must does needless (entry ∷ after) =
+    (not (must entry) || does entry after) && (must entry || (needless entry || first_that must does needless after))
+
+abbrev pub is_reported_in : (whole : List Entry) (who : Who) (loss : Loss) (after : List Entry) → Bool
+is_reported_in whole who loss after =
+    first_that (must_report whole who loss.file) (is_named_next whole who loss) (names whole who loss) after
 
 abbrev pub is_unnamed : (whole before : List Entry) (who : Who) (call : Option Told) (span : Span) → Entry → Bool
 is_unnamed whole before who call span (L by file block first last) =

@@ -29,17 +29,20 @@ IsNamedLoss whole answered write (L who file block first last) =
     Loses (L who file block first last) write × Exists (Names whole who (loss_told file block first last)) answered
 IsNamedLoss whole answered write other = ⊥
 
--- where the entry is a delayed write of the incarnation on the file, an S of the `stores` covers it, or an L that an A before
--- the answer names
-abbrev pub IsSettled : (whole stores answered : List Entry) (who : Who) (file : ℕ) (write : Entry) → Type 0
-IsSettled whole stores answered who file write =
-    IsDelayedOn who file write → IsStored stores write ⊎ Exists (IsNamedLoss whole answered write) whole
+-- an S among the `stores` covers the write, or an L that an A before the answer names
+abbrev pub IsStoredOrTold : (whole stores answered : List Entry) (write : Entry) → Type 0
+IsStoredOrTold whole stores answered write = IsStored stores write ⊎ Exists (IsNamedLoss whole answered write) whole
+
+-- so it is with each delayed write of the incarnation on the file before the answer
+abbrev pub AreStoredOrTold : (whole stores answered : List Entry) (who : Who) (file : ℕ) → Type 0
+AreStoredOrTold whole stores answered who file =
+    Each (λ write. IsDelayedOn who file write → IsStoredOrTold whole stores answered write) answered
 
 -- the entry is the Z of call q, and each delayed write of the incarnation on the file before the answer is covered by an S
 -- before the Z, or by an L that an A before the answer names
 abbrev pub IsSettledResize : (whole answered : List Entry) (who : Who) (q file : ℕ) → Entry → (before : List Entry) → Type 0
 IsSettledResize whole answered who q file (Z by n f from to) before =
-    (by ≡ who) × (n ≡ q) × Each (IsSettled whole before answered who file) answered
+    (by ≡ who) × (n ≡ q) × AreStoredOrTold whole before answered who file
 IsSettledResize whole answered who q file other before = ⊥
 
 -- ---- the law
@@ -50,7 +53,7 @@ IsSettledResize whole answered who q file other before = ⊥
 -- named
 abbrev pub IsKept : (whole before : List Entry) (who : Who) (q : ℕ) → Option Told → Type 0
 IsKept whole before who q (Some (WriteSync file block value)) = Somewhere (IsPutKept before who q) before
-IsKept whole before who q (Some (Sync file)) = Each (IsSettled whole whole before who file) before
+IsKept whole before who q (Some (Sync file)) = AreStoredOrTold whole whole before who file
 IsKept whole before who q (Some (Resize file blocks)) = Somewhere (IsSettledResize whole before who q file) before
 IsKept whole before who q (Some (Remove file)) = Somewhere (IsSettledResize whole before who q file) before
 IsKept whole before who q other = ⊤
@@ -97,18 +100,21 @@ is_named_loss whole answered write (L who file block first last) =
     loss_covers (L who file block first last) write && exists (names whole who (loss_told file block first last)) answered
 is_named_loss whole answered write other = false
 
-abbrev pub is_settled : (whole stores answered : List Entry) (who : Who) (file : ℕ) (write : Entry) → Bool
-is_settled whole stores answered who file write =
-    not (is_delayed_on who file write) || (is_stored stores write || exists (is_named_loss whole answered write) whole)
+abbrev pub is_stored_or_told : (whole stores answered : List Entry) (write : Entry) → Bool
+is_stored_or_told whole stores answered write = is_stored stores write || exists (is_named_loss whole answered write) whole
+
+abbrev pub are_stored_or_told : (whole stores answered : List Entry) (who : Who) (file : ℕ) → Bool
+are_stored_or_told whole stores answered who file =
+    each (λ write. not (is_delayed_on who file write) || is_stored_or_told whole stores answered write) answered
 
 abbrev pub is_settled_resize : (whole answered : List Entry) (who : Who) (q file : ℕ) → Entry → (before : List Entry) → Bool
 is_settled_resize whole answered who q file (Z by n f from to) before =
-    same_who by who && (n == q) && each (is_settled whole before answered who file) answered
+    same_who by who && (n == q) && are_stored_or_told whole before answered who file
 is_settled_resize whole answered who q file other before = false
 
 abbrev pub is_kept : (whole before : List Entry) (who : Who) (q : ℕ) → Option Told → Bool
 is_kept whole before who q (Some (WriteSync file block value)) = somewhere (is_put_kept before who q) before
-is_kept whole before who q (Some (Sync file)) = each (is_settled whole whole before who file) before
+is_kept whole before who q (Some (Sync file)) = are_stored_or_told whole whole before who file
 is_kept whole before who q (Some (Resize file blocks)) = somewhere (is_settled_resize whole before who q file) before
 is_kept whole before who q (Some (Remove file)) = somewhere (is_settled_resize whole before who q file) before
 is_kept whole before who q other = true
