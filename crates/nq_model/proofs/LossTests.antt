@@ -11,9 +11,12 @@ use Rattle.nq_base.specs.declared.Told.TheVariants.{Write, WriteSync, Sync, Resi
 use Rattle.nq_base.specs.declared.Who.{Who}
 use Rattle.nq_model.specs.Profile.{skew, write_slack}
 use Rattle.nq_model.specs.Journal.{call_of}
-use Rattle.nq_model.specs.Fate.{IsFirstToCover, is_first_to_cover, IsAccountedAt, is_accounted_at, IsAccounted, is_accounted}
-use Rattle.nq_model.specs.CutOff.{Given, last_grant, IsStoreOver, is_store_over, IsLateEnd, has_passed, is_late_end, IsLongWait, is_long_wait, IsLateOpening, is_late_opening, Ends, ends, EndsFirst, ends_first, IsCutOff, is_cut_off, IsExcused, is_excused}
-use Rattle.nq_model.specs.Reported.{loss_told, IsNameOf, is_name_of, Names, names, IsReporting, is_reporting, IsBusyAnswer, is_busy_answer, MustReport, must_report, IsNamedNext, is_named_next, IsReportedIn, is_reported_in, IsUnnamed, is_unnamed, IsSameSpan, is_same_span, NameLosses, name_losses, IsReportedAt, is_reported_at, IsReported, is_reported}
+use Rattle.nq_model.specs.Fate.{IsFirstToCover, IsAccountedAt, IsAccounted}
+use Rattle.nq_model.specs.FateTest.{is_first_to_cover, is_accounted_at, is_accounted}
+use Rattle.nq_model.specs.CutOff.{Given, last_grant, IsStoreOver, IsLateEnd, IsLongWait, IsLateOpening, Ends, EndsFirst, IsCutOff, IsExcused}
+use Rattle.nq_model.specs.CutOffTest.{is_store_over, has_passed, is_late_end, is_long_wait, is_late_opening, ends, ends_first, is_cut_off, is_excused}
+use Rattle.nq_model.specs.Reported.{loss_told, IsNameOf, Names, IsReporting, IsBusyAnswer, MustReport, IsNamedNext, IsReportedIn, IsUnnamed, IsSameSpan, NameLosses, IsReportedAt, IsReported}
+use Rattle.nq_model.specs.ReportedTest.{is_name_of, names, is_reporting, is_busy_answer, must_report, is_named_next, is_reported_in, is_unnamed, is_same_span, name_losses, is_reported_at, is_reported}
 use Rattle.nq_model.specs.Tests.{Tells, TellsLaw}
 use Rattle.nq_model.proofs.Endings.{EndsIn, ends-first, ends-in}
 use Rattle.nq_model.proofs.Telling.{yes, no, tells_alike, tells_and, tells_3, tells_4, tells_or, tells_not, tells_implies, tells_same, tells_le}

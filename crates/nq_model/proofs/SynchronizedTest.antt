@@ -8,8 +8,10 @@ use Rattle.nq_base.specs.declared.Told.{Told}
 use Rattle.nq_base.specs.declared.Told.TheVariants.{Read, Fetch, WriteSync, Sync, Resize, Remove}
 use Rattle.nq_base.specs.declared.Who.{Who}
 use Rattle.nq_model.specs.Journal.{call_of}
-use Rattle.nq_model.specs.OfTheirCall.{Reads, reads, IsOfItsCall, is_of_its_call, AreOfTheirCall, are_of_their_call}
-use Rattle.nq_model.specs.Synchronized.{IsPutKept, is_put_kept, IsDelayedOn, is_delayed_on, IsNamedLoss, is_named_loss, IsStoredOrTold, is_stored_or_told, IsSettledResize, is_settled_resize, IsKept, is_kept, IsKeptAt, is_kept_at, IsSynchronized, is_synchronized}
+use Rattle.nq_model.specs.OfTheirCall.{Reads, IsOfItsCall, AreOfTheirCall}
+use Rattle.nq_model.specs.OfTheirCallTest.{reads, is_of_its_call, are_of_their_call}
+use Rattle.nq_model.specs.Synchronized.{IsPutKept, IsDelayedOn, IsNamedLoss, IsStoredOrTold, IsSettledResize, IsKept, IsKeptAt, IsSynchronized}
+use Rattle.nq_model.specs.SynchronizedTest.{is_put_kept, is_delayed_on, is_named_loss, is_stored_or_told, is_settled_resize, is_kept, is_kept_at, is_synchronized}
 use Rattle.nq_model.specs.Reported.{loss_told}
 use Rattle.nq_model.specs.Tests.{Tells, TellsLaw}
 use Rattle.nq_model.proofs.Telling.{yes, no, tells_and, tells_3, tells_or, tells_implies, tells_same}
