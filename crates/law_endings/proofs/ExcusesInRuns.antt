@@ -9,7 +9,9 @@ use Rattle.walk_endings.proofs.BoundRows.{bound-fitting}
 use Rattle.walk_endings.proofs.Cuts.{IsExcusedIn, cut-excused}
 use Rattle.walk_endings.proofs.Holdings.{IsHeldBound}
 use Rattle.walk_endings.proofs.Waiting.{IsWaiting}
+use Rattle.nq_model.proofs.Endings.{ends-first}
 use Rattle.nq_model.specs.Client.{Client}
+use Rattle.nq_model.specs.Hear.{loss_entry}
 use Rattle.nq_model.specs.LeaseInterval.{HasFitting}
 use Rattle.nq_model.specs.Server.{standing}
 use Rattle.nq_model.specs.World.{World, run}
@@ -78,5 +80,5 @@ bound-or-excused chains most head events host c file bounds within is dirty = fi
     finish (inr listed-ones) (inr pushed) = inr (λ p unsaved on. each p unsaved on)
       where
         each : (p : Push) → IsUnsaved c p → p.file ≡ file → IsExcusedLoss (run head events).journal c.who p
-        each p (listed place there) on = listed-ones p (in-get c.dirty place p there) on
-        each p (under_way e) on = pushed p e on
+        each p (listed place there) on = ends-first (loss_entry c.who p) c.who p.file (run head events).journal (listed-ones p (in-get c.dirty place p there) on)
+        each p (under_way e) on = ends-first (loss_entry c.who p) c.who p.file (run head events).journal (pushed p e on)

@@ -9,12 +9,14 @@ use Rattle.nq_base.specs.declared.Who.{Who}
 use Rattle.nq_model.proofs.Accounts.{covered_by, tells_restarts}
 use Rattle.nq_model.proofs.JournalTests.{tells_exists, tells_covers}
 use Rattle.nq_model.proofs.Telling.{not_told}
-use Rattle.nq_model.specs.Fate.{IsDelayed, Restarts, restarts}
+use Rattle.nq_model.specs.Fate.{IsDelayed, Restarts}
+use Rattle.nq_model.specs.FateTest.{restarts}
 use Rattle.nq_model.specs.Tests.{Tells}
 use Rattle.walk_fates.proofs.WritesFit.{CoversNumber, LiesWithin, in_list, under_way}
 use Rattle.nq_promises.specs.WritesAreAccounted.{AccountedInEveryRun, Encloses, UnderWayEncloses, IsUnsaved, IsDelayedBy, WaitingAreUnsavedInEveryRun, IsAtItsClient, HasFate, EachHasItsFateInEveryRun}
 use Rattle.nq_model.specs.Client.{Client}
-use Rattle.nq_model.specs.Journal.{Exists, exists, AtEachPlace, Covers, covers, IsStored, IsLost}
+use Rattle.nq_model.specs.Journal.{Exists, AtEachPlace, Covers, IsStored, IsLost}
+use Rattle.nq_model.specs.JournalTest.{exists, covers}
 use Rattle.nq_model.specs.World.{World, run}
 use Rattle.walk_run.proofs.Members.{in-exists, each-in}
 use Rattle.walk_run.proofs.Packets.{In}

@@ -9,9 +9,9 @@ use Rattle.nq_base.specs.declared.Who.{Who}
 use Rattle.nq_promises.specs.Bounds.{KeepsBounds}
 use Rattle.nq_promises.specs.Witnesses.{in_order, is_lost_write, is_loss, is_delayed_write, is_store, is_silence, is_silence_of, is_crash, is_opening, is_start, is_read, is_cut, is_growth, is_write}
 use Rattle.nq_model.specs.ClientStep.{next_incarnation}
-use Rattle.nq_model.specs.Journal.{exists}
+use Rattle.nq_model.specs.JournalTest.{exists}
 use Rattle.nq_model.specs.Message.{Message, Packet, reply}
-use Rattle.nq_model.specs.Reported.{names}
+use Rattle.nq_model.specs.ReportedTest.{names}
 use Rattle.nq_model.specs.Skew.{IsWithinSkew}
 use Rattle.nq_model.specs.World.{Head, run}
 
