@@ -5,7 +5,9 @@ ghost use Rattle.nq_rpc.specs.Lent.{lent_message};
 ghost use Rattle.nq_datagrams.specs.Incoming.{asked_as, called_as, datagram_in, read_as};
 ghost use Rattle.nq_datagrams.specs.Told.{told};
 
-use crate::numbers::{EVICTED, LAST_PROCEDURE, LONGEST_DATAGRAM, PROGRAM, RPC_VERSION, VACATED, VERSION};
+use crate::numbers::{
+    EVICTED, LAST_PROCEDURE, LONGEST_DATAGRAM, PROGRAM, RPC_VERSION, VACATED, VERSION,
+};
 use nq_base::Request;
 use nq_rpc::{LentCall, LentMessage, RpcFault, decode_in_place};
 use nq_wire::{WireFault, decode_request};
