@@ -21,7 +21,7 @@ use Rattle.walk_endings.proofs.HoldingCalls.{HearsFit}
 use Rattle.walk_endings.proofs.Holdings.{IsHeldBound}
 use Rattle.nq_model.specs.Client.{Client, attaching, Lease, Ticket, lease_on, lets_write}
 use Rattle.nq_model.specs.Decide.{verdict_reply}
-use Rattle.nq_model.specs.Hear.{inc_of, granted_lease, puts_off}
+use Rattle.nq_model.specs.Hear.{inc_of, granted_lease, is_put_off}
 use Rattle.nq_model.specs.Kept.{host_row}
 use Rattle.nq_model.specs.LeaseInterval.{claim_of, IsCovered, cover_end, grant_in, requested_file}
 use Rattle.nq_model.specs.Message.{Packet, reply, sequence_of}
@@ -77,7 +77,7 @@ module _ (s : Server) (events : List Event) (host : ℕ) (c : Client) (ps : List
         absurd (cc)
 
     module _ (h : (p : Push) → push_in ticket.request ≡ Some p → (n : ℕ) → sequence_of ticket.request ≡ Some n → (host_row s.kept c.who.host).inc ≡ c.who.inc → (host_row s.kept c.who.host).seq ≡ n → ((host_row s.kept c.who.host).verdict ≡ Verdict.Done → ⊥) → IsHeldBound s c.who c.leases p.file → ⊥) where
-      unbound : (p : Push) (status-inc : ℕ) (status : Refusal) → push_in ticket.request ≡ Some p → r ≡ Reply.Refused status-inc status → puts_off status ≡ false → IsHeldBound s c.who c.leases p.file → ⊥
+      unbound : (p : Push) (status-inc : ℕ) (status : Refusal) → push_in ticket.request ≡ Some p → r ≡ Reply.Refused status-inc status → is_put_off status ≡ false → IsHeldBound s c.who c.leases p.file → ⊥
       unbound p status-inc status pushes is off =
           let sh = push-shape ticket.request p pushes in
           let draws : sequence_of ticket.request ≡ Some sh.seq = ap sequence_of sh.is in
