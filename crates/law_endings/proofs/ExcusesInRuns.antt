@@ -12,7 +12,7 @@ use Rattle.walk_endings.proofs.Waiting.{IsWaiting}
 use Rattle.nq_model.proofs.Endings.{ends-first}
 use Rattle.nq_model.specs.Client.{Client}
 use Rattle.nq_model.specs.Hear.{loss_entry}
-use Rattle.nq_model.specs.LeaseInterval.{HasFitting}
+use Rattle.nq_model.specs.LeaseInterval.{claim_of, HasFitting}
 use Rattle.nq_model.specs.Server.{standing}
 use Rattle.nq_model.specs.World.{World, run}
 use Rattle.walk_run.proofs.Packets.{In, in-get}
@@ -24,7 +24,7 @@ losses-excused chains most head events bounds within = cut-excused (run head eve
 
 bound-at : (w : World) (c : Client) (file : ℕ) → IsHeldBound w.server c.who c.leases file → IsBoundAt w c file
 bound-at w c file b =
-    let f : HasFitting c.who file Writing b.lease.tag 0 (standing w.server) = bound-fitting w.server w.server.phase c.who file b.lease.tag b.bound in
+    let f : HasFitting (claim_of c.who file Writing b.lease.tag 0) (standing w.server) = bound-fitting w.server w.server.phase c.who file b.lease.tag b.bound in
     record { lease = b.lease; held = b.held; for_writing = b.writes; row = f.row; stands = f.stands; holder = f.fits.holder; lets_write = f.fits.kind; began = f.fits.began; goes_on = f.fits.goes_on }
 
 -- some of the delayed writes of a file are bound, or all are excused

@@ -18,13 +18,13 @@ use Rattle.nq_model.specs.World.{Head, run}
 -- ---- packets
 
 -- whether a message to a host refuses its incarnation's request as fenced, as only delayed writes are refused
-abbrev pub refuses : (who : Who) → Party → Message → Bool
-refuses who (Party.Client host) (reply xid (Refused inc Fenced)) = (host == who.host) && (inc == who.inc)
-refuses who party other = false
+abbrev pub refuses_fenced : (who : Who) → Party → Message → Bool
+refuses_fenced who (Party.Client host) (reply xid (Refused inc Fenced)) = (host == who.host) && (inc == who.inc)
+refuses_fenced who party other = false
 
 -- whether a packet refuses delayed writes of an incarnation
 abbrev pub is_refusal : (who : Who) → Packet → Bool
-is_refusal who p = refuses who p.to p.message
+is_refusal who p = refuses_fenced who p.to p.message
 
 -- ---- runs
 

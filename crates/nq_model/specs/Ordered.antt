@@ -7,7 +7,6 @@ use Rattle.nq_base.specs.declared.Told.{Told}
 use Rattle.nq_base.specs.declared.Told.TheVariants.{Write, WriteSync, Resize, Remove}
 use Rattle.nq_base.specs.declared.Who.{Who}
 use Rattle.nq_model.specs.Journal.{Each, Exists, Throughout, AtEachPlace, IsCall, IsAnswer, IsOpen, call_of, IsCounted}
-use Rattle.nq_model.specs.JournalTest.{is_open}
 use Rattle.nq_model.specs.Legal.{IsCountedBy}
 
 -- ---- calls
