@@ -1,6 +1,5 @@
 -- What the code makes of a datagram, as the protocol's definitions see it.
-use Rattle.std.specs.Prelude.{ℕ, Option, Some, None}
-use Rattle.nq_base.specs.declared.Request.{Request}
+use Rattle.std.specs.Prelude.{Option, Some, None}
 use Rattle.nq_model.specs.Message.{Message, call, reply, Datagram, too_long, no_message, no_call, other_rpc, other_program, other_version, unknown_procedure, garbage_vacated, garbage, request}
 use Rattle.nq_rpc.specs.Fault.{fault_number}
 use Rattle.nq_datagrams.specs.declared.to_client.Heard.{Heard}

@@ -14,3 +14,6 @@ pub use laws::{client_reads_messages, server_reads_messages};
 pub use numbers::{LONGEST_DATAGRAM, PROGRAM, RPC_VERSION, VERSION};
 pub use to_client::{Awaited, Heard, read_heard};
 pub use to_server::{Incoming, read_incoming};
+
+#[cfg(test)]
+mod tests;
