@@ -331,3 +331,13 @@ module _ {A B : Type 0} (file_of : B → ℕ) (view : A → B) where
   pub of_file-none : (file : ℕ) (o : Option A) → of_file key file o ≡ None → ¬ IsSomeAnd o (λ k. key k ≡ file)
   of_file-none file None h = λ some. some
   of_file-none file (Some k) h = λ same. none-same file (key k == file) k (same-file (key k) file same) h
+
+  -- what was found at a place of a list
+  pub there_at : (file : ℕ) (ks : List A) (place : ℕ) (x : A) → of_file key file (slice_get ks place) ≡ Some x → IsSomeAnd (slice_get ks place) (λ k. key k ≡ file) × (place < length ks)
+  there_at file ks place x h =
+      let some = of_file-some file (slice_get ks place) x h in
+      (subst (λ o. IsSomeAnd o (λ k. key k ≡ file)) (sym some.0) some.1, (drop-got place ks x some.0).1)
+
+  -- what was not found at a place of a list
+  pub absent_at : (file : ℕ) (ks : List A) (place : ℕ) → of_file key file (slice_get ks place) ≡ None → ¬ IsSomeAnd (slice_get ks place) (λ k. key k ≡ file)
+  absent_at file ks place h = of_file-none file (slice_get ks place) h

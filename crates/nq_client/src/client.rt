@@ -88,4 +88,10 @@ impl Client {
     {
         &self.state.dirty
     }
+
+    /// Ends the client: what it has under way and what waits is forgotten, and so are its delayed writes.
+    pub fn stop(self) {
+        let Client { state } = self;
+        state.stop();
+    }
 }

@@ -67,6 +67,31 @@ impl Leases {
         Ok(())
     }
 
+    /// Puts a lease in the place of another of its file, or where none is held.
+    ///
+    /// # Errors
+    ///
+    /// Only want of memory, and then nothing changed. A file on which a lease is held wants none, nor does another where
+    /// room is reserved.
+    pub(crate) fn put(&mut self, mode: Mode, lease: Lease) -> Result<(), NoMemory>
+        ensures put { OnOk result (self.new.items ≡ put_lease (of_kind mode lease) self.old.items) }
+        ensures refused { OnErr result (self.new ≡ self.old) }
+        ensures there { IsSome (lease_on lease.file self.old.items) → IsOk result }
+        ensures kept { IsSome (lease_on lease.file self.old.items) → self.new.spare ≡ self.old.spare }
+        ensures succeeds { 1 ≤ self.old.spare → IsOk result }
+        ensures spare { self.old.spare ≤ self.new.spare + 1 }
+    {
+        put(&mut self.rows, &Row { mode, lease })
+    }
+
+    /// Takes the lease on a file out, if one is held.
+    pub(crate) fn remove(&mut self, file: FileId)
+        ensures items { self.new.items ≡ drop_lease file self.old.items }
+        ensures spare { self.old.spare ≤ self.new.spare }
+    {
+        take(&mut self.rows, file);
+    }
+
     /// Notes that the lease on a file was used, if one is held.
     pub(crate) fn mark_used(&mut self, file: FileId)
         ensures items { self.new.items ≡ used_lease file self.old.items }
@@ -147,5 +172,68 @@ fn used(row: Row) -> Row
             used: true,
             ..row.lease
         },
+    }
+}
+
+/// Puts a row that is not there at a place, without memory.
+fn insert(rows: &mut Vec<Row>, place: usize, row: Row)
+    requires within { place ≤ vec_len rows.old }
+    requires room { vec_len rows.old < vec_capacity rows.old }
+    ensures items { rows.new.items ≡ insert rows.old.items place row }
+    ensures len { vec_len rows.new ≡ vec_len rows.old + 1 }
+    ensures capacity { vec_capacity rows.old ≤ vec_capacity rows.new }
+{
+    rows.insert(place, row).unwrap();
+}
+
+/// Puts a row at the place of its file.
+fn put(rows: &mut Vec<Row>, row: &Row) -> Result<(), NoMemory>
+    requires { Ascends file_of_row rows.old.items }
+    ensures put { OnOk result (map lease_in rows.new.items ≡ put_lease (lease_in row.now) (map lease_in rows.old.items)) }
+    ensures ascends { Ascends file_of_row rows.new.items }
+    ensures refused { OnErr result ((rows.new.items ≡ rows.old.items) × (vec_len rows.new ≡ vec_len rows.old) × (vec_capacity rows.new ≡ vec_capacity rows.old)) }
+    ensures there { IsSome (lease_on row.now.lease.file (map lease_in rows.old.items)) → IsOk result }
+    ensures kept { IsSome (lease_on row.now.lease.file (map lease_in rows.old.items)) → (vec_len rows.new ≡ vec_len rows.old) × (vec_capacity rows.new ≡ vec_capacity rows.old) }
+    ensures room { vec_len rows.old < vec_capacity rows.old → IsOk result }
+    ensures len { vec_len rows.new ≤ vec_len rows.old + 1 }
+    ensures capacity { vec_capacity rows.old ≤ vec_capacity rows.new }
+{
+    let file = row.lease.file;
+    let place = place_of(rows, file);
+    match at(rows, place, file) {
+        Some(_) => {
+            replace(rows, place, *row);
+            Ok(())
+        }
+        None => {
+            rows.try_reserve(1)?;
+            insert(rows, place, *row);
+            Ok(())
+        }
+    }
+}
+
+/// Takes the row at a place out.
+fn take_at(rows: &mut Vec<Row>, place: usize)
+    requires { place < vec_len rows.old }
+    ensures items { rows.new.items ≡ remove rows.old.items place }
+    ensures len { vec_len rows.new ≤ vec_len rows.old }
+    ensures capacity { vec_capacity rows.new ≡ vec_capacity rows.old }
+{
+    rows.remove(place);
+}
+
+/// Takes the row of a file out.
+fn take(rows: &mut Vec<Row>, file: FileId)
+    requires { Ascends file_of_row rows.old.items }
+    ensures taken { map lease_in rows.new.items ≡ drop_lease file (map lease_in rows.old.items) }
+    ensures ascends { Ascends file_of_row rows.new.items }
+    ensures len { vec_len rows.new ≤ vec_len rows.old }
+    ensures capacity { vec_capacity rows.new ≡ vec_capacity rows.old }
+{
+    let place = place_of(rows, file);
+    match at(rows, place, file) {
+        Some(_) => take_at(rows, place),
+        None => {}
     }
 }

@@ -108,4 +108,41 @@ impl State {
             taken: 0,
         })
     }
+
+    /// Ends the client: what it has under way and what waits is forgotten.
+    pub(crate) fn stop(self) {
+        let State {
+            who: _,
+            term: _,
+            time: _,
+            attached: _,
+            calls: _,
+            call: _call,
+            asked,
+            pause: _,
+            seq: _,
+            xid: _,
+            number: _,
+            leases: _leases,
+            notices,
+            losses: _losses,
+            dirty: _dirty,
+            cache: _cache,
+            taken: _,
+        } = self;
+        cancel(asked);
+        notices.forgotten();
+    }
+}
+
+/// Gives the request under way up.
+fn cancel(asked: Option<Asked>) {
+    match asked {
+        Some(Asked {
+            ticket,
+            request: _request,
+            job: _,
+        }) => ticket.cancelled(),
+        None => {}
+    }
 }
