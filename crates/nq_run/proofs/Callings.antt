@@ -1,12 +1,17 @@
 -- What the calls of a client and the replies to it bring.
-use Rattle.std.proofs.Common.{◌≡◌, ℕ, add-zero, ◌≢◌, ◌+◌, Bool, true, false, not, cond, is_some, filter, ◌==◌, List, [], ◌∷◌, map, Option, Some, None, refl, ap}
+use Rattle.std.proofs.Common.{◌≡◌, ℕ, add-zero, ◌≢◌, ◌+◌, Bool, true, false, not, cond, if◌then◌else◌, is_some, filter, ◌==◌, nat_lt, nat_le, length, length-take, suc, List, [], ◌∷◌, map, Option, Some, None, refl, ap, ◌∙◌, arith}
+use Rattle.std.specs.Prelude.{take_while, insert}
+use Rattle.std.specs.List.{prefix_len}
+use Rattle.std.proofs.lemmas.List.Sums.{prefix_len-le-length}
+use Rattle.std.proofs.lemmas.Bool.Decides.{nat_tests}
 use Rattle.std.proofs.lemmas.Bool.{eq-eqb, ne_eqb}
 use Rattle.std.proofs.lemmas.List.Elements.{All-nil, All-cons}
 use Rattle.nq_journal.specs.Text.{Has}
 use Rattle.nq_base.specs.declared.Entry.{Entry}
 use Rattle.nq_base.specs.declared.Said.{Said}
 use Rattle.nq_base.proofs.Filling.{filled-value}
-use Rattle.nq_model.specs.Client.{Revision as Known, put_revision}
+use Rattle.nq_model.specs.ByFile.{insert_by}
+use Rattle.nq_model.specs.Client.{Revision as Known, file_of_revision, put_revision}
 use Rattle.nq_model.specs.Hear.{spends, pauses, marks_through, purges, knows_revision}
 use Rattle.nq_model.specs.Settle.{answers}
 use Rattle.nq_model.specs.ClientStep.{begins_call, is_called, says_busy, told}
@@ -77,10 +82,40 @@ others : (file : ℕ) (known : List Revision) → map known_of (filter (λ r. no
 others file [] = refl
 others file (r ∷ known) = with_first (not (r.file == file)) r _ _ (others file known)
 
--- a revision that is put in front, after those of its file were dropped
+-- whether a known revision is of a file that is not later
+abbrev pub no_later : (file : ℕ) → Revision → Bool
+no_later file r = nat_le r.file file
+
+-- a revision that is put behind those of files that are not later stands in order of files
+placed : (new : Revision) (known : List Revision)
+    → map known_of (insert known (prefix_len (no_later new.file) known) new) ≡ insert_by file_of_revision (known_of new) (map known_of known)
+placed new [] = refl
+placed new (r ∷ known) = step (nat_le r.file new.file) refl (placed new known)
+  where
+    step : (b : Bool) → nat_le r.file new.file ≡ b
+        → map known_of (insert known (prefix_len (no_later new.file) known) new) ≡ insert_by file_of_revision (known_of new) (map known_of known)
+        → map known_of (insert (r ∷ known) (cond b (1 + prefix_len (no_later new.file) known) 0) new) ≡ (if nat_lt new.file r.file then known_of new ∷ known_of r ∷ map known_of known else known_of r ∷ insert_by file_of_revision (known_of new) (map known_of known))
+    step true e rest =
+        let no : nat_lt new.file r.file ≡ false = grind (arith, nat_tests) in
+        let one : 1 + prefix_len (no_later new.file) known ≡ suc (prefix_len (no_later new.file) known) = omega arith in
+        rw (no, one) (ap (λ later. known_of r ∷ later) rest)
+    step false e rest =
+        let yes : nat_lt new.file r.file ≡ true = grind (arith, nat_tests) in
+        rw yes refl
+
+prefix-length : (file : ℕ) (known : List Revision) → length (take_while (no_later file) known) ≡ prefix_len (no_later file) known
+prefix-length file known = omega (arith, length-take (prefix_len (no_later file) known) known, prefix_len-le-length (no_later file) known)
+
+-- a revision that is put in its place, after those of its file were dropped
 pub learnt : (file rev : ℕ) (known : List Revision)
-    → map known_of (record { file = file; rev = rev } ∷ filter (λ r. not (r.file == file)) known) ≡ put_revision file rev (map known_of known)
-learnt file rev known = ap (λ rest. record { file = file; rev = rev } ∷ rest) (others file known)
+    → let kept = filter (λ r. not (r.file == file)) known in
+    map known_of (insert kept (length (take_while (λ r. nat_le r.file file) kept)) (record { file = file; rev = rev })) ≡ put_revision file rev (map known_of known)
+learnt file rev known =
+    let kept : List Revision = filter (λ r. not (r.file == file)) known in
+    let new : Revision = record { file = file; rev = rev } in
+    ap (λ n. map known_of (insert kept n new)) (prefix-length file kept)
+    ∙ placed new kept
+    ∙ ap (insert_by file_of_revision (record { file = file; rev = rev })) (others file known)
 
 -- a reply that no request awaits is ignored
 pub hear-idle : (host term calls requests writes : ℕ) (revisions : List Revision) (k xid : ℕ) (r : Reply)

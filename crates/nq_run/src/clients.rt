@@ -1,6 +1,6 @@
 //! The client of a run in which blocks are put and fetched: it holds no lease, and its clock never ticks.
 
-ghost use Rattle.std.specs.Prelude.{◌≡◌, ◌≤◌, ◌==◌, not, filter, map, vec_len, vec_capacity, IfOk, OnOk, OnErr};
+ghost use Rattle.std.specs.Prelude.{◌≡◌, ◌≤◌, ◌==◌, not, filter, map, nat_le, take_while, length, vec_len, vec_capacity, IfOk, OnOk, OnErr};
 ghost use Rattle.nq_model.specs.Client.{put_revision};
 ghost use Rattle.nq_model.specs.ClientStep.{attached_client};
 ghost use Rattle.nq_model.specs.World.{first_clients};
@@ -169,7 +169,7 @@ fn answer(host: Host, q: u32, said: Said) -> Entry
     }
 }
 
-/// Puts the revision of a file in front, in place of the one that was known of it.
+/// Puts the revision of a file in its place, for the one that was known of it.
 fn learn(revisions: &mut Vec<Revision>, file: FileId, rev: Rev) -> Result<(), NoMemory>
     ensures ok { OnOk result (map known_of revisions.new.items ≡ put_revision file rev (map known_of revisions.old.items)) }
     ensures err { OnErr result (revisions.new.items ≡ revisions.old.items) }
@@ -178,8 +178,20 @@ fn learn(revisions: &mut Vec<Revision>, file: FileId, rev: Rev) -> Result<(), No
         return Err(NoMemory::Memory);
     }
     drop_of(revisions, file);
-    revisions.insert(0, Revision { file, rev }).unwrap();
+    let place = place_of(revisions, file);
+    revisions.insert(place, Revision { file, rev }).unwrap();
     Ok(())
+}
+
+/// How many revisions stand before that of a file: those of files that are not later.
+fn place_of(revisions: &[Revision], file: FileId) -> usize
+    ensures place { result ≡ length (take_while (λ r. nat_le r.file file) revisions.now) }
+    ensures within { result ≤ length revisions.now }
+{
+    revisions
+        .iter()
+        .take_while(|known| known.file <= file)
+        .count()
 }
 
 /// Drops the revision of a file.
