@@ -2,8 +2,10 @@
 //! has passed since then and since its last write was heard (Macklem 1994).
 #![tactic(auto)]
 
+mod ending;
 mod ends;
 
+pub use ending::{Fence, end_writing};
 pub use ends::{due, end_reading};
 
 #[cfg(test)]
