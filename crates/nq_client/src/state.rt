@@ -138,11 +138,13 @@ impl State {
 /// Gives the request under way up.
 fn cancel(asked: Option<Asked>) {
     match asked {
-        Some(Asked {
-            ticket,
-            request: _request,
-            job: _,
-        }) => ticket.cancelled(),
+        Some(
+            Asked {
+                ticket,
+                request: _request,
+                job: _,
+            },
+        ) => ticket.cancelled(),
         None => {}
     }
 }
