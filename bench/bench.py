@@ -113,7 +113,7 @@ def codecs(program):
 
 
 # Rounds of the test of skew: each ticks 64 hosts' clocks, and with "all" the server's too.
-SKEW_ROUNDS = 100_000
+SKEW_ROUNDS = 1_000_000
 
 
 # What is done with a lease table of 2,048 rows, and how often.
@@ -135,6 +135,17 @@ CACHES = [
     ("a cached read, one of 512 blocks", "1-of-512"),
 ]
 
+# Delayed writes: of blocks that are in the list, in turn or one of them again and again, or of new ones until so many are there.
+DELAYS = [
+    ("a delayed write, 1 block", "again-1"),
+    ("a delayed write, 32 blocks in turn", "again-32"),
+    ("a delayed write, 512 blocks in turn", "again-512"),
+    ("a delayed write, one of 512 blocks", "again-1-of-512"),
+    ("a new block, up to 1", "new-1"),
+    ("a new block, up to 32", "new-32"),
+    ("a new block, up to 512", "new-512"),
+]
+
 
 def parts(program):
     """Prints how fast the parts of server and client are."""
@@ -151,6 +162,9 @@ def parts(program):
         ("any clock ticks, 64 hosts in turn", rounds["all"] / 65),
         *reads,
     ):
+        print(f"{name:36} {each * 1e9:8,.1f} ns {1 / each:14,.0f} per second")
+    for name, way in DELAYS:
+        each = (often(program, ["delays", way], CACHE_READS)[0] - often(program, ["delays", way], 0)[0]) / CACHE_READS
         print(f"{name:36} {each * 1e9:8,.1f} ns {1 / each:14,.0f} per second")
     for name, way, times in LEASES:
         each = (often(program, ["leases", way], times)[0] - often(program, ["leases", way], 0)[0]) / times

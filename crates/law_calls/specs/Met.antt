@@ -4,8 +4,8 @@ use Rattle.nq_base.specs.declared.Entry.{Entry}
 use Rattle.nq_base.specs.declared.Entry.TheVariants.{W, R, Z}
 use Rattle.nq_base.specs.declared.Event.{Event}
 use Rattle.nq_promises.specs.Bounds.{KeepsBounds}
-use Rattle.nq_model.specs.Fate.{is_delayed}
-use Rattle.nq_model.specs.Journal.{exists, is_counted}
+use Rattle.nq_model.specs.FateTest.{is_delayed}
+use Rattle.nq_model.specs.JournalTest.{exists, is_counted}
 use Rattle.nq_model.specs.Skew.{IsWithinSkew}
 use Rattle.nq_model.specs.World.{Head, run}
 

@@ -9,8 +9,10 @@ use Rattle.walk_endings.proofs.BoundRows.{bound-fitting}
 use Rattle.walk_endings.proofs.Cuts.{IsExcusedIn, cut-excused}
 use Rattle.walk_endings.proofs.Holdings.{IsHeldBound}
 use Rattle.walk_endings.proofs.Waiting.{IsWaiting}
+use Rattle.nq_model.proofs.Endings.{ends-first}
 use Rattle.nq_model.specs.Client.{Client}
-use Rattle.nq_model.specs.LeaseInterval.{HasFitting}
+use Rattle.nq_model.specs.Hear.{loss_entry}
+use Rattle.nq_model.specs.LeaseInterval.{claim_of, HasFitting}
 use Rattle.nq_model.specs.Server.{standing}
 use Rattle.nq_model.specs.World.{World, run}
 use Rattle.walk_run.proofs.Packets.{In, in-get}
@@ -22,7 +24,7 @@ losses-excused chains most head events bounds within = cut-excused (run head eve
 
 bound-at : (w : World) (c : Client) (file : ℕ) → IsHeldBound w.server c.who c.leases file → IsBoundAt w c file
 bound-at w c file b =
-    let f : HasFitting c.who file Writing b.lease.tag 0 (standing w.server) = bound-fitting w.server w.server.phase c.who file b.lease.tag b.bound in
+    let f : HasFitting (claim_of c.who file Writing b.lease.tag 0) (standing w.server) = bound-fitting w.server w.server.phase c.who file b.lease.tag b.bound in
     record { lease = b.lease; held = b.held; for_writing = b.writes; row = f.row; stands = f.stands; holder = f.fits.holder; lets_write = f.fits.kind; began = f.fits.began; goes_on = f.fits.goes_on }
 
 -- some of the delayed writes of a file are bound, or all are excused
@@ -78,5 +80,5 @@ bound-or-excused chains most head events host c file bounds within is dirty = fi
     finish (inr listed-ones) (inr pushed) = inr (λ p unsaved on. each p unsaved on)
       where
         each : (p : Push) → IsUnsaved c p → p.file ≡ file → IsExcusedLoss (run head events).journal c.who p
-        each p (listed place there) on = listed-ones p (in-get c.dirty place p there) on
-        each p (under_way e) on = pushed p e on
+        each p (listed place there) on = ends-first (loss_entry c.who p) c.who p.file (run head events).journal (listed-ones p (in-get c.dirty place p there) on)
+        each p (under_way e) on = ends-first (loss_entry c.who p) c.who p.file (run head events).journal (pushed p e on)

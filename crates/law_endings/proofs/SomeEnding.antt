@@ -5,7 +5,7 @@ use Rattle.std.specs.Prelude.{All}
 use Rattle.nq_base.specs.declared.Event.{Event}
 use Rattle.nq_promises.specs.EndingsComeLate.{was_caching}
 use Rattle.law_endings.proofs.SomeLost.{delayed, rounds}
-use Rattle.law_endings.specs.EndingsMet.{is_silent_end, is_opening, EndsSometime}
+use Rattle.law_endings.specs.EndingsMet.{is_silent_end, ends_recovery, EndsSometime}
 use Rattle.walk_run.proofs.NoCrash.{one-first, no-crash-within, no-crash-after}
 use Rattle.nq_promises.specs.Bounds.{BootsWithin}
 use Rattle.nq_model.proofs.SkewTest.{skew-test-is-sound}
@@ -39,7 +39,7 @@ silent-ends : list_any is_silent_end (run one-host silent).journal ≡ true
 unfolding delayed rounds silent server.at_time grant_of sharing_row caching_row shared_again renewed_row put_off free put_off_by_own granted no_lease begins_call is_called says_busy at_time sends_again fresh_client attached_client starts decides creates writes_through stores wrote stores_recovering resizes removes puts_off commits vacates_lease loses without_lease granted_lease holds caches_block purges knows_revision marks_through ends_push spends attached pauses cancels notes_notice new_file written_file resized_file fenced_file with_row with_files with_new_file sends_request after_seq after_number takes_push gives_up quiet drops says after_notices keeping keeping_with with_table attaches tells_later serves leases vacates ends_writing opens boot crash answers after_read reads_cached after_write marks_written empty_table with_rows after_draw after_server after_client start
 silent-ends = refl
 
-recovery-ends : list_any is_opening (run one-host opening).journal ≡ true
+recovery-ends : list_any ends_recovery (run one-host opening).journal ≡ true
 unfolding delayed rounds opening server.at_time grant_of sharing_row caching_row shared_again renewed_row put_off free put_off_by_own granted no_lease begins_call is_called says_busy at_time sends_again fresh_client attached_client starts decides creates writes_through stores wrote stores_recovering resizes removes puts_off commits vacates_lease loses without_lease granted_lease holds caches_block purges knows_revision marks_through ends_push spends attached pauses cancels notes_notice new_file written_file resized_file fenced_file with_row with_files with_new_file sends_request after_seq after_number takes_push gives_up quiet drops says after_notices keeping keeping_with with_table attaches tells_later serves leases vacates ends_writing opens boot crash answers after_read reads_cached after_write marks_written empty_table with_rows after_draw after_server after_client start
 recovery-ends = refl
 

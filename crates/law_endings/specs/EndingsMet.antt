@@ -15,10 +15,10 @@ abbrev pub is_silent_end : Entry → Bool
 is_silent_end (F who file until heard now) = true
 is_silent_end other = false
 
--- whether an entry is the end of a recovery
-abbrev pub is_opening : Entry → Bool
-is_opening (O boot until heard now) = true
-is_opening other = false
+-- whether an entry ends a recovery
+abbrev pub ends_recovery : Entry → Bool
+ends_recovery (O boot until heard now) = true
+ends_recovery other = false
 
 -- the premises are met, and not in vain: after some schedule within skew a writing lease ended in silence, and after another
 -- one a recovery ended, and the last grant to an incarnation on a file let it cache and was of the boot that served last before
@@ -34,5 +34,5 @@ pub record EndsSometime : Type 0 where
   pub ends : list_any is_silent_end (run head silent).journal ≡ true
   pub bounds_opening : KeepsBounds most head opening
   pub within_opening : IsWithinSkew head.hosts most opening
-  pub opens : list_any is_opening (run head opening).journal ≡ true
+  pub opens : list_any ends_recovery (run head opening).journal ≡ true
   pub cached : was_caching 1 (run head opening).journal who file ≡ true

@@ -9,10 +9,10 @@ use Rattle.nq_model.specs.Client.{Client, is_clean}
 use Rattle.nq_model.specs.Skew.{IsWithinSkew}
 use Rattle.nq_model.specs.World.{Head, run}
 
--- whether an entry is a loss
-abbrev pub is_loss : Entry → Bool
-is_loss (L who file block first last) = true
-is_loss other = false
+-- whether an entry tells a loss
+abbrev pub tells_loss : Entry → Bool
+tells_loss (L who file block first last) = true
+tells_loss other = false
 
 -- the premises are met, and not in vain: after some schedule within skew a file is not clean at a client, and after further
 -- events there is a loss
@@ -30,4 +30,4 @@ pub record IsLostSometime : Type 0 where
   pub unsaved : is_clean client file ≡ false
   pub bounds_later : KeepsBounds most head (later ++ events)
   pub within_later : IsWithinSkew head.hosts most (later ++ events)
-  pub lost : list_any is_loss (run head (later ++ events)).journal ≡ true
+  pub lost : list_any tells_loss (run head (later ++ events)).journal ≡ true

@@ -9,12 +9,14 @@ use Rattle.nq_base.specs.declared.Who.{Who}
 use Rattle.nq_model.proofs.Accounts.{covered_by, tells_restarts}
 use Rattle.nq_model.proofs.JournalTests.{tells_exists, tells_covers}
 use Rattle.nq_model.proofs.Telling.{not_told}
-use Rattle.nq_model.specs.Fate.{IsDelayed, Restarts, restarts}
+use Rattle.nq_model.specs.Fate.{IsDelayed, Restarts}
+use Rattle.nq_model.specs.FateTest.{restarts}
 use Rattle.nq_model.specs.Tests.{Tells}
 use Rattle.walk_fates.proofs.WritesFit.{CoversNumber, LiesWithin, in_list, under_way}
-use Rattle.nq_promises.specs.WritesAreAccounted.{AccountedInEveryRun, Encloses, UnderWayEncloses, IsUnsaved, IsDelayedBy, WaitingAreUnsavedInEveryRun, IsAtItsClient, HasFate, EachHasItsFateInEveryRun}
+use Rattle.nq_promises.specs.WritesAreAccounted.{AccountedInEveryRun, Encloses, UnderWayEncloses, StillHas, IsDelayedBy, WaitingAreUnsavedInEveryRun, IsAtItsClient, HasFate, EachHasItsFateInEveryRun}
 use Rattle.nq_model.specs.Client.{Client}
-use Rattle.nq_model.specs.Journal.{Exists, exists, AtEachPlace, Covers, covers, IsStored, IsLost}
+use Rattle.nq_model.specs.Journal.{Exists, AtEachPlace, Covers, IsStored, IsLost}
+use Rattle.nq_model.specs.JournalTest.{exists, covers}
 use Rattle.nq_model.specs.World.{World, run}
 use Rattle.walk_run.proofs.Members.{in-exists, each-in}
 use Rattle.walk_run.proofs.Packets.{In}
@@ -25,17 +27,17 @@ accounted most head events b within = accounts (run head events).journal (writes
 -- ---- writes that wait
 
 module _ (host : ℕ) (c : Client) (w : World) (h : WritesAt host c w) where
-  lies : (file block n value : ℕ) → LiesWithin c.dirty c.push file block n → IsUnsaved c (W c.who file block n value false)
+  lies : (file block n value : ℕ) → LiesWithin c.dirty c.push file block n → StillHas c (W c.who file block n value false)
   lies file block n value (in_list p i f b above below) = inl (in-exists (λ q. Encloses q (W c.who file block n value false)) c.dirty p i (f, b, above, below))
   lies file block n value (under_way p is f b above below) = inr (subst (λ o. UnderWayEncloses o (W c.who file block n value false)) (sym is) (f, b, above, below))
 
-  waits : (file block n value : ℕ) → (Exists (λ e. Covers e (W c.who file block n value false)) w.journal → ⊥) → CoversNumber w.journal c.who file block n ⊎ LiesWithin c.dirty c.push file block n → IsUnsaved c (W c.who file block n value false)
+  waits : (file block n value : ℕ) → (Exists (λ e. Covers e (W c.who file block n value false)) w.journal → ⊥) → CoversNumber w.journal c.who file block n ⊎ LiesWithin c.dirty c.push file block n → StillHas c (W c.who file block n value false)
   waits file block n value uncovered (inl covered) = absurd (uncovered (covers-write w.journal c.who file block n 0 value covered))
   waits file block n value uncovered (inr l) = lies file block n value l
 
-  unsaved : (write : Entry) → In w.journal write → IsDelayedBy c.who write → (Exists (λ e. Covers e write) w.journal → ⊥) → IsUnsaved c write
+  unsaved : (write : Entry) → In w.journal write → IsDelayedBy c.who write → (Exists (λ e. Covers e write) w.journal → ⊥) → StillHas c write
   unsaved (W by file block n value false) i same uncovered =
-      subst (λ v. (Exists (λ e. Covers e (W v file block n value false)) w.journal → ⊥) → IsUnsaved c (W v file block n value false)) (sym same)
+      subst (λ v. (Exists (λ e. Covers e (W v file block n value false)) w.journal → ⊥) → StillHas c (W v file block n value false)) (sym same)
       (λ none. waits file block n value none (h.list.unsaved file block n value (subst (λ v. In w.journal (W v file block n value false)) same i)))
       uncovered
   unsaved other i by uncovered = absurd by

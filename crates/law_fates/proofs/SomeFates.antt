@@ -18,7 +18,8 @@ use Rattle.nq_model.specs.Client.{Client}
 use Rattle.nq_model.specs.ClientStep.{begins_call, is_called, says_busy, at_time, sends_again, fresh_client, attached_client, starts}
 use Rattle.nq_model.specs.Decide.{decides, creates, writes_through, stores, wrote, stores_recovering, resizes, removes, puts_off, commits}
 use Rattle.nq_model.specs.Hear.{vacates_lease, loses, without_lease, granted_lease, holds, caches_block, purges, knows_revision, marks_through, ends_push, spends, attached, pauses, cancels, notes_notice}
-use Rattle.nq_model.specs.Journal.{Exists, exists, Covers, covers, IsStored, IsLost}
+use Rattle.nq_model.specs.Journal.{Exists, Covers, IsStored, IsLost}
+use Rattle.nq_model.specs.JournalTest.{exists, covers}
 use Rattle.nq_model.specs.Fate.{IsDelayed, IsEnded, IsWaiting}
 use Rattle.nq_model.proofs.JournalTests.{tells_exists, tells_covers, tells_stored, tells_lost}
 use Rattle.nq_model.proofs.Telling.{not_told}

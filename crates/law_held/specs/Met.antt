@@ -5,7 +5,7 @@ use Rattle.nq_base.specs.declared.Event.{Event}
 use Rattle.nq_base.specs.declared.Who.{Who}
 use Rattle.nq_promises.specs.Bounds.{KeepsBounds}
 use Rattle.nq_promises.specs.Witnesses.{is_store}
-use Rattle.nq_model.specs.Journal.{exists}
+use Rattle.nq_model.specs.JournalTest.{exists}
 use Rattle.nq_model.specs.Kept.{File, find_file}
 use Rattle.nq_model.specs.Skew.{IsWithinSkew}
 use Rattle.nq_model.specs.Synchronized.{held_value, last_length}

@@ -40,7 +40,7 @@ use Rattle.walk_legal.proofs.Stores.{lost-covered, stored-value}
 use Rattle.nq_model.specs.Client.{Client, Clean, Job, for_call, Lease, Ticket, lease_on, revision_of, revision_or_zero, is_push_at, dirty_at, clean_at, lets_read}
 use Rattle.nq_model.specs.Journal.{IsStored, IsLost}
 use Rattle.nq_model.specs.Kept.{host_row}
-use Rattle.nq_model.specs.LeaseInterval.{IsCovered, cover_end}
+use Rattle.nq_model.specs.LeaseInterval.{claim_of, IsCovered, cover_end}
 use Rattle.nq_model.specs.Message.{sequence_of}
 use Rattle.nq_model.specs.Server.{Phase, serving, recovering, Server, standing, standing_in}
 use Rattle.nq_model.specs.Settle.{cached_body, held_body, pushed_body, clean_body}
@@ -57,7 +57,7 @@ use Rattle.nq_promises.specs.Undisturbed.{IsUndisturbed}
 
 -- ---- the row of a lease that runs
 
-covered-chained : (s : Server) (phase : Phase) (who : Who) (file : ℕ) (mode : Mode) (tag : Tag) (until : ℕ) → IsCovered s phase who file mode tag until → (row : Row) × IsChained (standing_in phase s.table) who file tag row
+covered-chained : (s : Server) (phase : Phase) (who : Who) (file : ℕ) (mode : Mode) (tag : Tag) (until : ℕ) → IsCovered s phase (claim_of who file mode tag until) → (row : Row) × IsChained (standing_in phase s.table) who file tag row
 covered-chained s serving who file mode tag until k = (k.row, record { own = record { stands = k.stands; holder = k.fits.holder }; began = k.fits.began })
 covered-chained s (recovering end heard last) who file mode tag until k = let f = k.fitting in (f.row, record { own = record { stands = f.stands; holder = f.fits.holder }; began = f.fits.began })
 

@@ -11,7 +11,7 @@ use Rattle.nq_base.specs.declared.Request.{Request}
 use Rattle.nq_base.specs.declared.Tag.{Tag}
 use Rattle.nq_model.specs.Client.{Client, ClientStep, lease_on, notice_on, dirty_at, is_clean, revision_of, is_revision_before, Job, attaching, for_call, renewing, pushing, Notice, Ticket, UnderWay, begun}
 use Rattle.nq_model.specs.ClientStep.{client_call, client_tick, restart, begins_call, is_called, says_busy, sends_again, at_time, starts}
-use Rattle.nq_model.specs.Hear.{hear, waits_for, breaks, grant_caches, holds_caching, puts_off, answer_of, answers_call, vacates_lease, vacates_noticed, loses, reports_to, without_lease, push_refused, breaks_chain, if_broken, holds, takes_grant, takes_optional, answers_call_of, caches_block, purges, knows_revision, then_caches, read_done, marks_through, lease_done, caches_write, write_done, ends_push, caches_push, vacates_if_clean, push_done, spends, attached, pauses, done_for_call, done_renewal, done_push, done, refused_push, refused, replied, cancels, notes_notice, evicted, goes_on}
+use Rattle.nq_model.specs.Hear.{hear, waits_for, breaks, grant_caches, holds_caching, is_put_off, answer_of, answers_call, vacates_lease, vacates_noticed, loses, reports_to, without_lease, push_refused, breaks_chain, if_broken, holds, takes_grant, takes_optional, answers_call_of, caches_block, purges, knows_revision, then_caches, read_done, marks_through, lease_done, caches_write, write_done, ends_push, caches_push, vacates_if_clean, push_done, spends, attached, pauses, done_for_call, done_renewal, done_push, done, refused_push, refused, replied, cancels, notes_notice, evicted, goes_on}
 use Rattle.nq_model.specs.Message.{Message}
 use Rattle.nq_model.specs.Send.{sends_request, after_seq, after_number, takes_push, gives_up, send_next}
 use Rattle.nq_model.specs.Settle.{answers, names_losses, after_write, reads_cached, marks_written, settle}
@@ -194,8 +194,8 @@ refusal-one : (t : ClientStep) (status : Refusal) (ticket : Ticket) (job : Job) 
 unfolding pauses marks_through
 refusal-one t status ticket attaching = same-adds 1 t t refl
 refusal-one t status ticket for_call =
-    choice (Adds 1 t) (puts_off status) (pauses t) (answers_call t (answer_of status) None) (λ e. same-adds 1 t (pauses t) refl) (λ e. same-adds 1 t (answers_call t (answer_of status) None) (answered t (answer_of status) None t.client.call))
-refusal-one t status ticket renewing = choice (Adds 1 t) (puts_off status) (pauses t) t (λ e. same-adds 1 t (pauses t) refl) (λ e. same-adds 1 t t refl)
+    choice (Adds 1 t) (is_put_off status) (pauses t) (answers_call t (answer_of status) None) (λ e. same-adds 1 t (pauses t) refl) (λ e. same-adds 1 t (answers_call t (answer_of status) None) (answered t (answer_of status) None t.client.call))
+refusal-one t status ticket renewing = choice (Adds 1 t) (is_put_off status) (pauses t) t (λ e. same-adds 1 t (pauses t) refl) (λ e. same-adds 1 t t refl)
 refusal-one t status ticket pushing = refused-push-one t ticket.request
 
 replied-one : (t : ClientStep) (number : ℕ) (ticket : Ticket) (r : Reply) → Adds 1 t (replied t number ticket r)

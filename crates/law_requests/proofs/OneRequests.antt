@@ -15,7 +15,7 @@ use Rattle.walk_run.proofs.Packets.{Asked, in-get}
 use Rattle.law_requests.proofs.SentTimes.{sent-in-order}
 use Rattle.law_requests.proofs.WorldSequences.{Draws, run-draws}
 use Rattle.walk_run.proofs.Worlds.{Holds, run-holds}
-use Rattle.nq_promises.specs.OneRequestPerSequence.{Asks, AsksOnce, OneRequestPerSequence, IsUnderWay, IsOpen, OpensOne, OneOpenInEveryRun, IsAnswer, WasSentBefore, RepliesComeAfter}
+use Rattle.nq_promises.specs.OneRequestPerSequence.{Asks, AsksOnce, OneRequestPerSequence, IsUnderWay, IsOpenRequest, OpensOne, OneOpenInEveryRun, AnswersRequest, WasSentBefore, RepliesComeAfter}
 use Rattle.nq_model.specs.Client.{Client, Ticket}
 use Rattle.nq_model.specs.Hear.{inc_of}
 use Rattle.nq_model.specs.Kept.{host_row}
@@ -55,7 +55,7 @@ one-in-every-run head events = asks-once (run head events) (run-holds head event
 
 -- ---- one open sequence
 
-under-way : (w : World) (events : List Event) → Holds w → Known w events → (host place xid : ℕ) (c : Client) (r : Request) (n : ℕ) → slice_get w.clients host ≡ Some c → IsOpen w host place xid r c.who n → IsUnderWay c xid r
+under-way : (w : World) (events : List Event) → Holds w → Known w events → (host place xid : ℕ) (c : Client) (r : Request) (n : ℕ) → slice_get w.clients host ≡ Some c → IsOpenRequest w host place xid r c.who n → IsUnderWay c xid r
 under-way w events held known host place xid c r n is o = case ((known.clients host c is).lined.settled o.kept xid r c.who n asked o.asks.by refl o.asks.sequence)
   where
     asked : Asked w.packets c.who.host xid r
@@ -65,7 +65,7 @@ under-way w events held known host place xid c r n is o = case ((known.clients h
     case (inl below) = let above = o.above in absurd (omega arith)
     case (inr u) = record { ticket = u.0; has = u.1; number = u.2; request = ((held.clients host c is).mail.asked xid r c.who asked o.asks.by).same refl u.0 u.1 u.2 }
 
-open-at : (w : World) (host place xid : ℕ) (r : Request) (who : Who) (n : ℕ) → IsOpen w host place xid r who n → IsOpenAt (host_row w.server.kept host) w.packets host xid r
+open-at : (w : World) (host place xid : ℕ) (r : Request) (who : Who) (n : ℕ) → IsOpenRequest w host place xid r who n → IsOpenAt (host_row w.server.kept host) w.packets host xid r
 open-at w host place xid r who n o = record {
   who = who;
   seq = n;
@@ -76,7 +76,7 @@ open-at w host place xid r who n o = record {
   above = o.above;
 }
 
-one-open : (w : World) → Draws w → Opens w → (host i j x y : ℕ) (r s : Request) (who other : Who) (m n : ℕ) (o : Option Client) → slice_get w.clients host ≡ o → IsOpen w host i x r who m → IsOpen w host j y s other n → (x ≡ y) × (r ≡ s)
+one-open : (w : World) → Draws w → Opens w → (host i j x y : ℕ) (r s : Request) (who other : Who) (m n : ℕ) (o : Option Client) → slice_get w.clients host ≡ o → IsOpenRequest w host i x r who m → IsOpenRequest w host j y s other n → (x ≡ y) × (r ≡ s)
 one-open w d h host i j x y r s who other m n None is a b = absurd (d.lone host x r (asked-of w i host x r who m a.asks) is)
 one-open w d h host i j x y r s who other m n (Some c) is a b = h.one host c is x y r s (open-at w host i x r who m a) (open-at w host j y s other n b)
 
@@ -99,7 +99,7 @@ one-open-in-every-run most head events b within = opens-one (run head events) ev
 
 -- ---- replies come after
 
-sent-before : (head : Head) (events : List Event) (place host : ℕ) (c : Client) (t : Ticket) (a : Reply) → slice_get (run head events).clients host ≡ Some c → c.ticket ≡ Some t → inc_of a ≡ c.who.inc → IsAnswer (run head events).packets place host t.xid a → WasSentBefore head events place host t
+sent-before : (head : Head) (events : List Event) (place host : ℕ) (c : Client) (t : Ticket) (a : Reply) → slice_get (run head events).clients host ≡ Some c → c.ticket ≡ Some t → inc_of a ≡ c.who.inc → AnswersRequest (run head events).packets place host t.xid a → WasSentBefore head events place host t
 sent-before head events place host c t a is has inc k =
     let w : World = run head events in
     let at = (run-holds head events).clients host c is in

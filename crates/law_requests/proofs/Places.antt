@@ -5,7 +5,7 @@ use Rattle.nq_base.specs.declared.Reply.{Reply}
 use Rattle.walk_client.proofs.ClientMoves.{none-some}
 use Rattle.walk_run.proofs.Packets.{In, in-get}
 use Rattle.walk_run.proofs.ServerSays.{IsReplyTo}
-use Rattle.nq_promises.specs.OneRequestPerSequence.{IsAnswer}
+use Rattle.nq_promises.specs.OneRequestPerSequence.{AnswersRequest}
 use Rattle.nq_model.specs.Message.{Packet, call, reply}
 use Rattle.nq_model.specs.Server.{to_host}
 use Rattle.nq_model.specs.World.{from_host}
@@ -33,13 +33,13 @@ get-append (y ∷ xs) ys (suc k) x h = step (get-append xs ys k x h)
 
 -- each reply stands after a request that it answers
 abbrev pub Answers : List Packet → Type 0
-Answers ps = (place host xid : ℕ) (a : Reply) → slice_get ps place ≡ Some (to_host host (reply xid a)) → IsAnswer ps place host xid a
+Answers ps = (place host xid : ℕ) (a : Reply) → slice_get ps place ≡ Some (to_host host (reply xid a)) → AnswersRequest ps place host xid a
 
 -- after more packets, of which each reply answers a request before them
 pub answers-more : (ps more : List Packet) → ((host xid : ℕ) (a : Reply) → In more (to_host host (reply xid a)) → IsReplyTo ps host xid a) → Answers ps → Answers (ps ++ more)
 answers-more ps more new h place host xid a at = step (get-append ps more place (to_host host (reply xid a)) at)
   where
-    step : (slice_get ps place ≡ Some (to_host host (reply xid a))) ⊎ ((length ps ≤ place) × In more (to_host host (reply xid a))) → IsAnswer (ps ++ more) place host xid a
+    step : (slice_get ps place ≡ Some (to_host host (reply xid a))) ⊎ ((length ps ≤ place) × In more (to_host host (reply xid a))) → AnswersRequest (ps ++ more) place host xid a
     step (inl old) = let k = h place host xid a old in record {
       earlier = k.earlier;
       before = k.before;

@@ -7,7 +7,7 @@ use Rattle.nq_base.specs.declared.Event.{Event}
 use Rattle.nq_base.specs.declared.Reply.{Reply}
 use Rattle.nq_base.specs.declared.Request.{Request}
 use Rattle.walk_run.proofs.NoCrash.{no-crash-within}
-use Rattle.nq_promises.specs.OneRequestPerSequence.{IsOpen}
+use Rattle.nq_promises.specs.OneRequestPerSequence.{IsOpenRequest}
 use Rattle.law_requests.specs.Met.{IsAskedTwice}
 use Rattle.nq_model.proofs.SkewTest.{skew-test-is-sound}
 use Rattle.nq_model.specs.Client.{Client, Job, Ticket}
@@ -44,16 +44,16 @@ runs : slice_get (run two-hosts one-create).clients 0 ≡ Some creator
 unfolding filled zeros begins_call is_called at_time sends_again fresh_client attached_client starts new_file sends_request after_seq after_number boot answers empty_table after_server after_client start
 runs = refl
 
-first-open : IsOpen (run two-hosts one-create) 0 0 1 create creator.who 1
+first-open : IsOpenRequest (run two-hosts one-create) 0 0 1 create creator.who 1
 unfolding filled zeros begins_call is_called at_time sends_again fresh_client attached_client starts new_file sends_request after_seq after_number boot answers empty_table after_server after_client start
 first-open = record { kept = refl; asks = record { sent = refl; by = refl; sequence = refl }; above = omega arith }
 
-again-open : IsOpen (run two-hosts one-create) 0 1 1 create creator.who 1
+again-open : IsOpenRequest (run two-hosts one-create) 0 1 1 create creator.who 1
 unfolding filled zeros begins_call is_called at_time sends_again fresh_client attached_client starts new_file sends_request after_seq after_number boot answers empty_table after_server after_client start
 again-open = record { kept = refl; asks = record { sent = refl; by = refl; sequence = refl }; above = omega arith }
 
 -- the client restarts: its request stays open
-outlives : IsOpen (run two-hosts (Event.Restart 0 ∷ one-create)) 0 0 1 create creator.who 1
+outlives : IsOpenRequest (run two-hosts (Event.Restart 0 ∷ one-create)) 0 0 1 create creator.who 1
 unfolding filled zeros begins_call is_called at_time sends_again fresh_client attached_client starts new_file sends_request after_seq after_number boot answers empty_table after_server after_client start
 outlives = record { kept = refl; asks = record { sent = refl; by = refl; sequence = refl }; above = omega arith }
 

@@ -10,7 +10,7 @@ use Rattle.nq_model.specs.Message.{reply}
 use Rattle.nq_model.specs.Server.{to_host}
 use Rattle.nq_model.specs.Skew.{IsWithinSkew}
 use Rattle.nq_model.specs.World.{Head, run}
-use Rattle.nq_promises.specs.OneRequestPerSequence.{IsOpen}
+use Rattle.nq_promises.specs.OneRequestPerSequence.{IsOpenRequest}
 
 -- the premises are met, and not in vain: after some schedule within skew a request is open of which two packets were sent;
 -- after a restart of its client it is open still; and once the first packet came to the server instead, there is a reply
@@ -29,11 +29,11 @@ pub record IsAskedTwice : Type 0 where
   pub bounds : KeepsBounds most head events
   pub within : IsWithinSkew head.hosts most events
   pub runs : slice_get (run head events).clients host ≡ Some client
-  pub first : IsOpen (run head events) host 0 ticket.xid request client.who seq
-  pub again : IsOpen (run head events) host 1 ticket.xid request client.who seq
+  pub first : IsOpenRequest (run head events) host 0 ticket.xid request client.who seq
+  pub again : IsOpenRequest (run head events) host 1 ticket.xid request client.who seq
   pub bounds_restarted : KeepsBounds most head (Event.Restart host ∷ events)
   pub within_restarted : IsWithinSkew head.hosts most (Event.Restart host ∷ events)
-  pub outlives : IsOpen (run head (Event.Restart host ∷ events)) host 0 ticket.xid request client.who seq
+  pub outlives : IsOpenRequest (run head (Event.Restart host ∷ events)) host 0 ticket.xid request client.who seq
   pub stays : slice_get (run head (Event.Deliver 0 ∷ events)).clients host ≡ Some client
   pub has : client.ticket ≡ Some ticket
   pub told : slice_get (run head (Event.Deliver 0 ∷ events)).packets place ≡ Some (to_host host (reply ticket.xid answer))

@@ -12,7 +12,7 @@ use Rattle.walk_calls.proofs.Placed.{call-later, call-told}
 use Rattle.nq_model.proofs.Lists.{exists-map, each-map, exists-right}
 use Rattle.nq_model.specs.Journal.{Exists, Throughout, Somewhere, SpeaksOf, call_of, IsStored}
 use Rattle.nq_model.specs.Reported.{Names, loss_told}
-use Rattle.nq_model.specs.Synchronized.{IsNamedLoss, IsSettled, IsSettledResize, IsKept, IsKeptAt, IsSynchronized}
+use Rattle.nq_model.specs.Synchronized.{IsDelayedOn, IsNamedLoss, IsStoredOrTold, IsSettledResize, IsKept, IsKeptAt, IsSynchronized}
 
 -- ---- lists
 
@@ -41,7 +41,7 @@ pub named-answered : (journal answered more : List Entry) (write e : Entry) → 
 named-answered journal answered more write (L who file block first last) h = (h.0, exists-right (Names journal who (loss_told file block first last)) more answered h.1)
 named-answered journal answered more write other h = absurd h
 
-pub settled-later : (later journal stores more answered : List Entry) (who : Who) (file : ℕ) (write : Entry) → IsSettled journal stores answered who file write → IsSettled (later ++ journal) (more ++ stores) answered who file write
+pub settled-later : (later journal stores more answered : List Entry) (who : Who) (file : ℕ) (write : Entry) → (IsDelayedOn who file write → IsStoredOrTold journal stores answered write) → (IsDelayedOn who file write → IsStoredOrTold (later ++ journal) (more ++ stores) answered write)
 settled-later later journal stores more answered who file write h d = case (h d)
   where
     case : IsStored stores write ⊎ Exists (IsNamedLoss journal answered write) journal → IsStored (more ++ stores) write ⊎ Exists (IsNamedLoss (later ++ journal) answered write) (later ++ journal)
@@ -49,7 +49,7 @@ settled-later later journal stores more answered who file write h d = case (h d)
     case (inr named) = inr (exists-right _ later journal (exists-map _ _ journal (λ e n. named-later later journal answered write e n) named))
 
 -- and where more was answered
-pub settled-answered : (journal stores answered more : List Entry) (who : Who) (file : ℕ) (write : Entry) → IsSettled journal stores answered who file write → IsSettled journal stores (more ++ answered) who file write
+pub settled-answered : (journal stores answered more : List Entry) (who : Who) (file : ℕ) (write : Entry) → (IsDelayedOn who file write → IsStoredOrTold journal stores answered write) → (IsDelayedOn who file write → IsStoredOrTold journal stores (more ++ answered) write)
 settled-answered journal stores answered more who file write h d = case (h d)
   where
     case : IsStored stores write ⊎ Exists (IsNamedLoss journal answered write) journal → IsStored stores write ⊎ Exists (IsNamedLoss journal (more ++ answered) write) journal

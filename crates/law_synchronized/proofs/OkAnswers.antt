@@ -15,7 +15,7 @@ use Rattle.nq_model.specs.Client.{UnderWay, is_push_of, push_passes, losses_of, 
 use Rattle.nq_model.specs.ClientStep.{told}
 use Rattle.nq_model.specs.Journal.{Each, Exists, Somewhere, Stores, IsStored}
 use Rattle.nq_model.specs.Reported.{Names, loss_told}
-use Rattle.nq_model.specs.Synchronized.{IsNamedLoss, IsSettled, IsPutKept, IsKept}
+use Rattle.nq_model.specs.Synchronized.{IsDelayedOn, IsNamedLoss, IsStoredOrTold, AreStoredOrTold, IsPutKept, IsKept}
 use Rattle.nq_promises.specs.LossesAreReported.{IsLossOf, IsOneOf}
 use Rattle.walk_run.proofs.Members.{each-in, in-exists}
 use Rattle.walk_run.proofs.Packets.{In}
@@ -92,7 +92,7 @@ pub record Known (whole base stores answered : List Entry) (who : Who) (file : �
   pub named : (loss : Loss) → Exists (IsLossOf who loss) base → IsOneOf losses loss ⊎ Exists (Names whole who loss) answered
   pub none : losses_of file losses ≡ []
 
-settles : (whole base stores answered : List Entry) (who : Who) (file : ℕ) (losses : List Loss) → Known whole base stores answered who file losses → (write : Entry) → In answered write → IsSettled whole stores answered who file write
+settles : (whole base stores answered : List Entry) (who : Who) (file : ℕ) (losses : List Loss) → Known whole base stores answered who file losses → (write : Entry) → In answered write → (IsDelayedOn who file write → IsStoredOrTold whole stores answered write)
 settles whole base stores answered who file losses k (W by f block n value false) i d = case (k.covered block n value own)
   where
     own : In answered (W who file block n value false)
@@ -108,8 +108,8 @@ settles whole base stores answered who file losses k (W by f block n value false
 settles whole base stores answered who file losses k other i d = absurd d
 
 -- each delayed write of the file is settled
-pub all-settled : (whole base stores answered : List Entry) (who : Who) (file : ℕ) (losses : List Loss) → Known whole base stores answered who file losses → Each (IsSettled whole stores answered who file) answered
-all-settled whole base stores answered who file losses k = each-in (IsSettled whole stores answered who file) answered (λ write i. settles whole base stores answered who file losses k write i)
+pub all-settled : (whole base stores answered : List Entry) (who : Who) (file : ℕ) (losses : List Loss) → Known whole base stores answered who file losses → AreStoredOrTold whole stores answered who file
+all-settled whole base stores answered who file losses k = each-in (λ write. IsDelayedOn who file write → IsStoredOrTold whole stores answered write) answered (λ write i. settles whole base stores answered who file losses k write i)
 
 -- ---- a sync
 

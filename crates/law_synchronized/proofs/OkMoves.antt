@@ -16,7 +16,7 @@ use Rattle.nq_model.specs.ClientStep.{told}
 use Rattle.nq_model.specs.Hear.{loss_entry, push_of}
 use Rattle.nq_model.specs.Journal.{Exists, Somewhere, IsAnswer}
 use Rattle.nq_model.specs.Settle.{overwritten, overwritten_at, with_write}
-use Rattle.nq_model.specs.Synchronized.{IsSettledResize, IsDelayedBy}
+use Rattle.nq_model.specs.Synchronized.{IsSettledResize, IsDelayedOn}
 use Rattle.law_reports.proofs.Books.{unsaved_on}
 use Rattle.walk_run.proofs.Members.{in-filtered, in-filter, in-map, find-in, in-reverse}
 use Rattle.walk_run.proofs.Packets.{In, in-append, in-last}
@@ -67,7 +67,7 @@ put-more who q file block e journal none h = record {
   case first last (inr i) a b = h.unlost first last i a b
 
 -- whether an entry is a delayed write of an incarnation on a file
-no-delayed : (who : Who) (file : ℕ) (e : Entry) → ((block n value : ℕ) → e ≡ W who file block n value false → ⊥) → IsDelayedBy who file e → ⊥
+no-delayed : (who : Who) (file : ℕ) (e : Entry) → ((block n value : ℕ) → e ≡ W who file block n value false → ⊥) → IsDelayedOn who file e → ⊥
 no-delayed who file (W by f block n value false) none d = none block n value (subst (λ w. W by f block n value false ≡ W w file block n value false) d.0 (ap (λ g. W by g block n value false) d.1))
 no-delayed who file other none d = d
 

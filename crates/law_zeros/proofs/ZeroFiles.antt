@@ -8,7 +8,8 @@ use Rattle.nq_base.specs.declared.Entry.TheVariants.{Z}
 use Rattle.nq_base.specs.declared.Who.{Who}
 use Rattle.nq_promises.specs.UntouchedAreZeros.{touches, AreZeros}
 use Rattle.nq_model.proofs.Finding.{same-number, number-other, is-other}
-use Rattle.nq_model.specs.Journal.{Each, exists, cuts, since_cut}
+use Rattle.nq_model.specs.Journal.{Each, cuts, since_cut}
+use Rattle.nq_model.specs.JournalTest.{exists}
 use Rattle.nq_model.specs.Kept.{File, find_file, replace_file, drop_file, new_file, written_file, resized, resized_file, fenced_file}
 use Rattle.walk_client.proofs.ClientMoves.{some-same, none-some}
 use Rattle.walk_run.proofs.Worlds.{get-set-other}

@@ -1,11 +1,13 @@
 //! The program `nq_bench`: does one thing many times, to be timed from outside, and prints a number that stands on
 //! all that came out. Its words are what, which way and how often: `lookup`, `lookup-reply` or `read-reply` with
 //! `encode` or `decode`, `journal` with `print` or `parse`, `skew` with `all` or `clients`, `cache` with 1, 32, 512 or
-//! 1-of-512, which says how many of its blocks are read, or `leases` with `row`, `put`, `drop`, `ask`, `clash` or `tick`.
+//! 1-of-512, which says how many of its blocks are read, `leases` with `row`, `put`, `drop`, `ask`, `clash` or `tick`, or
+//! `delays` with `again-` and 1, 32, 512 or 1-of-512, or with `new-` and 1, 32 or 512.
 #![tactic(auto)]
 
 mod caches;
 mod datagrams;
+mod delays;
 mod journals;
 mod leases;
 mod skews;
@@ -49,6 +51,7 @@ fn done(alloc: Global, what: &str, way: &str, times: u64) -> Option<u64> {
         ("cache", "32") => caches::read_often(alloc, 32, 32, times),
         ("cache", "512") => caches::read_often(alloc, 512, 512, times),
         ("cache", "1-of-512") => caches::read_often(alloc, 512, 1, times),
+        ("delays", way) => delays::often(alloc, way, times),
         ("leases", way) => leases::often(alloc, way, times),
         _ => None,
     }

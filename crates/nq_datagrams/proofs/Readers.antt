@@ -17,7 +17,7 @@ use Rattle.nq_wire.specs.Procedure.{number_of}
 use Rattle.nq_wire.specs.Reading.{reply_in}
 use Rattle.nq_wire.specs.Reply.{results, IsReply, Answers}
 use Rattle.nq_wire.specs.Request.{procedure_of, IsRequest, HasSpelling}
-use Rattle.nq_datagrams.specs.Incoming.{longest_datagram, asked_as, called_as, read_as, datagram_in, notice_in, call_in, answer_in, reply_to, heard_as, heard_in, hears}
+use Rattle.nq_datagrams.specs.Incoming.{longest_datagram, asked_as, called_as, read_as, datagram_in, notice_in, call_in, answer_in, awaited_of, reply_to, heard_as, heard_for, hears}
 use Rattle.nq_datagrams.specs.Laws.{IsOfTicket, ServerReadsMessages, ClientReadsMessages}
 use Rattle.nq_datagrams.specs.Messages.{call_message, error_outcome, message_of, FitsMessage, bytes_of}
 use Rattle.nq_datagrams.proofs.Incarnations.{inc-again}
@@ -62,7 +62,7 @@ server-reads-messages m fits =
 
 -- ---- a client
 
-heard-call : (c : Client) (number xid : ℕ) (r : Request) → IsRequest r → HasSpelling r → hears c number (heard_as c.ticket (Ok (call_message xid r))) ≡ hear_call c r
+heard-call : (c : Client) (number xid : ℕ) (r : Request) → IsRequest r → HasSpelling r → hears c number (heard_as (awaited_of c.ticket) (Ok (call_message xid r))) ≡ hear_call c r
 unfolding call_in
 heard-call c number xid Null fits has = refl
 heard-call c number xid (Attach who) fits has = refl
@@ -77,7 +77,7 @@ heard-call c number xid (Evicted who file tag) fits has = ap (λ read. hears c n
 heard-call c number xid (Resize who seq q file blocks) fits has = refl
 heard-call c number xid (Remove who seq q file) fits has = refl
 
-heard-error : (c : Client) (number xid : ℕ) (o : Option Ticket) (e : RpcError) → hears c number (reply_to o xid (error_outcome e)) ≡ None
+heard-error : (c : Client) (number xid : ℕ) (o : Option Ticket) (e : RpcError) → hears c number (reply_to (awaited_of o) xid (error_outcome e)) ≡ None
 unfolding reply_to
 heard-error c number xid None e = refl
 heard-error c number xid (Some t) rpc_mismatch = refl
@@ -117,17 +117,17 @@ heard-at c number xid a t false has e answers fits =
     sym (ap (λ test. if test && inc_of a == c.who.inc && reply_counts a t then Some (goes_on (replied (begun c) number t a)) else None) e)
 
 heard-reply : (c : Client) (number xid : ℕ) (a : Reply) (o : Option Ticket) → c.ticket ≡ o → IsOfTicket c (reply xid a) → IsReply a
-    → hears c number (reply_to o xid (outcome.Success (results a))) ≡ hear_reply c number xid a o
+    → hears c number (reply_to (awaited_of o) xid (outcome.Success (results a))) ≡ hear_reply c number xid a o
 unfolding reply_to
 heard-reply c number xid a None has own fits = refl
 heard-reply c number xid a (Some t) has own fits = heard-at c number xid a t (xid == t.xid) has refl (own t has) fits
 
-heard-again : (c : Client) (number : ℕ) (m : Message) → FitsMessage m → IsOfTicket c m → hears c number (heard_as c.ticket (Ok (message_of m))) ≡ hear c number m
+heard-again : (c : Client) (number : ℕ) (m : Message) → FitsMessage m → IsOfTicket c m → hears c number (heard_as (awaited_of c.ticket) (Ok (message_of m))) ≡ hear c number m
 heard-again c number (call xid r) fits own = heard-call c number xid r fits.1 fits.2
 heard-again c number (reply xid r) fits own = heard-reply c number xid r c.ticket refl own fits.1
 heard-again c number (error xid e) fits own = heard-error c number xid c.ticket e
 
 pub client-reads-messages : ClientReadsMessages
-unfolding heard_in
+unfolding heard_for
 client-reads-messages c number m fits own =
-    ap (λ read. hears c number (heard_as c.ticket read)) (message-again m fits) ∙ heard-again c number m fits own
+    ap (λ read. hears c number (heard_as (awaited_of c.ticket) read)) (message-again m fits) ∙ heard-again c number m fits own

@@ -17,6 +17,7 @@ use Rattle.nq_wire.specs.declared.WireFault.{WireFault}
 use Rattle.nq_wire.specs.Procedure.{number_of}
 use Rattle.nq_wire.specs.Reading.{request_in, reply_in}
 use Rattle.nq_wire.specs.Request.{procedure_of}
+use Rattle.nq_datagrams.specs.declared.to_client.Awaited.{Awaited}
 use Rattle.nq_datagrams.specs.Messages.{program, version, rpc_version}
 
 -- the most bytes of a datagram that the server looks at
@@ -78,22 +79,31 @@ abbrev pub answer_in : (xid : ℕ) → Result Reply WireFault → Option Message
 answer_in xid (Ok r) = Some (reply xid r)
 answer_in xid (Err e) = None
 
+-- the number and the procedure of a request under way
+abbrev pub awaited_of : Option Ticket → Option Awaited
+awaited_of None = None
+awaited_of (Some t) = Some (record { xid = t.xid; procedure = procedure_of t.request })
+
 -- a reply, which names no procedure: one to the request under way is read by the procedure of that request
-unfoldable pub reply_to : Option Ticket → (xid : ℕ) → Outcome → Option Message
-reply_to (Some t) xid (outcome.Success results) =
-    if xid == t.xid then answer_in xid (reply_in (number_of (procedure_of t.request)) results) else None
-reply_to (Some t) xid other = None
+unfoldable pub reply_to : Option Awaited → (xid : ℕ) → Outcome → Option Message
+reply_to (Some awaited) xid (outcome.Success results) =
+    if xid == awaited.xid then answer_in xid (reply_in (number_of awaited.procedure) results) else None
+reply_to (Some awaited) xid other = None
 reply_to None xid other = None
 
 -- what was read, if it is a message of RPC
-abbrev pub heard_as : Option Ticket → Result Said RpcFault → Option Message
-heard_as ticket (Err e) = None
-heard_as ticket (Ok (said.Call m)) = call_in m
-heard_as ticket (Ok (said.Reply r)) = reply_to ticket r.xid r.outcome
+abbrev pub heard_as : Option Awaited → Result Said RpcFault → Option Message
+heard_as awaited (Err e) = None
+heard_as awaited (Ok (said.Call m)) = call_in m
+heard_as awaited (Ok (said.Reply r)) = reply_to awaited r.xid r.outcome
+
+-- what a datagram is to a client that waits for this reply
+unfoldable pub heard_for : Option Awaited → List ℕ → Option Message
+heard_for awaited bytes = heard_as awaited (message_at bytes)
 
 -- what a datagram is to a client with this request under way: the message that it takes in, if any
-unfoldable pub heard_in : Option Ticket → List ℕ → Option Message
-heard_in ticket bytes = heard_as ticket (message_at bytes)
+abbrev pub heard_in : Option Ticket → List ℕ → Option Message
+heard_in ticket bytes = heard_for (awaited_of ticket) bytes
 
 -- the step of a client on what it heard
 abbrev pub hears : Client → (number : ℕ) → Option Message → Option ClientStep

@@ -1,3 +1,4 @@
 pub mod Messages
 pub mod Incoming
 pub mod Laws
+pub mod Told

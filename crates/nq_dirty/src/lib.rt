@@ -11,3 +11,6 @@ mod under_way;
 pub use clean::Clean;
 pub use dirty::Dirty;
 pub use fault::DirtyFault;
+
+#[cfg(test)]
+mod tests;

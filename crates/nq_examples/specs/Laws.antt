@@ -1,13 +1,13 @@
 -- Which laws a journal breaks.
 use Rattle.std.specs.Prelude.{List, [], ◌∷◌, ◌++◌, ◌≡◌, Bool, if◌then◌else◌, flat_map, map}
 use Rattle.nq_base.specs.declared.Entry.{Entry}
-use Rattle.nq_model.specs.CutOff.{is_excused}
-use Rattle.nq_model.specs.Fate.{is_accounted}
-use Rattle.nq_model.specs.Legal.{is_legal}
-use Rattle.nq_model.specs.OfTheirCall.{are_of_their_call}
-use Rattle.nq_model.specs.Ordered.{is_ordered}
-use Rattle.nq_model.specs.Reported.{is_reported}
-use Rattle.nq_model.specs.Synchronized.{is_synchronized}
+use Rattle.nq_model.specs.CutOffTest.{is_excused}
+use Rattle.nq_model.specs.FateTest.{is_accounted}
+use Rattle.nq_model.specs.LegalTest.{is_legal}
+use Rattle.nq_model.specs.OfTheirCallTest.{are_of_their_call}
+use Rattle.nq_model.specs.OrderedTest.{is_ordered}
+use Rattle.nq_model.specs.ReportedTest.{is_reported}
+use Rattle.nq_model.specs.SynchronizedTest.{is_synchronized}
 
 -- the laws of journals
 pub data Law : Type 0 where

@@ -1,20 +1,23 @@
 -- The change that an effect makes.
-use Rattle.std.proofs.Common.{◌≡◌, ◌⊎◌, ◌<◌, ℕ, Option, Some, None, Result, Ok, Err, sym, ap, ◌∙◌, subst, inl, inr}
+use Rattle.std.proofs.Common.{◌≡◌, ◌⊎◌, ◌<◌, ℕ, Bool, true, false, if◌then◌else◌, refl, Option, Some, None, Result, Ok, Err, sym, ap, ◌∙◌, subst, inl, inr}
 use Rattle.std.specs.Option.{ForSome}
+use Rattle.std.specs.Prelude.{nat_lt}
 use Rattle.nq_base.specs.declared.Change.{Change}
 use Rattle.nq_base.specs.declared.Decided.{Decided}
-use Rattle.nq_base.specs.declared.Decided.TheVariants.{Fresh}
+use Rattle.nq_base.specs.declared.Decided.TheVariants.{Fresh, Again, OldIncarnation}
 use Rattle.nq_base.specs.declared.Effect.{Effect}
 use Rattle.nq_base.specs.declared.Gate.{Gate}
 use Rattle.nq_base.specs.declared.HostChange.{HostChange}
+use Rattle.nq_base.specs.declared.HostRow.{HostRow}
 use Rattle.nq_base.specs.declared.Request.{Request}
+use Rattle.nq_base.specs.declared.Verdict.{Verdict}
 use Rattle.nq_base.specs.declared.Who.{Who}
 use Rattle.nq_io.specs.Faults.{Rose}
 use Rattle.nq_keeper.specs.declared.KeepFault.{KeepFault}
 use Rattle.nq_keeper.specs.declared.KeepFault.TheVariants.{Failed, Memory}
 use Rattle.nq_keeper.specs.Keeping.{StaysOrEnds, told_after}
-use Rattle.nq_model.specs.Change.{Fits, IsOrderly, IsWithinBounds, applied}
-use Rattle.nq_model.specs.Decided.{change_with, effect_of, or_fresh}
+use Rattle.nq_model.specs.Change.{Fits, IsOrderly, IsWithinBounds, applied, applied_if}
+use Rattle.nq_model.specs.Decided.{change_with, effect_of, or_fresh, attach_decided, no_effect}
 use Rattle.nq_model.specs.Kept.{Kept}
 use Rattle.nq_model.specs.Profile.{most_hosts}
 use Rattle.nq_model.proofs.FreshFits.{effect-fits}
@@ -61,3 +64,27 @@ module _ (gate : Gate) (r : Request) (who : Who) (seq : ℕ) (effect : Effect) (
       by : (found ≡ Some kept) ⊎ (found ≡ Some (applied kept (change_with who seq effect))) → (found ≡ Some kept) ⊎ (found ≡ Some (applied kept (change_with who seq (effect_of kept gate r))))
       by (inl s) = inl s
       by (inr s) = inr (s ∙ ap (λ x. Some (applied kept (change_with who seq x))) (is-effect kept e within))
+
+-- the same decision and change, told in other words
+pub gives-as : (d e : Kept → Decided) (c f : Kept → Option Change) (result : Result Decided KeepFault) (told tells : Option Kept) (before now : ℕ) → ForSome told (λ kept. d kept ≡ e kept) → ForSome told (λ kept. c kept ≡ f kept) → Gives d c result told tells before now → Gives e f result told tells before now
+gives-as d e c f (Ok given) told tells before now same alike h =
+    (λ kept t within. let own = h.0 kept t within in (own.0 ∙ same kept t, own.1 ∙ ap (λ o. Some (applied_if kept o)) (alike kept t)), h.1)
+gives-as d e c f (Err Memory) told tells before now same alike h = h
+gives-as d e c f (Err Failed) told tells before now same alike h = h
+
+-- a later incarnation attaches
+pub attaches-fresh : (who : Who) (line : HostRow) → nat_lt line.inc who.inc ≡ true → attach_decided who line ≡ Fresh Verdict.Done 0
+attaches-fresh who line later = by (nat_lt line.inc who.inc) later
+  where
+    by : (b : Bool) → b ≡ true → (if b then Fresh Verdict.Done 0 else (if nat_lt who.inc line.inc then OldIncarnation else Again line.verdict line.value)) ≡ Fresh Verdict.Done 0
+    by true e = refl
+    by false e = absurd (cc)
+
+pub none-is : (verdict : Verdict) → or_fresh None (no_effect verdict) ≡ Fresh verdict 0
+unfolding no_effect
+none-is verdict = refl
+
+-- the same change, told in other words
+pub leaves-as : (kept : Kept) (found : Option Kept) (c f : Option Change) → c ≡ f → (found ≡ Some kept) ⊎ (found ≡ Some (applied_if kept c)) → (found ≡ Some kept) ⊎ (found ≡ Some (applied_if kept f))
+leaves-as kept found c f same (inl h) = inl h
+leaves-as kept found c f same (inr h) = inr (h ∙ ap (λ o. Some (applied_if kept o)) same)

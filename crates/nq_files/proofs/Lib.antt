@@ -1,3 +1,3 @@
 pub mod Capping
 pub mod Concluding
-pub mod Leaving
+pub mod Sequences

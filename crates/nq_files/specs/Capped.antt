@@ -1,19 +1,7 @@
--- What code keeps where the definitions go on: a revision stays at the end of its type.
-use Rattle.std.specs.Prelude.{ℕ, Option, Some, None, min}
+-- What code keeps where the definitions go on: a revision, and a value, stay at the end of their type.
+use Rattle.std.specs.Prelude.{min}
 use Rattle.nq_base.specs.declared.Effect.{Effect}
-use Rattle.nq_base.specs.declared.FileRow.{FileRow}
-
--- the last revision, and the last value
-abbrev pub last_number : ℕ
-last_number = 18446744073709551615
-
--- a file's row with a revision that a revision can have
-unfoldable pub capped_row : FileRow → FileRow
-capped_row row = record row { rev = min row.rev last_number }
-
-abbrev pub capped_file : Option FileRow → Option FileRow
-capped_file None = None
-capped_file (Some row) = Some (capped_row row)
+use Rattle.nq_keeper.specs.Capped.{last_number, capped_file}
 
 -- what a request comes to, with such numbers
 unfoldable pub capped : Effect → Effect

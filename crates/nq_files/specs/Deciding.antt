@@ -1,11 +1,12 @@
 -- What a call that decides a request does. Below, `told` is what the keeper told of its content before the call, and `tells`
 -- is what it tells after it.
-use Rattle.std.specs.Prelude.{◌≡◌, ◌⊎◌, ℕ, Option, Some, None, Result, Ok, Err}
+use Rattle.std.specs.Prelude.{◌≡◌, ◌⊎◌, ◌<◌, ℕ, Option, Some, Result, Ok, Err}
 use Rattle.std.specs.Option.{ForSome}
 use Rattle.nq_base.specs.declared.Change.{Change}
 use Rattle.nq_base.specs.declared.Decided.{Decided}
 use Rattle.nq_base.specs.declared.Effect.{Effect}
 use Rattle.nq_base.specs.declared.Decided.TheVariants.{Fresh}
+use Rattle.nq_base.specs.declared.Request.{Request}
 use Rattle.nq_base.specs.declared.Who.{Who}
 use Rattle.nq_io.specs.Faults.{Rose}
 use Rattle.nq_keeper.specs.declared.KeepFault.{KeepFault}
@@ -14,6 +15,8 @@ use Rattle.nq_keeper.specs.Keeping.{StaysOrEnds, told_after}
 use Rattle.nq_model.specs.Change.{IsWithinBounds, applied_if}
 use Rattle.nq_model.specs.Decided.{change_with}
 use Rattle.nq_model.specs.Kept.{Kept}
+use Rattle.nq_model.specs.Message.{asker}
+use Rattle.nq_model.specs.Profile.{most_hosts}
 
 -- a call gives this decision and keeps this change, if there is one. After a fault nothing is kept, and the keeper may tell
 -- nothing from then on
@@ -35,3 +38,7 @@ Concludes who seq effect (Ok d) told tells before now =
     (d ≡ Fresh effect.verdict effect.value) × (tells ≡ told_after (change_with who seq effect) told) × (now ≡ before)
 Concludes who seq effect (Err Memory) told tells before now = (tells ≡ told) × (now ≡ before)
 Concludes who seq effect (Err Failed) told tells before now = StaysOrEnds told tells × Rose before now
+
+-- a request is of a host that there can be
+abbrev pub IsOfHost : Request → Type 0
+IsOfHost r = ForSome (asker r) (λ who. who.host < most_hosts)

@@ -4,11 +4,11 @@ ghost use Rattle.std.specs.Prelude.{◌≡◌, ◌<◌, ℕ, IfOk, Some, None, t
 ghost use Rattle.std.specs.Option.{ForSome};
 ghost use Rattle.nq_keeper.specs.Keeping.{Reads, LeavesOne, LeavesTwo};
 ghost use Rattle.nq_model.specs.Change.{Fits};
-ghost use Rattle.nq_model.specs.Decided.{decided, change_of, change_with, is_decided_once, sequence_decided, attach_decided, if_fresh, or_fresh, effect_of};
+ghost use Rattle.nq_model.specs.Decided.{decided, no_effect, change_of, change_with, is_decided_once, sequence_decided, attach_decided, if_fresh, or_fresh, effect_of};
 ghost use Rattle.nq_model.specs.Kept.{host_row};
 ghost use Rattle.nq_model.specs.Profile.{most_hosts};
 ghost use Rattle.nq_files.specs.Capped.{capped};
-ghost use Rattle.nq_files.specs.Deciding.{Gives, LeavesGiven, Concludes};
+ghost use Rattle.nq_files.specs.Deciding.{IsOfHost, Gives, LeavesGiven, Concludes};
 
 use crate::{asking, effects};
 use nq_base::{Decided, Effect, Gate, Request, Seq, Verdict, Who};
@@ -51,4 +51,67 @@ fn decide_fresh<K: Keeper>(
 {
     let effect = asking::effect(keeper, request, gate)?;
     conclude(keeper, who, seq, effect)
+}
+
+/// Decides a request of this sequence.
+fn decide_sequence<K: Keeper>(
+    keeper: &mut K,
+    request: &Request,
+    gate: Gate,
+    who: Who,
+    seq: Seq,
+) -> Result<Decided, KeepFault>
+    requires { who.host < most_hosts }
+    ensures gives { Gives (λ kept. sequence_decided who seq (host_row kept who.host) (effect_of kept gate request.now)) (λ kept. if_fresh (sequence_decided who seq (host_row kept who.host) (effect_of kept gate request.now)) (change_with who seq (effect_of kept gate request.now))) result (K.content keeper.old) (K.content keeper.new) (K.faults keeper.old) (K.faults keeper.new) }
+    ensures follows { K.follows keeper.old keeper.new }
+    ensures leaves { LeavesGiven (λ kept. if_fresh (sequence_decided who seq (host_row kept who.host) (effect_of kept gate request.now)) (change_with who seq (effect_of kept gate request.now))) (K.content keeper.old) (K.leaves keeper.old keeper.new) }
+{
+    let line = keeper.host(who.host)?;
+    match effects::said_before(&who, seq, &line) {
+        Some(said) => Ok(said),
+        None => decide_fresh(keeper, request, gate, who, seq),
+    }
+}
+
+/// Decides an ATTACH: a later incarnation begins the row of its host anew.
+fn attach<K: Keeper>(keeper: &mut K, who: Who) -> Result<Decided, KeepFault>
+    requires { who.host < most_hosts }
+    ensures gives { Gives (λ kept. attach_decided who (host_row kept who.host)) (λ kept. if_fresh (attach_decided who (host_row kept who.host)) (change_with who 0 (no_effect Verdict.Done))) result (K.content keeper.old) (K.content keeper.new) (K.faults keeper.old) (K.faults keeper.new) }
+    ensures follows { K.follows keeper.old keeper.new }
+    ensures leaves { LeavesGiven (λ kept. if_fresh (attach_decided who (host_row kept who.host)) (change_with who 0 (no_effect Verdict.Done))) (K.content keeper.old) (K.leaves keeper.old keeper.new) }
+{
+    let line = keeper.host(who.host)?;
+    if effects::is_later(&who, &line) {
+        conclude(keeper, who, Seq(0), effects::none(Verdict::Done))
+    } else if who.inc < line.inc {
+        Ok(Decided::OldIncarnation)
+    } else {
+        Ok(Decided::Again {
+            verdict: line.verdict,
+            value: line.value,
+        })
+    }
+}
+
+/// Decides an ATTACH, CREATE, WRITE, RESIZE or REMOVE of a host below 64. A fresh one is kept with its effect in one change;
+/// the others change nothing.
+pub fn decide<K: Keeper>(
+    keeper: &mut K,
+    request: &Request,
+    gate: Gate,
+) -> Result<Decided, KeepFault>
+    requires once { is_decided_once request.now ≡ true }
+    requires host { IsOfHost request.now }
+    ensures gives { Gives (λ kept. decided kept gate request.now) (λ kept. change_of kept gate request.now) result (K.content keeper.old) (K.content keeper.new) (K.faults keeper.old) (K.faults keeper.new) }
+    ensures follows { K.follows keeper.old keeper.new }
+    ensures leaves { LeavesGiven (λ kept. change_of kept gate request.now) (K.content keeper.old) (K.leaves keeper.old keeper.new) }
+{
+    match request {
+        Request::Attach { who } => attach(keeper, *who),
+        Request::Create { who, seq, .. } => decide_sequence(keeper, request, gate, *who, *seq),
+        Request::Write { who, seq, .. } => decide_sequence(keeper, request, gate, *who, *seq),
+        Request::Resize { who, seq, .. } => decide_sequence(keeper, request, gate, *who, *seq),
+        Request::Remove { who, seq, .. } => decide_sequence(keeper, request, gate, *who, *seq),
+        _ => Ok(Decided::NotAttached),
+    }
 }

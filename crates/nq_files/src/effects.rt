@@ -1,14 +1,15 @@
 //! What a fresh request comes to, by what is kept. Nothing here reads or changes a keeper.
 
-ghost use Rattle.std.specs.Prelude.{◌≡◌, ◌<◌, ◌≤◌, ℕ};
+ghost use Rattle.std.specs.Prelude.{◌≡◌, ◌<◌, nat_lt};
 ghost use Rattle.nq_model.specs.Change.{raised_row};
 ghost use Rattle.nq_model.specs.Decided.{decided_before, change_with, no_effect, creation, block_write, length_change, removal, effect_of_create, effect_of_push, effect_of_write_in, effect_of_write, effect_of_resize, effect_of_remove};
-ghost use Rattle.nq_files.specs.Capped.{capped, capped_row};
+ghost use Rattle.nq_files.specs.Capped.{capped};
 
 use nq_base::{
     Block, BlockChange, BlockNo, Change, Decided, Effect, FileId, FileRow, Heads, HostChange,
     HostRow, Name, PushBase, Rev, Seq, Space, Verdict, Who,
 };
+use nq_keeper::raised;
 
 /// The most files.
 const MOST_FILES: u32 = 256;
@@ -37,21 +38,8 @@ pub(crate) fn none(verdict: Verdict) -> Effect
     }
 }
 
-/// The row of a file whose revision rises, with so many blocks.
-#[tactic(auto, unfolding(nq_model::specs::Change::raised_row, crate::specs::Capped::capped_row))]
-fn raised(row: &FileRow, blocks: u32) -> FileRow
-    ensures { result ≡ capped_row (raised_row row.now blocks) }
-{
-    FileRow {
-        id: row.id,
-        name: row.name,
-        blocks,
-        rev: Rev(row.rev.0.saturating_add(1)),
-    }
-}
-
 /// A file is made.
-#[tactic(auto, unfolding(nq_model::specs::Decided::creation, crate::specs::Capped::capped, crate::specs::Capped::capped_row))]
+#[tactic(auto, unfolding(nq_model::specs::Decided::creation, crate::specs::Capped::capped, nq_keeper::specs::Capped::capped_row))]
 fn made(heads: &Heads, name: &Name, blocks: u32) -> Effect
     requires { heads.now.next < 2147483648 }
     ensures { result ≡ capped (creation heads.now name.now blocks) }
@@ -78,7 +66,7 @@ fn made(heads: &Heads, name: &Name, blocks: u32) -> Effect
 }
 
 /// A block is written.
-#[tactic(auto, unfolding(nq_model::specs::Decided::block_write, nq_model::specs::Change::raised_row, crate::specs::Capped::capped, crate::specs::Capped::capped_row))]
+#[tactic(auto, unfolding(nq_model::specs::Decided::block_write, nq_model::specs::Change::raised_row, crate::specs::Capped::capped, nq_keeper::specs::Capped::capped_row))]
 fn written(row: &FileRow, block: BlockNo, body: &Block) -> Effect
     ensures { result ≡ capped (block_write row.now block body.now) }
 {
@@ -99,7 +87,7 @@ fn written(row: &FileRow, block: BlockNo, body: &Block) -> Effect
 }
 
 /// A file gets another length.
-#[tactic(auto, unfolding(nq_model::specs::Decided::length_change, nq_model::specs::Change::raised_row, crate::specs::Capped::capped, crate::specs::Capped::capped_row))]
+#[tactic(auto, unfolding(nq_model::specs::Decided::length_change, nq_model::specs::Change::raised_row, crate::specs::Capped::capped, nq_keeper::specs::Capped::capped_row))]
 fn resized(row: &FileRow, blocks: u32) -> Effect
     ensures { result ≡ capped (length_change row.now blocks) }
 {
@@ -240,9 +228,16 @@ pub(crate) fn remove(conflict: bool, row: Option<FileRow>) -> Effect
     }
 }
 
+/// Whether an incarnation is later than the one that is attached.
+pub(crate) fn is_later(who: &Who, line: &HostRow) -> bool
+    ensures { result ≡ nat_lt line.now.inc who.now.inc }
+{
+    line.inc < who.inc
+}
+
 /// What is said of a request that is not fresh, by the kept row of its host.
-pub(crate) fn said_before(who: Who, seq: Seq, line: &HostRow) -> Option<Decided>
-    ensures { result ≡ decided_before who seq line.now }
+pub(crate) fn said_before(who: &Who, seq: Seq, line: &HostRow) -> Option<Decided>
+    ensures { result ≡ decided_before who.now seq line.now }
 {
     if who.inc < line.inc {
         Some(Decided::OldIncarnation)

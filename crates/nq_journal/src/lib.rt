@@ -13,8 +13,8 @@ mod write_entries;
 mod write_words;
 
 pub use journal::Journal;
-pub use nq_memory::NoMemory;
 pub use nq_base::{Entry, Said, Span, Spans, Told};
+pub use nq_memory::NoMemory;
 pub use parsing::{JournalFault, parse};
 pub use printing::{Printed, print};
 

@@ -1,2 +1,3 @@
+pub mod Capped
 pub mod Keeping
 pub mod StoredKeeper

@@ -1,9 +1,6 @@
 -- A keeper in memory, as contracts see it.
-use Rattle.std.specs.Prelude.{◌≡◌, ◌≤◌, ◌<◌, ◌+◌, ℕ, List, [], ◌∷◌, Option, Some, Result, Ok, Err, All, length, if◌then◌else◌}
-use Rattle.nq_base.specs.declared.Change.{Change}
-use Rattle.nq_io.specs.Calls.{CallCounts, is_next_listed, after_call, after_fault}
-use Rattle.nq_keeper.specs.declared.keeper.KeepFault.{KeepFault}
-use Rattle.nq_keeper.specs.declared.keeper.KeepFault.TheVariants.{Failed, Memory}
+use Rattle.std.specs.Prelude.{◌<◌, ℕ, List, [], ◌∷◌, All}
+use Rattle.nq_io.specs.Calls.{CallCounts}
 use Rattle.nq_model.specs.Kept.{File, Kept}
 
 -- what is kept, and the calls

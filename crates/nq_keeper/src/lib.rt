@@ -6,6 +6,8 @@
 #![tactic(auto)]
 
 mod keeper;
+mod raising;
 
 pub use keeper::{KeepFault, Keeper};
 pub use nq_base::{BlockChange, Change, FileRow, Heads, HostChange, HostRow, Space, Verdict};
+pub use raising::raised;

@@ -9,22 +9,22 @@ use Rattle.nq_base.specs.declared.Who.{Who}
 use Rattle.nq_promises.specs.Bounds.{KeepsBounds}
 use Rattle.nq_promises.specs.Witnesses.{in_order, is_lost_write, is_loss, is_delayed_write, is_store, is_silence, is_silence_of, is_crash, is_opening, is_start, is_read, is_cut, is_growth, is_write}
 use Rattle.nq_model.specs.ClientStep.{next_incarnation}
-use Rattle.nq_model.specs.Journal.{exists}
+use Rattle.nq_model.specs.JournalTest.{exists}
 use Rattle.nq_model.specs.Message.{Message, Packet, reply}
-use Rattle.nq_model.specs.Reported.{names}
+use Rattle.nq_model.specs.ReportedTest.{names}
 use Rattle.nq_model.specs.Skew.{IsWithinSkew}
 use Rattle.nq_model.specs.World.{Head, run}
 
 -- ---- packets
 
 -- whether a message to a host refuses its incarnation's request as fenced, as only delayed writes are refused
-abbrev pub refuses : (who : Who) → Party → Message → Bool
-refuses who (Party.Client host) (reply xid (Refused inc Fenced)) = (host == who.host) && (inc == who.inc)
-refuses who party other = false
+abbrev pub refuses_fenced : (who : Who) → Party → Message → Bool
+refuses_fenced who (Party.Client host) (reply xid (Refused inc Fenced)) = (host == who.host) && (inc == who.inc)
+refuses_fenced who party other = false
 
 -- whether a packet refuses delayed writes of an incarnation
 abbrev pub is_refusal : (who : Who) → Packet → Bool
-is_refusal who p = refuses who p.to p.message
+is_refusal who p = refuses_fenced who p.to p.message
 
 -- ---- runs
 

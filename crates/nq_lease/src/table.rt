@@ -38,21 +38,21 @@ impl Model for Table {
 #[tactic(auto, unfolding(nq_model::specs::Table::empty_table, nq_model::specs::Table::with_rows, nq_model::specs::Table::after_draw))]
 impl Table {
     /// An empty table, with room for all rows that there can be.
+    ///
+    /// # Errors
+    ///
+    /// Only want of memory. No other call wants any.
     pub fn new(alloc: Global, boot: u32) -> Result<Table, NoMemory>
         ensures { IfOk result (λ t. t ≡ empty_table boot) }
     {
-        match (
-            Vec::with_capacity(alloc, MOST_ROWS),
-            Vec::with_capacity(alloc, MOST_ROWS),
-        ) {
-            (Ok(rows), Ok(ends)) => Ok(Table {
-                boot,
-                drawn: 0,
-                rows,
-                ends,
-            }),
-            _ => Err(NoMemory::Memory),
-        }
+        let rows = Vec::with_capacity(alloc, MOST_ROWS)?;
+        let ends = Vec::with_capacity(alloc, MOST_ROWS)?;
+        Ok(Table {
+            boot,
+            drawn: 0,
+            rows,
+            ends,
+        })
     }
 
     /// The boot.

@@ -7,7 +7,8 @@ use Rattle.nq_model.proofs.Lists.{each-of, each-map, exists-map}
 use Rattle.nq_model.proofs.Telling.{no, tells_same}
 use Rattle.nq_model.specs.Tests.{Tells}
 use Rattle.nq_model.specs.Journal.{Each, Exists, AtMostOne, Throughout, Covers, Stores, Loses, IsStored, IsLost}
-use Rattle.nq_model.specs.Fate.{Restarts, restarts, IsFirstToCover, IsAccountedAt, CoversOnce, StoredOrLost}
+use Rattle.nq_model.specs.Fate.{Restarts, IsFirstToCover, IsAccountedAt, CoversOnce, StoredOrLost}
+use Rattle.nq_model.specs.FateTest.{restarts}
 
 -- two facts of each element together
 both_of_each : {X : Type 0} (P Q : X → Type 0) (xs : List X) → Each P xs → Each Q xs → Each (λ x. P x × Q x) xs

@@ -21,7 +21,7 @@ use Rattle.nq_base.specs.declared.Who.{Who}
 use Rattle.nq_model.specs.Ask.{ask_past, conflicts, marked, put_off, free}
 use Rattle.nq_model.specs.Change.{row_of, row_of_found, heads_of, space_of, IsNextFree, kept_as, applied}
 use Rattle.nq_model.specs.Decide.{Decision, decides, creates, writes_through, stores, wrote, stores_recovering, resizes, removes, to_change, puts_off, unless_asked, lets_push, decide_create, decide_push, decide_write_in, decide_write, decide_push_recovering, decide_write_recovering, decide_resize, decide_remove, decide_in, decide, verdict_reply, commits}
-use Rattle.nq_model.specs.Decided.{no_effect, creation, block_write, length_change, removal, effect_of_create, effect_of_push, effect_of_write_in, effect_of_write, effect_of_write_recovering, effect_of_resize, effect_of_remove, effect_of, or_fresh, decided, is_decided_once, change_with, changed_file, is_held_writing, gate_in, gate_of, Aside, nothing_aside, entry_aside, rows_aside, heard_aside, put_off_aside, stored_aside, kept_length, aside_in, answer_of, fresh_step, decided_step}
+use Rattle.nq_model.specs.Decided.{no_effect, creation, block_write, length_change, removal, effect_of_create, effect_of_push, effect_of_write_in, effect_of_write, effect_of_write_recovering, effect_of_resize, effect_of_remove, effect_of, or_fresh, decided, is_decided_once, change_with, file_to_change, is_held_writing, gate_in, gate_of, Aside, nothing_aside, entry_aside, rows_aside, heard_aside, put_off_aside, stored_aside, kept_length, aside_in, decided_answer, fresh_step, decided_step}
 use Rattle.nq_model.specs.Kept.{File, Kept, blocks_of, blocks_in_all, find_file, find_name, replace_file, drop_file, written_file, resized_file, with_row, with_files, with_new_file, host_row}
 use Rattle.nq_model.specs.Message.{reply, request, asker, old_incarnation, wrong_host}
 use Rattle.nq_model.specs.Profile.{most_hosts}
@@ -44,10 +44,10 @@ fresh-is : (s : Server) (who : Who) (xid : ℕ) (change : Change) (beside : Asid
 unfolding fresh_step
 fresh-is s who xid change beside answer kept e = ap (λ k. step_of s who xid k beside answer) (sym e)
 
-module _ (s : Server) (phase : Phase) (who : Who) (seq xid : ℕ) (r : Request) (plain : (verdict : Verdict) (value : ℕ) → answer_of who.inc verdict value r ≡ verdict_reply who.inc verdict value r) where
+module _ (s : Server) (phase : Phase) (who : Who) (seq xid : ℕ) (r : Request) (plain : (verdict : Verdict) (value : ℕ) → decided_answer who.inc verdict value r ≡ verdict_reply who.inc verdict value r) where
   -- a decision is an effect, and what is done aside
   abbrev Does : Decision → Effect → Type 0
-  Does d e = commits who seq xid r d ≡ fresh_step s who xid (change_with who seq e) (aside_in s phase who r e.verdict) (answer_of who.inc e.verdict e.value r)
+  Does d e = commits who seq xid r d ≡ fresh_step s who xid (change_with who seq e) (aside_in s phase who r e.verdict) (decided_answer who.inc e.verdict e.value r)
 
   -- a choice of two
   either : (b : Bool) (x y : Decision) (e f : Effect) → Does x e → Does y f → Does (if b then x else y) (if b then e else f)
@@ -59,8 +59,8 @@ module _ (s : Server) (phase : Phase) (who : Who) (seq xid : ℕ) (r : Request) 
   does d e kept beside k a c =
       c
       ∙ ap (λ answer. step_of s who xid kept beside answer) (sym (plain e.verdict e.value))
-      ∙ ap (λ b. step_of s who xid kept b (answer_of who.inc e.verdict e.value r)) (sym a)
-      ∙ fresh-is s who xid (change_with who seq e) (aside_in s phase who r e.verdict) (answer_of who.inc e.verdict e.value r) kept k
+      ∙ ap (λ b. step_of s who xid kept b (decided_answer who.inc e.verdict e.value r)) (sym a)
+      ∙ fresh-is s who xid (change_with who seq e) (aside_in s phase who r e.verdict) (decided_answer who.inc e.verdict e.value r) kept k
 
   -- a decision without effect, and with nothing done aside
   declines : (verdict : Verdict) → aside_in s phase who r verdict ≡ nothing_aside s → Does (decides s verdict) (no_effect verdict)
@@ -197,9 +197,9 @@ writes-recovering s until heard known who w seq n xid file block first last (Som
 -- ---- in both phases
 
 -- a fresh request, by the phase
-abbrev Decides : (s : Server) (phase : Phase) (who : Who) (seq xid : ℕ) (r : Request) → ((verdict : Verdict) (value : ℕ) → answer_of who.inc verdict value r ≡ verdict_reply who.inc verdict value r) → Type 0
+abbrev Decides : (s : Server) (phase : Phase) (who : Who) (seq xid : ℕ) (r : Request) → ((verdict : Verdict) (value : ℕ) → decided_answer who.inc verdict value r ≡ verdict_reply who.inc verdict value r) → Type 0
 Decides s phase who seq xid r plain =
-    Does s phase who seq xid r plain (decide_in s phase who r) (effect_of s.kept (gate_in s phase who (changed_file r)) r)
+    Does s phase who seq xid r plain (decide_in s phase who r) (effect_of s.kept (gate_in s phase who (file_to_change r)) r)
 
 create-by : (s : Server) (phase : Phase) (who w : Who) (seq n xid : ℕ) (name : List ℕ) (blocks : ℕ) → IsNextFree s.kept → Decides s phase who seq xid (Create w n name blocks) (λ v x. refl)
 create-by s serving who w seq n xid name blocks free = create-does s who w seq n xid name blocks free
@@ -220,7 +220,7 @@ remove-by s (recovering until heard known) who w seq n xid q file = declines s (
 -- ---- by the kept row of the host
 
 -- the four tests of incarnation and sequence choose alike
-tests-alike : (s : Server) (who : Who) (seq xid : ℕ) (r : Request) (line : HostRow) (fresh : ServerStep) (effect : Effect) (late early same below : Bool) → answer_of who.inc line.verdict line.value r ≡ verdict_reply who.inc line.verdict line.value r → fresh ≡ decided_step s who xid r (Fresh effect.verdict effect.value) → (if late then drops s old_incarnation else (if early then refuses s who xid Refusal.NotAttached else (if same then replies s who.host xid (verdict_reply who.inc line.verdict line.value r) else (if below then refuses s who xid Refusal.Old else fresh)))) ≡ decided_step s who xid r (or_fresh (if late then Some OldIncarnation else (if early then Some NotAttached else (if same then Some (Again line.verdict line.value) else (if below then Some Old else None)))) effect)
+tests-alike : (s : Server) (who : Who) (seq xid : ℕ) (r : Request) (line : HostRow) (fresh : ServerStep) (effect : Effect) (late early same below : Bool) → decided_answer who.inc line.verdict line.value r ≡ verdict_reply who.inc line.verdict line.value r → fresh ≡ decided_step s who xid r (Fresh effect.verdict effect.value) → (if late then drops s old_incarnation else (if early then refuses s who xid Refusal.NotAttached else (if same then replies s who.host xid (verdict_reply who.inc line.verdict line.value r) else (if below then refuses s who xid Refusal.Old else fresh)))) ≡ decided_step s who xid r (or_fresh (if late then Some OldIncarnation else (if early then Some NotAttached else (if same then Some (Again line.verdict line.value) else (if below then Some Old else None)))) effect)
 tests-alike s who seq xid r line fresh effect true early same below plain f = refl
 tests-alike s who seq xid r line fresh effect false true same below plain f = refl
 tests-alike s who seq xid r line fresh effect false false true below plain f = ap (replies s who.host xid) (sym plain)

@@ -8,7 +8,8 @@ use Rattle.nq_base.specs.declared.Said.TheVariants.{OkBy}
 use Rattle.nq_base.specs.declared.Told.{Told}
 use Rattle.nq_base.specs.declared.Told.TheVariants.{Read, Fetch, Write, WriteSync, Attr, Sync, Resize, Remove}
 use Rattle.nq_base.specs.declared.Who.{Who}
-use Rattle.nq_model.specs.Journal.{Each, each, Exists, exists, AtMostOne, number_of, at_most_one, Throughout, throughout, Somewhere, somewhere, AtEachPlace, at_each_place, IsCall, is_call, IsAnswer, is_answer, IsOpen, is_open, SpeaksOf, speaks_of, IsReadBy, is_read_by, IsAnswerBy, is_answer_by, IsCounted, is_counted, IsWriteOn, is_write_on, IsWriteBy, is_write_by, IsThrough, is_through, value_written, IsWithin, is_within, Covers, covers, Stores, stores, Loses, loses, IsStored, is_stored, IsLost, is_lost, IsLastValue, last_value}
+use Rattle.nq_model.specs.Journal.{Each, Exists, AtMostOne, Throughout, Somewhere, AtEachPlace, IsCall, IsAnswer, IsOpen, SpeaksOf, IsReadBy, IsAnswerBy, IsCounted, IsWriteOn, IsWriteBy, IsThrough, value_written, IsWithin, Covers, Stores, Loses, IsStored, IsLost, IsLastValue, last_value}
+use Rattle.nq_model.specs.JournalTest.{each, exists, number_of, at_most_one, throughout, somewhere, at_each_place, is_call, is_answer, is_open, speaks_of, is_read_by, is_answer_by, is_counted, is_write_on, is_write_by, is_through, is_within, covers, store_covers, loss_covers, is_stored, is_lost}
 use mathlib.Core.Logic.{inl, inr}
 use Rattle.nq_model.specs.Tests.{Tells}
 use Rattle.nq_model.proofs.Telling.{yes, no, tells_alike, tells_and, tells_3, tells_5, tells_or, tells_not, tells_same, tells_le, not_told, not_so}
@@ -104,11 +105,11 @@ tells_covers (S who file block first last now) write = tells_within who file blo
 tells_covers (L who file block first last) write = tells_within who file block first last write
 tells_covers other write = no
 
-pub tells_stores : (entry write : Entry) → Tells (stores entry write) (Stores entry write)
+pub tells_stores : (entry write : Entry) → Tells (store_covers entry write) (Stores entry write)
 tells_stores (S who file block first last now) write = tells_within who file block first last write
 tells_stores other write = no
 
-pub tells_loses : (entry write : Entry) → Tells (loses entry write) (Loses entry write)
+pub tells_loses : (entry write : Entry) → Tells (loss_covers entry write) (Loses entry write)
 tells_loses (L who file block first last) write = tells_within who file block first last write
 tells_loses other write = no
 

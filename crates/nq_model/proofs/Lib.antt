@@ -5,6 +5,7 @@ pub mod CachedReads
 pub mod ClientLists
 pub mod DecidedSteps
 pub mod EachChange
+pub mod Endings
 pub mod Files
 pub mod Finding
 pub mod FreshFits

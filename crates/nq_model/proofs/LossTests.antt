@@ -11,10 +11,14 @@ use Rattle.nq_base.specs.declared.Told.TheVariants.{Write, WriteSync, Sync, Resi
 use Rattle.nq_base.specs.declared.Who.{Who}
 use Rattle.nq_model.specs.Profile.{skew, write_slack}
 use Rattle.nq_model.specs.Journal.{call_of}
-use Rattle.nq_model.specs.Fate.{IsFirstToCover, is_first_to_cover, IsAccountedAt, is_accounted_at, IsAccounted, is_accounted}
-use Rattle.nq_model.specs.CutOff.{Given, last_grant, IsStoreOver, is_store_over, IsLateEnd, has_passed, is_late_end, IsLongWait, is_long_wait, IsLateOpening, is_late_opening, Ends, ends, EndsFirst, ends_first, IsCutOff, is_cut_off, IsExcused, is_excused}
-use Rattle.nq_model.specs.Reported.{loss_told, IsNameOf, is_name_of, Names, names, IsReporting, is_reporting, IsBusyAnswer, is_busy_answer, MustReport, must_report, IsNamedNext, is_named_next, IsReportedIn, is_reported_in, IsUnnamed, is_unnamed, IsSameSpan, is_same_span, NameLosses, name_losses, IsReportedAt, is_reported_at, IsReported, is_reported}
+use Rattle.nq_model.specs.Fate.{IsFirstToCover, IsAccountedAt, IsAccounted}
+use Rattle.nq_model.specs.FateTest.{is_first_to_cover, is_accounted_at, is_accounted}
+use Rattle.nq_model.specs.CutOff.{Given, last_grant, IsStoreOver, IsLateEnd, IsLongWait, IsLateOpening, Ends, EndsFirst, IsCutOff, IsExcused}
+use Rattle.nq_model.specs.CutOffTest.{is_store_over, has_passed, is_late_end, is_long_wait, is_late_opening, ends, ends_first, is_cut_off, is_excused}
+use Rattle.nq_model.specs.Reported.{loss_told, IsNameOf, Names, IsReporting, IsBusyAnswer, MustReport, IsNamedNext, IsReportedIn, IsUnnamed, IsSameSpan, NameLosses, IsReportedAt, IsReported}
+use Rattle.nq_model.specs.ReportedTest.{is_name_of, names, is_reporting, is_busy_answer, must_report, is_named_next, is_reported_in, is_unnamed, is_same_span, name_losses, is_reported_at, is_reported}
 use Rattle.nq_model.specs.Tests.{Tells, TellsLaw}
+use Rattle.nq_model.proofs.Endings.{EndsIn, ends-first, ends-in}
 use Rattle.nq_model.proofs.Telling.{yes, no, tells_alike, tells_and, tells_3, tells_4, tells_or, tells_not, tells_implies, tells_same, tells_le}
 use Rattle.nq_model.proofs.JournalTests.{tells_each, tells_exists, tells_throughout, tells_at_each_place, tells_who, tells_answer, tells_covers, tells_loses, tells_speaks_of}
 use Rattle.nq_model.proofs.OrderedTest.{tells_unless}
@@ -66,9 +70,12 @@ tells_ends who file (F by f until heard now) before = tells_3 tells_who tells_sa
 tells_ends who file (O boot until heard now) before = tells_late_opening before who file boot now
 tells_ends who file other before = no
 
+tells_ends_in : (loss : Entry) (who : Who) (file : ℕ) (before : List Entry) → Tells (ends_first loss who file before) (EndsIn loss who file before)
+tells_ends_in loss who file [] = no
+tells_ends_in loss who file (entry ∷ before) = tells_or (tells_ends who file entry before) (tells_and (tells_not (tells_loses loss entry)) (tells_ends_in loss who file before))
+
 tells_ends_first : (loss : Entry) (who : Who) (file : ℕ) (before : List Entry) → Tells (ends_first loss who file before) (EndsFirst loss who file before)
-tells_ends_first loss who file [] = no
-tells_ends_first loss who file (entry ∷ before) = tells_or (tells_ends who file entry before) (tells_and (tells_not (tells_loses loss entry)) (tells_ends_first loss who file before))
+tells_ends_first loss who file before = tells_alike (ends-first loss who file before) (ends-in loss who file before) (tells_ends_in loss who file before)
 
 pub tells_cut_off : (after : List Entry) (entry : Entry) (before : List Entry) → Tells (is_cut_off after entry before) (IsCutOff after entry before)
 tells_cut_off after (L who file block first last) before =

@@ -8,8 +8,10 @@ use Rattle.nq_base.specs.declared.Told.{Told}
 use Rattle.nq_base.specs.declared.Told.TheVariants.{Write, WriteSync, Resize, Remove}
 use Rattle.nq_base.specs.declared.Who.{Who}
 use mathlib.Core.Logic.{inl, inr}
-use Rattle.nq_model.specs.Journal.{Each, each, Exists, Throughout, IsCall, IsOpen, call_of}
-use Rattle.nq_model.specs.Ordered.{IsCallBelow, is_call_below, IsOpenCall, is_open_call, HasOpen, has_open, IsBusyNext, is_busy_next, IsCallInOrder, is_call_in_order, Writes, writes, IsBeforeCall, is_before_call, IsNumbered, is_numbered, IsWriteOf, is_write_of, IsWriteInOrder, is_write_in_order, is_no_other, open_call, Resizes, resizes, IsResizeBy, is_resize_by, IsResizeInOrder, is_resize_in_order, IsReadInOrder, is_read_in_order, IsInOrder, is_in_order, IsOrdered, is_ordered}
+use Rattle.nq_model.specs.Journal.{Each, Exists, Throughout, IsCall, IsOpen, call_of}
+use Rattle.nq_model.specs.JournalTest.{each}
+use Rattle.nq_model.specs.Ordered.{IsCallBelow, IsOpenCall, HasOpen, IsBusyNext, IsCallInOrder, Writes, IsBeforeCall, IsNumbered, IsWriteOf, IsWriteInOrder, Resizes, IsResizeBy, IsResizeInOrder, IsReadInOrder, IsInOrder, IsOrdered}
+use Rattle.nq_model.specs.OrderedTest.{is_call_below, is_open_call, has_open, is_busy_next, is_call_in_order, writes, is_before_call, is_numbered, is_write_of, is_write_in_order, is_no_other, open_call, call_resizes, is_resize_by, is_resize_in_order, is_read_in_order, is_in_order, is_ordered}
 use Rattle.nq_model.specs.Tests.{Tells, TellsLaw}
 use Rattle.nq_model.proofs.Telling.{yes, no, tells_alike, tells_and, tells_3, tells_4, tells_not, tells_implies, tells_same, tells_lt, not_told}
 use Rattle.nq_model.proofs.JournalTests.{tells_each, tells_exists, tells_throughout, tells_at_each_place, tells_who, tells_call, tells_answer, tells_open, tells_counted}
@@ -155,7 +157,7 @@ tells_write_in_order before who file block number value = record {
 
 -- ---- resizes and removals, reads
 
-tells_resizes : (file to : ℕ) (call : Option Told) → Tells (resizes file to call) (Resizes file to call)
+tells_resizes : (file to : ℕ) (call : Option Told) → Tells (call_resizes file to call) (Resizes file to call)
 tells_resizes file to (Some (Resize f blocks)) = tells_and tells_same tells_same
 tells_resizes file to (Some (Remove f)) = tells_and tells_same tells_same
 tells_resizes file to other = no

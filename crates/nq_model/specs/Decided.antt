@@ -227,11 +227,11 @@ abbrev pub change_of : Kept → Gate → Request → Option Change
 change_of kept gate r = if_fresh (decided kept gate r) (fresh_change kept gate r)
 
 -- the file that a request is about to change
-abbrev pub changed_file : Request → Option ℕ
-changed_file (Write who seq file block first last push body) = Some file
-changed_file (Resize who seq q file blocks) = Some file
-changed_file (Remove who seq q file) = Some file
-changed_file other = None
+abbrev pub file_to_change : Request → Option ℕ
+file_to_change (Write who seq file block first last push body) = Some file
+file_to_change (Resize who seq q file blocks) = Some file
+file_to_change (Remove who seq q file) = Some file
+file_to_change other = None
 
 -- whether a row is a writing lease of this incarnation
 abbrev pub is_held_writing : Who → Option Row → Bool
@@ -250,7 +250,7 @@ gate_in s (recovering until heard last) who file = Recovering s.kept.opened
 
 -- the gate of a request
 abbrev pub gate_of : Server → Who → Request → Gate
-gate_of s who r = gate_in s s.phase who (changed_file r)
+gate_of s who r = gate_in s s.phase who (file_to_change r)
 
 -- what a fresh request does beside the kept state: the table, the phase and the number of the next notice after it, its
 -- notices, and its entries
@@ -348,16 +348,16 @@ later_aside s (recovering until heard last) who file = nothing_aside s
 -- what a fresh request does beside the kept state, by its verdict
 abbrev pub aside_in : Server → Phase → Who → Request → Verdict → Aside
 aside_in s phase who r Done = done_aside s phase who r
-aside_in s phase who r TryLater = later_aside s phase who (changed_file r)
+aside_in s phase who r TryLater = later_aside s phase who (file_to_change r)
 aside_in s phase who r other = nothing_aside s
 
 abbrev pub aside : Server → Who → Request → Verdict → Aside
 aside s who r verdict = aside_in s s.phase who r verdict
 
 -- the reply to a request that was decided
-abbrev pub answer_of : (inc : ℕ) → Verdict → (value : ℕ) → Request → Answer
-answer_of inc verdict value (Attach who) = Answer.Attach inc
-answer_of inc verdict value other = verdict_reply inc verdict value other
+abbrev pub decided_answer : (inc : ℕ) → Verdict → (value : ℕ) → Request → Answer
+decided_answer inc verdict value (Attach who) = Answer.Attach inc
+decided_answer inc verdict value other = verdict_reply inc verdict value other
 
 -- a fresh request: one change, what is done aside, and the reply
 unfoldable pub fresh_step : Server → Who → (xid : ℕ) → Change → Aside → Answer → ServerStep
@@ -384,8 +384,8 @@ decided_step s who xid r (Fresh verdict value) =
     xid
     (fresh_change s.kept (gate_of s who r) r)
     (aside s who r verdict)
-    (answer_of who.inc verdict value r)
-decided_step s who xid r (Again verdict value) = replies s who.host xid (answer_of who.inc verdict value r)
+    (decided_answer who.inc verdict value r)
+decided_step s who xid r (Again verdict value) = replies s who.host xid (decided_answer who.inc verdict value r)
 decided_step s who xid r Old = refuses s who xid Refusal.Old
 decided_step s who xid r OldIncarnation = drops s old_incarnation
 decided_step s who xid r NotAttached = refuses s who xid Refusal.NotAttached

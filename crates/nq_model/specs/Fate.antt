@@ -1,10 +1,10 @@
 -- What becomes of a delayed write.
 -- It is stored where an S covers it, lost where an L covers it, ended where neither does and its host starts again
 -- after it, and waiting otherwise.
-use Rattle.std.specs.Prelude.{◌≡◌, ◌⊎◌, ◌==◌, List, Bool, true, false, not, ◌&&◌, ◌||◌, ⊤}
+use Rattle.std.specs.Prelude.{◌≡◌, ◌⊎◌, List, false, ⊤}
 use Rattle.nq_base.specs.declared.Entry.{Entry}
 use Rattle.nq_base.specs.declared.Entry.TheVariants.{W, S, L, B}
-use Rattle.nq_model.specs.Journal.{Each, each, Exists, exists, AtMostOne, Throughout, throughout, Covers, covers, IsStored, IsLost}
+use Rattle.nq_model.specs.Journal.{Each, Exists, AtMostOne, Throughout, Covers, IsStored, IsLost}
 
 -- the entry is a B of the host of a write
 abbrev pub Restarts : Entry → Entry → Type 0
@@ -54,33 +54,3 @@ CoversOnce = (journal : List Entry) → IsAccounted journal → Each (λ write. 
 -- and has no write that is both stored and lost
 abbrev pub StoredOrLost : Type 0
 StoredOrLost = (journal : List Entry) → IsAccounted journal → Each (λ write. IsStored journal write → ¬ IsLost journal write) journal
-
--- ---- the facts as tests
-
-abbrev pub restarts : Entry → Entry → Bool
-restarts (B started) (W who file block number value through) = started.host == who.host
-restarts entry other = false
-
-abbrev pub is_delayed : Entry → Bool
-is_delayed (W who file block number value false) = true
-is_delayed other = false
-
-abbrev pub is_ended : (whole after : List Entry) (write : Entry) → Bool
-is_ended whole after write =
-    is_delayed write && not (exists (λ entry. covers entry write) whole) && exists (λ entry. restarts entry write) after
-
-abbrev pub is_waiting : (whole after : List Entry) (write : Entry) → Bool
-is_waiting whole after write =
-    is_delayed write && not (exists (λ entry. covers entry write) whole) && not (exists (λ entry. restarts entry write) after)
-
-abbrev pub is_first_to_cover : (before : List Entry) (entry write : Entry) → Bool
-is_first_to_cover before entry write = not (covers entry write) || not (exists (λ other. covers other write) before)
-
-abbrev pub is_accounted_at : (whole : List Entry) → Entry → (before : List Entry) → Bool
-is_accounted_at whole (S who file block first last now) before = each (is_first_to_cover before (S who file block first last now)) whole
-is_accounted_at whole (L who file block first last) before =
-    each (is_first_to_cover before (L who file block first last)) whole && exists (covers (L who file block first last)) whole
-is_accounted_at whole other before = true
-
-abbrev pub is_accounted : (journal : List Entry) → Bool
-is_accounted journal = throughout (is_accounted_at journal) journal

@@ -268,12 +268,12 @@ answer_of Refusal.Fenced = Answer.Busy
 answer_of Refusal.NotAttached = Answer.Busy
 answer_of Refusal.Old = Answer.Busy
 
--- whether a refusal puts a request off
-abbrev pub puts_off : Refusal → Bool
-puts_off Refusal.TryLater = true
-puts_off Refusal.NotAttached = true
-puts_off Refusal.Old = true
-puts_off other = false
+-- whether a refusal says that the request is put off
+abbrev pub is_put_off : Refusal → Bool
+is_put_off Refusal.TryLater = true
+is_put_off Refusal.NotAttached = true
+is_put_off Refusal.Old = true
+is_put_off other = false
 
 -- whether a refusal of LOOKUP, CREATE or GETATTR counts
 abbrev pub counts_for_name : Refusal → Bool
@@ -284,12 +284,12 @@ counts_for_name other = true
 abbrev pub counts_for_block : Refusal → Bool
 counts_for_block Refusal.Inval = true
 counts_for_block Refusal.Stale = true
-counts_for_block other = puts_off other
+counts_for_block other = is_put_off other
 
 -- whether a refusal of the call's GETLEASE counts
 abbrev pub counts_for_lease : Refusal → Bool
 counts_for_lease Refusal.Stale = true
-counts_for_lease other = puts_off other
+counts_for_lease other = is_put_off other
 
 -- whether a refusal of RESIZE or REMOVE counts
 abbrev pub counts_for_change : Refusal → Bool
@@ -315,7 +315,7 @@ abbrev pub refusal_counts : Refusal → Request → Job → Bool
 refusal_counts status request attaching = false
 refusal_counts status request for_call = counts_for_call status request
 refusal_counts status request renewing = true
-refusal_counts status request pushing = not (puts_off status)
+refusal_counts status request pushing = not (is_put_off status)
 
 -- whether a reply is of a request's procedure
 abbrev pub is_of_procedure : Reply → Request → Bool
@@ -389,8 +389,8 @@ refused_push t other = t
 
 abbrev pub refused : ClientStep → Refusal → Ticket → Job → ClientStep
 refused t status ticket attaching = t
-refused t status ticket for_call = if puts_off status then pauses t else answers_call t (answer_of status) None
-refused t status ticket renewing = if puts_off status then pauses t else t
+refused t status ticket for_call = if is_put_off status then pauses t else answers_call t (answer_of status) None
+refused t status ticket renewing = if is_put_off status then pauses t else t
 refused t status ticket pushing = refused_push t ticket.request
 
 -- the request under way was answered, and is spent

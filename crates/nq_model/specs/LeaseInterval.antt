@@ -35,34 +35,49 @@ is_at_least mode NonCaching = true
 is_at_least mode Reading = caches mode
 is_at_least mode Writing = is_writing mode
 
--- a row fits a lease of a file with a kind and a tag until a time: it is of that incarnation, of at least that kind, its
--- chain began no later and goes on no earlier than the tag, and it ends no earlier
-pub record IsFitting (who : Who) (file : ℕ) (mode : Mode) (tag : Tag) (until : ℕ) (row : Row) : Type 0 where
-  pub holder : row.who ≡ who
-  pub of_file : row.file ≡ file
-  pub kind : is_at_least row.mode mode ≡ true
-  pub began : tag_below tag row.since ≡ false
-  pub goes_on : tag_below row.tag tag ≡ false
-  pub ends : until ≤ row.until
+-- what a lease claims: whose it is, on which file, of which kind, with which tag, and until which time of the server's clock
+pub record Claim : Type 0 where
+  pub who : Who
+  pub file : ℕ
+  pub mode : Mode
+  pub tag : Tag
+  pub until : ℕ
 
--- a table has a fitting row
-pub record HasFitting (who : Who) (file : ℕ) (mode : Mode) (tag : Tag) (until : ℕ) (table : Table) : Type 0 where
+-- the claim of an incarnation to a file, with a kind and a tag, until a time
+abbrev pub claim_of : Who → (file : ℕ) → Mode → Tag → (until : ℕ) → Claim
+claim_of who file mode tag until = record { who = who; file = file; mode = mode; tag = tag; until = until }
+
+-- a tag is no later than another
+abbrev pub IsAtMost : (earlier later : Tag) → Type 0
+IsAtMost earlier later = tag_below later earlier ≡ false
+
+-- a row fits a claim: it is of that incarnation and file, of at least that kind, its chain began no later and goes on no
+-- earlier than the tag, and it ends no earlier
+pub record IsFitting (c : Claim) (row : Row) : Type 0 where
+  pub holder : row.who ≡ c.who
+  pub of_file : row.file ≡ c.file
+  pub kind : is_at_least row.mode c.mode ≡ true
+  pub began : IsAtMost row.since c.tag
+  pub goes_on : IsAtMost c.tag row.tag
+  pub ends : c.until ≤ row.until
+
+-- a table has a row that fits a claim
+pub record HasFitting (c : Claim) (table : Table) : Type 0 where
   pub row : Row
-  pub stands : find_row file who.host table.rows ≡ Some row
-  pub fits : IsFitting who file mode tag until row
+  pub stands : find_row c.file c.who.host table.rows ≡ Some row
+  pub fits : IsFitting c row
 
--- while the server recovers: the lease is of the boot that served last, its row stands in the last table, and the
+-- while the server recovers: the claim is of the boot that served last, its row stands in the last table, and the
 -- recovery does not end before it
-pub record OutlivedBy (who : Who) (file : ℕ) (mode : Mode) (tag : Tag) (until : ℕ) (opened end : ℕ) (last : Table) : Type 0 where
-  pub of_last_boot : tag.boot ≡ opened
-  pub fitting : HasFitting who file mode tag until last
-  pub waits : until ≤ end
+pub record OutlivedBy (c : Claim) (opened end : ℕ) (last : Table) : Type 0 where
+  pub of_last_boot : c.tag.boot ≡ opened
+  pub fitting : HasFitting c last
+  pub waits : c.until ≤ end
 
--- a lease with a kind and a tag is covered by the server until a time
-abbrev pub IsCovered : Server → Phase → Who → (file : ℕ) → Mode → Tag → (until : ℕ) → Type 0
-IsCovered s serving who file mode tag until = HasFitting who file mode tag until s.table
-IsCovered s (recovering end heard last) who file mode tag until =
-    OutlivedBy who file mode tag until s.kept.opened end (last_table last)
+-- the server covers a claim
+abbrev pub IsCovered : Server → Phase → Claim → Type 0
+IsCovered s serving c = HasFitting c s.table
+IsCovered s (recovering end heard last) c = OutlivedBy c s.kept.opened end (last_table last)
 
 -- the time until which a lease is covered that was first asked for at this time of its holder's clock, with this term
 abbrev pub cover_end : (host asked term : ℕ) → List Event → ℕ
@@ -76,14 +91,7 @@ HeldAreCovered w events =
     → lease_on lease.file c.leases ≡ Some lease
     → caches lease.mode ≡ true
     → c.now < lease.expiry
-    → IsCovered
-    w.server
-    w.server.phase
-    c.who
-    lease.file
-    lease.mode
-    lease.tag
-    (cover_end host (lease.expiry - lease.term) lease.term events)
+    → IsCovered w.server w.server.phase (claim_of c.who lease.file lease.mode lease.tag (cover_end host (lease.expiry - lease.term) lease.term events))
 
 -- the grant of a reply to a request for a file, if there is one
 abbrev pub grant_in : Reply → Option Grant
@@ -120,14 +128,7 @@ TakeableAreCovered w events =
     → CanTake w host c ticket file g
     → caches g.mode ≡ true
     → c.now < ticket.first + g.term
-    → IsCovered
-    w.server
-    w.server.phase
-    c.who
-    file
-    g.mode
-    g.tag
-    (cover_end host ticket.first g.term events)
+    → IsCovered w.server w.server.phase (claim_of c.who file g.mode g.tag (cover_end host ticket.first g.term events))
 
 -- the lease interval
 pub record KeepsLeaseInterval (w : World) (events : List Event) : Type 0 where

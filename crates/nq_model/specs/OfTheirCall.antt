@@ -1,10 +1,10 @@
 -- Counted reads are of what their call asked for.
-use Rattle.std.specs.Prelude.{◌≡◌, ℕ, List, Option, Some, Bool, true, false, not, ◌&&◌, ◌||◌, ◌==◌, ⊤}
+use Rattle.std.specs.Prelude.{◌≡◌, ℕ, List, Option, Some, ⊤}
 use Rattle.nq_base.specs.declared.Entry.{Entry}
 use Rattle.nq_base.specs.declared.Entry.TheVariants.{R}
 use Rattle.nq_base.specs.declared.Told.{Told}
 use Rattle.nq_base.specs.declared.Told.TheVariants.{Read, Fetch}
-use Rattle.nq_model.specs.Journal.{Each, each, IsCounted, is_counted, call_of}
+use Rattle.nq_model.specs.Journal.{Each, IsCounted, call_of}
 
 -- the call is a `read` or `fetch` of this block
 abbrev pub Reads : (file block : ℕ) → Option Told → Type 0
@@ -20,17 +20,3 @@ IsOfItsCall whole other = ⊤
 -- the counted reads of a journal are of their calls
 abbrev pub AreOfTheirCall : (journal : List Entry) → Type 0
 AreOfTheirCall journal = Each (IsOfItsCall journal) journal
-
--- ---- the facts as tests
-
-abbrev pub reads : (file block : ℕ) → Option Told → Bool
-reads file block (Some (Read f b)) = (f == file) && (b == block)
-reads file block (Some (Fetch f b)) = (f == file) && (b == block)
-reads file block other = false
-
-abbrev pub is_of_its_call : (whole : List Entry) → Entry → Bool
-is_of_its_call whole (R who q file block value served) = not (is_counted whole (R who q file block value served)) || reads file block (call_of whole who q)
-is_of_its_call whole other = true
-
-abbrev pub are_of_their_call : (journal : List Entry) → Bool
-are_of_their_call journal = each (is_of_its_call journal) journal

@@ -1,9 +1,9 @@
 -- Which writes a read sees.
 -- A lost write is seen by nobody but its maker, and by the maker only until the loss is found.
-use Rattle.std.specs.Prelude.{◌⊎◌, ℕ, List, Bool, not, ◌&&◌, ◌||◌}
+use Rattle.std.specs.Prelude.{◌⊎◌, ℕ, List}
 use Rattle.nq_base.specs.declared.Entry.{Entry}
 use Rattle.nq_base.specs.declared.Who.{Who}
-use Rattle.nq_model.specs.Journal.{IsWriteOn, is_write_on, IsWriteBy, is_write_by, IsThrough, is_through, IsStored, is_stored, IsLost, is_lost, since_cut, IsLastValue, last_value}
+use Rattle.nq_model.specs.Journal.{IsWriteOn, IsWriteBy, IsThrough, IsStored, IsLost, since_cut, IsLastValue}
 
 -- a write stands for a later read of its block, where no Z between them cuts that block, and it is through, or an S
 -- anywhere in the journal covers it, or it is of the reader's own incarnation and no L before the read covers it
@@ -14,12 +14,3 @@ Stands whole before reader file block write =
 -- the value is that of the last write before a read that stands for it, or 0 where there is none
 abbrev pub IsStandingValue : (whole before : List Entry) (reader : Who) (file block value : ℕ) → Type 0
 IsStandingValue whole before reader file block value = IsLastValue (Stands whole before reader file block) (since_cut before file block) value
-
--- ---- the facts as tests
-
-abbrev pub stands : (whole before : List Entry) (reader : Who) (file block : ℕ) (write : Entry) → Bool
-stands whole before reader file block write =
-    is_write_on file block write && (is_through write || (is_stored whole write || is_write_by reader write && not (is_lost before write)))
-
-abbrev pub standing_value : (whole before : List Entry) (reader : Who) (file block : ℕ) → ℕ
-standing_value whole before reader file block = last_value (stands whole before reader file block) (since_cut before file block)

@@ -1,14 +1,14 @@
 -- What is answered ok is kept (RFC 1813, FILE_SYNC).
-use Rattle.std.specs.Prelude.{◌≡◌, ◌⊎◌, ℕ, List, [], ◌∷◌, Option, Some, None, Bool, true, false, not, ◌&&◌, ◌||◌, ◌==◌, if◌then◌else◌, ⊤}
+use Rattle.std.specs.Prelude.{◌≡◌, ◌⊎◌, ℕ, List, [], ◌∷◌, Option, Some, None, Bool, false, ◌&&◌, ◌||◌, ◌==◌, if◌then◌else◌, ⊤}
 use Rattle.nq_base.specs.declared.Entry.{Entry}
 use Rattle.nq_base.specs.declared.Entry.TheVariants.{W, L, Z, A}
 use Rattle.nq_base.specs.declared.Said.TheVariants.{Ok, OkValue, OkBy}
 use Rattle.nq_base.specs.declared.Told.{Told}
 use Rattle.nq_base.specs.declared.Told.TheVariants.{WriteSync, Sync, Resize, Remove}
 use Rattle.nq_base.specs.declared.Who.{Who}
-use Rattle.nq_model.specs.Journal.{Each, each, Exists, exists, Throughout, throughout, Somewhere, somewhere, IsOpen, is_open, call_of, is_write_on, IsWriteBy, is_write_by, IsThrough, is_through, IsStored, is_stored, Loses, loses, since_cut, last_value}
-use Rattle.nq_model.specs.Reported.{loss_told, Names, names}
-use Rattle.nq_model.specs.Table.{same_who}
+use Rattle.nq_model.specs.Journal.{Each, Exists, Throughout, Somewhere, IsOpen, call_of, IsWriteBy, IsThrough, IsStored, Loses, since_cut, last_value}
+use Rattle.nq_model.specs.JournalTest.{is_write_on, is_through, is_stored}
+use Rattle.nq_model.specs.Reported.{loss_told, Names}
 
 -- ---- a put
 
@@ -19,9 +19,9 @@ IsPutKept answered who q write before = IsWriteBy who write × IsOpen before who
 -- ---- a sync, a resize, a removal
 
 -- the entry is a delayed write of an incarnation on a file
-abbrev pub IsDelayedBy : (who : Who) (file : ℕ) → Entry → Type 0
-IsDelayedBy who file (W by f block number value false) = (by ≡ who) × (f ≡ file)
-IsDelayedBy who file other = ⊥
+abbrev pub IsDelayedOn : (who : Who) (file : ℕ) → Entry → Type 0
+IsDelayedOn who file (W by f block number value false) = (by ≡ who) × (f ≡ file)
+IsDelayedOn who file other = ⊥
 
 -- the entry is an L that covers the write, and an A before the answer names it
 abbrev pub IsNamedLoss : (whole answered : List Entry) (write : Entry) → Entry → Type 0
@@ -29,17 +29,20 @@ IsNamedLoss whole answered write (L who file block first last) =
     Loses (L who file block first last) write × Exists (Names whole who (loss_told file block first last)) answered
 IsNamedLoss whole answered write other = ⊥
 
--- where the entry is a delayed write of the incarnation on the file, an S of the `stores` covers it, or an L that an A before
--- the answer names
-abbrev pub IsSettled : (whole stores answered : List Entry) (who : Who) (file : ℕ) (write : Entry) → Type 0
-IsSettled whole stores answered who file write =
-    IsDelayedBy who file write → IsStored stores write ⊎ Exists (IsNamedLoss whole answered write) whole
+-- an S among the `stores` covers the write, or an L that an A before the answer names
+abbrev pub IsStoredOrTold : (whole stores answered : List Entry) (write : Entry) → Type 0
+IsStoredOrTold whole stores answered write = IsStored stores write ⊎ Exists (IsNamedLoss whole answered write) whole
+
+-- so it is with each delayed write of the incarnation on the file before the answer
+abbrev pub AreStoredOrTold : (whole stores answered : List Entry) (who : Who) (file : ℕ) → Type 0
+AreStoredOrTold whole stores answered who file =
+    Each (λ write. IsDelayedOn who file write → IsStoredOrTold whole stores answered write) answered
 
 -- the entry is the Z of call q, and each delayed write of the incarnation on the file before the answer is covered by an S
 -- before the Z, or by an L that an A before the answer names
 abbrev pub IsSettledResize : (whole answered : List Entry) (who : Who) (q file : ℕ) → Entry → (before : List Entry) → Type 0
 IsSettledResize whole answered who q file (Z by n f from to) before =
-    (by ≡ who) × (n ≡ q) × Each (IsSettled whole before answered who file) answered
+    (by ≡ who) × (n ≡ q) × AreStoredOrTold whole before answered who file
 IsSettledResize whole answered who q file other before = ⊥
 
 -- ---- the law
@@ -50,7 +53,7 @@ IsSettledResize whole answered who q file other before = ⊥
 -- named
 abbrev pub IsKept : (whole before : List Entry) (who : Who) (q : ℕ) → Option Told → Type 0
 IsKept whole before who q (Some (WriteSync file block value)) = Somewhere (IsPutKept before who q) before
-IsKept whole before who q (Some (Sync file)) = Each (IsSettled whole whole before who file) before
+IsKept whole before who q (Some (Sync file)) = AreStoredOrTold whole whole before who file
 IsKept whole before who q (Some (Resize file blocks)) = Somewhere (IsSettledResize whole before who q file) before
 IsKept whole before who q (Some (Remove file)) = Somewhere (IsSettledResize whole before who q file) before
 IsKept whole before who q other = ⊤
@@ -82,42 +85,3 @@ abbrev pub last_length : List Entry → (file : ℕ) → Option ℕ
 last_length [] file = None
 last_length (Z who q f from to ∷ before) file = if f == file then Some to else last_length before file
 last_length (other ∷ before) file = last_length before file
-
--- ---- the facts as tests
-
-abbrev pub is_put_kept : (answered : List Entry) (who : Who) (q : ℕ) (write : Entry) (before : List Entry) → Bool
-is_put_kept answered who q write before = is_write_by who write && is_open before who q && (is_through write || is_stored answered write)
-
-abbrev pub is_delayed_by : (who : Who) (file : ℕ) → Entry → Bool
-is_delayed_by who file (W by f block number value false) = same_who by who && (f == file)
-is_delayed_by who file other = false
-
-abbrev pub is_named_loss : (whole answered : List Entry) (write : Entry) → Entry → Bool
-is_named_loss whole answered write (L who file block first last) =
-    loses (L who file block first last) write && exists (names whole who (loss_told file block first last)) answered
-is_named_loss whole answered write other = false
-
-abbrev pub is_settled : (whole stores answered : List Entry) (who : Who) (file : ℕ) (write : Entry) → Bool
-is_settled whole stores answered who file write =
-    not (is_delayed_by who file write) || (is_stored stores write || exists (is_named_loss whole answered write) whole)
-
-abbrev pub is_settled_resize : (whole answered : List Entry) (who : Who) (q file : ℕ) → Entry → (before : List Entry) → Bool
-is_settled_resize whole answered who q file (Z by n f from to) before =
-    same_who by who && (n == q) && each (is_settled whole before answered who file) answered
-is_settled_resize whole answered who q file other before = false
-
-abbrev pub is_kept : (whole before : List Entry) (who : Who) (q : ℕ) → Option Told → Bool
-is_kept whole before who q (Some (WriteSync file block value)) = somewhere (is_put_kept before who q) before
-is_kept whole before who q (Some (Sync file)) = each (is_settled whole whole before who file) before
-is_kept whole before who q (Some (Resize file blocks)) = somewhere (is_settled_resize whole before who q file) before
-is_kept whole before who q (Some (Remove file)) = somewhere (is_settled_resize whole before who q file) before
-is_kept whole before who q other = true
-
-abbrev pub is_kept_at : (whole : List Entry) → Entry → (before : List Entry) → Bool
-is_kept_at whole (A who q Ok) before = is_kept whole before who q (call_of whole who q)
-is_kept_at whole (A who q (OkValue value)) before = is_kept whole before who q (call_of whole who q)
-is_kept_at whole (A who q (OkBy value packet)) before = is_kept whole before who q (call_of whole who q)
-is_kept_at whole other before = true
-
-abbrev pub is_synchronized : (journal : List Entry) → Bool
-is_synchronized journal = throughout (is_kept_at journal) journal

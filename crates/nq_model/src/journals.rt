@@ -1,13 +1,21 @@
 //! Each law of journals has a test that computes: it is true exactly where the law holds.
 
-ghost use Rattle.nq_model.specs.CutOff.{IsExcused, is_excused};
-ghost use Rattle.nq_model.specs.Fate.{CoversOnce, IsAccounted, StoredOrLost, is_accounted};
-ghost use Rattle.nq_model.specs.Legal.{IsLegal, is_legal};
-ghost use Rattle.nq_model.specs.OfTheirCall.{AreOfTheirCall, are_of_their_call};
-ghost use Rattle.nq_model.specs.Ordered.{IsOrdered, is_ordered};
-ghost use Rattle.nq_model.specs.Reported.{IsReported, is_reported};
-ghost use Rattle.nq_model.specs.Sound.{IsSound, is_sound};
-ghost use Rattle.nq_model.specs.Synchronized.{IsSynchronized, is_synchronized};
+ghost use Rattle.nq_model.specs.CutOff.{IsExcused};
+ghost use Rattle.nq_model.specs.CutOffTest.{is_excused};
+ghost use Rattle.nq_model.specs.Fate.{CoversOnce, IsAccounted, StoredOrLost};
+ghost use Rattle.nq_model.specs.FateTest.{is_accounted};
+ghost use Rattle.nq_model.specs.Legal.{IsLegal};
+ghost use Rattle.nq_model.specs.LegalTest.{is_legal};
+ghost use Rattle.nq_model.specs.OfTheirCall.{AreOfTheirCall};
+ghost use Rattle.nq_model.specs.OfTheirCallTest.{are_of_their_call};
+ghost use Rattle.nq_model.specs.Ordered.{IsOrdered};
+ghost use Rattle.nq_model.specs.OrderedTest.{is_ordered};
+ghost use Rattle.nq_model.specs.Reported.{IsReported};
+ghost use Rattle.nq_model.specs.ReportedTest.{is_reported};
+ghost use Rattle.nq_model.specs.Sound.{IsSound};
+ghost use Rattle.nq_model.specs.SoundTest.{is_sound};
+ghost use Rattle.nq_model.specs.Synchronized.{IsSynchronized};
+ghost use Rattle.nq_model.specs.SynchronizedTest.{is_synchronized};
 ghost use Rattle.nq_model.specs.Tests.{TellsLaw};
 
 /// The test of legal journals tells them.

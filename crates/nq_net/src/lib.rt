@@ -6,8 +6,8 @@
 mod packets;
 mod runs;
 
-pub use nq_memory::NoMemory;
 pub use nq_base::Party;
+pub use nq_memory::NoMemory;
 pub use packets::{Packet, Packets};
 
 #[cfg(test)]

@@ -94,12 +94,8 @@ impl Ticket {
         if xid != self.xid {
             return Err(self);
         }
-        let Ticket {
-            xid: _,
-            first,
-            last: _,
-            bytes: _bytes,
-        } = self;
+        let first = self.first;
+        self.cancelled();
         Ok(first)
     }
 

@@ -41,7 +41,7 @@ pub record IsUnderWay (c : Client) (xid : ℕ) (r : Request) : Type 0 where
 
 -- a request is open: the packet at this place brings it from the kept incarnation of its host, and its sequence is above
 -- the kept one, so the server has not decided it yet
-pub record IsOpen (w : World) (host place xid : ℕ) (r : Request) (who : Who) (seq : ℕ) : Type 0 where
+pub record IsOpenRequest (w : World) (host place xid : ℕ) (r : Request) (who : Who) (seq : ℕ) : Type 0 where
   pub asks : Asks w.packets place host xid r who seq
   pub kept : (host_row w.server.kept host).inc ≡ who.inc
   pub above : (host_row w.server.kept host).seq < seq
@@ -49,8 +49,8 @@ pub record IsOpen (w : World) (host place xid : ℕ) (r : Request) (who : Who) (
 -- an open request of a client that runs is the one that the client has under way. Each host has one open request at most,
 -- and copies of it, whether its incarnation still runs or not. No incarnation after the kept one has asked with a sequence
 pub record OpensOne (w : World) : Type 0 where
-  pub under_way : (host place xid : ℕ) (c : Client) (r : Request) (seq : ℕ) → slice_get w.clients host ≡ Some c → IsOpen w host place xid r c.who seq → IsUnderWay c xid r
-  pub one : (host i j x y : ℕ) (r s : Request) (who other : Who) (m n : ℕ) → IsOpen w host i x r who m → IsOpen w host j y s other n → (x ≡ y) × (r ≡ s)
+  pub under_way : (host place xid : ℕ) (c : Client) (r : Request) (seq : ℕ) → slice_get w.clients host ≡ Some c → IsOpenRequest w host place xid r c.who seq → IsUnderWay c xid r
+  pub one : (host i j x y : ℕ) (r s : Request) (who other : Who) (m n : ℕ) → IsOpenRequest w host i x r who m → IsOpenRequest w host j y s other n → (x ≡ y) × (r ≡ s)
   pub none_after : (place host xid : ℕ) (r : Request) (who : Who) (seq : ℕ) → Asks w.packets place host xid r who seq → (host_row w.server.kept host).inc < who.inc → ⊥
 
 -- after every schedule within skew
@@ -58,7 +58,7 @@ abbrev pub OneOpenInEveryRun : Type 0
 OneOpenInEveryRun = InEveryRun (λ head events. OpensOne (run head events))
 
 -- the reply at this place comes after a request of its number from that host, by the incarnation that the reply names
-pub record IsAnswer (packets : List Packet) (place host xid : ℕ) (a : Reply) : Type 0 where
+pub record AnswersRequest (packets : List Packet) (place host xid : ℕ) (a : Reply) : Type 0 where
   pub earlier : ℕ
   pub before : earlier < place
   pub asks : Request
@@ -85,7 +85,7 @@ pub record WasSentBefore (head : Head) (events : List Event) (place host : ℕ) 
 -- each reply comes after a request that it answers. A reply that a client can still take, since it has the number of the
 -- request under way and names the running incarnation, comes after the client first sent that request
 pub record RepliesAfter (head : Head) (events : List Event) : Type 0 where
-  pub each : (place host xid : ℕ) (a : Reply) → slice_get (run head events).packets place ≡ Some (to_host host (reply xid a)) → IsAnswer (run head events).packets place host xid a
+  pub each : (place host xid : ℕ) (a : Reply) → slice_get (run head events).packets place ≡ Some (to_host host (reply xid a)) → AnswersRequest (run head events).packets place host xid a
   pub to_own : (place host : ℕ) (c : Client) (t : Ticket) (a : Reply) → slice_get (run head events).clients host ≡ Some c → c.ticket ≡ Some t → slice_get (run head events).packets place ≡ Some (to_host host (reply t.xid a)) → inc_of a ≡ c.who.inc → WasSentBefore head events place host t
 
 -- after every schedule

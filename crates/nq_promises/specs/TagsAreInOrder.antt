@@ -46,7 +46,7 @@ IsUpTo table tag = (tag.boot < table.boot) ⊎ ((tag.boot ≡ table.boot) × (ta
 
 -- the boot that a tag names has drawn it. That boot is not later than the one whose table stands. The tag is below each tag
 -- that the server draws next, now or after any further events
-pub record IsInOrder (head : Head) (events : List Event) (tag : Tag) : Type 0 where
+pub record IsTagInOrder (head : Head) (events : List Event) (tag : Tag) : Type 0 where
   pub drawn : WasDrawn head events tag
   pub up_to_now : IsUpTo (standing (run head events).server) tag
   pub below_next : (later : List Event) → tag_below tag (next_tag (run head (later ++ events)).server.table) ≡ true
@@ -59,7 +59,7 @@ TagsAreDrawnInOrder =
     → KeepsBounds most head events
     → IsWithinSkew head.hosts most events
     → IsKnown (run head events) tag
-    → IsInOrder head events tag
+    → IsTagInOrder head events tag
 
 -- a table is not earlier than another: it is of a later boot, or it is of the same boot and has drawn no fewer tags
 abbrev pub IsNoEarlier : (before after : Table) → Type 0

@@ -4,7 +4,8 @@ use Rattle.nq_base.specs.Block.{zeros}
 use Rattle.nq_base.specs.declared.Entry.{Entry}
 use Rattle.nq_base.specs.declared.Entry.TheVariants.{W, S}
 use Rattle.nq_base.specs.declared.Event.{Event}
-use Rattle.nq_model.specs.Journal.{exists, since_cut}
+use Rattle.nq_model.specs.Journal.{since_cut}
+use Rattle.nq_model.specs.JournalTest.{exists}
 use Rattle.nq_model.specs.Kept.{File, find_file}
 use Rattle.nq_model.specs.World.{Head, run}
 

@@ -4,7 +4,8 @@ use Rattle.nq_base.specs.declared.Entry.{Entry}
 use Rattle.nq_base.specs.declared.Entry.TheVariants.{R, S, L, F, O, X, B, Z}
 use Rattle.nq_base.specs.declared.Loss.{Loss}
 use Rattle.nq_base.specs.declared.Who.{Who}
-use Rattle.nq_model.specs.Journal.{is_counted, is_through, is_within, is_write_on, value_written}
+use Rattle.nq_model.specs.Journal.{value_written}
+use Rattle.nq_model.specs.JournalTest.{is_counted, is_through, is_within, is_write_on}
 use Rattle.nq_model.specs.Reported.{loss_told}
 use Rattle.nq_model.specs.Table.{same_who}
 

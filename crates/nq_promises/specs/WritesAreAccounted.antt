@@ -25,8 +25,8 @@ UnderWayEncloses None write = ⊥
 UnderWayEncloses (Some p) write = Encloses p write
 
 -- a client still has a write: it lies within one of the delayed writes in its list, or within the push under way
-abbrev pub IsUnsaved : Client → (write : Entry) → Type 0
-IsUnsaved c write = Exists (λ p. Encloses p write) c.dirty ⊎ UnderWayEncloses c.push write
+abbrev pub StillHas : Client → (write : Entry) → Type 0
+StillHas c write = Exists (λ p. Encloses p write) c.dirty ⊎ UnderWayEncloses c.push write
 
 -- the entry is a delayed write of an incarnation
 abbrev pub IsDelayedBy : Who → Entry → Type 0
@@ -40,7 +40,7 @@ abbrev pub WaitingAreUnsaved : World → Type 0
 WaitingAreUnsaved w =
     (host : ℕ) (c : Client)
     → slice_get w.clients host ≡ Some c
-    → Each (λ write. IsDelayedBy c.who write → ¬ Exists (λ entry. Covers entry write) w.journal → IsUnsaved c write) w.journal
+    → Each (λ write. IsDelayedBy c.who write → ¬ Exists (λ entry. Covers entry write) w.journal → StillHas c write) w.journal
 
 -- after every schedule within skew
 abbrev pub WaitingAreUnsavedInEveryRun : Type 0
@@ -53,7 +53,7 @@ pub record IsAtItsClient (w : World) (who : Who) (write : Entry) : Type 0 where
   pub client : Client
   pub runs : slice_get w.clients who.host ≡ Some client
   pub same : client.who ≡ who
-  pub unsaved : IsUnsaved client write
+  pub unsaved : StillHas client write
 
 -- the client that made the write runs, and still has it
 abbrev pub IsStillUnsaved : World → (write : Entry) → Type 0

@@ -32,7 +32,11 @@ fn look_at(line: &Line) -> Seen {
         Line::Events {
             event: Event::Call {
                 host,
-                call: Call::WriteSync { file, block, body },
+                call: Call::WriteSync {
+                    file,
+                    block,
+                    ref body,
+                },
             },
             times: 1,
         } => Seen::Put(host.0, file.0, block.0, body.value()),

@@ -21,7 +21,7 @@ use Rattle.walk_client.proofs.ClientWalk.{Replying, reply-keeps, notice-keeps, c
 use Rattle.nq_model.specs.Client.{Client, ClientStep, Job, begun, Ticket}
 use Rattle.nq_model.specs.ClientStep.{begins_call, is_called, says_busy, client_call, at_time, sends_again, client_tick}
 use Rattle.nq_model.specs.Hear.{inc_of, reply_counts, hear, replied, evicted, cancels}
-use Rattle.nq_model.specs.LeaseInterval.{HasFitting, IsCovered}
+use Rattle.nq_model.specs.LeaseInterval.{claim_of, HasFitting, IsCovered}
 use Rattle.nq_model.specs.Message.{Message, Packet, reply}
 use Rattle.nq_model.specs.Server.{Phase, serving, recovering, Server, standing_in}
 use Rattle.nq_model.specs.Settle.{answers, names_losses, settle, ticket_is_for_call}
@@ -56,9 +56,9 @@ none-given file g sent = ⊥
 -- ---- before a step
 
 -- a lease that is covered is chained
-covered-chained : (s : Server) (phase : Phase) (table : Table) (who : Who) (file : ℕ) (mode : Mode) (tag : Tag) (until : ℕ) → table ≡ s.table → IsCovered s phase who file mode tag until → (row : Row) × IsChained (standing_in phase table) who file tag row
+covered-chained : (s : Server) (phase : Phase) (table : Table) (who : Who) (file : ℕ) (mode : Mode) (tag : Tag) (until : ℕ) → table ≡ s.table → IsCovered s phase (claim_of who file mode tag until) → (row : Row) × IsChained (standing_in phase table) who file tag row
 covered-chained s serving table who file mode tag until same h =
-    let k : HasFitting who file mode tag until table = subst (λ t. HasFitting who file mode tag until t) (sym same) h in
+    let k : HasFitting (claim_of who file mode tag until) table = subst (λ t. HasFitting (claim_of who file mode tag until) t) (sym same) h in
     (k.row, record { own = record { stands = k.stands; holder = k.fits.holder }; began = k.fits.began })
 covered-chained s (recovering end heard last) table who file mode tag until same h = let k = h.fitting in (k.row, record { own = record { stands = k.stands; holder = k.fits.holder }; began = k.fits.began })
 

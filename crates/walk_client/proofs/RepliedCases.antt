@@ -12,7 +12,7 @@ use Rattle.nq_base.specs.declared.Want.{Want}
 use Rattle.nq_base.specs.declared.Who.{Who}
 use Rattle.walk_client.proofs.ClientFacts.{fits_job, fits_call}
 use Rattle.nq_model.specs.Client.{Client, ClientStep, Job, for_call, pushing, Ticket, begun}
-use Rattle.nq_model.specs.Hear.{spends, attached, pauses, answers_call, answer_of, puts_off, counts_for_call, read_done, lease_done, write_done, knows_revision, takes_optional, push_done, push_refused, done, done_for_call, done_renewal, done_push, refused, refused_push, replied, reply_counts, refusal_counts, is_of_procedure}
+use Rattle.nq_model.specs.Hear.{spends, attached, pauses, answers_call, answer_of, is_put_off, counts_for_call, read_done, lease_done, write_done, knows_revision, takes_optional, push_done, push_refused, done, done_for_call, done_renewal, done_push, refused, refused_push, replied, reply_counts, refusal_counts, is_of_procedure}
 use Rattle.walk_server.proofs.Rows.{choice}
 
 -- the request under way is of the call
@@ -42,13 +42,13 @@ pub record RepliedCases (c : Client) (number : ℕ) (ticket : Ticket) (r : Reply
   -- the push under way was stored
   pub pushed : (who : Who) (seq file block first last : ℕ) (base : PushBase) (body : List ℕ) (inc rev : ℕ) → ticket.job ≡ pushing → ticket.request ≡ Request.Write who seq file block first last (Some base) body → r ≡ Reply.Write inc rev → Q (push_done (spends (begun c)) file block body rev)
   -- the call's request, or a renewal, was put off
-  pub putting_off : (inc : ℕ) (status : Refusal) → (ticket.job ≡ for_call) ⊎ (ticket.job ≡ Job.renewing) → r ≡ Reply.Refused inc status → puts_off status ≡ true → Q (pauses (spends (begun c)))
+  pub putting_off : (inc : ℕ) (status : Refusal) → (ticket.job ≡ for_call) ⊎ (ticket.job ≡ Job.renewing) → r ≡ Reply.Refused inc status → is_put_off status ≡ true → Q (pauses (spends (begun c)))
   -- the call's request was refused
-  pub refusing : (inc : ℕ) (status : Refusal) → ticket.job ≡ for_call → r ≡ Reply.Refused inc status → counts_for_call status ticket.request ≡ true → puts_off status ≡ false → Q (answers_call (spends (begun c)) (answer_of status) None)
+  pub refusing : (inc : ℕ) (status : Refusal) → ticket.job ≡ for_call → r ≡ Reply.Refused inc status → counts_for_call status ticket.request ≡ true → is_put_off status ≡ false → Q (answers_call (spends (begun c)) (answer_of status) None)
   -- a renewal was refused
-  pub renewal_refused : (inc : ℕ) (status : Refusal) → ticket.job ≡ Job.renewing → r ≡ Reply.Refused inc status → puts_off status ≡ false → Q (spends (begun c))
+  pub renewal_refused : (inc : ℕ) (status : Refusal) → ticket.job ≡ Job.renewing → r ≡ Reply.Refused inc status → is_put_off status ≡ false → Q (spends (begun c))
   -- the push under way was refused
-  pub push_refused : (who : Who) (seq file block first last : ℕ) (base : PushBase) (body : List ℕ) (inc : ℕ) (status : Refusal) → ticket.job ≡ pushing → ticket.request ≡ Request.Write who seq file block first last (Some base) body → r ≡ Reply.Refused inc status → puts_off status ≡ false → Q (push_refused (spends (begun c)) file)
+  pub push_refused : (who : Who) (seq file block first last : ℕ) (base : PushBase) (body : List ℕ) (inc : ℕ) (status : Refusal) → ticket.job ≡ pushing → ticket.request ≡ Request.Write who seq file block first last (Some base) body → r ≡ Reply.Refused inc status → is_put_off status ≡ false → Q (push_refused (spends (begun c)) file)
 
 -- what is shown of each outcome holds of the step after the reply
 pub replied-cases : (c : Client) (number : ℕ) (ticket : Ticket) (r : Reply) (Q : ClientStep → Type 0) → fits_job ticket.job ticket.request ≡ true → reply_counts r ticket ≡ true → RepliedCases c number ticket r Q → Q (replied (begun c) number ticket r)
@@ -83,14 +83,14 @@ replied-cases c number ticket r Q fits counts cases = by-reply r refl counts
     was-done Job.renewing job s is of f = renewal-done ticket.request s job refl is of f
     was-done pushing job s is of f = push-done ticket.request s job refl is of f
 
-    push-refused : (inc : ℕ) (status : Refusal) (request : Request) → ticket.job ≡ pushing → ticket.request ≡ request → r ≡ Reply.Refused inc status → puts_off status ≡ false → fits_job pushing request ≡ true → Q (refused_push (spends (begun c)) request)
+    push-refused : (inc : ℕ) (status : Refusal) (request : Request) → ticket.job ≡ pushing → ticket.request ≡ request → r ≡ Reply.Refused inc status → is_put_off status ≡ false → fits_job pushing request ≡ true → Q (refused_push (spends (begun c)) request)
     push-refused inc status (Request.Write who seq file block first last (Some base) body) job asks is final f = cases.push_refused who seq file block first last base body inc status job asks is final
     push-refused inc status request job asks is final f = absurd (cc)
 
     was-refused : (job : Job) → ticket.job ≡ job → (inc : ℕ) (status : Refusal) → r ≡ Reply.Refused inc status → refusal_counts status ticket.request job ≡ true → fits_job job ticket.request ≡ true → Q (refused (spends (begun c)) status ticket job)
     was-refused Job.attaching job inc status is counted f = absurd (cc)
-    was-refused for_call job inc status is counted f = choice Q (puts_off status) (pauses (spends (begun c))) (answers_call (spends (begun c)) (answer_of status) None) (cases.putting_off inc status (inl job) is) (cases.refusing inc status job is counted)
-    was-refused Job.renewing job inc status is counted f = choice Q (puts_off status) (pauses (spends (begun c))) (spends (begun c)) (cases.putting_off inc status (inr job) is) (cases.renewal_refused inc status job is)
+    was-refused for_call job inc status is counted f = choice Q (is_put_off status) (pauses (spends (begun c))) (answers_call (spends (begun c)) (answer_of status) None) (cases.putting_off inc status (inl job) is) (cases.refusing inc status job is counted)
+    was-refused Job.renewing job inc status is counted f = choice Q (is_put_off status) (pauses (spends (begun c))) (spends (begun c)) (cases.putting_off inc status (inr job) is) (cases.renewal_refused inc status job is)
     was-refused pushing job inc status is counted f = push-refused inc status ticket.request job refl is (not-true _ counted) f
 
     by-reply : (s : Reply) → r ≡ s → reply_counts s ticket ≡ true → Q (replied (begun c) number ticket s)

@@ -15,7 +15,7 @@ use Rattle.walk_leases.proofs.ServerLives.{HasServed, booted-kept, booted-phase,
 use Rattle.nq_model.specs.CutOff.{Ends, IsLateEnd, IsLateOpening}
 use Rattle.nq_model.specs.Journal.{Each}
 use Rattle.nq_model.specs.Kept.{host_row}
-use Rattle.nq_model.specs.LeaseInterval.{is_at_least, HasFitting, OutlivedBy, IsCovered}
+use Rattle.nq_model.specs.LeaseInterval.{claim_of, is_at_least, HasFitting, OutlivedBy, IsCovered}
 use Rattle.nq_model.specs.Profile.{skew, write_slack}
 use Rattle.nq_model.specs.Server.{Phase, serving, recovering, Server, ServerStep, standing, standing_in, quiet, with_table, keeping_with, last_table, last_in}
 use Rattle.nq_model.specs.ServerStep.{is_over, is_due, end_reading, at_time, opens, ends_writing, tick, crash, boot}
@@ -34,7 +34,7 @@ use Rattle.walk_server.proofs.TableFits.{TableFits}
 
 -- a file is bound at an incarnation that holds it with a tag
 abbrev pub IsBound : Server → Phase → Who → (file : ℕ) → Tag → Type 0
-IsBound s phase who file tag = IsCovered s phase who file Writing tag 0
+IsBound s phase who file tag = IsCovered s phase (claim_of who file Writing tag 0)
 
 -- a step of the server ended it, late enough
 pub record EndedBy (journal : List Entry) (who : Who) (file : ℕ) (t : ServerStep) : Type 0 where
@@ -43,14 +43,14 @@ pub record EndedBy (journal : List Entry) (who : Who) (file : ℕ) (t : ServerSt
   pub ends : Ends who file entry journal
 
 -- what is covered until a time is bound, where it lets its holder write
-pub covered-bound : (s : Server) (phase : Phase) (who : Who) (file : ℕ) (tag : Tag) (until : ℕ) → IsCovered s phase who file Writing tag until → IsBound s phase who file tag
+pub covered-bound : (s : Server) (phase : Phase) (who : Who) (file : ℕ) (tag : Tag) (until : ℕ) → IsCovered s phase (claim_of who file Writing tag until) → IsBound s phase who file tag
 covered-bound s serving who file tag until c = fitting s.table c
   where
-    fitting : (table : Table) → HasFitting who file Writing tag until table → HasFitting who file Writing tag 0 table
+    fitting : (table : Table) → HasFitting (claim_of who file Writing tag until) table → HasFitting (claim_of who file Writing tag 0) table
     fitting table c = record { row = c.row; stands = c.stands; fits = record { holder = c.fits.holder; of_file = c.fits.of_file; kind = c.fits.kind; began = c.fits.began; goes_on = c.fits.goes_on; ends = omega arith } }
 covered-bound s (recovering end heard last) who file tag until c = record { of_last_boot = c.of_last_boot; fitting = fitting (last_table last) c.fitting; waits = omega arith }
   where
-    fitting : (table : Table) → HasFitting who file Writing tag until table → HasFitting who file Writing tag 0 table
+    fitting : (table : Table) → HasFitting (claim_of who file Writing tag until) table → HasFitting (claim_of who file Writing tag 0) table
     fitting table c = record { row = c.row; stands = c.stands; fits = record { holder = c.fits.holder; of_file = c.fits.of_file; kind = c.fits.kind; began = c.fits.began; goes_on = c.fits.goes_on; ends = omega arith } }
 
 -- a row that is at least a writing one is one
@@ -80,7 +80,7 @@ module _ (most booted : ℕ) (s : Server) (journal : List Entry) (fits : Alone m
   opening : (now until heard : ℕ) (last : Option Table) → s.phase ≡ recovering until heard last → until ≤ now → IsBound s s.phase who file tag → StaysOrEnds (opens (at_time s now) until heard)
   unfolding opens at_time
   opening now until heard last p late b =
-      let o : OutlivedBy who file Writing tag 0 s.kept.opened until (last_table last) = subst (λ q. IsBound s q who file tag) p b in
+      let o : OutlivedBy (claim_of who file Writing tag 0) s.kept.opened until (last_table last) = subst (λ q. IsBound s q who file tag) p b in
       let row : Row = o.fitting.row in
       let r : RecoversBoot s.kept.boot s.kept.opened s.table last = subst (λ q. BootsFit s.kept.boot s.kept.opened q s.table) p fits.boots in
       let stood : TableFits s.kept.files (last_table last).boot (last_table last).drawn (last_table last).rows = subst (λ q. StandingFits s.kept.files q s.table) p fits.stands in
@@ -109,7 +109,7 @@ module _ (most booted : ℕ) (s : Server) (journal : List Entry) (fits : Alone m
   ends-reading : (now : ℕ) → s.phase ≡ serving → IsBound s s.phase who file tag → StaysOrEnds (quiet (with_table (at_time s now) (with_rows s.table (end_reading now s.table.rows))))
   unfolding quiet at_time with_table with_rows
   ends-reading now p b =
-      let k : HasFitting who file Writing tag 0 s.table = subst (λ q. IsBound s q who file tag) p b in
+      let k : HasFitting (claim_of who file Writing tag 0) s.table = subst (λ q. IsBound s q who file tag) p b in
       let t : Server = (quiet (with_table (at_time s now) (with_rows s.table (end_reading now s.table.rows)))).server in
       inl (subst (λ q. IsBound t q who file tag) (sym p) (record { row = k.row; stands = stays-reading now k.row p k.stands k.fits.kind; fits = k.fits }))
 
@@ -118,7 +118,7 @@ module _ (most booted : ℕ) (s : Server) (journal : List Entry) (fits : Alone m
   unfolding ends_writing at_time keeping_with with_rows
   ends-silently now due p ends b = by (due.file == file && due.who.host == who.host) refl
     where
-      k : HasFitting who file Writing tag 0 s.table
+      k : HasFitting (claim_of who file Writing tag 0) s.table
       k = subst (λ q. IsBound s q who file tag) p b
 
       unique-ended : HasUniqueKeys (end_reading now s.table.rows)
@@ -170,7 +170,7 @@ bound-boot s serving who file tag boots stood b =
 bound-boot s (recovering end heard last) who file tag boots stood b = b.of_last_boot
 
 -- its row stands in the standing table
-pub bound-fitting : (s : Server) (phase : Phase) (who : Who) (file : ℕ) (tag : Tag) → IsBound s phase who file tag → HasFitting who file Writing tag 0 (standing_in phase s.table)
+pub bound-fitting : (s : Server) (phase : Phase) (who : Who) (file : ℕ) (tag : Tag) → IsBound s phase who file tag → HasFitting (claim_of who file Writing tag 0) (standing_in phase s.table)
 bound-fitting s serving who file tag b = b
 bound-fitting s (recovering end heard last) who file tag b = b.fitting
 
@@ -190,7 +190,7 @@ crash-bound s longest who file tag boots stood served b =
     })
 
 -- what fits in the standing table is bound
-pub fitting-bound : (s : Server) (phase : Phase) (who : Who) (file : ℕ) (tag : Tag) → BootsFit s.kept.boot s.kept.opened phase s.table → StandingFits s.kept.files phase s.table → HasFitting who file Writing tag 0 (standing_in phase s.table) → IsBound s phase who file tag
+pub fitting-bound : (s : Server) (phase : Phase) (who : Who) (file : ℕ) (tag : Tag) → BootsFit s.kept.boot s.kept.opened phase s.table → StandingFits s.kept.files phase s.table → HasFitting (claim_of who file Writing tag 0) (standing_in phase s.table) → IsBound s phase who file tag
 fitting-bound s serving who file tag boots stood k = k
 fitting-bound s (recovering end heard last) who file tag boots stood k =
     let fits = stood.fits file who.host k.row k.stands in

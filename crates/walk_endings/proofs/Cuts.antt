@@ -3,7 +3,8 @@ use Rattle.std.proofs.Common.{◌≡◌, ℕ, true, false, List, [], ◌∷◌, 
 use Rattle.nq_base.specs.declared.Entry.{Entry}
 use Rattle.nq_base.specs.declared.Push.{Push}
 use Rattle.nq_base.specs.declared.Who.{Who}
-use Rattle.nq_model.specs.CutOff.{Ends, EndsFirst, IsCutOff, IsExcused}
+use Rattle.nq_model.proofs.Endings.{EndsIn, ends-first}
+use Rattle.nq_model.specs.CutOff.{Ends, IsCutOff, IsExcused}
 use Rattle.nq_model.specs.Hear.{loss_entry}
 use Rattle.nq_model.specs.Journal.{Exists, AtEachPlace, IsWithin, Loses}
 use Rattle.walk_run.proofs.Packets.{In}
@@ -37,7 +38,7 @@ plain-outside who file block first last e plain within = within
 
 -- the delayed writes of an entry that waits are excused: going back, an entry that ends the lease comes before the first of them
 abbrev pub IsExcusedIn : List Entry → Who → Push → Type 0
-IsExcusedIn journal who p = EndsFirst (loss_entry who p) who p.file journal
+IsExcusedIn journal who p = EndsIn (loss_entry who p) who p.file journal
 
 -- and they stay so after plain entries
 pub excused-more : (who : Who) (p : Push) (more journal : List Entry) → ArePlain more → IsExcusedIn journal who p → IsExcusedIn (more ++ journal) who p
@@ -56,7 +57,7 @@ excused-now who p e journal ends = inl ends
 
 -- a loss comes after an entry that ends the lease
 abbrev pub EndsBefore : Entry → List Entry → Type 0
-EndsBefore (Entry.L who file block first last) before = EndsFirst (Entry.L who file block first last) who file before
+EndsBefore (Entry.L who file block first last) before = EndsIn (Entry.L who file block first last) who file before
 EndsBefore other before = Unit {0}
 
 -- no loss of these covers the entry
@@ -102,7 +103,7 @@ none-now loss e after now later (inl l) = now l
 none-now loss e after now later (inr l) = later l
 
 cut-off : (after : List Entry) (e : Entry) (before : List Entry) → EndsBefore e before → (Exists (Loses e) after → ⊥) → IsCutOff after e before
-cut-off after (Entry.L who file block first last) before ends none = (ends, none)
+cut-off after (Entry.L who file block first last) before ends none = (ends-first (Entry.L who file block first last) who file before ends, none)
 cut-off after other before ends none = tt
 
 at-each-place : (after journal : List Entry) → AreCut journal → ((loss : Entry) → In journal loss → Exists (Loses loss) after → ⊥) → AtEachPlace IsCutOff after journal

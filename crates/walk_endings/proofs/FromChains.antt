@@ -14,7 +14,7 @@ use Rattle.walk_endings.proofs.HoldingReplies.{TakesFit}
 use Rattle.walk_endings.proofs.Holdings.{IsHeldBound}
 use Rattle.nq_model.specs.Client.{Client, Lease, Ticket, is_clean, lease_on, lets_write}
 use Rattle.nq_model.specs.Hear.{granted_lease}
-use Rattle.nq_model.specs.LeaseInterval.{HasFitting}
+use Rattle.nq_model.specs.LeaseInterval.{claim_of, HasFitting}
 use Rattle.nq_model.specs.Message.{Packet}
 use Rattle.nq_model.specs.Server.{Server, standing}
 use Rattle.nq_model.specs.Table.{caches, is_writing, tag_below}
@@ -40,7 +40,7 @@ module _ (s : Server) (c : Client) (ps : List Packet) (k : ChainFits s c ps) (bo
   -- the own row of a bound file
   own-row : (file : ℕ) (tag : Tag) → IsBound s s.phase c.who file tag → (row : Row) × OwnRow (standing s) c.who file row × (tag_below tag row.since ≡ false) × (is_writing row.mode ≡ true)
   own-row file tag b =
-      let f : HasFitting c.who file Writing tag 0 (standing s) = bound-fitting s s.phase c.who file tag b in
+      let f : HasFitting (claim_of c.who file Writing tag 0) (standing s) = bound-fitting s s.phase c.who file tag b in
       (f.row, record { stands = f.stands; holder = f.fits.holder }, f.fits.began, f.fits.kind)
 
   -- a file that is held writing is bound where its row stands with a chain that began no later
@@ -107,7 +107,7 @@ module _ (s : Server) (c : Client) (ps : List Packet) (k : ChainFits s c ps) (bo
         bound : IsHeldBound s c.who c.leases file → (is_writing g.mode ≡ true) × IsBound s s.phase c.who file g.tag
         bound b =
             let one : b.lease ≡ l = some-same b.lease l (sym b.held ∙ held) in
-            let f : HasFitting c.who file Writing l.tag 0 (standing s) = bound-fitting s s.phase c.who file l.tag (subst (λ z. IsBound s s.phase c.who file z.tag) one b.bound) in
+            let f : HasFitting (claim_of c.who file Writing l.tag 0) (standing s) = bound-fitting s s.phase c.who file l.tag (subst (λ z. IsBound s s.phase c.who file z.tag) one b.bound) in
             let own : OwnRow (standing s) c.who file f.row = record { stands = f.stands; holder = f.fits.holder } in (
               at-least-writing g.mode l.mode writes goes.kind,
               fitting-bound s s.phase c.who file g.tag boots stands (record {

@@ -17,7 +17,7 @@ use Rattle.walk_endings.proofs.Holdings.{view_of, IsHeldBound, IsPastLoss, fewer
 use Rattle.walk_endings.proofs.Waiting.{IsWaiting}
 use Rattle.nq_model.specs.Client.{Client, ClientStep, Lease, Ticket, begun, lets_write}
 use Rattle.nq_model.specs.ClientStep.{begins_call, is_called, says_busy, client_call, at_time, sends_again, client_tick, starts, fresh_client, next_incarnation, restart}
-use Rattle.nq_model.specs.Hear.{goes_on, evicted, cancels, replied, reply_counts, puts_off, inc_of, hear}
+use Rattle.nq_model.specs.Hear.{goes_on, evicted, cancels, replied, reply_counts, is_put_off, inc_of, hear}
 use Rattle.nq_model.specs.Kept.{host_row}
 use Rattle.nq_model.specs.LeaseInterval.{grant_in, requested_file}
 use Rattle.nq_model.specs.Message.{Message, reply}
@@ -103,7 +103,7 @@ module _ (s : Server) (journal : List Entry) where
   -- what is known of a reply that is heard: of its grant, and of the push that it refuses
   pub record HearsFit (c : Client) (ticket : Ticket) (r : Reply) : Type 0 where
     pub takes : (file : ℕ) (g : Grant) → requested_file ticket.request ≡ Some file → grant_in r ≡ Some g → TakesFit s c file g ticket.first
-    pub unbound : (p : Push) (inc : ℕ) (status : Refusal) → push_in ticket.request ≡ Some p → r ≡ Reply.Refused inc status → puts_off status ≡ false → IsHeldBound s c.who c.leases p.file → ⊥
+    pub unbound : (p : Push) (inc : ℕ) (status : Refusal) → push_in ticket.request ≡ Some p → r ≡ Reply.Refused inc status → is_put_off status ≡ false → IsHeldBound s c.who c.leases p.file → ⊥
 
   -- a datagram keeps it
   pub hear-keeps : (c : Client) (number : ℕ) (m : Message) (t : ClientStep) → hear c number m ≡ Some t → ((ticket : Ticket) → c.ticket ≡ Some ticket → fits_job ticket.job ticket.request ≡ true) → ((xid : ℕ) (r : Reply) (ticket : Ticket) → m ≡ reply xid r → c.ticket ≡ Some ticket → xid ≡ ticket.xid → inc_of r ≡ c.who.inc → reply_counts r ticket ≡ true → HearsFit c ticket r) → Mid (begun c) → Mid t

@@ -21,7 +21,7 @@ use Rattle.walk_endings.proofs.HoldingWrites.{loses as loses-writes}
 use Rattle.walk_endings.proofs.Holdings.{view_of, IsHeldBound, drops, holds as holds-lease, fewer}
 use Rattle.walk_endings.proofs.Waiting.{IsWaiting, none-waiting, waiting-dirty, left-waiting}
 use Rattle.nq_model.specs.Client.{Client, ClientStep, Lease, Notice, Ticket, begun, is_clean, lease_on, notice_on, lets_write}
-use Rattle.nq_model.specs.Hear.{vacates_lease, vacates_noticed, loses, reports, without_lease, push_refused, granted_lease, breaks, breaks_chain, holds, takes_grant, takes_optional, answers_call, caches_block, then_caches, purges, knows_revision, read_done, lease_done, marks_through, caches_write, write_done, ends_push, caches_push, push_done, spends, attached, pauses, cancels, cancelled, notes_notice, evicted, replied, reply_counts, answer_of, puts_off}
+use Rattle.nq_model.specs.Hear.{vacates_lease, vacates_noticed, loses, reports, without_lease, push_refused, granted_lease, breaks, breaks_chain, holds, takes_grant, takes_optional, answers_call, caches_block, then_caches, purges, knows_revision, read_done, lease_done, marks_through, caches_write, write_done, ends_push, caches_push, push_done, spends, attached, pauses, cancels, cancelled, notes_notice, evicted, replied, reply_counts, answer_of, is_put_off}
 use Rattle.nq_model.specs.LeaseInterval.{grant_in, requested_file}
 use Rattle.nq_model.specs.Server.{Server}
 use Rattle.nq_model.specs.Settle.{answers, names_losses}
@@ -228,7 +228,7 @@ module _ (s : Server) (journal : List Entry) where
 
   module _ (c : Client) (number : ℕ) (ticket : Ticket) (r : Reply)
       (takes : (file : ℕ) (g : Grant) → requested_file ticket.request ≡ Some file → grant_in r ≡ Some g → TakesFit s c file g ticket.first)
-      (unbound : (p : Push) (inc : ℕ) (status : Refusal) → push_in ticket.request ≡ Some p → r ≡ Reply.Refused inc status → puts_off status ≡ false → IsHeldBound s c.who c.leases p.file → ⊥)
+      (unbound : (p : Push) (inc : ℕ) (status : Refusal) → push_in ticket.request ≡ Some p → r ≡ Reply.Refused inc status → is_put_off status ≡ false → IsHeldBound s c.who c.leases p.file → ⊥)
       (h : Mid (begun c)) where
     optional : (file : ℕ) (o : Option Grant) → requested_file ticket.request ≡ Some file → grant_in r ≡ o → Mid (takes_optional (spends (begun c)) file o ticket.first)
     optional file o on gives = takes-optional-cases (spends (begun c)) file o ticket.first Mid (λ none. spent (begun c) h) (λ g is. taken c file g ticket.first (takes file g on (gives ∙ is)) h)

@@ -21,9 +21,9 @@ use Rattle.walk_endings.proofs.HoldingCalls.{HearsFit}
 use Rattle.walk_endings.proofs.Holdings.{IsHeldBound}
 use Rattle.nq_model.specs.Client.{Client, attaching, Lease, Ticket, lease_on, lets_write}
 use Rattle.nq_model.specs.Decide.{verdict_reply}
-use Rattle.nq_model.specs.Hear.{inc_of, granted_lease, puts_off}
+use Rattle.nq_model.specs.Hear.{inc_of, granted_lease, is_put_off}
 use Rattle.nq_model.specs.Kept.{host_row}
-use Rattle.nq_model.specs.LeaseInterval.{IsCovered, cover_end, grant_in, requested_file}
+use Rattle.nq_model.specs.LeaseInterval.{claim_of, IsCovered, cover_end, grant_in, requested_file}
 use Rattle.nq_model.specs.Message.{Packet, reply, sequence_of}
 use Rattle.nq_model.specs.Server.{Server}
 use Rattle.nq_model.specs.Table.{is_writing}
@@ -49,7 +49,7 @@ module _ (s : Server) (events : List Event) (host : ℕ) (c : Client) (ps : List
       let below : c.now < l.expiry = is-below c.now l.expiry both.1 in
       let until : ℕ = cover_end c.who.host (l.expiry - l.term) l.term events in
       covered-bound s s.phase c.who file l.tag until
-      (subst (λ m. IsCovered s s.phase c.who file m l.tag until) (is-writing l.mode both.0) (knows.covered.held file l held (writing-caches l.mode both.0) (omega arith)))
+      (subst (λ m. IsCovered s s.phase (claim_of c.who file m l.tag until)) (is-writing l.mode both.0) (knows.covered.held file l held (writing-caches l.mode both.0) (omega arith)))
 
   module _ (k : ChainFits s c ps) (boots : BootsFitOf s) (stands : StandingFitsOf s) (xid : ℕ) (r : Reply) (ticket : Ticket) (told : Told ps host (reply xid r)) (asked : c.ticket ≡ Some ticket) (same : xid ≡ ticket.xid) (inc : inc_of r ≡ c.who.inc) where
     takeable : (file : ℕ) (g : Grant) → requested_file ticket.request ≡ Some file → grant_in r ≡ Some g → IsTakeable ps c.who c.ticket file g ticket
@@ -62,7 +62,7 @@ module _ (s : Server) (events : List Event) (host : ℕ) (c : Client) (ps : List
         let below : c.now < ticket.first + g.term = is-below c.now (ticket.first + g.term) both.1 in
         let until : ℕ = cover_end c.who.host ticket.first g.term events in
         covered-bound s s.phase c.who file g.tag until
-        (subst (λ m. IsCovered s s.phase c.who file m g.tag until) (is-writing g.mode both.0) (knows.covered.given file g ticket takes (writing-caches g.mode both.0) below))
+        (subst (λ m. IsCovered s s.phase (claim_of c.who file m g.tag until)) (is-writing g.mode both.0) (knows.covered.given file g ticket takes (writing-caches g.mode both.0) below))
 
     no-job : (p : Push) → push_in ticket.request ≡ Some p → ticket.job ≡ attaching → ⊥
     no-job p pushes job = attaches ticket.request pushes (subst (λ j. fits_job j ticket.request ≡ true) job (a.alone.asking.ticketed ticket asked).fits)
@@ -77,7 +77,7 @@ module _ (s : Server) (events : List Event) (host : ℕ) (c : Client) (ps : List
         absurd (cc)
 
     module _ (h : (p : Push) → push_in ticket.request ≡ Some p → (n : ℕ) → sequence_of ticket.request ≡ Some n → (host_row s.kept c.who.host).inc ≡ c.who.inc → (host_row s.kept c.who.host).seq ≡ n → ((host_row s.kept c.who.host).verdict ≡ Verdict.Done → ⊥) → IsHeldBound s c.who c.leases p.file → ⊥) where
-      unbound : (p : Push) (status-inc : ℕ) (status : Refusal) → push_in ticket.request ≡ Some p → r ≡ Reply.Refused status-inc status → puts_off status ≡ false → IsHeldBound s c.who c.leases p.file → ⊥
+      unbound : (p : Push) (status-inc : ℕ) (status : Refusal) → push_in ticket.request ≡ Some p → r ≡ Reply.Refused status-inc status → is_put_off status ≡ false → IsHeldBound s c.who c.leases p.file → ⊥
       unbound p status-inc status pushes is off =
           let sh = push-shape ticket.request p pushes in
           let draws : sequence_of ticket.request ≡ Some sh.seq = ap sequence_of sh.is in

@@ -26,7 +26,7 @@ use Rattle.walk_endings.proofs.Waiting.{IsWaiting}
 use Rattle.walk_leases.proofs.ServerLives.{HasServed}
 use Rattle.nq_model.specs.Client.{Client, attaching, Lease, Ticket, lease_on}
 use Rattle.nq_model.specs.Kept.{host_row}
-use Rattle.nq_model.specs.LeaseInterval.{HasFitting}
+use Rattle.nq_model.specs.LeaseInterval.{claim_of, HasFitting}
 use Rattle.nq_model.specs.Message.{Packet, Datagram, request, asker, sequence_of}
 use Rattle.nq_model.specs.Server.{Server, standing}
 use Rattle.nq_model.specs.ServerStep.{receive, tick, crash}
@@ -45,7 +45,7 @@ use Rattle.walk_server.proofs.ServerOutcomes.{IsDeclined, base_in}
 -- a bound file's row stands writing
 bound-writing : (s : Server) (who : Who) (file : ℕ) (tag : Tag) → IsBound s s.phase who file tag → StandsWriting who file tag (standing s).rows
 bound-writing s who file tag b =
-    let f : HasFitting who file Writing tag 0 (standing s) = bound-fitting s s.phase who file tag b in
+    let f : HasFitting (claim_of who file Writing tag 0) (standing s) = bound-fitting s s.phase who file tag b in
     record { row = f.row; stands = f.stands; holder = f.fits.holder; began = f.fits.began; writes = f.fits.kind }
 
 module _ (s : Server) (events : List Event) (c : Client) (ps : List Packet) (journal : List Entry) (a : IsAt c.who.host c ps) (knows : KnowsOf (host_row s.kept c.who.host) s events c ps) (k : ChainFits s c ps) (boots : BootsFitOf s) (stands : StandingFitsOf s) (h : ClientExcused s c journal) where

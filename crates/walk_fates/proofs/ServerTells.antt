@@ -16,8 +16,8 @@ use Rattle.nq_base.specs.declared.Who.{Who}
 use Rattle.walk_client.proofs.ClientFacts.{push_in}
 use Rattle.walk_client.proofs.ClientMoves.{some-same, none-some}
 use Rattle.walk_run.proofs.Sequences.{reads-no-seq, asks-no-seq}
-use Rattle.nq_model.specs.Decide.{Decision, decides, creates, writes_through, stores, wrote, stores_recovering, resizes, removes, puts_off as puts_off_change, verdict_reply, commits, row_after}
-use Rattle.nq_model.specs.Hear.{inc_of, puts_off}
+use Rattle.nq_model.specs.Decide.{Decision, decides, creates, writes_through, stores, wrote, stores_recovering, resizes, removes, puts_off, verdict_reply, commits, row_after}
+use Rattle.nq_model.specs.Hear.{inc_of, is_put_off}
 use Rattle.nq_model.specs.Kept.{File, Kept, host_row, with_row, with_files, with_new_file}
 use Rattle.nq_model.specs.Message.{Message, Packet, reply, asker, Reason, Datagram, request, too_long, no_message, no_call, other_rpc, other_program, other_version, unknown_procedure, garbage_vacated, garbage, sequence_of}
 use Rattle.nq_model.specs.Profile.{most_hosts}
@@ -58,7 +58,7 @@ more-quiet first entries q all e (inr i) = all e i
 
 -- a reply to a request that is decided once puts it off, or is the one that the kept verdict gives
 pub data Tells (line : HostRow) (who : Who) (n : ℕ) (asks : Request) (a : Reply) : Type 0 where
-  later : (status : Refusal) → a ≡ Reply.Refused who.inc status → puts_off status ≡ true → Tells line who n asks a
+  later : (status : Refusal) → a ≡ Reply.Refused who.inc status → is_put_off status ≡ true → Tells line who n asks a
   decided : line.inc ≡ who.inc → line.seq ≡ n → a ≡ verdict_reply who.inc line.verdict line.value asks → Tells line who n asks a
 
 -- a reply of a step, where this is kept after it
@@ -287,9 +287,9 @@ module _ (ps : List Packet) (s : Server) (sender next : ℕ) (d : Datagram) (was
   no-base (Request.Write w seq file block first last (Some base) body) e = none-some base (sym e)
   no-base r e = refl
 
-  putting-off-change : (xid : ℕ) (w : Who) (seq : ℕ) (r : Request) (file : ℕ) (table : Table) → d ≡ request xid r → asker r ≡ Some w → sequence_of r ≡ Some seq → base_in r ≡ None → IsFresh s sender w seq → ServerTells ps s (commits w seq xid r (puts_off_change s w file table))
-  unfolding puts_off_change after_notices
-  putting-off-change xid w seq r file table e by sq base fresh = committed xid w seq r (puts_off_change s w file table) e by sq fresh refl (λ host x a i. notices-no-reply s.notice _ host x a i) (without none-quiet (inl (no-base r base)))
+  putting-off-change : (xid : ℕ) (w : Who) (seq : ℕ) (r : Request) (file : ℕ) (table : Table) → d ≡ request xid r → asker r ≡ Some w → sequence_of r ≡ Some seq → base_in r ≡ None → IsFresh s sender w seq → ServerTells ps s (commits w seq xid r (puts_off s w file table))
+  unfolding puts_off after_notices
+  putting-off-change xid w seq r file table e by sq base fresh = committed xid w seq r (puts_off s w file table) e by sq fresh refl (λ host x a i. notices-no-reply s.notice _ host x a i) (without none-quiet (inl (no-base r base)))
 
   creating : (xid : ℕ) (w : Who) (seq blocks : ℕ) (name : List ℕ) → d ≡ request xid (Request.Create w seq name blocks) → IsFresh s sender w seq → ServerTells ps s (commits w seq xid (Request.Create w seq name blocks) (creates s name blocks))
   unfolding creates keeping with_new_file

@@ -28,7 +28,7 @@ use Rattle.walk_fates.proofs.WritesFit.{JournalFits, PushStands, waits, stored, 
 use Rattle.nq_model.specs.Client.{Client, ClientStep, Job, attaching, for_call, pushing, renewing, Ticket, begun}
 use Rattle.nq_model.specs.ClientStep.{begins_call, is_called, says_busy, client_call, at_time, sends_again, client_tick}
 use Rattle.nq_model.specs.Decide.{verdict_reply}
-use Rattle.nq_model.specs.Hear.{wants_of, cancelled, cancels, evicted, goes_on, loses, knows_revision, ends_push, answer_of, spends, puts_off, replied, reply_counts, hear, inc_of}
+use Rattle.nq_model.specs.Hear.{wants_of, cancelled, cancels, evicted, goes_on, loses, knows_revision, ends_push, answer_of, spends, is_put_off, replied, reply_counts, hear, inc_of}
 use Rattle.nq_model.specs.Message.{Message, Packet, call, reply, sequence_of}
 use Rattle.nq_model.specs.Settle.{settle}
 use Rattle.nq_model.specs.World.{from_host}
@@ -158,7 +158,7 @@ module _ {line : HostRow} {ps : List Packet} {j : List Entry} where
           case (decided kept sq e) = absurd (undone (record { inc = kept; decided = sq; told = done-of c.who.inc line.verdict line.value ticket.request inc rev (sym is ∙ e) }))
 
       -- it was refused
-      refusal : (inc : ℕ) (status : Refusal) → r ≡ Reply.Refused inc status → puts_off status ≡ false → line.seq ≡ seq
+      refusal : (inc : ℕ) (status : Refusal) → r ≡ Reply.Refused inc status → is_put_off status ≡ false → line.seq ≡ seq
       refusal inc status is final = case (k.tells seq numbered)
         where
           case : Tells line c.who seq ticket.request r → line.seq ≡ seq
@@ -168,7 +168,7 @@ module _ {line : HostRow} {ps : List Packet} {j : List Entry} where
       done-write : (v : Verdict) → v ≡ Verdict.Done → (inc value : ℕ) → verdict_reply inc v value ticket.request ≡ Reply.Write inc value
       done-write v is inc value = ap (λ z. verdict_reply inc z value ticket.request) is ∙ ap (verdict_reply inc Verdict.Done value) asks
 
-      losable : (inc : ℕ) (status : Refusal) → r ≡ Reply.Refused inc status → puts_off status ≡ false → (p : Push) → IsPushed line c.who c.number seq j p → IsLosable c.who c.number j p
+      losable : (inc : ℕ) (status : Refusal) → r ≡ Reply.Refused inc status → is_put_off status ≡ false → (p : Push) → IsPushed line c.who c.number seq j p → IsLosable c.who c.number j p
       losable inc status is final p d = record { behind = d.behind; below = d.below; clear = clear d.stands }
         where
           refuses : IsDecidedAs line c.who seq Verdict.Done → Tells line c.who seq ticket.request r → ⊥
@@ -179,7 +179,7 @@ module _ {line : HostRow} {ps : List Packet} {j : List Entry} where
           clear (waits undone unless) n above below covers = unless n above below covers
           clear (stored now done i) n above below covers = refuses done (k.tells seq numbered)
 
-      over : (inc : ℕ) (status : Refusal) → r ≡ Reply.Refused inc status → puts_off status ≡ false → (v : Who) (q : Push) → IsOpenPush line (packets_with ps c.who.host []) c.who.host v q → v ≡ c.who → ⊥
+      over : (inc : ℕ) (status : Refusal) → r ≡ Reply.Refused inc status → is_put_off status ≡ false → (v : Who) (q : Push) → IsOpenPush line (packets_with ps c.who.host []) c.who.host v q → v ≡ c.who → ⊥
       over inc status is final v q o one =
           let asked : Asked ps c.who.host o.xid (Request.Write v o.seq q.file q.block q.first q.last (Some o.base) q.body) = subst (λ qs. Asked qs c.who.host o.xid (Request.Write v o.seq q.file q.block q.first q.last (Some o.base) q.body)) (append-nil ps) o.asked in
           let below = k.seqs.drawn o.xid _ v o.seq asked refl (ap (λ z. z.inc) one) refl in

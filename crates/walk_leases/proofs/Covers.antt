@@ -15,7 +15,7 @@ use Rattle.walk_server.proofs.Modes.{at-least-more, at-least-caching}
 use Rattle.walk_server.proofs.RowChanges.{of-key, find-put, find-marked, mark, mark-is}
 use Rattle.walk_server.proofs.Rows.{found-row}
 use Rattle.nq_model.specs.Ask.{marked, sharing_row, caching_row, shared_again, renewed_row, term_of}
-use Rattle.nq_model.specs.LeaseInterval.{is_at_least, HasFitting, IsCovered}
+use Rattle.nq_model.specs.LeaseInterval.{claim_of, is_at_least, HasFitting, IsCovered}
 use Rattle.nq_model.specs.Server.{serving, Server}
 use Rattle.nq_model.specs.Table.{Table, caches, tag_below, is_row_of, find_row, put_row, with_rows, after_draw}
 
@@ -50,7 +50,7 @@ abbrev pub GoesOnAt : (file host : ℕ) → (before after : List Row) → Type 0
 GoesOnAt file host before after =
     (was : Row) → find_row file host before ≡ Some was → caches was.mode ≡ true → (row : Row) × (find_row file host after ≡ Some row) × GoesOn was row
 
-pub fitting-goes-on : (who : Who) (file : ℕ) (mode : Mode) (tag : Tag) (until : ℕ) (before after : Table) → caches mode ≡ true → GoesOnAt file who.host before.rows after.rows → HasFitting who file mode tag until before → HasFitting who file mode tag until after
+pub fitting-goes-on : (who : Who) (file : ℕ) (mode : Mode) (tag : Tag) (until : ℕ) (before after : Table) → caches mode ≡ true → GoesOnAt file who.host before.rows after.rows → HasFitting (claim_of who file mode tag until) before → HasFitting (claim_of who file mode tag until) after
 fitting-goes-on who file mode tag until before after c goes h =
     let f = h.fits in
     let n = goes h.row h.stands (at-least-caching h.row.mode mode c f.kind) in
@@ -68,9 +68,9 @@ fitting-goes-on who file mode tag until before after c goes h =
     }
 
 -- a serving server that goes on serving
-pub covered-goes-on : (s t : Server) (who : Who) (file : ℕ) (mode : Mode) (tag : Tag) (until : ℕ) → caches mode ≡ true → s.phase ≡ serving → t.phase ≡ serving → GoesOnAt file who.host s.table.rows t.table.rows → IsCovered s s.phase who file mode tag until → IsCovered t t.phase who file mode tag until
+pub covered-goes-on : (s t : Server) (who : Who) (file : ℕ) (mode : Mode) (tag : Tag) (until : ℕ) → caches mode ≡ true → s.phase ≡ serving → t.phase ≡ serving → GoesOnAt file who.host s.table.rows t.table.rows → IsCovered s s.phase (claim_of who file mode tag until) → IsCovered t t.phase (claim_of who file mode tag until)
 covered-goes-on s t who file mode tag until c p q goes h =
-    subst (λ x. IsCovered t x who file mode tag until) (sym q) (fitting-goes-on who file mode tag until s.table t.table c goes (subst (λ x. IsCovered s x who file mode tag until) p h))
+    subst (λ x. IsCovered t x (claim_of who file mode tag until)) (sym q) (fitting-goes-on who file mode tag until s.table t.table c goes (subst (λ x. IsCovered s x (claim_of who file mode tag until)) p h))
 
 -- ---- the changes of a table
 

@@ -21,7 +21,7 @@ use Rattle.nq_model.specs.Client.{Client, ClientStep, Ticket}
 use Rattle.nq_model.specs.ClientStep.{client_call, client_tick, restart, fresh_client, attached_client}
 use Rattle.nq_model.specs.Hear.{inc_of, hear}
 use Rattle.nq_model.specs.Kept.{fresh_row, host_row}
-use Rattle.nq_model.specs.LeaseInterval.{IsCovered, cover_end, CanTake, HeldAreCovered, TakeableAreCovered, KeepsLeaseInterval}
+use Rattle.nq_model.specs.LeaseInterval.{claim_of, IsCovered, cover_end, CanTake, HeldAreCovered, TakeableAreCovered, KeepsLeaseInterval}
 use Rattle.nq_model.specs.Message.{Message, reply}
 use Rattle.nq_model.specs.Server.{Server, ServerStep}
 use Rattle.nq_model.specs.ServerStep.{boot}
@@ -116,7 +116,7 @@ held-covered : (w : World) (events : List Event) → Holds w → Known w events 
 held-covered w events held h host c l is holds caching runs =
     let a = held.clients host c is in
     let past = (a.alone.asking.leased l.file l holds).term in
-    subst (λ n. IsCovered w.server w.server.phase c.who l.file l.mode l.tag (cover_end n (l.expiry - l.term) l.term events)) a.here
+    subst (λ n. IsCovered w.server w.server.phase (claim_of c.who l.file l.mode l.tag (cover_end n (l.expiry - l.term) l.term events))) a.here
     ((h.clients host c is).covered.held l.file l holds caching (omega arith))
 
 pub takeable : (w : World) (host : ℕ) (c : Client) (t : Ticket) (file : ℕ) (g : Grant) → IsAt host c w.packets → Holds w → CanTake w host c t file g → IsTakeable w.packets c.who c.ticket file g t
@@ -139,7 +139,7 @@ takeable w host c t file g a held k = record {
 takeable-covered : (w : World) (events : List Event) → Holds w → Known w events → TakeableAreCovered w events
 takeable-covered w events held h host c t file g is can caching runs =
     let a = held.clients host c is in
-    subst (λ n. IsCovered w.server w.server.phase c.who file g.mode g.tag (cover_end n t.first g.term events)) a.here
+    subst (λ n. IsCovered w.server w.server.phase (claim_of c.who file g.mode g.tag (cover_end n t.first g.term events))) a.here
     ((h.clients host c is).covered.given file g t (takeable w host c t file g a held can) caching runs)
 
 -- what each client and the server know of each other keeps the lease interval

@@ -31,7 +31,7 @@ use Rattle.nq_model.specs.Ask.{marked}
 use Rattle.nq_model.specs.Client.{Lease, Notice, Ticket}
 use Rattle.nq_model.specs.Decide.{Decision, decides, creates, writes_through, stores, wrote, stores_recovering, resizes, removes, puts_off, in_the_way, verdict_reply, commits, row_after}
 use Rattle.nq_model.specs.Kept.{File, host_row, with_row, with_files, with_new_file}
-use Rattle.nq_model.specs.LeaseInterval.{is_at_least, HasFitting, IsCovered, requested_file}
+use Rattle.nq_model.specs.LeaseInterval.{claim_of, is_at_least, HasFitting, IsCovered, requested_file}
 use Rattle.nq_model.specs.Message.{Packet, reply, asker, Datagram, request, sequence_of}
 use Rattle.nq_model.specs.Profile.{write_slack, most_hosts}
 use Rattle.nq_model.specs.Server.{Phase, serving, recovering, Server, ServerStep, standing_in, to_host, quiet, after_notices, keeping, keeping_with, with_table}
@@ -39,12 +39,12 @@ use Rattle.nq_model.specs.ServerStep.{attaches, vacates, vacated_rows}
 use Rattle.nq_model.specs.Table.{Table, caches, same_tag, tag_below, find_row, drop_row, drop_host, drop_rows_of, with_rows}
 
 -- a cover stays where it does in the table, and the boot that served last is the same
-pub covered-tables : (s t : Server) (phase : Phase) (who : Who) (file : ℕ) (mode : Mode) (tag : Tag) (until : ℕ) → t.kept.opened ≡ s.kept.opened → (phase ≡ serving → HasFitting who file mode tag until s.table → HasFitting who file mode tag until t.table) → IsCovered s phase who file mode tag until → IsCovered t phase who file mode tag until
+pub covered-tables : (s t : Server) (phase : Phase) (who : Who) (file : ℕ) (mode : Mode) (tag : Tag) (until : ℕ) → t.kept.opened ≡ s.kept.opened → (phase ≡ serving → HasFitting (claim_of who file mode tag until) s.table → HasFitting (claim_of who file mode tag until) t.table) → IsCovered s phase (claim_of who file mode tag until) → IsCovered t phase (claim_of who file mode tag until)
 covered-tables s t serving who file mode tag until same table c = table refl c
 covered-tables s t (recovering end heard last) who file mode tag until same table c = record { of_last_boot = c.of_last_boot ∙ sym same; fitting = c.fitting; waits = c.waits }
 
-pub same-cover-table : (s t : Server) (phase : Phase) (who : Who) (file : ℕ) (mode : Mode) (tag : Tag) (until : ℕ) → t.kept.opened ≡ s.kept.opened → t.table ≡ s.table → IsCovered s phase who file mode tag until → IsCovered t phase who file mode tag until
-same-cover-table s t phase who file mode tag until same table c = covered-tables s t phase who file mode tag until same (λ p k. subst (HasFitting who file mode tag until) (sym table) k) c
+pub same-cover-table : (s t : Server) (phase : Phase) (who : Who) (file : ℕ) (mode : Mode) (tag : Tag) (until : ℕ) → t.kept.opened ≡ s.kept.opened → t.table ≡ s.table → IsCovered s phase (claim_of who file mode tag until) → IsCovered t phase (claim_of who file mode tag until)
+same-cover-table s t phase who file mode tag until same table c = covered-tables s t phase who file mode tag until same (λ p k. subst (HasFitting (claim_of who file mode tag until)) (sym table) k) c
 
 -- a change of rows leaves the drawn tags
 drawn-rows : (phase : Phase) (table after : Table) (tag : Tag) → after.boot ≡ table.boot → after.drawn ≡ table.drawn → IsDrawn (standing_in phase table).boot (standing_in phase table).drawn tag → IsDrawn (standing_in phase after).boot (standing_in phase after).drawn tag
@@ -180,11 +180,11 @@ module _ (ps : List Packet) (s : Server) (most sender next : ℕ) (d : Datagram)
         grows = λ tag drawn. subst (λ n. IsDrawn (standing_in n s.table).boot (standing_in n s.table).drawn tag) p drawn;
         opened = refl;
         longest = refl;
-        covers = λ file mode tag end claim caching cover. longer file mode tag end (subst (λ n. IsCovered s n who file mode tag end) p cover);
+        covers = λ file mode tag end claim caching cover. longer file mode tag end (subst (λ n. IsCovered s n (claim_of who file mode tag end)) p cover);
         said = commit-said w seq x r k e refl refl fresh refl (nothing-said t.server);
       }
     where
-      longer : (file : ℕ) (mode : Mode) (tag : Tag) (end : ℕ) → IsCovered s (recovering until heard last) who file mode tag end → IsCovered (commits w seq x (Request.Write w seq f.id block first final (Some base) body) (stores_recovering s until last w f block first final body)).server (recovering (max until (s.now + write_slack)) s.now last) who file mode tag end
+      longer : (file : ℕ) (mode : Mode) (tag : Tag) (end : ℕ) → IsCovered s (recovering until heard last) (claim_of who file mode tag end) → IsCovered (commits w seq x (Request.Write w seq f.id block first final (Some base) body) (stores_recovering s until last w f block first final body)).server (recovering (max until (s.now + write_slack)) s.now last) (claim_of who file mode tag end)
       longer file mode tag end cover = record { of_last_boot = cover.of_last_boot; fitting = cover.fitting; waits = let before = cover.waits in omega arith }
 
   -- ---- a file is taken away
@@ -218,14 +218,14 @@ module _ (ps : List Packet) (s : Server) (most sender next : ℕ) (d : Datagram)
   both-false b is isnt = absurd (cc)
 
   -- where no row of another host is in the way of a change of a file, the others have no caching row of it
-  other-change : (w : Who) (f : File) → clash_with s f.id w.host ≡ None → who.host ≢ w.host → (mode : Mode) (tag : Tag) (until : ℕ) → caches mode ≡ true → HasFitting who f.id mode tag until s.table → ⊥
+  other-change : (w : Who) (f : File) → clash_with s f.id w.host ≡ None → who.host ≢ w.host → (mode : Mode) (tag : Tag) (until : ℕ) → caches mode ≡ true → HasFitting (claim_of who f.id mode tag until) s.table → ⊥
   other-change w f none other mode tag until caching k =
       both-false (caches k.row.mode) (caching-row k.row.mode mode caching k.fits.kind) (no-clash f.id w.host Access.Write who.host s.table.rows k.row none k.stands other)
 
-  removed-covers : (x : ℕ) (w : Who) (seq q : ℕ) (f : File) → d ≡ request x (Request.Remove w seq q f.id) → IsFresh s sender w seq → clash_with s f.id w.host ≡ None → (after : Table) → after.rows ≡ drop_rows_of f.id s.table.rows → (file : ℕ) (mode : Mode) (tag : Tag) (until : ℕ) → IsClaimed ps who ticket leased file tag → caches mode ≡ true → HasFitting who file mode tag until s.table → HasFitting who file mode tag until after
+  removed-covers : (x : ℕ) (w : Who) (seq q : ℕ) (f : File) → d ≡ request x (Request.Remove w seq q f.id) → IsFresh s sender w seq → clash_with s f.id w.host ≡ None → (after : Table) → after.rows ≡ drop_rows_of f.id s.table.rows → (file : ℕ) (mode : Mode) (tag : Tag) (until : ℕ) → IsClaimed ps who ticket leased file tag → caches mode ≡ true → HasFitting (claim_of who file mode tag until) s.table → HasFitting (claim_of who file mode tag until) after
   removed-covers x w seq q f e fresh none after rows file mode tag until claim caching k = step (file == f.id) refl (who.host == w.host) refl
     where
-      step : (b : Bool) → (file == f.id) ≡ b → (own : Bool) → (who.host == w.host) ≡ own → HasFitting who file mode tag until after
+      step : (b : Bool) → (file == f.id) ≡ b → (own : Bool) → (who.host == w.host) ≡ own → HasFitting (claim_of who file mode tag until) after
       step false differs own g = record {
         row = k.row;
         stands = ap (find_row file who.host) rows ∙ find-other-file-dropped f.id who.host file s.table.rows (λ same. both-false (file == f.id) (number-same file f.id same) differs) ∙ k.stands;
@@ -236,7 +236,7 @@ module _ (ps : List Packet) (s : Server) (most sender next : ℕ) (d : Datagram)
           absurd (own-change x w seq f.id (Request.Remove w seq q f.id) e refl refl fresh refl refl (same-number who.host w.host g) tag (subst (λ n. IsClaimed ps who ticket leased n tag) one claim))
       step true same false g =
           let one : file ≡ f.id = same-number file f.id same in
-          absurd (other-change w f none (λ own. both-false (who.host == w.host) (number-same who.host w.host own) g) mode tag until caching (subst (λ n. HasFitting who n mode tag until s.table) one k))
+          absurd (other-change w f none (λ own. both-false (who.host == w.host) (number-same who.host w.host own) g) mode tag until caching (subst (λ n. HasFitting (claim_of who n mode tag until) s.table) one k))
 
   pub removes-effect : (x : ℕ) (w : Who) (seq q : ℕ) (f : File) → d ≡ request x (Request.Remove w seq q f.id) → IsChanging s sender w seq f → clash_with s f.id w.host ≡ None → Effect ps s (commits w seq x (Request.Remove w seq q f.id) (removes s w q f)) who ticket leased
   unfolding commits keeping keeping_with removes with_row with_files with_rows
@@ -258,10 +258,10 @@ module _ (ps : List Packet) (s : Server) (most sender next : ℕ) (d : Datagram)
   attached-line : (w : Who) → IsFrom sender w → host_row (with_row s.kept w.host (first_line w)) w.host ≡ first_line w
   attached-line w from = own-line s.kept w.host (first_line w) (let few = from.possible in let all = c.lines in omega arith)
 
-  attached-covers : (x : ℕ) (w : Who) → d ≡ request x (Request.Attach w) → IsFrom sender w → (line_of s w).inc < w.inc → (after : Table) → after.rows ≡ drop_host w.host s.table.rows → (file : ℕ) (mode : Mode) (tag : Tag) (until : ℕ) → IsClaimed ps who ticket leased file tag → HasFitting who file mode tag until s.table → HasFitting who file mode tag until after
+  attached-covers : (x : ℕ) (w : Who) → d ≡ request x (Request.Attach w) → IsFrom sender w → (line_of s w).inc < w.inc → (after : Table) → after.rows ≡ drop_host w.host s.table.rows → (file : ℕ) (mode : Mode) (tag : Tag) (until : ℕ) → IsClaimed ps who ticket leased file tag → HasFitting (claim_of who file mode tag until) s.table → HasFitting (claim_of who file mode tag until) after
   attached-covers x w e from later after rows file mode tag until claim k = step (who.host == w.host) refl
     where
-      step : (own : Bool) → (who.host == w.host) ≡ own → HasFitting who file mode tag until after
+      step : (own : Bool) → (who.host == w.host) ≡ own → HasFitting (claim_of who file mode tag until) after
       step true g =
           let own : who.host ≡ w.host = same-number who.host w.host g in
           let kept : (host_row s.kept who.host).inc ≡ who.inc = kept-inc file tag claim in
@@ -311,7 +311,7 @@ module _ (ps : List Packet) (s : Server) (most sender next : ℕ) (d : Datagram)
   not-given-up : (row given claimed : Tag) → same_tag row given ≡ true → tag_below given claimed ≡ true → tag_below row claimed ≡ false → ⊥
   not-given-up row given claimed same below goes_on = absurd (grind (arith, nat_tests))
 
-  vacated-stands : (x : ℕ) (w : Who) (f : ℕ) (given : Tag) → d ≡ request x (Request.Vacated w f given) → IsCurrent s sender w → (file : ℕ) (mode : Mode) (tag : Tag) (until : ℕ) → IsClaimed ps who ticket leased file tag → (k : HasFitting who file mode tag until s.table) → (o : Option Row) → find_row f w.host s.table.rows ≡ o → find_row file who.host (vacated_rows w f given s.table.rows o) ≡ Some k.row
+  vacated-stands : (x : ℕ) (w : Who) (f : ℕ) (given : Tag) → d ≡ request x (Request.Vacated w f given) → IsCurrent s sender w → (file : ℕ) (mode : Mode) (tag : Tag) (until : ℕ) → IsClaimed ps who ticket leased file tag → (k : HasFitting (claim_of who file mode tag until) s.table) → (o : Option Row) → find_row f w.host s.table.rows ≡ o → find_row file who.host (vacated_rows w f given s.table.rows o) ≡ Some k.row
   vacated-stands x w f given e current file mode tag until claim k None found = k.stands
   vacated-stands x w f given e current file mode tag until claim k (Some row) found = step (row.who.inc == w.inc && same_tag row.tag given) refl
     where

@@ -27,7 +27,7 @@ use Rattle.walk_server.proofs.TableFits.{TableFits}
 use Rattle.walk_run.proofs.TagFacts.{IsDrawn}
 use Rattle.nq_model.specs.Client.{Lease, Notice, Ticket}
 use Rattle.nq_model.specs.Kept.{File, Kept, host_row, find_file, with_files}
-use Rattle.nq_model.specs.LeaseInterval.{HasFitting, OutlivedBy, IsCovered, cover_end}
+use Rattle.nq_model.specs.LeaseInterval.{claim_of, HasFitting, OutlivedBy, IsCovered, cover_end}
 use Rattle.nq_model.specs.Message.{Packet}
 use Rattle.nq_model.specs.Profile.{skew, write_slack}
 use Rattle.nq_model.specs.Server.{Phase, serving, recovering, Server, standing, standing_in, quiet, keeping_with, with_table, last_table, last_in}
@@ -40,7 +40,7 @@ pub record Lives (s t : Server) (e : Event) (events : List Event) (who : Who) (n
   pub line : host_row t.kept who.host ≡ host_row s.kept who.host
   pub grows : (tag : Tag) → IsDrawn (standing s).boot (standing s).drawn tag → IsDrawn (standing t).boot (standing t).drawn tag
   pub short : (tag : Tag) (term : ℕ) → IsDrawn (standing s).boot (standing s).drawn tag → IsShort s tag term → IsShort t tag term
-  pub covers : (file : ℕ) (mode : Mode) (tag : Tag) (asked term : ℕ) → caches mode ≡ true → asked ≤ now → now < asked + term → IsShort s tag term → IsCovered s s.phase who file mode tag (cover_end who.host asked term events) → IsCovered t t.phase who file mode tag (cover_end who.host asked term (e ∷ events))
+  pub covers : (file : ℕ) (mode : Mode) (tag : Tag) (asked term : ℕ) → caches mode ≡ true → asked ≤ now → now < asked + term → IsShort s tag term → IsCovered s s.phase (claim_of who file mode tag (cover_end who.host asked term events)) → IsCovered t t.phase (claim_of who file mode tag (cover_end who.host asked term (e ∷ events)))
 
 -- such a step keeps what a client and the server know of each other
 pub lives-knows : (s t : Server) (e : Event) (events : List Event) (who : Who) (now : ℕ) (attached : Bool) (ticket : Option Ticket) (leases : List Lease) (notices : List Notice) (ps : List Packet) → Timely s events who now ticket leases → Lives s t e events who now → Knows NoneHeard NoneGiven (host_row s.kept who.host) s events who now attached ticket leases notices ps → Knows NoneHeard NoneGiven (host_row t.kept who.host) t (e ∷ events) who now attached ticket leases notices ps
@@ -70,7 +70,7 @@ lives-knows s t e events who now attached ticket leases notices ps times f h = r
 pub between : (boot : ℕ) (since tag latest : Tag) → since.boot ≡ boot → latest.boot ≡ boot → tag_below tag since ≡ false → tag_below latest tag ≡ false → tag.boot ≡ boot
 between boot since tag latest a b c e = grind (arith, nat_tests)
 
-covered-boot : (s : Server) (phase : Phase) (who : Who) (file : ℕ) (mode : Mode) (tag : Tag) (until : ℕ) → BootsFit s.kept.boot s.kept.opened phase s.table → StandingFits s.kept.files phase s.table → IsCovered s phase who file mode tag until → tag.boot ≡ s.kept.opened
+covered-boot : (s : Server) (phase : Phase) (who : Who) (file : ℕ) (mode : Mode) (tag : Tag) (until : ℕ) → BootsFit s.kept.boot s.kept.opened phase s.table → StandingFits s.kept.files phase s.table → IsCovered s phase (claim_of who file mode tag until) → tag.boot ≡ s.kept.opened
 covered-boot s serving who file mode tag until boots stood c =
     let k = stood.fits file who.host c.row c.stands in
     between s.table.boot c.row.since tag c.row.tag k.since_boot k.tag_boot c.fits.began c.fits.goes_on ∙ boots.table_boot ∙ sym boots.opened_now
@@ -97,7 +97,7 @@ module _ (s : Server) (hosts most : ℕ) (events : List Event) (who : Who) (now 
   same-end : (asked term : ℕ) → asked ≤ now → cover_end who.host asked term (Event.ServerTick ∷ events) ≡ cover_end who.host asked term events
   same-end asked term past = same-cover who.host asked term Event.ServerTick events (omega arith)
 
-  boot-of : (file : ℕ) (mode : Mode) (tag : Tag) (until : ℕ) → IsCovered s s.phase who file mode tag until → tag.boot ≡ s.kept.opened
+  boot-of : (file : ℕ) (mode : Mode) (tag : Tag) (until : ℕ) → IsCovered s s.phase (claim_of who file mode tag until) → tag.boot ≡ s.kept.opened
   boot-of file mode tag until c = covered-boot s s.phase who file mode tag until boots stood c
 
   own-table : s.phase ≡ serving → TableFits s.kept.files s.table.boot s.table.drawn s.table.rows
@@ -136,13 +136,13 @@ module _ (s : Server) (hosts most : ℕ) (events : List Event) (who : Who) (now 
           not-due row later (subst (λ r. is_due (s.now + 1) r ≡ true) (sym one) (find-passes (is_due (s.now + 1)) due (end_reading (s.now + 1) s.table.rows) ends))
 
   -- a serving server that goes on serving, whose row of a lease that runs stays
-  serves-on : (t : Server) → s.phase ≡ serving → t.phase ≡ serving → ((file : ℕ) (row : Row) → find_row file who.host s.table.rows ≡ Some row → s.now + 1 < row.until → find_row file who.host t.table.rows ≡ Some row) → (file : ℕ) (mode : Mode) (tag : Tag) (asked term : ℕ) → caches mode ≡ true → asked ≤ now → now < asked + term → IsShort s tag term → IsCovered s s.phase who file mode tag (cover_end who.host asked term events) → IsCovered t t.phase who file mode tag (cover_end who.host asked term (Event.ServerTick ∷ events))
+  serves-on : (t : Server) → s.phase ≡ serving → t.phase ≡ serving → ((file : ℕ) (row : Row) → find_row file who.host s.table.rows ≡ Some row → s.now + 1 < row.until → find_row file who.host t.table.rows ≡ Some row) → (file : ℕ) (mode : Mode) (tag : Tag) (asked term : ℕ) → caches mode ≡ true → asked ≤ now → now < asked + term → IsShort s tag term → IsCovered s s.phase (claim_of who file mode tag (cover_end who.host asked term events)) → IsCovered t t.phase (claim_of who file mode tag (cover_end who.host asked term (Event.ServerTick ∷ events)))
   serves-on t p q stays file mode tag asked term caching past runs short c =
       let until : ℕ = cover_end who.host asked term events in
       let later : s.now + 1 < until = live tag asked term past runs short (boot-of file mode tag until c) in
-      let k : HasFitting who file mode tag until s.table = subst (λ n. IsCovered s n who file mode tag until) p c in
-      subst (λ n. IsCovered t t.phase who file mode tag n) (sym (same-end asked term past))
-      (subst (λ n. IsCovered t n who file mode tag until) (sym q)
+      let k : HasFitting (claim_of who file mode tag until) s.table = subst (λ n. IsCovered s n (claim_of who file mode tag until)) p c in
+      subst (λ n. IsCovered t t.phase (claim_of who file mode tag n)) (sym (same-end asked term past))
+      (subst (λ n. IsCovered t n (claim_of who file mode tag until)) (sym q)
       (record { row = k.row; stands = stays file k.row k.stands (let ends = k.fits.ends in omega arith); fits = k.fits }))
 
   drawn-same : (t : Server) → s.phase ≡ serving → t.phase ≡ serving → t.table.boot ≡ s.table.boot → t.table.drawn ≡ s.table.drawn → (tag : Tag) → IsDrawn (standing s).boot (standing s).drawn tag → IsDrawn (standing t).boot (standing t).drawn tag
@@ -158,7 +158,7 @@ module _ (s : Server) (hosts most : ℕ) (events : List Event) (who : Who) (now 
     grows = λ tag k. k;
     short = λ tag term k short. short;
     covers = λ file mode tag asked term caching past runs short c.
-        subst (λ n. IsCovered (quiet (at_time s (s.now + 1))).server s.phase who file mode tag n) (sym (same-end asked term past))
+        subst (λ n. IsCovered (quiet (at_time s (s.now + 1))).server s.phase (claim_of who file mode tag n)) (sym (same-end asked term past))
         (same-cover-table s (quiet (at_time s (s.now + 1))).server s.phase who file mode tag (cover_end who.host asked term events) refl refl c);
   }
 
@@ -176,7 +176,7 @@ module _ (s : Server) (hosts most : ℕ) (events : List Event) (who : Who) (now 
         grows = λ tag k. grown tag (of-last tag k r);
         short = λ tag term k short same. absurd (earlier-boot s.kept.boot s.kept.opened (last_table last).drawn tag r.opened_before (of-last tag k r) same);
         covers = λ file mode tag asked term caching past runs short c.
-            let o : OutlivedBy who file mode tag (cover_end who.host asked term events) s.kept.opened until (last_table last) = subst (λ n. IsCovered s n who file mode tag (cover_end who.host asked term events)) p c in
+            let o : OutlivedBy (claim_of who file mode tag (cover_end who.host asked term events)) s.kept.opened until (last_table last) = subst (λ n. IsCovered s n (claim_of who file mode tag (cover_end who.host asked term events))) p c in
             let later : s.now + 1 < cover_end who.host asked term events = live tag asked term past runs short o.of_last_boot in
             let ends = o.waits in
             absurd (omega arith);
@@ -254,13 +254,13 @@ booted-phase opened longest now last served = by (opened == 0) refl
 
 module _ (s : Server) (longest : ℕ) (events : List Event) (who : Who) (now : ℕ) (boots : BootsFitOf s) (stood : StandingFitsOf s) (served : HasServed s.kept) (client : now ≡ ticks_of who.host events) (clock : s.now ≡ server_ticks events) where
   -- what is covered stands in the standing table
-  standing-fitting : (phase : Phase) (file : ℕ) (mode : Mode) (tag : Tag) (until : ℕ) → IsCovered s phase who file mode tag until → HasFitting who file mode tag until (standing_in phase s.table)
+  standing-fitting : (phase : Phase) (file : ℕ) (mode : Mode) (tag : Tag) (until : ℕ) → IsCovered s phase (claim_of who file mode tag until) → HasFitting (claim_of who file mode tag until) (standing_in phase s.table)
   standing-fitting serving file mode tag until c = c
   standing-fitting (recovering end heard last) file mode tag until c = c.fitting
 
-  outlived : (t : Server) (file : ℕ) (mode : Mode) (tag : Tag) (until : ℕ) → t.phase ≡ recovering (s.now + s.kept.longest + (skew + write_slack)) s.now (last_in s.phase s.table) → t.kept.opened ≡ s.kept.opened → until ≤ s.now + s.kept.longest + (skew + write_slack) → IsCovered s s.phase who file mode tag until → IsCovered t t.phase who file mode tag until
+  outlived : (t : Server) (file : ℕ) (mode : Mode) (tag : Tag) (until : ℕ) → t.phase ≡ recovering (s.now + s.kept.longest + (skew + write_slack)) s.now (last_in s.phase s.table) → t.kept.opened ≡ s.kept.opened → until ≤ s.now + s.kept.longest + (skew + write_slack) → IsCovered s s.phase (claim_of who file mode tag until) → IsCovered t t.phase (claim_of who file mode tag until)
   outlived t file mode tag until p same waits c =
-      subst (λ n. IsCovered t n who file mode tag until) (sym p)
+      subst (λ n. IsCovered t n (claim_of who file mode tag until)) (sym p)
       (record {
         of_last_boot = covered-boot s s.phase who file mode tag until boots stood c ∙ sym same;
         fitting = standing-fitting s.phase file mode tag until c;
@@ -282,7 +282,7 @@ module _ (s : Server) (longest : ℕ) (events : List Event) (who : Who) (now : �
         covers = λ file mode tag asked term caching past runs short c.
             let few = short (covered-boot s s.phase who file mode tag (cover_end who.host asked term events) boots stood c) in
             let before = moment-past who.host asked events (omega arith) in
-            subst (λ n. IsCovered t t.phase who file mode tag n) (sym (same-cover who.host asked term (Event.Crash longest) events (omega arith)))
+            subst (λ n. IsCovered t t.phase (claim_of who file mode tag n)) (sym (same-cover who.host asked term (Event.Crash longest) events (omega arith)))
             (outlived t file mode tag (cover_end who.host asked term events) p same (omega arith) c);
       }
 

@@ -26,7 +26,7 @@ use Rattle.walk_run.proofs.Worlds.{Going, IsAt, begun-going, timed-going}
 use Rattle.nq_model.specs.Client.{Client, ClientStep, begun, attaching, Lease, Notice, Ticket, lease_on}
 use Rattle.nq_model.specs.ClientStep.{client_call, client_tick, at_time}
 use Rattle.nq_model.specs.Hear.{inc_of, is_of_procedure, refusal_counts, is_reply_to, reply_counts, hear, hear_reply, hear_notice, hear_call, goes_on, replied, holds_later, evicted, cancels}
-use Rattle.nq_model.specs.LeaseInterval.{IsCovered}
+use Rattle.nq_model.specs.LeaseInterval.{claim_of, IsCovered}
 use Rattle.nq_model.specs.Message.{Message, Packet, call, reply, error, asker, sequence_of}
 use Rattle.nq_model.specs.Server.{Server, standing}
 use Rattle.nq_model.specs.Skew.{ticks_of}
@@ -42,11 +42,11 @@ KnowsOf line s events c ps = Knows NoneHeard NoneGiven line s events c.who c.now
 pub cover-passes : {s : Server} {events : List Event} {who : Who} {now : ℕ} {ticket : Option Ticket} {leases : List Lease} {ps : List Packet} (e : Event) (later : ℕ) → now ≡ ticks_of who.host events → now ≤ later → ((file : ℕ) (l : Lease) → lease_on file leases ≡ Some l → IsLease now l) → ((t : Ticket) → ticket ≡ Some t → t.first ≤ now) → CoverFits s events who now ticket leases ps → CoverFits s (e ∷ events) who later ticket leases ps
 cover-passes {s = s} {events = events} {who = who} {now = now} e later clock more leased asked h = record {
   held = λ file l is c runs.
-      subst (λ n. IsCovered s s.phase who file l.mode l.tag n) (sym (same-cover who.host (l.expiry - l.term) l.term e events (let k = leased file l is in let a = k.term in let b = k.past in omega arith)))
+      subst (λ n. IsCovered s s.phase (claim_of who file l.mode l.tag n)) (sym (same-cover who.host (l.expiry - l.term) l.term e events (let k = leased file l is in let a = k.term in let b = k.past in omega arith)))
       (h.held file l is c (omega arith));
   held_short = h.held_short;
   given = λ file g t k c runs.
-      subst (λ n. IsCovered s s.phase who file g.mode g.tag n) (sym (same-cover who.host t.first g.term e events (let a = asked t k.asked in omega arith)))
+      subst (λ n. IsCovered s s.phase (claim_of who file g.mode g.tag n)) (sym (same-cover who.host t.first g.term e events (let a = asked t k.asked in omega arith)))
       (h.given file g t k c (omega arith));
   given_short = h.given_short;
 }

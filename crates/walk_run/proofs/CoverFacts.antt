@@ -10,7 +10,7 @@ use Rattle.nq_model.proofs.ClientLists.{marked-before, marked-tag, marked-mode, 
 use Rattle.walk_run.proofs.Packets.{Told}
 use Rattle.nq_model.specs.Client.{Lease, Ticket, lease_on, drop_lease, put_lease, used_lease}
 use Rattle.nq_model.specs.Hear.{inc_of}
-use Rattle.nq_model.specs.LeaseInterval.{IsCovered, cover_end, grant_in, requested_file}
+use Rattle.nq_model.specs.LeaseInterval.{claim_of, IsCovered, cover_end, grant_in, requested_file}
 use Rattle.nq_model.specs.Message.{Packet, reply}
 use Rattle.nq_model.specs.Server.{Server}
 use Rattle.nq_model.specs.Table.{caches}
@@ -18,7 +18,7 @@ use Rattle.nq_model.specs.Table.{caches}
 -- a lease that was asked for at a time with a term is covered, while the holder's clock is below its end
 abbrev pub IsCoveredWhile : Server → List Event → Who → (now file : ℕ) → Mode → Tag → (asked term : ℕ) → Type 0
 IsCoveredWhile s events who now file mode tag asked term =
-    now < asked + term → IsCovered s s.phase who file mode tag (cover_end who.host asked term events)
+    now < asked + term → IsCovered s s.phase (claim_of who file mode tag (cover_end who.host asked term events))
 
 -- and it is no longer than the kept longest term, if it is of the boot that served last
 abbrev pub IsShort : Server → Tag → (term : ℕ) → Type 0

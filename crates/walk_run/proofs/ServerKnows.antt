@@ -21,7 +21,7 @@ use Rattle.walk_run.proofs.TagFacts.{IsDrawn, TagsFit}
 use Rattle.nq_model.specs.Client.{Lease, Notice, Ticket, lease_on}
 use Rattle.nq_model.specs.Hear.{inc_of}
 use Rattle.nq_model.specs.Kept.{host_row}
-use Rattle.nq_model.specs.LeaseInterval.{is_at_least, IsCovered, cover_end, grant_in, requested_file}
+use Rattle.nq_model.specs.LeaseInterval.{claim_of, is_at_least, IsCovered, cover_end, grant_in, requested_file}
 use Rattle.nq_model.specs.Message.{Packet, call, reply, error, RpcError, asker, sequence_of}
 use Rattle.nq_model.specs.Profile.{skew}
 use Rattle.nq_model.specs.Server.{serving, Server, ServerStep, standing, to_host}
@@ -89,7 +89,7 @@ pub record Effect (ps : List Packet) (s : Server) (t : ServerStep) (who : Who) (
   pub grows : (tag : Tag) → IsDrawn (standing s).boot (standing s).drawn tag → IsDrawn (standing t.server).boot (standing t.server).drawn tag
   pub opened : t.server.kept.opened ≡ s.kept.opened
   pub longest : t.server.kept.longest ≡ s.kept.longest
-  pub covers : (file : ℕ) (mode : Mode) (tag : Tag) (until : ℕ) → IsClaimed ps who ticket leases file tag → caches mode ≡ true → IsCovered s s.phase who file mode tag until → IsCovered t.server t.server.phase who file mode tag until
+  pub covers : (file : ℕ) (mode : Mode) (tag : Tag) (until : ℕ) → IsClaimed ps who ticket leases file tag → caches mode ≡ true → IsCovered s s.phase (claim_of who file mode tag until) → IsCovered t.server t.server.phase (claim_of who file mode tag until)
   pub said : (q : Packet) → In t.sends q → IsNew ps s t.server q
 
 -- when the client asked, by its clock and the server's
@@ -303,7 +303,7 @@ module _ (ps : List Packet) (s : Server) (events : List Event) (e : Event) (t : 
 
   held-after : (file : ℕ) (l : Lease) → lease_on file leases ≡ Some l → caches l.mode ≡ true → IsCoveredWhile t.server (e ∷ events) who now file l.mode l.tag (l.expiry - l.term) l.term
   held-after file l is c runs =
-      subst (λ n. IsCovered t.server t.server.phase who file l.mode l.tag n) (sym (same-held file l is))
+      subst (λ n. IsCovered t.server t.server.phase (claim_of who file l.mode l.tag n)) (sym (same-held file l is))
       (f.covers file l.mode l.tag (cover_end who.host (l.expiry - l.term) l.term events) (inl (l, is, refl)) c (h.covered.held file l is c runs))
 
   pub data Taken (file : ℕ) (g : Grant) (u : Ticket) : Type 0 where
@@ -323,9 +323,9 @@ module _ (ps : List Packet) (s : Server) (events : List Event) (e : Event) (t : 
       n.fresh g gives file (ap requested_file (sym same) ∙ on)
 
   -- a fresh grant is covered
-  fresh-covered : (file : ℕ) (g : Grant) (u : Ticket) (w : Who) → w ≡ who → ticket ≡ Some u → IsFreshGrant s t.server w file g → caches g.mode ≡ true → IsCovered t.server t.server.phase who file g.mode g.tag (cover_end who.host u.first g.term (e ∷ events))
+  fresh-covered : (file : ℕ) (g : Grant) (u : Ticket) (w : Who) → w ≡ who → ticket ≡ Some u → IsFreshGrant s t.server w file g → caches g.mode ≡ true → IsCovered t.server t.server.phase (claim_of who file g.mode g.tag (cover_end who.host u.first g.term (e ∷ events)))
   fresh-covered file g u w same is k c =
-      subst (λ p. IsCovered t.server p who file g.mode g.tag (cover_end who.host u.first g.term (e ∷ events))) (sym k.serves)
+      subst (λ p. IsCovered t.server p (claim_of who file g.mode g.tag (cover_end who.host u.first g.term (e ∷ events)))) (sym k.serves)
       (record {
         row = k.row;
         stands = subst (λ z. find_row file z.host t.server.table.rows ≡ Some k.row) same k.stands;
@@ -356,9 +356,9 @@ module _ (ps : List Packet) (s : Server) (events : List Event) (e : Event) (t : 
   given-after : (file : ℕ) (g : Grant) (u : Ticket) → IsTakeable (ps ++ t.sends) who ticket file g u → caches g.mode ≡ true → IsCoveredWhile t.server (e ∷ events) who now file g.mode g.tag u.first g.term
   given-after file g u k c runs = case (taken file g u k)
     where
-      case : Taken file g u → IsCovered t.server t.server.phase who file g.mode g.tag (cover_end who.host u.first g.term (e ∷ events))
+      case : Taken file g u → IsCovered t.server t.server.phase (claim_of who file g.mode g.tag (cover_end who.host u.first g.term (e ∷ events)))
       case (taken_old o) =
-          subst (λ n. IsCovered t.server t.server.phase who file g.mode g.tag n) (sym (same-asked u g.term o.asked))
+          subst (λ n. IsCovered t.server t.server.phase (claim_of who file g.mode g.tag n)) (sym (same-asked u g.term o.asked))
           (f.covers file g.mode g.tag (cover_end who.host u.first g.term events) (inr (g, u, o, refl)) c (h.covered.given file g u o c runs))
       case (taken_new x a n inc is number on gives) = fresh-covered file g u n.who (running-who x a n inc) is (new-grant file g u x a n inc is number on gives) c
 

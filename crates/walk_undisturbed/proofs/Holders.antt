@@ -20,7 +20,7 @@ use Rattle.nq_model.proofs.Lists.{each-append, each-map}
 use Rattle.nq_model.specs.Client.{Client, ClientStep, Lease, lease_on, lets_read, lets_write}
 use Rattle.nq_model.specs.Journal.{Each}
 use Rattle.nq_model.specs.Kept.{host_row}
-use Rattle.nq_model.specs.LeaseInterval.{IsCovered, KeepsLeaseInterval, cover_end}
+use Rattle.nq_model.specs.LeaseInterval.{claim_of, IsCovered, KeepsLeaseInterval, cover_end}
 use Rattle.nq_model.specs.Message.{Packet}
 use Rattle.nq_model.specs.Server.{Phase, serving, recovering, Server, standing, standing_in}
 use Rattle.nq_model.specs.Table.{is_writing, caches}
@@ -57,7 +57,7 @@ chained-writes s c ps f p entry l row held chained =
     record { row = row; stands = chained.own.stands; holder = chained.own.holder; writes = at-least-writing row.mode l.mode mode k.kind }
 
 -- a lease that runs has its row
-covered-row : (s : Server) (phase : Phase) (who : Who) (file : ℕ) (mode : Mode) (tag : Tag) (until : ℕ) → caches mode ≡ true → IsCovered s phase who file mode tag until → HasCaching (standing_in phase s.table) who file
+covered-row : (s : Server) (phase : Phase) (who : Who) (file : ℕ) (mode : Mode) (tag : Tag) (until : ℕ) → caches mode ≡ true → IsCovered s phase (claim_of who file mode tag until) → HasCaching (standing_in phase s.table) who file
 covered-row s serving who file mode tag until c k = record { row = k.row; stands = k.stands; holder = k.fits.holder; caching = at-least-caching k.row.mode mode c k.fits.kind }
 covered-row s (recovering end heard last) who file mode tag until c k = let f = k.fitting in record { row = f.row; stands = f.stands; holder = f.fits.holder; caching = at-least-caching f.row.mode mode c f.fits.kind }
 

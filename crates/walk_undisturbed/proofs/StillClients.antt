@@ -20,7 +20,7 @@ use Rattle.nq_model.specs.Kept.{host_row}
 use Rattle.nq_model.specs.Message.{Message, Packet, call, asker}
 use Rattle.nq_model.specs.Server.{standing}
 use Rattle.nq_model.specs.World.{World, after_client, from_host}
-use Rattle.nq_promises.specs.OneRequestPerSequence.{IsOpen, IsUnderWay}
+use Rattle.nq_promises.specs.OneRequestPerSequence.{IsOpenRequest, IsUnderWay}
 use Rattle.walk_run.proofs.RunCases.{OfClients, clients-after}
 use Rattle.walk_run.proofs.Mail.{other-asked}
 use Rattle.walk_run.proofs.Packets.{In, in-append, Asked, message-same, call-same}
@@ -64,7 +64,7 @@ running-sent hosts most w events k host c is here unsaved x n file block first l
     place : (i : ℕ) × (slice_get w.packets i ≡ Some (from_host host (call x r)))
     place = in-place w.packets (from_host host (call x r)) (subst (λ h. Asked w.packets h x r) here asked)
 
-    opened : IsOpen w host place.0 x r c.who n
+    opened : IsOpenRequest w host place.0 x r c.who n
     opened = record {
       asks = record { sent = place.1; by = refl; sequence = refl };
       kept = subst (λ h. (host_row w.server.kept h).inc ≡ c.who.inc) here (sym inc);

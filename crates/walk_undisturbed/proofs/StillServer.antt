@@ -23,7 +23,7 @@ use Rattle.nq_model.specs.Server.{ServerStep, standing}
 use Rattle.nq_model.specs.Table.{is_writing}
 use Rattle.nq_model.specs.World.{World, after_server, from_host}
 use Rattle.walk_run.proofs.Sequences.{asked-before-server}
-use Rattle.nq_promises.specs.OneRequestPerSequence.{IsOpen, IsUnderWay}
+use Rattle.nq_promises.specs.OneRequestPerSequence.{IsOpenRequest, IsUnderWay}
 use Rattle.walk_run.proofs.RunCases.{OfClients}
 use Rattle.walk_run.proofs.Packets.{Asked}
 use Rattle.walk_run.proofs.ServerSays.{AllSaid}
@@ -78,7 +78,7 @@ module _ (hosts most : ℕ) (w : World) (e : Event) (events : List Event) (t : S
   here = (z.before.holds.clients host c is).here
 
   -- an open request at its place
-  opened : (x : ℕ) (r : Request) (who : Who) (n : ℕ) → who.host ≡ host → Asked w.packets who.host x r → asker r ≡ Some who → sequence_of r ≡ Some n → who.inc ≡ (host_row w.server.kept who.host).inc → (host_row w.server.kept who.host).seq < n → (place : ℕ) × IsOpen w host place x r who n
+  opened : (x : ℕ) (r : Request) (who : Who) (n : ℕ) → who.host ≡ host → Asked w.packets who.host x r → asker r ≡ Some who → sequence_of r ≡ Some n → who.inc ≡ (host_row w.server.kept who.host).inc → (host_row w.server.kept who.host).seq < n → (place : ℕ) × IsOpenRequest w host place x r who n
   opened x r who n at asked by sq inc above =
       let place = in-place w.packets (from_host host (call x r)) (subst (λ h. Asked w.packets h x r) at asked) in (
         place.0,

@@ -90,9 +90,7 @@ pub(crate) fn put_optional_want(want: &Option<Want>, out: &mut Writer) -> Result
             out.boolean(true)?;
             put_want(want, out)
         }
-        None => {
-            out.boolean(false)
-        }
+        None => { out.boolean(false) }
     }
 }
 
@@ -108,9 +106,7 @@ pub(crate) fn put_optional_grant(grant: &Option<Grant>, out: &mut Writer) -> Res
             out.boolean(true)?;
             put_grant(grant, out)
         }
-        None => {
-            out.boolean(false)
-        }
+        None => { out.boolean(false) }
     }
 }
 
@@ -126,9 +122,7 @@ pub(crate) fn put_optional_base(push: &Option<PushBase>, out: &mut Writer) -> Re
             out.boolean(true)?;
             put_base(push, out)
         }
-        None => {
-            out.boolean(false)
-        }
+        None => { out.boolean(false) }
     }
 }
 

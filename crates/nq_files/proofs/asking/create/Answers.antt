@@ -1,5 +1,5 @@
 use Rattle.std.proofs.Common.{◌∙◌}
-use Rattle.nq_files.proofs.Leaving.{one-of}
+use Rattle.nq_keeper.proofs.Leaving.{one-of}
 use Rattle.nq_files.proofs.asking.create.Goals as goal
 
 pub returns-in_err-numbers-clause-leaves : goal.returns-in_err-numbers-clause-leaves

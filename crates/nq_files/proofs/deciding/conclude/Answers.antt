@@ -1,7 +1,6 @@
-use Rattle.std.proofs.Common.{◌≡◌, ◌<◌, Some, sym, subst}
+use Rattle.std.proofs.Common.{sym, subst}
 use Rattle.nq_keeper.specs.Keeping.{LeavesTwo}
 use Rattle.nq_model.specs.Change.{Fits}
-use Rattle.nq_model.specs.Profile.{most_hosts}
 use Rattle.std.specs.Option.{ForSome}
 use Rattle.nq_files.proofs.Concluding.{names-host}
 use Rattle.nq_files.proofs.deciding.conclude.Goals as goal

@@ -1,0 +1,28 @@
+-- What the code makes of a datagram, as the protocol's definitions see it.
+use Rattle.std.specs.Prelude.{Option, Some, None}
+use Rattle.nq_model.specs.Message.{Message, call, reply, Datagram, too_long, no_message, no_call, other_rpc, other_program, other_version, unknown_procedure, garbage_vacated, garbage, request}
+use Rattle.nq_rpc.specs.Fault.{fault_number}
+use Rattle.nq_datagrams.specs.declared.to_client.Heard.{Heard}
+use Rattle.nq_datagrams.specs.declared.to_server.Incoming.{Incoming}
+
+-- what a datagram is to the server
+abbrev pub told : Incoming → Datagram
+told Incoming.TooLong = too_long
+told (Incoming.NoMessage fault) = no_message (fault_number fault)
+told Incoming.NoCall = no_call
+told (Incoming.OtherRpc xid) = other_rpc xid
+told (Incoming.OtherProgram xid) = other_program xid
+told (Incoming.OtherVersion xid) = other_version xid
+told (Incoming.UnknownProcedure xid) = unknown_procedure xid
+told Incoming.GarbageVacated = garbage_vacated
+told (Incoming.Garbage xid) = garbage xid
+told (Incoming.Request xid r) = request xid r
+
+-- what it is to a client
+abbrev pub told_message : Heard → Message
+told_message (Heard.Notice xid r) = call xid r
+told_message (Heard.Reply xid r) = reply xid r
+
+abbrev pub told_client : Option Heard → Option Message
+told_client None = None
+told_client (Some heard) = Some (told_message heard)

@@ -1,0 +1,2 @@
+pub mod CappedRows
+pub mod Leaving
