@@ -8,3 +8,6 @@ mod reading;
 mod state;
 
 pub use client::{Client, StartClient};
+
+#[cfg(test)]
+mod tests;

@@ -1,5 +1,6 @@
-use Rattle.std.proofs.Common.{◌≡◌, ◌==◌, ℕ, Bool, true, false, List, [], ◌∷◌, map, Option, Some, None, is_some, if◌then◌else◌, refl, sym, ap, ◌∙◌}
+use Rattle.std.proofs.Common.{◌≡◌, ◌==◌, ℕ, Bool, true, false, List, [], ◌∷◌, map, Option, Some, None, is_some, length, if◌then◌else◌, refl, sym, ap, ◌∙◌}
 use Rattle.std.specs.List.{slice_get}
+use Rattle.std.proofs.lemmas.Option.{slice_get_read, slice_get_past}
 use Rattle.std.specs.Option.{option_map}
 use Rattle.nq_client.specs.ByFile.{of_file}
 use Rattle.nq_client.proofs.Places.{found-place}
@@ -29,11 +30,15 @@ found file place notices h = is_of file (slice_get notices place) ∙ ap is_some
 pub returns-in-Some : goal.returns-in-Some
 unfolding tested
 returns-in-Some c =
-    let at = found c.args.file c.args.place c.args.notices.now (sym (found-place file_of_notice (λ n. n) c.args.file c.args.notices.now c.args.place c.requires.ascends c.requires.place)) in
-    ?
+    let there : slice_get c.args.notices.now c.args.place ≡ Some c.in-Some.notice.now = slice_get_read c.args.notices.now (length c.args.notices.now) c.args.place c.in-Some.notice.now refl c.in-Some.ensures.lookup.3.0 c.in-Some.ensures.lookup.1 in
+    c.eq.ensures
+    ∙ ap (λ m. m == c.args.file) c.file.ensures
+    ∙ ap (tested c.args.file) (sym there)
+    ∙ found c.args.file c.args.place c.args.notices.now (sym (found-place file_of_notice (λ n. n) c.args.file c.args.notices.now c.args.place c.requires.ascends c.requires.place))
 
 pub returns-in-None : goal.returns-in-None
 unfolding tested
 returns-in-None c =
-    let at = found c.args.file c.args.place c.args.notices.now (sym (found-place file_of_notice (λ n. n) c.args.file c.args.notices.now c.args.place c.requires.ascends c.requires.place)) in
-    ?
+    let absent : slice_get c.args.notices.now c.args.place ≡ None = slice_get_past c.args.notices.now c.args.place c.in-None.ensures.lookup.3 in
+    ap (tested c.args.file) (sym absent)
+    ∙ found c.args.file c.args.place c.args.notices.now (sym (found-place file_of_notice (λ n. n) c.args.file c.args.notices.now c.args.place c.requires.ascends c.requires.place))
