@@ -7,11 +7,13 @@
 
 mod laws;
 mod numbers;
+mod to_bytes;
 mod to_client;
 mod to_server;
 
 pub use laws::{client_reads_messages, server_reads_messages};
 pub use numbers::{LONGEST_DATAGRAM, PROGRAM, RPC_VERSION, VERSION};
+pub use to_bytes::{LONGEST_CALL, write_call};
 pub use to_client::{Awaited, Heard, read_heard};
 pub use to_server::{Incoming, read_incoming};
 
