@@ -2,16 +2,16 @@
 
 ghost use Rattle.std.specs.Prelude.{◌≡◌, ◌≤◌, IfOk};
 ghost use Rattle.nq_model.specs.Message.{call, reply as reply_to, error};
-ghost use Rattle.nq_datagrams.specs.Messages.{bytes_of, error_outcome, program, version};
+ghost use Rattle.nq_datagrams.specs.Messages.{bytes_of, error_outcome};
 ghost use Rattle.nq_datagrams.specs.Told.{told_error};
 ghost use Rattle.nq_wire.specs.Reply.{results_len};
-ghost use Rattle.nq_wire.specs.Procedure.{number_of};
-ghost use Rattle.nq_wire.specs.Request.{HasSpelling, procedure_of};
+ghost use Rattle.nq_wire.specs.Request.{HasSpelling};
 
-use crate::numbers::{PROGRAM, RPC_VERSION, VERSION};
+use crate::numbers::{RPC_VERSION, VERSION};
+use crate::to_bytes::head_of;
 use nq_base::{Reply, Request};
-use nq_rpc::{Head, Message, NoMemory, Outcome, ReplyMessage, begin_call, begin_reply, encode};
-use nq_wire::{Procedure, encode_reply_into, encode_request_into};
+use nq_rpc::{Message, NoMemory, Outcome, ReplyMessage, begin_call, begin_reply, encode};
+use nq_wire::{encode_reply_into, encode_request_into};
 use nq_xdr::Writer;
 use std::alloc::Global;
 use std::marker::Model;
@@ -29,18 +29,6 @@ pub enum ErrorReply {
     ProcedureUnavailable,
     /// Its arguments are outside their grammar.
     GarbageArguments,
-}
-
-/// What stands at the head of a call of the program.
-fn head_of(xid: u32, request: &Request) -> Head
-    ensures { result ≡ record { xid = xid; prog = program; vers = version; procedure = number_of (procedure_of request.now) } }
-{
-    Head {
-        xid,
-        prog: PROGRAM,
-        vers: VERSION,
-        procedure: Procedure::of(request).number(),
-    }
 }
 
 /// The datagram of a call.
