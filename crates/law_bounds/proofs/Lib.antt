@@ -1,0 +1,5 @@
+pub mod ClientNumbers
+pub mod FirstNumbers
+pub mod KeptNumbers
+pub mod KeptSteps
+pub mod WorldNumbers
