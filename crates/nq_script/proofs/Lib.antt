@@ -1,8 +1,10 @@
 pub mod Cuts
 pub mod Numbers
+pub mod NameBytes
 pub mod CallReading
-pub mod LineReading
+pub mod CallWords
 pub mod HeadReading
+pub mod LineReading
 pub mod Fitting
 pub mod FileLines
 pub mod Splitting
