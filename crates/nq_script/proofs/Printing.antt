@@ -1,5 +1,5 @@
 -- What is printed is spelled so.
-use Rattle.std.proofs.Common.{◌≡◌, ℕ, ◌+◌, ◌/◌, ◌%◌, ◌<◌, ◌≤◌, ◌^◌, List, [], ◌∷◌, ◌++◌, refl, ap, sym, ◌∙◌, arith, append_assoc, codes, map, take, slice_get, Some}
+use Rattle.std.proofs.Common.{◌≡◌, ℕ, ◌+◌, ◌/◌, ◌%◌, ◌<◌, ◌≤◌, ◌^◌, List, [], ◌∷◌, ◌++◌, refl, ap, sym, ◌∙◌, arith, append_assoc, codes, length, get_or, map, take, slice_get, Some}
 use Rattle.std.specs.Fmt.{decimal}
 use Rattle.std.proofs.lemmas.Fmt.{decimal_step, decimal_digit}
 use Rattle.std.proofs.lemmas.List.{map-append, take_more}
@@ -31,17 +31,17 @@ spaced-more word (w ∷ words) next =
     ap (λ t. word ++ 32 ∷ t) (spaced-more w words next) ∙ sym (append_assoc word (32 ∷ spaced (w ∷ words)) (32 ∷ next))
 
 -- one number more is printed
-pub number-printed : (before text blank new word : List ℕ) (numbers : List ℕ) (place : ℕ) (number : ℕ)
-    → text ≡ before ++ spaced (word ∷ map decimal (take place numbers)) → slice_get numbers place ≡ Some number → blank ≡ text ++ 32 ∷ [] → new ≡ blank ++ decimal number
+pub number-printed : (before text blank new word : List ℕ) (numbers : List ℕ) (place : ℕ) → place < length numbers
+    → text ≡ before ++ spaced (word ∷ map decimal (take place numbers)) → blank ≡ text ++ codes " " → new ≡ blank ++ decimal (get_or numbers place 0)
     → new ≡ before ++ spaced (word ∷ map decimal (take (place + 1) numbers))
-number-printed before text blank new word numbers place number so-far here space last =
-    last ∙ ap (λ t. t ++ decimal number) (space ∙ ap (λ t. t ++ 32 ∷ []) so-far)
-    ∙ append_assoc (before ++ spaced (word ∷ map decimal (take place numbers))) (32 ∷ []) (decimal number)
+number-printed before text blank new word numbers place within so-far space last =
+    let number = get_or numbers place 0 in
+    last ∙ ap (λ t. t ++ decimal number) (space ∙ ap (λ t. t ++ codes " ") so-far)
+    ∙ append_assoc (before ++ spaced (word ∷ map decimal (take place numbers))) (codes " ") (decimal number)
     ∙ append_assoc before (spaced (word ∷ map decimal (take place numbers))) (32 ∷ decimal number)
     ∙ ap (λ t. before ++ t) (sym (spaced-more word (map decimal (take place numbers)) (decimal number)))
     ∙ ap (λ l. before ++ spaced (word ∷ l)) (sym (map-append decimal (take place numbers) (number ∷ [])))
-    ∙ ap (λ l. before ++ spaced (word ∷ map decimal l)) (sym (take_more numbers place number (slice_get_within numbers place number here)
-    ∙ ap (λ n. take place numbers ++ n ∷ []) (get_or_from_slice_get numbers place number number here)))
+    ∙ ap (λ l. before ++ spaced (word ∷ map decimal l)) (sym (take_more numbers place 0 within))
 
 -- the words of a call are printed behind those of its host
 pub call-printed : (before first blank new : List ℕ) (host : ℕ) (call : Call) → first ≡ before ++ spaced (codes "call" ∷ decimal host ∷ [])
