@@ -151,8 +151,7 @@ create-found version told text e =
     let cut = cut-found 32 text parts.0.0 parts.0.1 parts.1 in
     let word = name-found parts.0.0 name.0 name.1 in
     let number = number32-found parts.0.1 blocks.0 blocks.1 in
-    subst (λ t. SpellsCall version (call_of t) (codes "create " ++ text)) (same_Some (Told.Create name.0 blocks.0) told blocks.2)
-    (
+    subst (λ t. SpellsCall version (call_of t) (codes "create " ++ text)) (same_Some (Told.Create name.0 blocks.0) told blocks.2) (
       tt,
       (word.1, number.1),
       ap (λ r. codes "create " ++ r) (cut.0 ∙ ap (λ w. w ++ 32 ∷ parts.0.1) word.0 ∙ ap (λ r. name.0 ++ 32 ∷ r) number.0),

@@ -210,8 +210,7 @@ pub wrong-hosts : (text rest : List ℕ) (version : ℕ) → IsVersion version �
     → NoNumber (codes "hosts ") 1 64 rest → FirstBadHeadLine text 2
 unfolding plain-head
 wrong-hosts text rest version known split none =
-    wrong-number text rest (version_line version ∷ []) (codes "hosts ") 1 64 split (version-lacks version known, tt)
-    (
+    wrong-number text rest (version_line version ∷ []) (codes "hosts ") 1 64 split (version-lacks version known, tt) (
       hosts_line 1 ∷ term_line 5 ∷ longest_lines version 60 ++ codes "begin" ∷ [],
       (plain-head version 1 5, plain-fits version 1 5 known (lit≤ tt) (lit≤ tt) (lit≤ tt) (five-short version), refl),
     )
@@ -225,8 +224,7 @@ pub wrong-term : (text rest : List ℕ) (version hosts : ℕ) → IsVersion vers
 unfolding plain-head
 wrong-term text rest version hosts known some few split none =
     wrong-number text rest (version_line version ∷ hosts_line hosts ∷ []) (codes "term ") 5 (most_term version) split
-    (version-lacks version known, (hosts-lacks hosts few, tt))
-    (
+    (version-lacks version known, (hosts-lacks hosts few, tt)) (
       term_line 5 ∷ longest_lines version 60 ++ codes "begin" ∷ [],
       (plain-head version hosts 5, plain-fits version hosts 5 known some few (lit≤ tt) (five-short version), refl),
     )
@@ -255,8 +253,7 @@ pub wrong-longest : (text rest : List ℕ) (version hosts term : ℕ) → IsVers
 unfolding plain-head
 wrong-longest text rest version hosts term known some few long short other split none =
     wrong-number text rest (version_line version ∷ hosts_line hosts ∷ term_line term ∷ []) (codes "longest ") 5 600 split
-    (version-lacks version known, (hosts-lacks hosts few, (term-lacks term (term-low version term short), tt)))
-    (
+    (version-lacks version known, (hosts-lacks hosts few, (term-lacks term (term-low version term short), tt))) (
       longest_lines version 60 ++ codes "begin" ∷ [],
       (plain-head version hosts term, plain-fits version hosts term known some few long short, refl),
     )

@@ -39,8 +39,7 @@ call-found head told text e =
     let within = cond_some (nat_lt host.0.0 head.hosts) (ToldLine.Call host.0.0 call.0) told call.2 in
     let number = then-found text host.0.0 host.0.1 host.1 in
     let words = told-found head.version host.0.1 call.0 call.1 in
-    subst (λ t. SpellsLine head (line_of t) (codes "call " ++ text)) within.1
-    (
+    subst (λ t. SpellsLine head (line_of t) (codes "call " ++ text)) within.1 (
       ltb-true host.0.0 head.hosts within.0,
       (
         words.0,
@@ -75,8 +74,7 @@ client-found head told text e =
     let within = cond_some (nat_lt host.0.0 head.hosts) (ToldLine.ClientTicks host.0.0 times.0) told times.2 in
     let number = then-found text host.0.0 host.0.1 host.1 in
     let count = times-found host.0.1 times.0 times.1 in
-    subst (λ t. SpellsLine head (line_of t) (codes "tick " ++ text)) within.1
-    (
+    subst (λ t. SpellsLine head (line_of t) (codes "tick " ++ text)) within.1 (
       ltb-true host.0.0 head.hosts within.0,
       (tt, number.1, count.1, ap (λ r. codes "tick " ++ r) (number.0 ∙ ap (λ w. decimal host.0.0 ++ 32 ∷ w) count.0)),
     )

@@ -1,14 +1,17 @@
 -- What is printed is spelled so.
-use Rattle.std.proofs.Common.{◌≡◌, ℕ, ◌+◌, ◌/◌, ◌%◌, ◌<◌, ◌≤◌, ◌^◌, List, [], ◌∷◌, ◌++◌, refl, ap, sym, ◌∙◌, arith, append_assoc, codes, length, get_or, map, take, slice_get, Some}
+use Rattle.std.proofs.Common.{◌≡◌, ℕ, ◌+◌, ◌/◌, ◌%◌, ◌<◌, ◌≤◌, ◌^◌, List, [], ◌∷◌, ◌++◌, refl, ap, sym, ◌∙◌, arith, append_assoc, codes, length, get_or, map, take, slice_get, Some, zero, suc, subst}
 use Rattle.std.specs.Fmt.{decimal}
 use Rattle.std.proofs.lemmas.Fmt.{decimal_step, decimal_digit}
 use Rattle.std.proofs.lemmas.List.{map-append, take_more}
-use Rattle.std.proofs.lemmas.Option.{slice_get_within, get_or_from_slice_get}
+use Rattle.std.proofs.lemmas.Option.{none-some, same_Some, slice_get_within, get_or_from_slice_get}
 use Rattle.nq_base.specs.declared.Call.{Call}
 use Rattle.nq_script.specs.Calls.{call_words}
 use Rattle.nq_script.specs.Heads.{file_line, version_line, hosts_line, term_line, longest_lines, settings_lines, head_lines}
+use Rattle.nq_script.specs.Lines.{HasLine, SpellsLine}
+use Rattle.nq_script.specs.Schedule.{SpellsLines}
 use Rattle.nq_script.specs.Text.{spaced, text_of}
 use Rattle.nq_script.specs.declared.heads.Head.{Head}
+use Rattle.nq_script.specs.declared.lines.Line.{Line}
 use Rattle.nq_script.proofs.CallWords.{spaced-call}
 use Rattle.nq_script.proofs.FileLines.{text_of-append}
 
@@ -81,3 +84,19 @@ file-printed before text new files place f so-far here more =
     ∙ ap (λ l. before ++ text_of l) (sym (map-append file_line (take place files) (f ∷ [])))
     ∙ ap (λ l. before ++ text_of (map file_line l)) (sym (take_more files place f (slice_get_within files place f here)
     ∙ ap (λ g. take place files ++ g ∷ []) (get_or_from_slice_get files place f f here)))
+
+-- a line that is spelled can be told
+pub spelled-has : (head : Head) (line : Line) (text : List ℕ) → SpellsLine head line text → HasLine head.version line
+spelled-has head (Line.Events event times) text s = (s.1.0, s.1.2)
+spelled-has head (Line.Round times) text s = s.1.0
+spelled-has head Line.Flow text s = tt
+spelled-has head Line.End text s = tt
+
+-- each line of a schedule can be told
+pub lines-have : (head : Head) (lines : List Line) (texts : List (List ℕ)) (place : ℕ) (line : Line) → SpellsLines head lines texts
+    → slice_get lines place ≡ Some line → HasLine head.version line
+lines-have head [] texts place line s here = absurd (none-some line here)
+lines-have head (l ∷ lines) [] place line s here = absurd s
+lines-have head (l ∷ lines) (text ∷ texts) zero line s here =
+    subst (HasLine head.version) (same_Some l line here) (spelled-has head l text s.1)
+lines-have head (l ∷ lines) (text ∷ texts) (suc place) line s here = lines-have head lines texts place line s.2 here
