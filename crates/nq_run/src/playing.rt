@@ -137,7 +137,8 @@ fn first_other(lines: &Lines) -> Option<usize>
     ensures some { IfSome result (λ place. FirstOther lines.now place) }
     ensures none { IsNone result → ArePlayed lines.now }
 {
-    for place in 0..lines.len() {
+    let count = lines.len();
+    for place in 0..count {
         if !plays_at(lines, place) {
             return Some(place);
         }

@@ -9,6 +9,7 @@
 mod calls;
 mod faults;
 mod heads;
+mod kept;
 mod laws;
 mod lines;
 mod print;

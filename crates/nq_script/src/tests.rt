@@ -380,15 +380,55 @@ fn events_are_printed(rt: HostRuntime) -> Result<(), NoMemory> {
     Ok(())
 }
 
+/// A block that no number fills.
+fn odd_block(rt: &HostRuntime) -> Result<Block, NoMemory> {
+    let mut bytes = Vec::new(rt.alloc());
+    append(&mut bytes, Block::fill(7).as_bytes())?;
+    if let Some(last) = bytes.last_mut() {
+        *last = 8;
+    }
+    match Block::from_bytes(&bytes) {
+        Some(block) => Ok(block),
+        None => Err(NoMemory::Memory),
+    }
+}
+
+/// A write of a block.
+fn write_of(body: Block) -> Event {
+    Event::Call {
+        host: Host(0),
+        call: Call::Write {
+            file: FileId(1),
+            block: BlockNo(0),
+            body,
+        },
+    }
+}
+
+/// The last byte of the block that the event writes.
+fn last_written(event: Option<Event>) -> Option<u8> {
+    match event {
+        Some(Event::Call { call, .. }) => match call {
+            Call::Write { body, .. } => body.as_bytes().last().copied(),
+            _ => None,
+        },
+        _ => None,
+    }
+}
+
 #[test]
 fn schedules_keep_their_order(rt: HostRuntime) -> Result<(), NoMemory> {
     let mut schedule = Schedule::new(rt.alloc())?;
     assert!(rt; schedule.is_empty());
     schedule.push(Event::Deliver(5))?;
+    schedule.push(write_of(Block::fill(7)))?;
+    schedule.push(write_of(odd_block(&rt)?))?;
     schedule.push(Event::ServerTick)?;
-    assert_eq!(rt; schedule.len(), 2);
+    assert_eq!(rt; schedule.len(), 4);
     assert!(rt; matches!(schedule.get(0), Some(Event::Deliver(5))));
-    assert!(rt; schedule.get(2).is_none());
+    assert_eq!(rt; last_written(schedule.get(1)), Some(7));
+    assert_eq!(rt; last_written(schedule.get(2)), Some(8));
+    assert!(rt; schedule.get(4).is_none());
     one_reading();
     one_fault();
     printed_again();
