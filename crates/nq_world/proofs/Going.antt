@@ -1,14 +1,13 @@
 -- The run of a world's events is a run of the protocol.
-use Rattle.std.proofs.Common.{◌≡◌, ◌≤◌, ◌<◌, ℕ, ◌+◌, List, ◌∷◌, Option, Some, None, length, refl, sym, subst, ap, ◌∙◌, arith}
+use Rattle.std.proofs.Common.{◌≡◌, ◌≤◌, ℕ, List, length, refl, sym, subst, ap, ◌∙◌, arith}
 use Rattle.std.proofs.lemmas.List.{length-map}
 use Rattle.std.proofs.lemmas.List.Elements.{All-cons}
 use Rattle.nq_base.specs.declared.Event.{Event}
-use Rattle.nq_base.specs.declared.SkewBroken.{SkewBroken}
 use Rattle.nq_clock.specs.Counts.{SkewCounts}
 use Rattle.nq_model.specs.Skew.{IsWithinSkew}
 use Rattle.nq_model.specs.SkewBroken.{skew_broken}
-use Rattle.nq_model.specs.Stepped.{stepped, stepped_at}
-use Rattle.nq_model.specs.World.{Head, World, run}
+use Rattle.nq_model.specs.Stepped.{stepped_at}
+use Rattle.nq_model.specs.World.{Head, run}
 use Rattle.nq_promises.specs.Bounds.{BootsWithin}
 use Rattle.law_bounds.proofs.WorldNumbers.{numbers-stay-within}
 use Rattle.nq_world.specs.Running.{IsRunOf, stepped_seen, TestsAreExact, RunsGoOn, RunsAreLawful}

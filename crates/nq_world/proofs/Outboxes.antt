@@ -1,5 +1,5 @@
 -- The datagrams of an outbox, up to a place and from it on.
-use Rattle.std.proofs.Common.{◌≡◌, ◌≤◌, ◌<◌, ℕ, zero, suc, ◌+◌, List, [], ◌∷◌, ◌++◌, Option, Some, None, length, map, take, drop, refl, sym, ap, ◌∙◌, arith}
+use Rattle.std.proofs.Common.{◌≡◌, ◌≤◌, ◌<◌, ℕ, zero, suc, ◌+◌, List, [], ◌∷◌, ◌++◌, Some, length, map, take, drop, refl, sym, ap, ◌∙◌, append_assoc, arith}
 use Rattle.std.proofs.lemmas.List.Sums.{sum_by-cons}
 use Rattle.std.specs.List.{sum_by}
 use Rattle.std.specs.Prelude.{slice_get}
@@ -42,3 +42,11 @@ sum-take-below f (y ∷ xs) (suc k) =
     let more = sum_by-cons f y xs in
     let less = sum_by-cons f y (take k xs) in
     omega arith
+
+-- what was appended up to a place, and the element there
+pub appended-more : {A B : Type 0} (f : A → B) (all : List A) (place : ℕ) (x : A) (old before new : List B) → slice_get all place ≡ Some x → before ≡ old ++ map f (take place all) → new ≡ before ++ f x ∷ [] → new ≡ old ++ map f (take (suc place) all)
+appended-more f all place x old before new there so_far next =
+    next
+    ∙ ap (λ ds. ds ++ f x ∷ []) so_far
+    ∙ append_assoc old (map f (take place all)) (f x ∷ [])
+    ∙ ap (λ ds. old ++ ds) (sym (map-take-more f all place x there))

@@ -1,29 +1,24 @@
 -- The bytes that a world shows are those of the protocol, event by event.
-use Rattle.std.proofs.Common.{◌≡◌, ◌<◌, ℕ, ◌+◌, zero, suc, List, [], ◌∷◌, ◌++◌, Option, Some, None, length, map, reverse, refl, sym, subst, ap, ◌∙◌, arith}
+use Rattle.std.proofs.Common.{◌≡◌, ℕ, zero, suc, List, [], ◌∷◌, ◌++◌, Some, length, map, reverse, refl, sym, subst, ap, ◌∙◌}
 use Rattle.std.proofs.lemmas.List.{length-map, map-append, reverse-append}
 use Rattle.std.proofs.lemmas.List.Elements.{All-append, All-map, All-head, All-tail}
 use Rattle.std.specs.List.{All}
-use Rattle.std.specs.Option.{option_map}
 use Rattle.std.specs.Prelude.{slice_get, slice_set}
 use Rattle.nq_base.specs.Plain.{plain}
 use Rattle.nq_base.specs.declared.Entry.{Entry}
-use Rattle.nq_base.specs.declared.Event.{Event}
 use Rattle.nq_base.specs.declared.Party.{Party}
 use Rattle.nq_datagrams.specs.Incoming.{datagram_in, hears_in}
 use Rattle.nq_datagrams.specs.Messages.{FitsMessage, bytes_of}
 use Rattle.nq_datagrams.specs.Sent.{sent}
 use Rattle.nq_datagrams.proofs.Readers.{server-reads-messages}
-use Rattle.nq_model.specs.Client.{Client, ClientStep}
 use Rattle.nq_model.specs.Hear.{hear}
 use Rattle.nq_model.specs.Message.{Message, Packet, datagram_of}
-use Rattle.nq_model.specs.Server.{ServerStep}
 use Rattle.nq_model.specs.ServerStep.{receive}
-use Rattle.nq_model.specs.World.{Head, World, from_host, after_server, after_client, after_hearing, sending_host, deliver_to_client, deliver_to, deliver, run, step}
+use Rattle.nq_model.specs.World.{World, from_host, after_server, after_client, after_hearing, sending_host, deliver_to_client, deliver_to, deliver, run}
 use Rattle.nq_net.specs.Packets.{Datagram}
-use Rattle.law_bounds.specs.Says.{SaysPlainly}
 use Rattle.law_replies.proofs.ReplyWorlds.{each-packet-is-heard}
 use Rattle.nq_world.specs.Shown.{datagram, FitsPacket, sent_from, to_server, Seen, Shows}
-use Rattle.nq_world.specs.Stepping.{seen_after_server, seen_after_client, ServerStepsAreShown, ClientStepsAreShown, DeliveriesToTheServer, DeliveriesToClients, BytesShowTheRun}
+use Rattle.nq_world.specs.Stepping.{ServerStepsAreShown, ClientStepsAreShown, DeliveriesToTheServer, DeliveriesToClients, BytesShowTheRun}
 
 -- ---- lists
 
@@ -136,7 +131,7 @@ deliveries-to-clients head events seen k host d c shows e to here =
     let own : p.to ≡ Party.Client host = sym (ap (λ x. x.to) found.is) ∙ to in
     let client : slice_get w.clients host ≡ Some c = ap (λ cs. slice_get cs host) (sym shows.clients) ∙ here in
     let heard : hears_in c k (bytes_of p.message) ≡ hear c k p.message =
-        each-packet-is-heard head events k host p c (record { client = client; packet = found.there; to = own }) (packet-fits w seen k p shows found.there) in
+    each-packet-is-heard head events k host p c (record { client = client; packet = found.there; to = own }) (packet-fits w seen k p shows found.there) in
     ap (deliver w k) found.there
     ∙ ap (deliver_to w k p) own
     ∙ ap (deliver_to_client w k host p.message) client

@@ -4,8 +4,8 @@ use Rattle.std.proofs.lemmas.List.Elements.{All-nil, All-cons, All-head, All-tai
 use Rattle.std.specs.List.{All}
 use Rattle.nq_base.specs.declared.Request.{Request}
 use Rattle.nq_base.specs.declared.Request.TheVariants.{Create, Write}
-use Rattle.nq_datagrams.specs.Messages.{FitsMessage, bytes_of, call_message}
-use Rattle.nq_model.specs.Message.{Message, call, reply, error}
+use Rattle.nq_datagrams.specs.Messages.{FitsMessage, bytes_of}
+use Rattle.nq_model.specs.Message.{call, reply, error}
 use Rattle.nq_rpc.specs.Message.{spelling}
 use Rattle.nq_wire.specs.Request.{arguments}
 use Rattle.nq_xdr.specs.Item.{opaque}

@@ -1,5 +1,5 @@
 -- The run of the events that a world has taken in, and what it answers to the next one. Events are told with the newest first.
-use Rattle.std.specs.Prelude.{◌≡◌, ◌≤◌, ◌<◌, ℕ, List, ◌∷◌, ◌++◌, Option, Some, None, All, length, nat_lt, slice_get, if◌then◌else◌}
+use Rattle.std.specs.Prelude.{◌≡◌, ◌≤◌, ◌<◌, ℕ, List, ◌∷◌, Option, All, length, nat_lt, if◌then◌else◌}
 use Rattle.nq_base.specs.declared.Event.{Event}
 use Rattle.nq_base.specs.declared.SkewBroken.{SkewBroken}
 use Rattle.nq_clock.specs.Counts.{SkewCounts}
@@ -10,7 +10,7 @@ use Rattle.nq_model.specs.Message.{Message}
 use Rattle.nq_model.specs.Skew.{IsWithinSkew}
 use Rattle.nq_model.specs.SkewBroken.{skew_broken}
 use Rattle.nq_model.specs.Stepped.{Stepped, too_many_events, no_packet, most_events, most_sent, tested_room, tested_skew, stepped}
-use Rattle.nq_model.specs.World.{Head, World, run, step}
+use Rattle.nq_model.specs.World.{Head, run, step}
 use Rattle.nq_promises.specs.Bounds.{BootsWithin, KeepsBounds}
 use Rattle.law_bounds.specs.Within.{CarriesText, IsGiven, AreGiven, IsHeadWithin}
 use Rattle.nq_world.specs.Shown.{Seen, Shows}

@@ -13,7 +13,7 @@ returns-in_err-bytes-clause-none c none =
     let so_far : c.loop-place.bytes ≡ bytes_together (take place all) = c.loop-place.invariant in
     let next : bytes_together (take (suc place) all) ≡ bytes_together (take place all) + length t.element.1 = sum-take-more _ all place t.element t.is in
     let most : bytes_together (take (suc place) all) ≤ bytes_together all = sum-take-below _ all (suc place) in
-    let over = c.in_err-bytes.ensures tt in
+    let over = c.in_err-bytes.ensures in
     grind arith
 
 pub loop-place-preserved : goal.loop-place-preserved
@@ -25,5 +25,5 @@ loop-place-preserved c =
     let more : c.length_at-more.result ≡ length t.element.1 = c.length_at-more.ensures t.element t.is in
     let so_far : c.loop-place.bytes ≡ bytes_together (take place all) = c.loop-place.invariant in
     let next : bytes_together (take (suc place) all) ≡ bytes_together (take place all) + length t.element.1 = sum-take-more _ all place t.element t.is in
-    let sum = (c.in_ok-bytes.ensures tt).1 in
+    let sum = c.in_ok-bytes.ensures.1 in
     rw add-one (omega arith)
