@@ -1,0 +1,3 @@
+pub mod Backwards
+pub mod Places
+pub mod NameLosses
