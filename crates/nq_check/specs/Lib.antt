@@ -1,3 +1,6 @@
+pub mod Grants
 pub mod Named
 pub mod Kept
-pub mod Grants
+pub mod Rules
+pub mod Verdict
+pub mod Words

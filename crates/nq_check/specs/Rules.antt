@@ -1,5 +1,5 @@
 -- The five rules by which a journal is judged, and the entries at fault under each. `docs/check.md` tells them in words.
-use Rattle.std.specs.Prelude.{List, [], ◌∷◌, Option, Some, None, Bool, not, ◌&&◌, if◌then◌else◌}
+use Rattle.std.specs.Prelude.{List, [], ◌∷◌, Option, Some, None, Bool, ◌&&◌, if◌then◌else◌}
 use Rattle.nq_base.specs.declared.Entry.{Entry}
 use Rattle.nq_check.specs.declared.rules.Rule.{Rule}
 use Rattle.nq_check.specs.declared.rules.Rule.TheVariants.{Legal, Ordered, Accounted, Reported, Synchronized}

@@ -1,6 +1,6 @@
 -- The verdict on a journal: its least entry at fault, and the first rule under which that entry is.
 use Rattle.std.specs.Prelude.{◌≡◌, ℕ, List, [], ◌∷◌, length, Option, Some, None, ⊤}
-use Rattle.std.specs.Option.{option_or, option_map}
+use Rattle.std.specs.Option.{option_or}
 use Rattle.nq_base.specs.declared.Entry.{Entry}
 use Rattle.nq_check.specs.declared.rules.Judged.{Judged}
 use Rattle.nq_check.specs.declared.rules.Judged.TheVariants.{Yes, No, Memory}

@@ -175,7 +175,10 @@ pub(crate) fn is_delayed_on(entry: &Entry, by: &Who, on: FileId) -> bool
 {
     match entry {
         Entry::W {
-            who, file, through, ..
+            who,
+            file,
+            through,
+            ..
         } => !*through && *by == *who && *file == on,
         _ => false,
     }

@@ -13,6 +13,7 @@ use nq_base::{Entry, FileId, Ticks, Who};
 
 // Write slack, and skew with write slack, in ticks.
 const WRITE_SLACK: u64 = 5;
+
 const SKEW_AND_SLACK: u64 = 8;
 
 /// When a grant was made, and its term in ticks.

@@ -133,8 +133,7 @@ fn stands(whole: &[Entry], before: &[Entry], read: &Reading, write: &Entry) -> b
 {
     is_write_on(write, read.file, read.block)
         && (is_through(write)
-            || (is_stored(whole, write)
-                || is_write_by(write, read.who) && !is_lost(before, write)))
+            || (is_stored(whole, write) || is_write_by(write, read.who) && !is_lost(before, write)))
 }
 
 /// The value of the last write before a read that stands for it, or 0 where there is none.

@@ -255,13 +255,7 @@ pub(crate) fn is_reported_at(whole: &[Entry], place: usize, entry: &Entry) -> bo
             who,
             q,
             said: Said::Lost(spans),
-        } => name_losses(
-            whole,
-            &whole[..place],
-            who,
-            &call_of(whole, who, *q),
-            spans,
-        ),
+        } => name_losses(whole, &whole[..place], who, &call_of(whole, who, *q), spans),
         _ => true,
     }
 }

@@ -38,7 +38,7 @@ fn is_busy_next(after: &[Entry], by: &Who, n: u64) -> bool
                 q,
                 said: Said::Busy,
             },
-            ..,
+            ..
         ] => *by == *who && n == *q,
         _ => false,
     }
@@ -163,9 +163,7 @@ fn is_resized(before: &[Entry], by: &Who, n: u64) -> bool
 fn is_resize_in_order(before: &[Entry], by: &Who, n: u64, on: FileId, to: u32) -> bool
     ensures { result ≡ is_resize_in_order (reverse before.now) by.now n on to }
 {
-    is_open(before, by, n)
-        && resizes(on, to, call_of(before, by, n))
-        && !is_resized(before, by, n)
+    is_open(before, by, n) && resizes(on, to, call_of(before, by, n)) && !is_resized(before, by, n)
 }
 
 /// Whether a counted read of a call stands among the entries.
@@ -190,12 +188,7 @@ fn is_read_in_order(whole: &[Entry], before: &[Entry], by: &Who, n: u64) -> bool
 // ---- the law
 
 /// Whether an entry stands in order at its place.
-pub(crate) fn is_in_order(
-    whole: &[Entry],
-    before: &[Entry],
-    entry: &Entry,
-    after: &[Entry],
-) -> bool
+pub(crate) fn is_in_order(whole: &[Entry], before: &[Entry], entry: &Entry, after: &[Entry]) -> bool
     ensures { result ≡ is_in_order (reverse whole.now) after.now entry.now (reverse before.now) }
 {
     match entry {
@@ -218,7 +211,11 @@ pub(crate) fn is_in_order(
             },
         ),
         Entry::Z {
-            who, q, file, to, ..
+            who,
+            q,
+            file,
+            to,
+            ..
         } => is_resize_in_order(before, who, *q, *file, *to),
         Entry::R { who, q, .. } => {
             !is_counted(whole, entry) || is_read_in_order(whole, before, who, *q)

@@ -1,5 +1,8 @@
 //! The rules by which a journal is judged, and what the judge says.
 
+ghost use Rattle.std.specs.Prelude.{◌≡◌};
+ghost use Rattle.nq_check.specs.Words.{word_of};
+
 /// A rule by which journals are judged, in the order in which they are named. `docs/check.md` says which entries are at
 /// fault under each.
 #[derive(Clone, Copy, Debug, PartialEq, Eq)]
@@ -14,6 +17,21 @@ pub enum Rule {
     Reported,
     /// What was answered ok to a `put`, `sync`, `resize` or `remove` is kept.
     Synchronized,
+}
+
+impl Rule {
+    /// Its short name, as it is printed. `docs/check.md` says what each means.
+    pub fn word(self) -> &'static str
+        ensures { result.now ≡ word_of self }
+    {
+        match self {
+            Rule::Legal => "D5",
+            Rule::Ordered => "D7",
+            Rule::Accounted => "D8",
+            Rule::Reported => "D10",
+            Rule::Synchronized => "D11",
+        }
+    }
 }
 
 /// What the judge says of a journal.

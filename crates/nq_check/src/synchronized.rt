@@ -106,8 +106,8 @@ fn are_stored_or_told(
 {
     let mut all = true;
     for write in answered {
-        let here =
-            !is_delayed_on(write, by, on) || is_stored_or_told(whole, stores, answered, write);
+        let here = !is_delayed_on(write, by, on)
+            || is_stored_or_told(whole, stores, answered, write);
         all = here && all;
     }
     all

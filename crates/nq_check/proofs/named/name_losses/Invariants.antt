@@ -1,4 +1,4 @@
-use Rattle.std.proofs.Common.{◌≡◌, reverse, take, drop}
+use Rattle.std.proofs.Common.{◌≡◌, reverse, drop}
 use Rattle.nq_model.specs.ReportedTest.{name_losses}
 use Rattle.nq_check.proofs.named.name_losses.Given as goal
 
