@@ -8,3 +8,4 @@ pub mod Reading
 pub mod Settling
 pub mod State
 pub mod Step
+pub mod Tied
