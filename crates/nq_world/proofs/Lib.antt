@@ -1,0 +1,4 @@
+pub mod Showing
+pub mod Going
+pub mod Texts
+pub mod Outboxes

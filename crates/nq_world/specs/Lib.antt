@@ -1,0 +1,5 @@
+pub mod Answering
+pub mod Shown
+pub mod Stepping
+pub mod Running
+pub mod Sending
