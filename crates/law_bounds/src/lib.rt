@@ -1,7 +1,9 @@
-//! How far the numbers of a run go. The law stands on a function with an empty body, whose clause is the law and whose
-//! proof stands in `proofs/`.
+//! What a world whose packets are bytes wants to know of every run: how far the numbers go, and what the server says. Each
+//! law stands on a function with an empty body, whose clause is the law and whose proof stands in `proofs/`.
 #![tactic(auto)]
 
 mod bounds;
+mod says;
 
 pub use bounds::numbers_stay_within;
+pub use says::server_says_plainly;
