@@ -1,5 +1,10 @@
+pub mod Asked
 pub mod ByFile
+pub mod Counted
+pub mod Entries
 pub mod Leases
 pub mod Notices
 pub mod Reading
+pub mod Settling
 pub mod State
+pub mod Step
