@@ -8,3 +8,5 @@ pub mod Reading
 pub mod Settling
 pub mod State
 pub mod Step
+pub mod Answering
+pub mod Granting
