@@ -1,8 +1,8 @@
 //! The start of a boot, and the end of a recovery.
 
-ghost use Rattle.std.specs.Prelude.{◌≡◌, ◌<◌, ◌≤◌, ◌^◌, ℕ};
+ghost use Rattle.std.specs.Prelude.{◌≡◌, ◌<◌, ◌≤◌, ◌^◌, ℕ, IfOk};
 ghost use Rattle.std.specs.Option.{ForSome};
-ghost use Rattle.nq_boot.specs.Booting.{Opens, Starts, Finishes, LeavesThen, heads_after_boot, started_of, opened_by, start_fault};
+ghost use Rattle.nq_boot.specs.Booting.{Opens, Starts, Finishes, Ends, LeavesThen, IsOfTerm, ended_at, heads_after_boot, started_of, opened_by, start_fault};
 ghost use Rattle.nq_keeper.specs.Keeping.{Commits, LeavesTwo};
 ghost use Rattle.nq_model.specs.Change.{Fits, change_of_heads, heads_of};
 ghost use Rattle.nq_model.specs.Kept.{Kept};
@@ -88,7 +88,8 @@ fn after_boot(heads: &Heads, longest: u32) -> Heads
 fn begun(heads: &Heads, longest: u32, now: Ticks) -> Started
     requires boot { heads.now.boot < 4294967295 }
     requires now { now < 2 ^ 62 }
-    ensures { (kept : Kept) → heads.now ≡ heads_of kept → result ≡ started_of kept longest now }
+    ensures begun { (kept : Kept) → heads.now ≡ heads_of kept → result ≡ started_of kept longest now }
+    ensures term { IsOfTerm longest result }
 {
     let boot = heads.boot + 1;
     if heads.opened == 0 {
@@ -116,6 +117,7 @@ pub fn start<K: Keeper>(keeper: &mut K, longest: u32, now: Ticks) -> Result<Star
     requires short { longest ≤ 600 }
     requires now { now < 2 ^ 62 }
     ensures starts { Starts longest now result (K.content keeper.old) (K.content keeper.new) (K.faults keeper.old) (K.faults keeper.new) }
+    ensures term { IfOk result (IsOfTerm longest) }
     ensures follows { K.follows keeper.old keeper.new }
     ensures leaves { LeavesThen (λ kept. booted kept longest) (K.content keeper.old) (K.leaves keeper.old keeper.new) }
 {
@@ -148,6 +150,20 @@ impl Recovering {
             Err(KeepFault::Failed) => Finish::Fault(self),
             Err(KeepFault::Memory) => Finish::Memory(self),
         }
+    }
+
+    /// Ends the recovery as [`finish`](Recovering::finish) does, for an owner that keeps it where it goes on; None where it
+    /// has to wait.
+    pub fn end<K: Keeper>(&self, keeper: &mut K, now: Ticks) -> Result<Option<Serving>, KeepFault>
+        ensures ends { Ends self.now now result (K.content keeper.old) (K.content keeper.new) (K.faults keeper.old) (K.faults keeper.new) }
+        ensures follows { K.follows keeper.old keeper.new }
+        ensures leaves { LeavesThen (ended_at self.now now) (K.content keeper.old) (K.leaves keeper.old keeper.new) }
+    {
+        if now < self.until() {
+            return Ok(None);
+        }
+        open(keeper, self.longest())?;
+        Ok(Some(Serving::new(self.boot())))
     }
 }
 

@@ -1,5 +1,4 @@
 -- What a client knows, as the client of the model.
-use Rattle.std.specs.Prelude.{ℕ, Option}
 use Rattle.std.specs.Option.{option_map}
 use Rattle.nq_client.specs.declared.state.State.{State}
 use Rattle.nq_client.specs.declared.state.UnderWay as calls

@@ -1,5 +1,5 @@
 -- A step of the client, as a step of the model.
-use Rattle.std.specs.Prelude.{◌≡◌, ◌<◌, ◌≤◌, ◌+◌, ◌-◌, ◌^◌, ℕ, Bool, true, false, List, [], ◌∷◌, ◌++◌, Option, Some, None, if◌then◌else◌}
+use Rattle.std.specs.Prelude.{◌≡◌, ◌<◌, ◌≤◌, ◌+◌, ◌^◌, ℕ, Bool, false, List, [], ◌∷◌, ◌++◌, Option, Some, None, if◌then◌else◌}
 use Rattle.std.specs.Option.{option_map}
 use Rattle.nq_base.specs.Plain.{plain_answer}
 use Rattle.nq_base.specs.declared.Request.{Request}
@@ -8,7 +8,7 @@ use Rattle.nq_client.specs.State.{client_of}
 use Rattle.nq_client.specs.declared.state.State.{State}
 use Rattle.nq_client.specs.declared.step.Step.{Step}
 use Rattle.nq_client.specs.declared.step.Vacated.{Vacated}
-use Rattle.nq_model.specs.Client.{Client, ClientStep, Ticket, UnderWay}
+use Rattle.nq_model.specs.Client.{ClientStep, Ticket, UnderWay}
 use Rattle.nq_model.specs.Message.{Message, call}
 
 -- the vacated message, if there is one
@@ -47,13 +47,12 @@ pub record IsBegun (s : Step) : Type 0 where
   pub answer : s.answer ≡ None
   pub cached : s.cached ≡ false
 
--- a call, a datagram or a tick has the numbers that it may take: none of them reaches its end
-pub record HasNumbers (s : State) : Type 0 where
+-- so many more sequences, numbers of writes and numbers of requests are left
+pub record HasNumbers (left : ℕ) (s : State) : Type 0 where
   pub time : s.time < 2 ^ 62
-  pub calls : s.calls < 2 ^ 62
-  pub seq : s.seq < 2 ^ 62
-  pub number : s.number < 2 ^ 62
-  pub xid : s.xid < 2 ^ 32 - 2
+  pub seq : s.seq + left < 2 ^ 64
+  pub number : s.number + left < 2 ^ 64
+  pub xid : s.xid + left < 2 ^ 32
 
 -- at most so many numbers of each kind were taken
 pub record Takes (most : ℕ) (old new : State) : Type 0 where

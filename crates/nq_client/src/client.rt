@@ -1,6 +1,6 @@
 //! The client of one host.
 
-ghost use Rattle.std.specs.Prelude.{◌≡◌, is_some, unwrap_or, IfOk, if◌then◌else◌};
+ghost use Rattle.std.specs.Prelude.{◌≡◌, ◌<◌, ◌^◌, is_some, unwrap_or, IfOk, if◌then◌else◌};
 ghost use Rattle.nq_model.specs.CachedAtOnce.{has_cached};
 ghost use Rattle.nq_model.specs.ClientStep.{attached_client};
 ghost use Rattle.nq_model.specs.Settle.{after_read};
@@ -51,6 +51,7 @@ impl Client {
         term: u32,
         time: Ticks,
     ) -> Result<Client, StartClient>
+        requires { time < 2 ^ 62 }
         ensures client { IfOk result (λ c. c.client ≡ attached_client (record { host = host; inc = inc }) term time) }
         ensures taken { IfOk result (λ c. c.taken ≡ 0) }
     {

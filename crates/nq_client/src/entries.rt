@@ -1,6 +1,6 @@
 //! The entries of a step.
 
-ghost use Rattle.std.specs.Prelude.{◌≡◌, ◌≤◌, ◌+◌, [], ◌∷◌, length, OnOk};
+ghost use Rattle.std.specs.Prelude.{◌≡◌, ◌≤◌, ◌+◌, ◌++◌, [], ◌∷◌, length, map, reverse, OnOk};
 ghost use Rattle.nq_base.specs.Plain.{plain};
 ghost use Rattle.nq_client.specs.Entries.{Tells};
 
@@ -61,8 +61,26 @@ impl Entries {
         ensures empty { self.new.items ≡ [] }
         ensures told { Tells self.old.items log.old.entries log.new.entries }
     {
-        while let Some(entry) = self.newest_first.pop_back() {
-            log.push(entry).unwrap();
-        }
+        tell(&mut self.newest_first, log);
+    }
+}
+
+/// Moves entries, the newest first, to the end of a journal that has room for them.
+fn tell(newest_first: &mut VecDeque<Entry>, log: &mut Journal)
+    requires { length newest_first.old.items ≤ log.old.spare }
+    ensures empty { newest_first.new.items ≡ [] }
+    ensures told { Tells (map plain newest_first.old.items) log.old.entries log.new.entries }
+{
+    move_all(newest_first, log);
+}
+
+/// Moves entries to the end of a journal that has room for them, the last one first.
+fn move_all(entries: &mut VecDeque<Entry>, log: &mut Journal)
+    requires { length entries.old.items ≤ log.old.spare }
+    ensures empty { entries.new.items ≡ [] }
+    ensures moved { log.new.entries ≡ log.old.entries ++ reverse entries.old.items }
+{
+    while let Some(entry) = entries.pop_back() {
+        log.push(entry).unwrap();
     }
 }

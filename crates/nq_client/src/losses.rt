@@ -1,6 +1,6 @@
 //! Losses that no answer named yet.
 
-ghost use Rattle.std.specs.Prelude.{◌≡◌, ◌≤◌, [], map, length, IfOk, OnOk};
+ghost use Rattle.std.specs.Prelude.{◌≡◌, ◌≤◌, ◌++◌, [], map, IfOk, OnOk};
 ghost use Rattle.nq_model.specs.Client.{losses_of, other_losses, span_of};
 
 use nq_base::{FileId, Loss, Losses, NoMemory, Span, Spans};
@@ -47,11 +47,7 @@ impl Unreported {
         ensures { IfOk result (λ l. l.items ≡ losses_of file self.now.items) }
     {
         let mut of_file = Losses::new(alloc)?;
-        for loss in &self.losses {
-            if loss.file == file {
-                of_file.push(*loss)?;
-            }
-        }
+        copy(&self.losses, file, &mut of_file)?;
         Ok(of_file)
     }
 
@@ -59,11 +55,32 @@ impl Unreported {
     pub(crate) fn forget(&mut self, file: FileId)
         ensures { self.new.items ≡ other_losses file self.old.items }
     {
-        self.losses.retain(|loss| loss.file != file);
+        drop_of(&mut self.losses, file);
     }
 }
 
+/// Drops the losses of a file.
+fn drop_of(losses: &mut Vec<Loss>, file: FileId)
+    ensures { losses.new.items ≡ other_losses file losses.old.items }
+{
+    losses.retain(|loss| loss.file != file);
+}
+
+/// Adds the losses of a file to others.
+#[tactic(auto, using(std::proofs::lemmas::List::Elements::filter_more))]
+fn copy(losses: &[Loss], file: FileId, into: &mut Losses) -> Result<(), NoMemory>
+    ensures { OnOk result (into.new.items ≡ into.old.items ++ losses_of file losses.now) }
+{
+    for loss in losses {
+        if loss.file == file {
+            into.push(*loss)?;
+        }
+    }
+    Ok(())
+}
+
 /// Losses as a journal names them.
+#[tactic(auto, using(crate::proofs::Spans::spans_more))]
 pub(crate) fn spans_of(alloc: Global, losses: &Losses) -> Result<Spans, NoMemory>
     ensures { IfOk result (λ s. s.items ≡ map span_of losses.now.items) }
 {

@@ -91,7 +91,7 @@ impl Step {
     /// What the call under way needs no packet for.
     pub(crate) fn settle(&mut self)
         requires room { HasRoom self.old }
-        requires numbers { HasNumbers self.old.state }
+        requires numbers { HasNumbers 1 self.old.state }
         ensures { step_of self.new ≡ settle (step_of self.old) }
     {
         if is_for_call(&self.state.asked) {
@@ -106,7 +106,7 @@ impl Step {
     /// The call under way, by what it is.
     fn settle_call(&mut self, u: UnderWay)
         requires room { HasRoom self.old }
-        requires numbers { HasNumbers self.old.state }
+        requires numbers { HasNumbers 1 self.old.state }
         ensures { step_of self.new ≡ settle_call (with_call (step_of self.old) (under_way u)) (under_way u) u.call }
     {
         match &u.call {
@@ -153,7 +153,13 @@ impl Step {
         ensures { step_of self.new ≡ settle_body (with_call (step_of self.old) (under_way u)) (under_way u) file block (body_in file block self.old.state.dirty.dirty self.old.state.dirty.push self.old.state.cache.clean) }
     {
         let mut body = Block::fill(0);
-        if read_held(&self.state.dirty, &mut self.state.cache, file, block, &mut body) {
+        if read_held(
+            &self.state.dirty,
+            &mut self.state.cache,
+            file,
+            block,
+            &mut body,
+        ) {
             self.tells_read(u.q, file, block, body);
         } else {
             self.state.call = Some(u);
@@ -182,7 +188,7 @@ impl Step {
     /// A put: its write is delayed, or waits until it is stored.
     fn settle_put(&mut self, u: UnderWay, file: FileId, block: BlockNo, body: &Block)
         requires room { HasRoom self.old }
-        requires numbers { HasNumbers self.old.state }
+        requires numbers { HasNumbers 1 self.old.state }
         ensures { step_of self.new ≡ settle_put (with_call (step_of self.old) (under_way u)) (under_way u) u.written file block body.now }
     {
         if u.written {
@@ -193,16 +199,9 @@ impl Step {
     }
 
     /// A write, by the lease that is held: it is delayed, unless it is to go through or a notice waits.
-    fn settle_write(
-        &mut self,
-        u: UnderWay,
-        sync: bool,
-        file: FileId,
-        block: BlockNo,
-        body: &Block,
-    )
+    fn settle_write(&mut self, u: UnderWay, sync: bool, file: FileId, block: BlockNo, body: &Block)
         requires room { HasRoom self.old }
-        requires numbers { HasNumbers self.old.state }
+        requires numbers { HasNumbers 1 self.old.state }
         ensures { step_of self.new ≡ settle_write (with_call (step_of self.old) (under_way u)) (under_way u) sync file block body.now (lease_on file self.old.state.leases.items) }
     {
         if u.through || self.state.notices.waits(file) {
@@ -219,7 +218,7 @@ impl Step {
     /// A write under a lease that lets it, where there is room for it.
     fn writes(&mut self, u: UnderWay, sync: bool, file: FileId, block: BlockNo, body: &Block)
         requires room { HasRoom self.old }
-        requires numbers { HasNumbers self.old.state }
+        requires numbers { HasNumbers 1 self.old.state }
         ensures { step_of self.new ≡ writes (with_call (step_of self.old) (under_way u)) (under_way u) sync file block body.now }
     {
         if self.state.dirty.is_full(file, block) {
@@ -234,16 +233,13 @@ impl Step {
     #[tactic(auto, unfolding(nq_model::specs::Settle::after_write))]
     fn delays(&mut self, file: FileId, block: BlockNo, body: &Block)
         requires room { HasRoom self.old }
-        requires numbers { HasNumbers self.old.state }
+        requires numbers { HasNumbers 1 self.old.state }
         requires place { is_full_in file block self.old.state.dirty.dirty self.old.state.dirty.push ≡ false }
         ensures step { step_of self.new ≡ delays (step_of self.old) file block body.now }
         ensures spare { self.old.entries.spare ≡ self.new.entries.spare + 1 }
     {
         let number = self.state.number;
-        self.state
-            .dirty
-            .write(file, block, number, body)
-            .unwrap();
+        self.state.dirty.write(file, block, number, body).unwrap();
         self.state.number = Number(number.0 + 1);
         self.state.leases.mark_used(file);
         self.state.cache.remove(file, block);

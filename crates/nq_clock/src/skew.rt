@@ -87,6 +87,14 @@ impl Skew {
         }
     }
 
+    /// What a tick of the server's clock would break now; None exactly where it may tick.
+    pub fn broken(&self) -> Option<SkewBroken>
+        ensures { (events : List Event) → Follows self.now events
+            → result ≡ skew_broken (length self.now.hosts) self.now.window events }
+    {
+        first_broken(&self.hosts)
+    }
+
     /// Whether the server's clock may tick now.
     pub fn lawful(&self) -> bool
         ensures { (events : List Event) → Follows self.now events

@@ -2,3 +2,4 @@ pub mod Messages
 pub mod Incoming
 pub mod Laws
 pub mod Told
+pub mod Sent

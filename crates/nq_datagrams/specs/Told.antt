@@ -1,9 +1,10 @@
 -- What the code makes of a datagram, as the protocol's definitions see it.
 use Rattle.std.specs.Prelude.{Option, Some, None}
-use Rattle.nq_model.specs.Message.{Message, call, reply, Datagram, too_long, no_message, no_call, other_rpc, other_program, other_version, unknown_procedure, garbage_vacated, garbage, request}
+use Rattle.nq_model.specs.Message.{Message, call, reply, RpcError, rpc_mismatch, program_unavailable, program_mismatch, procedure_unavailable, garbage_arguments, Datagram, too_long, no_message, no_call, other_rpc, other_program, other_version, unknown_procedure, garbage_vacated, garbage, request}
 use Rattle.nq_rpc.specs.Fault.{fault_number}
 use Rattle.nq_datagrams.specs.declared.to_client.Heard.{Heard}
 use Rattle.nq_datagrams.specs.declared.to_server.Incoming.{Incoming}
+use Rattle.nq_datagrams.specs.declared.writing.ErrorReply.{ErrorReply}
 
 -- what a datagram is to the server
 abbrev pub told : Incoming → Datagram
@@ -26,3 +27,11 @@ told_message (Heard.Reply xid r) = reply xid r
 abbrev pub told_client : Option Heard → Option Message
 told_client None = None
 told_client (Some heard) = Some (told_message heard)
+
+-- which reply without a result it is
+abbrev pub told_error : ErrorReply → RpcError
+told_error ErrorReply.RpcMismatch = rpc_mismatch
+told_error ErrorReply.ProgramUnavailable = program_unavailable
+told_error ErrorReply.ProgramMismatch = program_mismatch
+told_error ErrorReply.ProcedureUnavailable = procedure_unavailable
+told_error ErrorReply.GarbageArguments = garbage_arguments

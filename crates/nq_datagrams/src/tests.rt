@@ -1,5 +1,5 @@
 use super::*;
-use nq_base::{Reply, Request};
+use nq_base::{FileId, Host, Inc, Reply, Request, Tag, Who};
 use nq_rpc::RpcFault;
 use nq_wire::Procedure;
 use std::alloc::{AllocError, Global};
@@ -161,5 +161,35 @@ fn a_reply_is_heard_by_who_waits_for_it(rt: HostRuntime) -> Result<(), Fail> {
     assert_eq!(rt; heard(alloc, 1, Procedure::GetAttr, &FOUND)?, None);
     assert_eq!(rt; heard(alloc, 1, Procedure::Lookup, &LOOKUP)?, None);
     assert_eq!(rt; heard(alloc, 1, Procedure::Lookup, &NOTICE)?, Some(5));
+    Ok(())
+}
+
+#[test]
+fn messages_are_written_as_datagrams(rt: HostRuntime) -> Result<(), Fail> {
+    let alloc = rt.alloc();
+    let request = Request::Evicted {
+        who: Who {
+            host: Host(1),
+            inc: Inc(1),
+        },
+        file: FileId(5),
+        tag: Tag { boot: 2, number: 3 },
+    };
+    assert_eq!(rt; call_bytes(alloc, 7, &request)?, bytes_of(alloc, &NOTICE)?);
+    let reply = Reply::Lookup {
+        inc: Inc(1),
+        file: FileId(1),
+        blocks: 1,
+    };
+    assert_eq!(rt; reply_bytes(alloc, 1, &reply)?, bytes_of(alloc, &FOUND)?);
+    let begun = BegunReply::new(alloc, 1, 16)?;
+    assert_eq!(rt; begun.end(&reply), bytes_of(alloc, &FOUND)?);
+    let mismatch = bytes_of(alloc, &[7, 1, 1, 0, 2, 2])?;
+    assert_eq!(rt; error_bytes(alloc, 7, ErrorReply::RpcMismatch)?, mismatch);
+    let other_version = bytes_of(alloc, &[7, 1, 0, 0, 0, 2, 1, 1])?;
+    assert_eq!(rt;
+        error_bytes(alloc, 7, ErrorReply::ProgramMismatch)?,
+        other_version
+    );
     Ok(())
 }

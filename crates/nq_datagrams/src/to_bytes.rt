@@ -32,7 +32,7 @@ pub fn write_call(xid: u32, request: &Request, out: &mut Writer) -> Result<(), N
 }
 
 /// What a call of the program begins with.
-fn head_of(xid: u32, request: &Request) -> Head
+pub(crate) fn head_of(xid: u32, request: &Request) -> Head
     ensures { result ≡ record { xid = xid; prog = program; vers = version; procedure = number_of (procedure_of request.now) } }
 {
     Head {

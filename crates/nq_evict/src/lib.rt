@@ -7,10 +7,12 @@
 #![tactic(auto)]
 
 mod notice;
+mod notifying;
 mod vacancy;
 mod vacating;
 
 pub use notice::Notice;
+pub use notifying::{NoticeTo, notices};
 pub use vacancy::{Cleared, Vacancy};
 pub use vacating::vacated;
 

@@ -1,9 +1,7 @@
 -- What code keeps is what the definitions say, where the kept numbers are within their bounds; and it can be kept in any case.
-use Rattle.std.proofs.Common.{◌≡◌, ◌≤◌, ℕ, ◌+◌, ◌==◌, Bool, true, false, ◌||◌, ◌-◌, List, [], ◌∷◌, ◌++◌, Option, Some, None, if◌then◌else◌, length, min, refl, sym, subst, ap, ◌∙◌, arith, length-append}
+use Rattle.std.proofs.Common.{◌≡◌, ◌≤◌, ℕ, ◌+◌, ◌==◌, Bool, true, false, ◌||◌, ◌-◌, List, Option, Some, None, length, refl, ap, ◌∙◌, arith}
 use Rattle.std.specs.Prelude.{is_some, nat_lt, nat_le}
 use Rattle.std.specs.Option.{IfSome}
-use Rattle.std.proofs.lemmas.List.Sums.{sum_by-append}
-use Rattle.nq_base.specs.declared.BlockChange.{BlockChange}
 use Rattle.nq_base.specs.declared.Change.{Change}
 use Rattle.nq_base.specs.declared.Effect.{Effect}
 use Rattle.nq_base.specs.declared.FileRow.{FileRow}
@@ -15,12 +13,12 @@ use Rattle.nq_base.specs.declared.Request.{Request}
 use Rattle.nq_base.specs.declared.Request.TheVariants.{Attach, Create, Write, Resize, Remove}
 use Rattle.nq_base.specs.declared.Verdict.{Verdict}
 use Rattle.nq_base.specs.declared.Who.{Who}
-use Rattle.nq_model.specs.Change.{Fits, FitsFile, IsRowOf, HasBlock, FitsRemoval, IsFileWithin, IsWithinBounds, raised_row, row_of, row_of_found, heads_of, space_of, file_of, with_file, with_file_at, files_with}
+use Rattle.nq_model.specs.Change.{Fits, FitsRemoval, IsFileWithin, IsWithinBounds, raised_row, row_of, row_of_found, heads_of, space_of}
 use Rattle.nq_model.specs.Decided.{no_effect, creation, block_write, length_change, removal, effect_of_create, effect_of_push, effect_of_write_in, effect_of_write, effect_of_write_recovering, effect_of_resize, effect_of_remove, effect_of, change_with}
-use Rattle.nq_model.specs.Kept.{File, Kept, blocks_of, blocks_in_all, find_file, find_name, replace_file}
+use Rattle.nq_model.specs.Kept.{File, Kept, blocks_of, blocks_in_all, find_file, find_name}
 use Rattle.nq_model.specs.Profile.{most_files, most_blocks, most_blocks_of_file, most_ids}
 use Rattle.nq_model.proofs.Finding.{choice}
-use Rattle.nq_model.proofs.FreshFits.{found-has, blocks-first, length-replaced}
+use Rattle.nq_model.proofs.FreshFits.{found-has}
 use Rattle.nq_keeper.specs.Capped.{last_number, capped_row, capped_file}
 use Rattle.nq_keeper.proofs.CappedRows.{stays, row-stays, files-capped, blocks-capped}
 use Rattle.nq_files.specs.Capped.{capped}

@@ -1,3 +1,5 @@
 pub mod Capping
 pub mod Concluding
+pub mod OnceOnly
 pub mod Sequences
+pub mod SomeRepeats

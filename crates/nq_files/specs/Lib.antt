@@ -1,3 +1,4 @@
 pub mod Capped
 pub mod Deciding
 pub mod Reading
+pub mod Repeats

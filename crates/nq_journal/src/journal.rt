@@ -88,8 +88,8 @@ impl Journal {
         self.entries.iter().all(|entry| has(version, entry))
     }
 
-    // All entries, in order.
-    pub(crate) fn entries(&self) -> &[Entry]
+    /// All entries, the oldest first.
+    pub fn entries(&self) -> &[Entry]
         ensures { result.now ≡ self.now.entries }
     {
         &self.entries

@@ -1,2 +1,9 @@
+pub mod Called
+pub mod Calling
 pub mod CappedRows
+pub mod Edits
+pub mod Fitting
 pub mod Leaving
+pub mod Orderly
+pub mod Places
+pub mod Stored

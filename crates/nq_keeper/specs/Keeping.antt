@@ -1,13 +1,13 @@
 -- What the calls of a keeper do. Below, `told` is what the keeper told of its content before a call and `tells` is what it
 -- tells after it.
-use Rattle.std.specs.Prelude.{◌≡◌, ◌⊎◌, ◌<◌, ℕ, List, Option, Some, None, Result, Ok, Err, IfSome, slice_get}
+use Rattle.std.specs.Prelude.{◌≡◌, ◌⊎◌, ◌<◌, ℕ, List, Option, Some, None, Result, Ok, Err, slice_get}
 use Rattle.std.specs.Option.{ForSome}
 use Rattle.nq_base.specs.declared.Change.{Change}
 use Rattle.nq_io.specs.Faults.{Rose}
 use Rattle.nq_keeper.specs.declared.keeper.KeepFault.{KeepFault}
 use Rattle.nq_keeper.specs.declared.keeper.KeepFault.TheVariants.{Failed, Memory}
 use Rattle.nq_model.specs.Change.{applied}
-use Rattle.nq_model.specs.Kept.{File, Kept, blocks_of}
+use Rattle.nq_model.specs.Kept.{File, Kept}
 use Rattle.nq_model.specs.Profile.{most_hosts}
 
 -- what is told stays, or nothing is told any more
@@ -40,10 +40,6 @@ LeavesOne told leaves = ForSome told (λ kept. (found : Option Kept) → leaves 
 abbrev pub LeavesTwo : Change → (told : Option Kept) → (Option Kept → Type 0) → Type 0
 LeavesTwo change told leaves =
     ForSome told (λ kept. (found : Option Kept) → leaves found → (found ≡ Some kept) ⊎ (found ≡ Some (applied kept change)))
-
--- a file is kept and has this block
-abbrev pub HasBlockAt : (block : ℕ) → Option File → Type 0
-HasBlockAt block file = IfSome file (λ f. block < blocks_of f)
 
 -- the body of a block of a file
 abbrev pub body_at : (block : ℕ) → Option File → Option (List ℕ)

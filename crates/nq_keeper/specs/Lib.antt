@@ -1,3 +1,6 @@
 pub mod Capped
+pub mod InOrder
 pub mod Keeping
+pub mod KeeperLaws
+pub mod Shape
 pub mod StoredKeeper

@@ -1,14 +1,76 @@
 -- A keeper in memory, as contracts see it.
-use Rattle.std.specs.Prelude.{◌<◌, ℕ, List, [], ◌∷◌, All}
-use Rattle.nq_io.specs.Calls.{CallCounts}
-use Rattle.nq_model.specs.Kept.{File, Kept}
+use Rattle.std.specs.Prelude.{◌≡◌, ◌⊎◌, ◌≤◌, ◌==◌, Bool, true, ◌&&◌, List, [], ◌∷◌, Option, Some, Result, Ok, Err, length, nat_le, nat_lt, is_none, replicate, if◌then◌else◌}
+use Rattle.std.specs.List.{list_all}
+use Rattle.nq_base.specs.declared.Change.{Change}
+use Rattle.nq_io.specs.Calls.{CallCounts, is_next_listed, after_call, after_fault}
+use Rattle.nq_keeper.specs.declared.keeper.KeepFault.{KeepFault}
+use Rattle.nq_keeper.specs.declared.keeper.KeepFault.TheVariants.{Failed}
+use Rattle.nq_model.specs.Change.{applied}
+use Rattle.nq_model.specs.Kept.{File, Kept, blocks_of, blocks_in_all, find_name, fresh_row}
+use Rattle.nq_model.specs.Profile.{most_hosts, most_files, most_blocks, most_blocks_of_file}
 
 -- what is kept, and the calls
 pub record StoredKeeper : Type 0 where
   pub kept : Kept
   pub calls : CallCounts
 
--- the files stand in order of their ids, all of which are below this one
-abbrev pub AreInOrder : (next : ℕ) → List File → Type 0
-AreInOrder next [] = Unit {0}
-AreInOrder next (file ∷ files) = (file.id < next) × All (λ later. file.id < later.id) files × AreInOrder next files
+-- before the first boot: no file is kept, and nothing was heard of any host
+abbrev pub empty_kept : Kept
+empty_kept = record {
+  files = [];
+  hosts = replicate most_hosts fresh_row;
+  boot = 0;
+  opened = 0;
+  longest = 60;
+  next = 1;
+}
+
+-- whether the files stand in order of their ids, and each name is that of one file
+abbrev pub are_apart : List File → Bool
+are_apart [] = true
+are_apart (file ∷ files) =
+    list_all (λ later. nat_lt file.id later.id) files && is_none (find_name file.name files) && are_apart files
+
+-- whether a file has a length that a file can have
+abbrev pub has_length : File → Bool
+has_length file = nat_le 1 (blocks_of file) && nat_le (blocks_of file) most_blocks_of_file
+
+-- whether a kept state has the shape of one
+unfoldable pub is_orderly : Kept → Bool
+is_orderly kept =
+    are_apart kept.files
+    && list_all (λ file. nat_lt file.id kept.next) kept.files
+    && list_all has_length kept.files
+    && nat_le (length kept.files) most_files
+    && nat_le (blocks_in_all kept.files) most_blocks
+    && length kept.hosts == most_hosts
+
+-- what a keeper in memory tells: what it keeps. It keeps no state without the shape of a kept state, and would tell the
+-- empty one for it
+unfoldable pub told_of : Kept → Kept
+told_of kept = if is_orderly kept then kept else empty_kept
+
+-- the calls after one more, which fails where it is listed
+abbrev pub asked : CallCounts → CallCounts
+asked calls = if is_next_listed calls then after_fault calls else after_call calls
+
+-- what a call answers that fails only where it is listed
+abbrev pub answer_of : {X : Type 0} → CallCounts → X → Result X KeepFault
+answer_of calls answer = if is_next_listed calls then Err Failed else Ok answer
+
+-- the keeper after a call that changes nothing
+abbrev pub after_reading : StoredKeeper → StoredKeeper
+after_reading keeper = record keeper { calls = asked keeper.calls }
+
+-- the keeper after a commit of this change with this answer
+abbrev pub after_commit : StoredKeeper → Change → Result Unit KeepFault → StoredKeeper
+after_commit keeper change (Ok done) = record { kept = applied keeper.kept change; calls = asked keeper.calls }
+after_commit keeper change (Err fault) = after_reading keeper
+
+-- the calls that are to fail stay, and the count of faults never falls
+abbrev pub GoesOn : StoredKeeper → StoredKeeper → Type 0
+GoesOn first second = (second.calls.failing ≡ first.calls.failing) × (first.calls.faults ≤ second.calls.faults)
+
+-- what a stop leaves: what was kept at the first moment, or at the last
+abbrev pub LeavesEither : StoredKeeper → StoredKeeper → Option Kept → Type 0
+LeavesEither first last found = (found ≡ Some (told_of first.kept)) ⊎ (found ≡ Some (told_of last.kept))

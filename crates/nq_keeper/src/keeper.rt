@@ -2,10 +2,10 @@
 
 ghost use Rattle.std.specs.Prelude.{◌≡◌, ◌⊎◌, ◌<◌, ℕ, Option, Some, IfOk, OnOk};
 ghost use Rattle.std.specs.Option.{ForSome};
-ghost use Rattle.nq_model.specs.Change.{Fits, IsOrderly, row_of_found, file_after, heads_of, space_of};
+ghost use Rattle.nq_model.specs.Change.{Fits, HasBlock, IsOrderly, row_of_found, file_after, heads_of, space_of};
 ghost use Rattle.nq_model.specs.Kept.{Kept, find_file, find_name, host_row};
 ghost use Rattle.nq_model.specs.Profile.{most_hosts};
-ghost use Rattle.nq_keeper.specs.Keeping.{Reads, Commits, LeavesOne, LeavesTwo, HasBlockAt, NamesHost, body_at};
+ghost use Rattle.nq_keeper.specs.Keeping.{Reads, Commits, LeavesOne, LeavesTwo, NamesHost, body_at};
 
 use nq_base::{Block, BlockNo, Change, FileId, FileRow, Heads, Host, HostRow, Name, Space};
 
@@ -77,7 +77,7 @@ pub trait Keeper {
 
     /// Reads a block of a file into `into`, which after a fault may hold anything.
     fn block(&mut self, id: FileId, block: BlockNo, into: &mut Block) -> Result<(), KeepFault>
-        requires { ForSome (content self.old) (λ kept. HasBlockAt block (find_file id kept.files)) }
+        requires { ForSome (content self.old) (λ kept. HasBlock block (find_file id kept.files)) }
         ensures told { ForSome (content self.old) (λ kept. OnOk result (Some into.new ≡ body_at block (find_file id kept.files))) }
         ensures reads { Reads result (content self.old) (content self.new) (faults self.old) (faults self.new) }
         ensures follows { follows self.old self.new }

@@ -5,9 +5,13 @@
 //! moments may leave. An answer `Failed` comes only where that count rose in the call.
 #![tactic(auto)]
 
+mod files;
 mod keeper;
+mod list_keeper;
 mod raising;
+mod stored_file;
 
 pub use keeper::{KeepFault, Keeper};
+pub use list_keeper::ListKeeper;
 pub use nq_base::{BlockChange, Change, FileRow, Heads, HostChange, HostRow, Space, Verdict};
 pub use raising::raised;

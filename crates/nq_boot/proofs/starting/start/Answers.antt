@@ -13,7 +13,7 @@ returns-in-Ok-keep_heads-clause-starts g c = (
       let is : c.in-Ok.heads ≡ heads_of kept = c.in-Ok.ensures.told kept told in
       let below : c.in-Ok.heads.boot < most_boots = omega arith in (
         subst (λ h. h.boot < most_boots) is below,
-        c.begun.ensures kept is,
+        c.begun.ensures.begun kept is,
         c.in-Ok-keep_heads.ensures.commits.0 ∙ ap (told_after (change_of_heads c.after_boot.result)) (c.in-Ok.ensures.reads.0 ∙ told) ∙ ap (λ k. Some k) (kept-booted kept c.args.longest c.in-Ok.heads c.after_boot.result is c.after_boot.ensures),
       ),
   c.in-Ok-keep_heads.ensures.commits.1 ∙ c.in-Ok.ensures.reads.1,

@@ -1,0 +1,6 @@
+pub mod ClientNumbers
+pub mod FirstNumbers
+pub mod KeptNumbers
+pub mod KeptSteps
+pub mod Saying
+pub mod WorldNumbers

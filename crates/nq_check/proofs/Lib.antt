@@ -1,0 +1,6 @@
+pub mod Agreeing
+pub mod Backwards
+pub mod NameLosses
+pub mod Places
+pub mod Sounds
+pub mod Verdicts

@@ -1,0 +1,208 @@
+//! Which reads, and which answers to them, are legal.
+#![tactic(auto, using(crate::proofs::Backwards::last_first))]
+
+ghost use Rattle.std.specs.Prelude.{◌≡◌, reverse};
+ghost use Rattle.nq_model.specs.Journal.{last_value, since_cut};
+ghost use Rattle.nq_model.specs.JournalTest.{at_most_one, exists, is_answer_by, is_counted, is_lost, is_stored};
+ghost use Rattle.nq_model.specs.LegalTest.{is_answer_with, is_counted_by, is_counted_with, is_legal_answer, is_legal_at, is_legal_read};
+ghost use Rattle.nq_model.specs.StandsTest.{standing_value, stands};
+
+use crate::calls::{call_of, is_reading};
+use crate::entries::{
+    cuts, is_answer_by, is_answer_with, is_read_by, is_through, is_write_by, is_write_on,
+    loss_covers, store_covers, value_written,
+};
+use nq_base::{BlockNo, Entry, FileId, Said, Who};
+
+/// Whether an A of a call that says `by` a packet stands among the entries.
+fn is_answered_by(entries: &[Entry], by: &Who, n: u64, k: u64) -> bool
+    ensures { result ≡ exists (is_answer_by by.now n k) (reverse entries.now) }
+{
+    let mut found = false;
+    for entry in entries {
+        let here = is_answer_by(entry, by, n, k);
+        found = here || found;
+    }
+    found
+}
+
+/// Whether an A of a call that says ok with a value stands among the entries.
+fn is_answered_with(entries: &[Entry], by: &Who, n: u64, v: u32) -> bool
+    ensures { result ≡ exists (is_answer_with by.now n v) (reverse entries.now) }
+{
+    let mut found = false;
+    for entry in entries {
+        let here = is_answer_with(entry, by, n, v);
+        found = here || found;
+    }
+    found
+}
+
+/// Whether an entry is a counted read.
+pub(crate) fn is_counted(whole: &[Entry], entry: &Entry) -> bool
+    ensures { result ≡ is_counted (reverse whole.now) entry.now }
+{
+    match entry {
+        Entry::R { who, q, served, .. } => match served {
+            None => true,
+            Some(packet) => is_answered_by(whole, who, *q, *packet),
+        },
+        _ => false,
+    }
+}
+
+/// Whether an entry is a counted read by a call.
+pub(crate) fn is_counted_by(whole: &[Entry], by: &Who, n: u64, entry: &Entry) -> bool
+    ensures { result ≡ is_counted_by (reverse whole.now) by.now n entry.now }
+{
+    is_read_by(entry, by, n) && is_counted(whole, entry)
+}
+
+/// Whether an entry is a counted read by a call, of a value.
+fn is_counted_with(whole: &[Entry], by: &Who, n: u64, v: u32, entry: &Entry) -> bool
+    ensures { result ≡ is_counted_with (reverse whole.now) by.now n v entry.now }
+{
+    match entry {
+        Entry::R { value, .. } => *value == v && is_counted_by(whole, by, n, entry),
+        _ => false,
+    }
+}
+
+/// Whether a counted read by a call, of a value, stands in the journal.
+fn has_counted_with(whole: &[Entry], by: &Who, n: u64, v: u32) -> bool
+    ensures { result ≡ exists (is_counted_with (reverse whole.now) by.now n v) (reverse whole.now) }
+{
+    let mut found = false;
+    for entry in whole {
+        let here = is_counted_with(whole, by, n, v, entry);
+        found = here || found;
+    }
+    found
+}
+
+/// Whether a call has one counted read at most.
+fn has_one_counted(whole: &[Entry], by: &Who, n: u64) -> bool
+    ensures { result ≡ at_most_one (is_counted_by (reverse whole.now) by.now n) (reverse whole.now) }
+{
+    let mut number: usize = 0;
+    for entry in whole {
+        if is_counted_by(whole, by, n, entry) {
+            number += 1;
+        }
+    }
+    number <= 1
+}
+
+/// Whether an S among the entries covers a write.
+pub(crate) fn is_stored(entries: &[Entry], write: &Entry) -> bool
+    ensures { result ≡ is_stored (reverse entries.now) write.now }
+{
+    let mut found = false;
+    for entry in entries {
+        let here = store_covers(entry, write);
+        found = here || found;
+    }
+    found
+}
+
+/// Whether an L among the entries covers a write.
+fn is_lost(entries: &[Entry], write: &Entry) -> bool
+    ensures { result ≡ is_lost (reverse entries.now) write.now }
+{
+    let mut found = false;
+    for entry in entries {
+        let here = loss_covers(entry, write);
+        found = here || found;
+    }
+    found
+}
+
+/// A read, as its R tells it.
+#[derive(Clone, Copy)]
+struct Reading<'a> {
+    who: &'a Who,
+    q: u64,
+    file: FileId,
+    block: BlockNo,
+    value: u32,
+}
+
+/// Whether a write stands for a later read.
+fn stands(whole: &[Entry], before: &[Entry], read: &Reading, write: &Entry) -> bool
+    ensures { result ≡ stands (reverse whole.now) (reverse before.now) read.now.who.now read.now.file read.now.block write.now }
+{
+    is_write_on(write, read.file, read.block)
+        && (is_through(write)
+            || (is_stored(whole, write) || is_write_by(write, read.who) && !is_lost(before, write)))
+}
+
+/// The value of the last write before a read that stands for it, or 0 where there is none.
+fn standing_value(whole: &[Entry], before: &[Entry], read: &Reading) -> u32
+    ensures { result ≡ standing_value (reverse whole.now) (reverse before.now) read.now.who.now read.now.file read.now.block }
+{
+    let mut value = 0;
+    for entry in before {
+        if cuts(entry, read.file, read.block) {
+            value = 0;
+        } else if stands(whole, before, read, entry) {
+            value = value_written(entry);
+        }
+    }
+    value
+}
+
+/// Whether a counted read is legal.
+fn is_legal_read(whole: &[Entry], before: &[Entry], read: &Reading) -> bool
+    ensures { result ≡ is_legal_read (reverse whole.now) (reverse before.now) read.now.who.now read.now.q read.now.file read.now.block read.now.value }
+{
+    read.value == standing_value(whole, before, read)
+        && is_reading(call_of(whole, read.who, read.q))
+        && is_answered_with(whole, read.who, read.q, read.value)
+}
+
+/// Whether an answer that says ok with a value to a `read` or `fetch` is legal.
+fn is_legal_answer(whole: &[Entry], by: &Who, n: u64, v: u32) -> bool
+    ensures { result ≡ is_legal_answer (reverse whole.now) by.now n v }
+{
+    has_counted_with(whole, by, n, v) && has_one_counted(whole, by, n)
+}
+
+/// Whether an entry is legal at its place.
+pub(crate) fn is_legal_at(whole: &[Entry], before: &[Entry], entry: &Entry) -> bool
+    ensures { result ≡ is_legal_at (reverse whole.now) entry.now (reverse before.now) }
+{
+    match entry {
+        Entry::R {
+            who,
+            q,
+            file,
+            block,
+            value,
+            ..
+        } => {
+            !is_counted(whole, entry)
+                || is_legal_read(
+                    whole,
+                    before,
+                    &Reading {
+                        who,
+                        q: *q,
+                        file: *file,
+                        block: *block,
+                        value: *value,
+                    },
+                )
+        }
+        Entry::A {
+            who,
+            q,
+            said: Said::OkValue(value),
+        } => !is_reading(call_of(whole, who, *q)) || is_legal_answer(whole, who, *q, *value),
+        Entry::A {
+            who,
+            q,
+            said: Said::OkBy { value, .. },
+        } => !is_reading(call_of(whole, who, *q)) || is_legal_answer(whole, who, *q, *value),
+        _ => true,
+    }
+}

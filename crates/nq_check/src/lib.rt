@@ -1,0 +1,20 @@
+//! A judge of anybody's journal: whether it is sound, and which of its entries is the first at fault.
+#![tactic(auto)]
+
+mod accounted;
+mod calls;
+mod entries;
+mod excused;
+mod judge;
+pub mod laws;
+mod legal;
+mod named;
+mod ordered;
+mod rules;
+mod synchronized;
+
+pub use judge::check;
+pub use rules::{Judged, Rule};
+
+#[cfg(test)]
+mod tests;

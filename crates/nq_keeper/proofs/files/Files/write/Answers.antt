@@ -1,0 +1,10 @@
+use Rattle.std.proofs.Common.{subst, sym}
+use Rattle.nq_keeper.proofs.Stored.{stored-written}
+use Rattle.nq_model.specs.Change.{HasBlock}
+use Rattle.nq_model.specs.Kept.{find_file}
+use Rattle.nq_keeper.proofs.files.Files.write.Goals as goal
+
+pub invariant_of-self : goal.invariant_of-self
+invariant_of-self c =
+    stored-written c.self.inside.stored.items c.self.inside.blocks c.args.change.now c.self.invariant c.write.new.files.items c.write.ensures
+    (subst (λ files. HasBlock c.args.change.now.block (find_file c.args.change.now.file files)) (sym c.self.view_is) c.requires)

@@ -1,0 +1,27 @@
+-- The laws of a keeper, of one in memory.
+use Rattle.std.proofs.Common.{◌≡◌, ◌⊎◌, Option, Some, refl, sym, subst, ◌∙◌, inl, inr, arith}
+use Rattle.nq_keeper.specs.StoredKeeper.{StoredKeeper, GoesOn, LeavesEither, told_of}
+use Rattle.nq_keeper.specs.Shape.{told-shape}
+use Rattle.nq_model.specs.Change.{IsOrderly}
+use Rattle.nq_model.specs.Kept.{Kept}
+
+pub told-is-orderly : (keeper : StoredKeeper) (kept : Kept) → Some (told_of keeper.kept) ≡ Some kept → IsOrderly kept
+told-is-orderly keeper kept e = let same : told_of keeper.kept ≡ kept = cc in subst IsOrderly same (told-shape keeper.kept)
+
+pub goes-on-itself : (keeper : StoredKeeper) → GoesOn keeper keeper
+goes-on-itself keeper = (refl, omega arith)
+
+pub goes-on-further : (first second third : StoredKeeper) → GoesOn first second → GoesOn second third → GoesOn first third
+goes-on-further first second third one two = (two.0 ∙ one.0, let a = one.1 in let b = two.1 in omega arith)
+
+pub leaves-kept : (keeper : StoredKeeper) (kept : Kept) (found : Option Kept) → Some (told_of keeper.kept) ≡ Some kept → LeavesEither keeper keeper found → found ≡ Some kept
+leaves-kept keeper kept found e (inl left) = left ∙ e
+leaves-kept keeper kept found e (inr left) = left ∙ e
+
+pub may-leave : (first last : StoredKeeper) (kept : Kept) → GoesOn first last → (Some (told_of first.kept) ≡ Some kept) ⊎ (Some (told_of last.kept) ≡ Some kept) → LeavesEither first last (Some kept)
+may-leave first last kept goes (inl e) = inl (sym e)
+may-leave first last kept goes (inr e) = inr (sym e)
+
+pub leaves-parts : (first middle last : StoredKeeper) (found : Option Kept) → GoesOn first middle → GoesOn middle last → LeavesEither first last found → LeavesEither first middle found ⊎ LeavesEither middle last found
+leaves-parts first middle last found one two (inl left) = inl (inl left)
+leaves-parts first middle last found one two (inr left) = inr (inr left)

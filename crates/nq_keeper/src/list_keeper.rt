@@ -1,0 +1,301 @@
+//! A keeper in memory.
+
+ghost use Rattle.std.specs.Prelude.{◌≡◌, ◌<◌, ◌↔◌, Some, Err, IfOk, OnOk, OnErr, IsErr, IsTrue, length, slice_get, unwrap_or, vec_len};
+ghost use Rattle.std.specs.Option.{ForSome};
+ghost use Rattle.nq_io.specs.Calls.{fresh, is_next_listed};
+ghost use Rattle.nq_io.specs.Faults.{Rose};
+ghost use Rattle.nq_keeper.specs.Keeping.{Reads, Commits, LeavesOne, LeavesTwo, NamesHost, body_at};
+ghost use Rattle.nq_keeper.specs.StoredKeeper.{GoesOn, LeavesEither, after_commit, after_reading, answer_of, asked, empty_kept, told_of};
+ghost use Rattle.nq_model.specs.Change.{Fits, HasBlock, file_after, heads_of, heads_with, hosts_with, row_of_found, space_of};
+ghost use Rattle.nq_model.specs.Kept.{find_file, find_name, fresh_row, host_row};
+ghost use Rattle.nq_model.specs.Profile.{most_hosts};
+ghost use Rattle.nq_keeper.specs.KeeperLaws.{told-is-orderly, goes-on-itself, goes-on-further, leaves-kept, may-leave, leaves-parts};
+
+use crate::files::Files;
+use crate::keeper::{KeepFault, Keeper};
+use nq_base::{
+    Block, BlockNo, Change, FileId, FileRow, Heads, Host, HostChange, HostRow, Inc, Name, NoMemory,
+    Seq, Space, Verdict,
+};
+use nq_io::Calls;
+use std::alloc::Global;
+use std::marker::Model;
+
+/// How many hosts there can be.
+const MOST_HOSTS: usize = 64;
+
+/// The longest term in ticks before any boot served.
+const FIRST_LONGEST: u32 = 60;
+
+/// The row of a host of which nothing was heard.
+const FRESH_ROW: HostRow = HostRow {
+    inc: Inc(0),
+    seq: Seq(0),
+    verdict: Verdict::Done,
+    value: 0,
+};
+
+/// A keeper in memory, which always tells what it keeps. It fails exactly the calls that it is told to fail. Files are
+/// looked up by halving, and a block is copied once on its way in or out.
+#[derive(Drop)]
+pub struct ListKeeper {
+    alloc: Global,
+    files: Files,
+    hosts: Vec<HostRow>,
+    heads: Heads,
+    calls: Calls,
+}
+
+impl Model for ListKeeper {
+    ghost use Rattle.nq_keeper.specs.StoredKeeper.{StoredKeeper};
+    ghost use Rattle.nq_model.specs.Change.{IsOrderly, kept_as};
+
+    ghost Value = { StoredKeeper };
+
+    ghost view = { λ k. record { kept = kept_as k.files k.hosts.items k.heads; calls = k.calls } };
+
+    ghost invariant = { λ k. IsOrderly (kept_as k.files k.hosts.items k.heads) };
+}
+
+impl From<NoMemory> for KeepFault {
+    ghost use Rattle.std.specs.Prelude.{◌≡◌};
+    ghost use Rattle.nq_keeper.specs.declared.keeper.KeepFault.TheVariants.{Memory};
+
+    ghost from_gives = { λ _ fault. fault ≡ Memory };
+
+    fn from(_: NoMemory) -> KeepFault {
+        KeepFault::Memory
+    }
+}
+
+/// Counts a call, which fails where it is listed.
+fn ask(calls: &mut Calls) -> Result<(), KeepFault>
+    ensures answer { result ≡ answer_of calls.old tt }
+    ensures calls { calls.new ≡ asked calls.old }
+    ensures rose { IsErr result → Rose calls.old.faults calls.new.faults }
+{
+    if calls.is_next_listed() {
+        calls.count_fault();
+        return Err(KeepFault::Failed);
+    }
+    calls.count_call();
+    Ok(())
+}
+
+/// Writes the row of a host, if one is given.
+fn set_row(hosts: &mut Vec<HostRow>, change: &Option<HostChange>)
+    requires { ForSome change.now (λ h. h.host < vec_len hosts.old) }
+    ensures { hosts.new.items ≡ hosts_with change.now hosts.old.items }
+{
+    match change {
+        Some(change) => hosts[change.host.0 as usize] = change.row,
+        None => {}
+    }
+}
+
+/// The row of a host.
+fn row_of(hosts: &[HostRow], host: Host) -> HostRow
+    requires { host < length hosts.now }
+    ensures { result ≡ unwrap_or (slice_get hosts.now host) fresh_row }
+{
+    hosts[host.0 as usize]
+}
+
+/// The numbers of the server after a change.
+fn heads_after(heads: &Heads, change: &Option<Heads>) -> Heads
+    ensures { result ≡ heads_with change.now heads.now }
+{
+    match change {
+        Some(changed) => *changed,
+        None => *heads,
+    }
+}
+
+impl ListKeeper {
+    /// A keeper before the first boot: it keeps no file, and has heard of no host. The calls whose numbers are listed are
+    /// to fail, counted from 0.
+    ///
+    /// # Errors
+    ///
+    /// Only want of memory.
+    pub fn new(alloc: Global, failing: Vec<u32>) -> Result<ListKeeper, NoMemory>
+        ensures keeper { IfOk result (λ k. k ≡ record { kept = empty_kept; calls = fresh failing.items }) }
+        ensures tells { IfOk result (λ k. told_of k.kept ≡ empty_kept) }
+    {
+        let hosts = vec![in alloc; FRESH_ROW; MOST_HOSTS]?;
+        Ok(ListKeeper {
+            alloc,
+            files: Files::new(alloc),
+            hosts,
+            heads: Heads {
+                boot: 0,
+                opened: 0,
+                longest: FIRST_LONGEST,
+                next: 1,
+            },
+            calls: Calls::new(failing),
+        })
+    }
+}
+
+#[tactic(auto, unfolding(nq_model::specs::Change::kept_as))]
+impl Keeper for ListKeeper {
+    ghost content = { λ k. Some (told_of k.kept) };
+
+    ghost faults = { λ k. k.calls.faults };
+
+    ghost follows = { GoesOn };
+
+    ghost leaves = { LeavesEither };
+
+    fn file(&mut self, id: FileId) -> Result<Option<FileRow>, KeepFault>
+        // As of any keeper.
+        ensures told { ForSome (Some (told_of self.old.kept)) (λ kept. IfOk result (λ row. row ≡ row_of_found (find_file id kept.files))) }
+        ensures reads { Reads result (Some (told_of self.old.kept)) (Some (told_of self.new.kept)) self.old.calls.faults self.new.calls.faults }
+        ensures follows { GoesOn self.old self.new }
+        ensures leaves { LeavesOne (Some (told_of self.old.kept)) (LeavesEither self.old self.new) }
+
+        // Of this one.
+        ensures answer { result ≡ answer_of self.old.calls (row_of_found (find_file id self.old.kept.files)) }
+        ensures keeper { self.new ≡ after_reading self.old }
+    {
+        ask(&mut self.calls)?;
+        Ok(self.files.row(id))
+    }
+
+    fn by_name(&mut self, name: &Name) -> Result<Option<FileRow>, KeepFault>
+        // As of any keeper.
+        ensures told { ForSome (Some (told_of self.old.kept)) (λ kept. IfOk result (λ row. row ≡ row_of_found (find_name name.now kept.files))) }
+        ensures reads { Reads result (Some (told_of self.old.kept)) (Some (told_of self.new.kept)) self.old.calls.faults self.new.calls.faults }
+        ensures follows { GoesOn self.old self.new }
+        ensures leaves { LeavesOne (Some (told_of self.old.kept)) (LeavesEither self.old self.new) }
+
+        // Of this one.
+        ensures answer { result ≡ answer_of self.old.calls (row_of_found (find_name name.now self.old.kept.files)) }
+        ensures keeper { self.new ≡ after_reading self.old }
+    {
+        ask(&mut self.calls)?;
+        Ok(self.files.row_of_name(name))
+    }
+
+    fn next_file(&mut self, after: FileId) -> Result<Option<FileRow>, KeepFault>
+        // As of any keeper.
+        ensures told { ForSome (Some (told_of self.old.kept)) (λ kept. IfOk result (λ row. row ≡ row_of_found (file_after after kept.files))) }
+        ensures reads { Reads result (Some (told_of self.old.kept)) (Some (told_of self.new.kept)) self.old.calls.faults self.new.calls.faults }
+        ensures follows { GoesOn self.old self.new }
+        ensures leaves { LeavesOne (Some (told_of self.old.kept)) (LeavesEither self.old self.new) }
+
+        // Of this one.
+        ensures answer { result ≡ answer_of self.old.calls (row_of_found (file_after after self.old.kept.files)) }
+        ensures keeper { self.new ≡ after_reading self.old }
+    {
+        ask(&mut self.calls)?;
+        Ok(self.files.row_after(after))
+    }
+
+    fn host(&mut self, host: Host) -> Result<HostRow, KeepFault>
+        requires { host < most_hosts }
+
+        // As of any keeper.
+        ensures told { ForSome (Some (told_of self.old.kept)) (λ kept. IfOk result (λ row. row ≡ host_row kept host)) }
+        ensures reads { Reads result (Some (told_of self.old.kept)) (Some (told_of self.new.kept)) self.old.calls.faults self.new.calls.faults }
+        ensures follows { GoesOn self.old self.new }
+        ensures leaves { LeavesOne (Some (told_of self.old.kept)) (LeavesEither self.old self.new) }
+
+        // Of this one.
+        ensures answer { result ≡ answer_of self.old.calls (host_row self.old.kept host) }
+        ensures keeper { self.new ≡ after_reading self.old }
+    {
+        ask(&mut self.calls)?;
+        Ok(row_of(self.hosts.as_slice(), host))
+    }
+
+    fn heads(&mut self) -> Result<Heads, KeepFault>
+        // As of any keeper.
+        ensures told { ForSome (Some (told_of self.old.kept)) (λ kept. IfOk result (λ heads. heads ≡ heads_of kept)) }
+        ensures reads { Reads result (Some (told_of self.old.kept)) (Some (told_of self.new.kept)) self.old.calls.faults self.new.calls.faults }
+        ensures follows { GoesOn self.old self.new }
+        ensures leaves { LeavesOne (Some (told_of self.old.kept)) (LeavesEither self.old self.new) }
+
+        // Of this one.
+        ensures answer { result ≡ answer_of self.old.calls (heads_of self.old.kept) }
+        ensures keeper { self.new ≡ after_reading self.old }
+    {
+        ask(&mut self.calls)?;
+        Ok(self.heads)
+    }
+
+    fn space(&mut self) -> Result<Space, KeepFault>
+        // As of any keeper.
+        ensures told { ForSome (Some (told_of self.old.kept)) (λ kept. IfOk result (λ space. space ≡ space_of kept)) }
+        ensures reads { Reads result (Some (told_of self.old.kept)) (Some (told_of self.new.kept)) self.old.calls.faults self.new.calls.faults }
+        ensures follows { GoesOn self.old self.new }
+        ensures leaves { LeavesOne (Some (told_of self.old.kept)) (LeavesEither self.old self.new) }
+
+        // Of this one.
+        ensures answer { result ≡ answer_of self.old.calls (space_of self.old.kept) }
+        ensures keeper { self.new ≡ after_reading self.old }
+    {
+        ask(&mut self.calls)?;
+        Ok(self.files.space())
+    }
+
+    fn block(&mut self, id: FileId, block: BlockNo, into: &mut Block) -> Result<(), KeepFault>
+        requires { ForSome (Some (told_of self.old.kept)) (λ kept. HasBlock block (find_file id kept.files)) }
+
+        // As of any keeper.
+        ensures told { ForSome (Some (told_of self.old.kept)) (λ kept. OnOk result (Some into.new ≡ body_at block (find_file id kept.files))) }
+        ensures reads { Reads result (Some (told_of self.old.kept)) (Some (told_of self.new.kept)) self.old.calls.faults self.new.calls.faults }
+        ensures follows { GoesOn self.old self.new }
+        ensures leaves { LeavesOne (Some (told_of self.old.kept)) (LeavesEither self.old self.new) }
+
+        // Of this one.
+        ensures answer { result ≡ answer_of self.old.calls tt }
+        ensures body { OnOk result (Some into.new ≡ body_at block (find_file id self.old.kept.files)) }
+        ensures stays { OnErr result (into.new ≡ into.old) }
+        ensures keeper { self.new ≡ after_reading self.old }
+    {
+        ask(&mut self.calls)?;
+        self.files.read(id, block, into);
+        Ok(())
+    }
+
+    fn commit(&mut self, change: &Change) -> Result<(), KeepFault>
+        requires host { NamesHost change.now }
+        requires fits { ForSome (Some (told_of self.old.kept)) (λ kept. Fits kept change.now) }
+
+        // As of any keeper.
+        ensures commits { Commits result change.now (Some (told_of self.old.kept)) (Some (told_of self.new.kept)) self.old.calls.faults self.new.calls.faults }
+        ensures follows { GoesOn self.old self.new }
+        ensures leaves { LeavesTwo change.now (Some (told_of self.old.kept)) (LeavesEither self.old self.new) }
+
+        // Of this one.
+        ensures failed { (result ≡ Err KeepFault.Failed) ↔ IsTrue (is_next_listed self.old.calls) }
+        ensures keeper { self.new ≡ after_commit self.old change.now result }
+    {
+        ask(&mut self.calls)?;
+        self.files.change(self.alloc, change)?;
+        set_row(&mut self.hosts, &change.host);
+        self.heads = heads_after(&self.heads, &change.heads);
+        Ok(())
+    }
+
+    ghost orderly = { told-is-orderly };
+
+    ghost follows_itself = { goes-on-itself };
+
+    ghost follows_on = { goes-on-further };
+
+    ghost leaves_kept = { leaves-kept };
+
+    ghost may_leave = { may-leave };
+
+    ghost parts = { leaves-parts };
+}
+
+/// A keeper in memory tells all that it keeps.
+pub fn list_keeper_tells_all(keeper: &ListKeeper)
+    ensures { told_of keeper.now.kept ≡ keeper.now.kept }
+{
+    let _files = &keeper.files;
+}
