@@ -282,13 +282,7 @@ impl Step {
 }
 
 /// The READ of a call.
-fn read_request(
-    q: u64,
-    who: Who,
-    file: FileId,
-    block: BlockNo,
-    want: Option<Want>,
-) -> Request
+fn read_request(q: u64, who: Who, file: FileId, block: BlockNo, want: Option<Want>) -> Request
     ensures { result ≡ Request.Read who q file block want }
 {
     Request::Read {

@@ -59,11 +59,8 @@ fn counts_for_lease(status: Refusal) -> bool
     match status {
         Refusal::Stale => true,
         Refusal::TryLater | Refusal::NotAttached | Refusal::Old => true,
-        Refusal::NoEnt
-        | Refusal::Exist
-        | Refusal::Inval
-        | Refusal::NoSpc
-        | Refusal::Fenced => false,
+        Refusal::NoEnt | Refusal::Exist | Refusal::Inval | Refusal::NoSpc | Refusal::Fenced =>
+            false,
     }
 }
 
@@ -174,7 +171,9 @@ pub(crate) fn wants(request: &Request, file: FileId) -> bool
 {
     match request {
         Request::Read {
-            file: read, want, ..
+            file: read,
+            want,
+            ..
         } => *read == file && want.is_some(),
         Request::GetLease { file: wanted, .. } => *wanted == file,
         Request::Null

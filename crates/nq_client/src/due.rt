@@ -52,12 +52,7 @@ pub(crate) fn ending(rows: &[Row], now: Ticks, dirty: &Dirty) -> Option<FileId>
 }
 
 /// The least file whose lease is to be renewed.
-pub(crate) fn renewed(
-    rows: &[Row],
-    now: Ticks,
-    notices: &Notices,
-    dirty: &Dirty,
-) -> Option<FileId>
+pub(crate) fn renewed(rows: &[Row], now: Ticks, notices: &Notices, dirty: &Dirty) -> Option<FileId>
     requires { Ascends file_of_row rows.now }
     ensures { result ≡ renewed_in now (map lease_in rows.now) notices.now.items dirty.now.dirty dirty.now.push }
 {

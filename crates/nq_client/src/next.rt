@@ -71,7 +71,10 @@ impl Step {
             return false;
         }
         let state = &self.state;
-        match state.leases.renewed(state.time, &state.notices, &state.dirty) {
+        match state
+            .leases
+            .renewed(state.time, &state.notices, &state.dirty)
+        {
             Some(file) => {
                 let held = self.state.leases.on(file);
                 self.renews_lease(&held);
