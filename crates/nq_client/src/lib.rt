@@ -10,6 +10,7 @@ mod due;
 mod entries;
 mod granting;
 mod hearing;
+mod holding;
 mod leases;
 mod losing;
 mod losses;
