@@ -1,6 +1,7 @@
 //! The world: one server, its clients, all packets ever sent, and the journal.
 #![tactic(auto)]
 
+mod first;
 mod laws;
 mod sending;
 mod stepped;
