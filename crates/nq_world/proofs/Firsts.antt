@@ -1,20 +1,17 @@
 -- The changes by which the files and the hosts of a head are kept.
-use Rattle.std.proofs.Common.{◌≡◌, ◌≢◌, ◌≤◌, ◌<◌, ℕ, zero, suc, ◌+◌, ◌-◌, ◌==◌, List, [], ◌∷◌, ◌++◌, Option, Some, None, length, take, refl, sym, subst, ap, ◌∙◌, arith, length-append}
+use Rattle.std.proofs.Common.{◌≡◌, ◌≢◌, ◌≤◌, ◌<◌, ℕ, zero, suc, ◌+◌, ◌-◌, List, [], ◌∷◌, ◌++◌, Option, Some, None, length, take, refl, sym, subst, ap, ◌∙◌, arith, length-append}
 use Rattle.std.proofs.lemmas.List.Elements.{All-nil, All-cons}
-use Rattle.std.proofs.lemmas.List.Sums.{sum_by-cons}
-use Rattle.std.specs.List.{All, AllByRecursion, sum_by}
+use Rattle.std.specs.List.{All, AllByRecursion}
 use Rattle.std.specs.Prelude.{slice_get, slice_set, replicate, Result, Ok, Err, OnOk}
 use Rattle.nq_base.specs.declared.Change.{Change}
 use Rattle.nq_base.specs.declared.Heads.{Heads}
-use Rattle.nq_base.specs.declared.HostRow.{HostRow}
 use Rattle.nq_base.specs.declared.FileRow.{FileRow}
 use Rattle.nq_model.specs.Change.{Fits, IsRowOf, file_of, with_file, with_file_at, kept_as, applied}
-use Rattle.nq_model.specs.Kept.{File, Kept, blocks_in_all, find_file, find_name, new_file, fresh_row}
+use Rattle.nq_model.specs.Kept.{File, Kept, blocks_in_all, find_file, new_file, fresh_row}
 use Rattle.nq_model.specs.Profile.{most_hosts}
 use Rattle.nq_model.specs.World.{first_files, first_row}
 use Rattle.nq_model.proofs.Files.{resized-none}
 use Rattle.nq_model.proofs.FreshFits.{none-has}
-use Rattle.nq_io.specs.Faults.{Rose}
 use Rattle.nq_keeper.specs.Keeping.{Commits, told_after}
 use Rattle.nq_keeper.specs.declared.keeper.KeepFault.{KeepFault}
 use Rattle.nq_keeper.specs.declared.keeper.KeepFault.TheVariants.{Failed, Memory}
@@ -193,3 +190,8 @@ commit-counts (Err Failed) change told tells before count commits = commits.1
 -- a fault after calls that met none
 pub counts-on : (fault : KeepFault) (before middle count : ℕ) → middle ≡ before → Counts (Err fault) middle count → Counts (Err fault) before count
 counts-on fault before middle count same counts = subst (λ n. Counts (Err fault) n count) same counts
+
+-- what holds after a call that was made
+pub made-so : {X : Type 0} (r : Result X KeepFault) (P Q : Type 0) → (P → Q) → OnOk r P → OnOk r Q
+made-so (Ok done) P Q so p = so p
+made-so (Err fault) P Q so p = tt

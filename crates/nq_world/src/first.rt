@@ -1,7 +1,9 @@
 //! What is kept before the first boot of a world.
 
-ghost use Rattle.std.specs.Prelude.{◌≡◌, ◌≤◌, ◌<◌, ◌^◌, ◌+◌, [], length, take, slice_get, OnOk, Some};
+ghost use Rattle.std.specs.Prelude.{◌≡◌, ◌≤◌, ◌<◌, ◌^◌, ◌+◌, ℕ, List, [], length, take, OnOk};
+ghost use Rattle.nq_keeper.specs.StoredKeeper.{empty_kept};
 ghost use Rattle.nq_model.specs.Profile.{most_hosts};
+ghost use Rattle.nq_model.specs.World.{first_kept};
 ghost use Rattle.nq_world.specs.First.{AreFirstFiles, Counts, Tells, file_change, heads_change, host_change, kept_first, told_as};
 
 use nq_base::{
@@ -122,4 +124,44 @@ fn keep_files<K: Keeper>(keeper: &mut K, longest: u32, files: &FileList) -> Resu
         keep_file(keeper, longest, files, place)?;
     }
     Ok(())
+}
+
+/// Keeps that the first incarnation of each host is attached.
+fn keep_hosts<K: Keeper>(keeper: &mut K, hosts: u32) -> Result<(), KeepFault>
+    requires { hosts ≤ most_hosts }
+    ensures told { (longest : ℕ) (files : List (List ℕ × ℕ)) → Tells (kept_first longest files 0) (K.content keeper.old)
+        → OnOk result (K.content keeper.new ≡ told_as (kept_first longest files hosts) (K.content keeper.old)) }
+    ensures counts { Counts result (K.faults keeper.old) (K.faults keeper.new) }
+    ensures follows { K.follows keeper.old keeper.new }
+{
+    for host in 0..hosts {
+        let change = host_change(host);
+        keeper.commit(&change)?;
+    }
+    Ok(())
+}
+
+/// Keeps what the first boot of a world finds: the files, with ids from 1 on, and for each host that its first incarnation
+/// is attached. The keeper keeps nothing before. There are at most 64 hosts.
+///
+/// # Errors
+///
+/// `Failed` only where the keeper counted a fault, else want of memory. A part may be kept then.
+pub fn keep_head<K: Keeper>(
+    keeper: &mut K,
+    hosts: u32,
+    longest: u32,
+    files: &FileList,
+) -> Result<(), KeepFault>
+    requires hosts { hosts ≤ most_hosts }
+    requires fine { AreFirstFiles files.now }
+    requires empty { Tells empty_kept (K.content keeper.old) }
+    ensures told { (term : ℕ) → OnOk result (K.content keeper.new
+        ≡ told_as (first_kept (record { hosts = hosts; term = term; longest = longest; files = files.now })) (K.content keeper.old)) }
+    ensures counts { Counts result (K.faults keeper.old) (K.faults keeper.new) }
+    ensures follows { K.follows keeper.old keeper.new }
+{
+    keep_longest(keeper, longest)?;
+    keep_files(keeper, longest, files)?;
+    keep_hosts(keeper, hosts)
 }

@@ -7,6 +7,7 @@ mod sending;
 mod stepped;
 mod testing;
 
+pub use first::keep_head;
 pub use laws::{bytes_show_the_run, events_send_little, worlds_run};
 pub use sending::send;
 pub use stepped::{Limit, Stepped};

@@ -1,4 +1,4 @@
-use Rattle.std.proofs.Common.{◌≡◌, ◌+◌, [], ◌∷◌, ◌++◌, Some, suc, length, take, sym, subst, ap, ◌∙◌, arith, min}
+use Rattle.std.proofs.Common.{◌≡◌, ◌+◌, [], ◌∷◌, ◌++◌, suc, length, take, sym, subst, ap, ◌∙◌, arith}
 use Rattle.std.proofs.lemmas.List.{length-take}
 use Rattle.nq_keeper.specs.Keeping.{told_after}
 use Rattle.nq_model.specs.Change.{Fits}
@@ -14,7 +14,7 @@ commit-requires-clause-fits g c = λ kept told.
     let below = c.requires.below in
     let size : length (take place files) ≡ place = omega (arith, length-take place files) in
     let is : c.file_change-change.result ≡ file_change c.args.longest (length (take place files) + 1) (c.in-Some.name.now, c.in-Some.blocks) =
-        c.file_change-change.ensures ∙ ap (λ n. file_change c.args.longest (n + 1) (c.in-Some.name.now, c.in-Some.blocks)) (sym size) in
+    c.file_change-change.ensures ∙ ap (λ n. file_change c.args.longest (n + 1) (c.in-Some.name.now, c.in-Some.blocks)) (sym size) in
     subst (Fits kept) (sym is)
     (subst (λ k. Fits k (file_change c.args.longest (length (take place files) + 1) (c.in-Some.name.now, c.in-Some.blocks))) (sym (c.requires.told kept told))
     (file-fits c.args.longest (take place files) (c.in-Some.name.now, c.in-Some.blocks) (subst AreFirstFiles front (taken-fine (suc place) files c.requires.fine))))
@@ -29,7 +29,7 @@ returns-clause-told g c =
     let size : length (take place files) ≡ place = omega (arith, length-take place files) in
     let same : suc place ≡ place + 1 = omega arith in
     let is : c.file_change-change.result ≡ file_change c.args.longest (length (take place files) + 1) (c.in-Some.name.now, c.in-Some.blocks) =
-        c.file_change-change.ensures ∙ ap (λ n. file_change c.args.longest (n + 1) (c.in-Some.name.now, c.in-Some.blocks)) (sym size) in
+    c.file_change-change.ensures ∙ ap (λ n. file_change c.args.longest (n + 1) (c.in-Some.name.now, c.in-Some.blocks)) (sym size) in
     commit-told c.commit.result c.file_change-change.result told (g.K.Keeper.content c.commit.new.self) (g.K.Keeper.faults c.args.keeper.now) (g.K.Keeper.faults c.commit.new.self) (told_as (kept_first c.args.longest (take (place + 1) files) 0) told) c.commit.ensures.commits
     (subst (λ change. told_after change told ≡ told_as (kept_first c.args.longest (take (place + 1) files) 0) told) (sym is)
     (told-next told (kept_first c.args.longest (take place files) 0) (kept_first c.args.longest (take (place + 1) files) 0) (file_change c.args.longest (length (take place files) + 1) (c.in-Some.name.now, c.in-Some.blocks)) c.requires.told
