@@ -12,3 +12,6 @@ pub use laws::{bytes_show_the_run, events_send_little, worlds_run};
 pub use sending::send;
 pub use stepped::{Limit, Stepped};
 pub use testing::{MOST_EVENTS, MOST_SENT, test};
+
+#[cfg(test)]
+mod tests;
