@@ -1,7 +1,9 @@
+pub mod Answering
 pub mod Asked
 pub mod ByFile
 pub mod Counted
 pub mod Entries
+pub mod Granting
 pub mod Leases
 pub mod Notices
 pub mod Reading
