@@ -1,2 +1,11 @@
+pub mod Counts
+pub mod Least
 pub mod Marks
+pub mod NextRequest
+pub mod NoticeList
 pub mod Places
+pub mod Renewals
+pub mod Requested
+pub mod Settled
+pub mod Spans
+pub mod Vacated

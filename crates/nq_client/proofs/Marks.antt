@@ -1,8 +1,7 @@
 -- A lease that is marked as used.
-use Rattle.std.proofs.Common.{◌≡◌, ℕ, ◌==◌, true, false, refl, sym, ap, ◌∙◌, arith}
+use Rattle.std.proofs.Common.{◌≡◌, ℕ, ◌==◌, true, refl, arith}
 use Rattle.std.proofs.lemmas.Bool.Decides.{nat_tests}
 use Rattle.nq_client.specs.Leases.{lease_in}
-use Rattle.nq_client.specs.declared.leases.Row.{Row}
 use Rattle.nq_client.proofs.Places.{IsOfFile}
 use Rattle.nq_model.specs.Client.{Lease, file_of_lease, marked_used}
 

@@ -1,6 +1,6 @@
 -- Where the element of a file stands, in a list in order of files, and what becomes of the list as the model sees it.
 use Rattle.std.proofs.Common.{◌≡◌, ◌≤◌, ◌<◌, ℕ, ◌+◌, ◌==◌, Bool, true, false, not, cond, List, [], ◌∷◌, ◌++◌, length, get_or, take, drop, map, if◌then◌else◌, Option, Some, None, zero, suc, nat_lt, refl, sym, ap, subst, ◌∙◌, arith, ◌⊎◌, inl, inr, length-take, length-drop, get_or-take, get_or-drop}
-use Rattle.std.specs.List.{filter, find, AllByRecursion, AllWithin, All, insert, remove, slice_get, slice_set}
+use Rattle.std.specs.List.{filter, find, AllByRecursion, insert, remove, slice_get, slice_set}
 use Rattle.std.specs.Option.{option_map, IsSomeAnd}
 use Rattle.std.specs.List.Sorted.{IsPartitionedBy, IsPartitionPoint}
 use Rattle.std.proofs.lemmas.Bool.Decides.{nat_tests}

@@ -1,5 +1,13 @@
+pub mod Answering
+pub mod Asked
 pub mod ByFile
+pub mod Counted
+pub mod Entries
+pub mod Granting
 pub mod Leases
 pub mod Notices
 pub mod Reading
+pub mod Settling
 pub mod State
+pub mod Step
+pub mod Tied

@@ -1,11 +1,24 @@
 //! The client of one host: what it holds, caches, delays and asks for (Macklem 1994).
 #![tactic(auto)]
 
+mod answering;
+mod asked;
+mod asking;
 mod client;
+mod counting;
+mod due;
+mod entries;
+mod granting;
 mod leases;
+mod losses;
+mod next;
 mod notices;
 mod reading;
+mod sending;
+mod settling;
 mod state;
+mod step;
+mod vacating;
 
 pub use client::{Client, StartClient};
 

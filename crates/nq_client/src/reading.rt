@@ -45,7 +45,6 @@ pub(crate) fn read_cached(state: &mut State, file: FileId, block: BlockNo, into:
     ensures found { result ≡ is_some (has_cached (client_of state.old) file block) }
     ensures body { into.new ≡ unwrap_or (has_cached (client_of state.old) file block) into.old }
     ensures client { client_of state.new ≡ (if result then after_read (client_of state.old) file block else client_of state.old) }
-    ensures taken { state.new.taken ≡ state.old.taken }
 {
     if !state.attached || state.call.is_some() {
         return false;

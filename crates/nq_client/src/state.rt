@@ -4,33 +4,14 @@ ghost use Rattle.std.specs.Prelude.{◌≡◌, IfOk};
 ghost use Rattle.nq_model.specs.ClientStep.{attached_client};
 ghost use Rattle.nq_client.specs.State.{client_of};
 
+use crate::asked::Asked;
 use crate::leases::Leases;
+use crate::losses::Unreported;
 use crate::notices::Notices;
-use nq_base::{Call, Losses, NoMemory, Number, Request, Seq, Ticks, Who};
+use nq_base::{Call, NoMemory, Number, Seq, Ticks, Who};
 use nq_cache::Cache;
 use nq_dirty::Dirty;
-use nq_pending::Ticket;
 use std::alloc::Global;
-
-/// What a request is for.
-#[derive(Clone, Copy)]
-pub(crate) enum Job {
-    /// The beginning of the incarnation.
-    Attaching,
-    /// The call under way.
-    ForCall,
-    /// The renewal of a lease.
-    Renewing,
-    /// Delayed writes.
-    Pushing,
-}
-
-/// The request under way.
-pub(crate) struct Asked {
-    pub(crate) ticket: Ticket,
-    pub(crate) request: Request,
-    pub(crate) job: Job,
-}
 
 /// The call under way.
 #[derive(Drop)]
@@ -66,11 +47,11 @@ pub(crate) struct State {
     pub(crate) leases: Leases,
     pub(crate) notices: Notices,
     /// Losses that no answer named yet, in order of files.
-    pub(crate) losses: Losses,
+    pub(crate) losses: Unreported,
     pub(crate) dirty: Dirty,
     pub(crate) cache: Cache,
-    /// How many calls, datagrams and ticks it took in.
-    pub(crate) taken: u64,
+    /// Where memory comes from.
+    pub(crate) alloc: Global,
 }
 
 impl State {
@@ -82,12 +63,10 @@ impl State {
         term: u32,
         time: Ticks,
     ) -> Result<State, NoMemory>
-        ensures client { IfOk result (λ s. client_of s ≡ attached_client who term time) }
-        ensures taken { IfOk result (λ s. s.taken ≡ 0) }
+        ensures { IfOk result (λ s. client_of s ≡ attached_client who term time) }
     {
         let cache = Cache::new(alloc)?;
         let dirty = Dirty::new(alloc)?;
-        let losses = Losses::new(alloc)?;
         Ok(State {
             who,
             term,
@@ -102,10 +81,10 @@ impl State {
             number: Number(1),
             leases: Leases::new(alloc),
             notices: Notices::new(alloc),
-            losses,
+            losses: Unreported::new(alloc),
             dirty,
             cache,
-            taken: 0,
+            alloc,
         })
     }
 
@@ -128,7 +107,7 @@ impl State {
             losses: _losses,
             dirty: _dirty,
             cache: _cache,
-            taken: _,
+            alloc: _,
         } = self;
         cancel(asked);
         notices.forgotten();
@@ -138,13 +117,7 @@ impl State {
 /// Gives the request under way up.
 fn cancel(asked: Option<Asked>) {
     match asked {
-        Some(
-            Asked {
-                ticket,
-                request: _request,
-                job: _,
-            },
-        ) => ticket.cancelled(),
+        Some(asked) => asked.spent(),
         None => {}
     }
 }

@@ -1,6 +1,5 @@
 use Rattle.std.proofs.Common.{◌≡◌, Some, None, sym, subst, ◌∙◌, ap, map}
 use Rattle.std.specs.List.{slice_get}
-use Rattle.std.specs.Option.{IsSomeAnd}
 use Rattle.nq_client.specs.ByFile.{Ascends, IsPlace, of_file}
 use Rattle.nq_client.specs.Leases.{lease_in, file_of_row}
 use Rattle.nq_client.proofs.Marks.{marks_own, marked}

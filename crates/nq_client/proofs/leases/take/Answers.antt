@@ -1,10 +1,8 @@
-use Rattle.std.proofs.Common.{◌≡◌, ◌<◌, length, Some, None, IsSome, sym, subst, ◌∙◌, ap, map, arith}
-use Rattle.std.specs.List.{slice_get, insert, remove}
-use Rattle.std.specs.Option.{IsSomeAnd}
-use Rattle.std.proofs.lemmas.Bool.{false≢true}
+use Rattle.std.proofs.Common.{◌≡◌, Some, None, sym, subst, ◌∙◌, ap, map, arith}
+use Rattle.std.specs.List.{slice_get}
 use Rattle.nq_client.specs.ByFile.{Ascends, IsPlace, of_file}
 use Rattle.nq_client.specs.Leases.{lease_in, file_of_row}
-use Rattle.nq_client.proofs.Places.{replaced, inserted, none_found, taken, none_taken, there_at, absent_at}
+use Rattle.nq_client.proofs.Places.{taken, none_taken, there_at, absent_at}
 use Rattle.nq_model.specs.Client.{file_of_lease}
 use Rattle.nq_client.proofs.leases.take.Goals as goal
 

@@ -1,0 +1,5 @@
+pub mod Showing
+pub mod Going
+pub mod Texts
+pub mod Outboxes
+pub mod Little

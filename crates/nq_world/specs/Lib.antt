@@ -1,0 +1,6 @@
+pub mod Answering
+pub mod Shown
+pub mod Stepping
+pub mod Running
+pub mod Sending
+pub mod Rooms
