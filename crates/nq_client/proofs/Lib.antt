@@ -1,4 +1,5 @@
 pub mod Counts
+pub mod Found
 pub mod Least
 pub mod Marks
 pub mod NextRequest
@@ -8,4 +9,5 @@ pub mod Renewals
 pub mod Requested
 pub mod Settled
 pub mod Spans
+pub mod Ties
 pub mod Vacated

@@ -4,7 +4,9 @@ pub mod ByFile
 pub mod Counted
 pub mod Entries
 pub mod Granting
+pub mod Hearing
 pub mod Leases
+pub mod Lost
 pub mod Notices
 pub mod Reading
 pub mod Settling
