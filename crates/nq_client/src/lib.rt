@@ -21,6 +21,7 @@ mod sending;
 mod settling;
 mod state;
 mod step;
+mod storing;
 mod vacating;
 
 pub use client::{Client, StartClient};
