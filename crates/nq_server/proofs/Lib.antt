@@ -8,3 +8,4 @@ pub mod LeasedSteps
 pub mod DecidedSteps
 pub mod ConcludedSteps
 pub mod LeasedFinds
+pub mod VacatedRows

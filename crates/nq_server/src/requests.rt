@@ -19,8 +19,9 @@ use crate::leasing::{Wish, get_lease, read};
 use crate::looking::{get_attr, look_up};
 use crate::received::{Halt, Taken};
 use crate::replying::{Caller, refuse};
-use crate::state::State;
+use crate::state::{Phase, State};
 use nq_base::{Refusal, Request, Who};
+use nq_evict::vacated;
 use nq_journal::Journal;
 use nq_keeper::Keeper;
 use nq_wire::Outbox;
@@ -122,5 +123,38 @@ fn look<K: Keeper>(
             get_lease(alloc, keeper, state, caller, *file, *want, out, log)
         }
         _ => Ok(Taken::Done),
+    }
+}
+
+/// Answers a request that is not decided once, of the incarnation that is attached.
+#[tactic(auto, unfolding(nq_model::specs::Server::quiet, nq_model::specs::Server::says, nq_model::specs::Server::with_table, nq_model::specs::ServerStep::vacates))]
+fn perform<K: Keeper>(
+    alloc: Global,
+    keeper: &mut K,
+    state: &mut State,
+    caller: Caller,
+    request: &Request,
+    out: &mut Outbox,
+    log: &mut Journal,
+) -> Result<Taken, Halt>
+    requires sound { IsSound state.old }
+    requires drawn { state.old.table.drawn < 2 ^ 62 }
+    requires other { decided_once request.now ≡ false }
+    ensures takes { (line : Kept → HostRow) → Takes (λ kept. performs (server_of (beside_of state.old) kept) caller.who caller.xid (next_of out.old) (line kept) request.now) result (K.content keeper.old) (K.content keeper.new) (K.faults keeper.old) (K.faults keeper.new) (beside_of state.old) (beside_of state.new) out.old out.new log.old log.new }
+    ensures sound { IsSound state.new }
+    ensures drawn { state.new.table.drawn ≤ state.old.table.drawn + 1 }
+    ensures follows { K.follows keeper.old keeper.new }
+    ensures leaves { LeavesOne (K.content keeper.old) (K.leaves keeper.old keeper.new) }
+{
+    match (request, &state.phase) {
+        (Request::Vacated { file, tag, .. }, _) => {
+            vacated(&mut state.table, caller.who, *file, *tag);
+            Ok(Taken::Done)
+        }
+        (Request::Null | Request::Evicted { .. }, _) => Ok(Taken::Done),
+        (_, Phase::Serving(_)) => look(alloc, keeper, state, caller, request, out, log),
+        (_, Phase::Recovering { .. }) => {
+            refuse(alloc, caller.who, caller.xid, Refusal::TryLater, out)
+        }
     }
 }
