@@ -1,5 +1,8 @@
+pub mod Between
+pub mod Calls
 pub mod Counts
 pub mod Marks
+pub mod Outcomes
 pub mod Places
 pub mod Requested
 pub mod Settled

@@ -1,11 +1,15 @@
 pub mod Asked
 pub mod ByFile
+pub mod Calling
 pub mod Counted
 pub mod Entries
+pub mod Finishing
 pub mod Leases
 pub mod Notices
+pub mod Outcome
 pub mod Reading
 pub mod Settling
 pub mod State
 pub mod Step
+pub mod Ticking
 pub mod Tied
