@@ -1,9 +1,11 @@
+pub mod Answering
 pub mod Asked
 pub mod ByFile
 pub mod Calling
 pub mod Counted
 pub mod Entries
 pub mod Finishing
+pub mod Granting
 pub mod Leases
 pub mod Notices
 pub mod Outcome

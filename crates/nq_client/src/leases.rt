@@ -1,22 +1,27 @@
 //! The leases that a client holds, in order of files.
 
-ghost use Rattle.std.specs.Prelude.{◌≡◌, ◌≤◌, ◌<◌, ◌+◌, ◌-◌, [], map, length, slice_get, slice_set, option_map, vec_len, vec_capacity, Some, IsSome, IsOk, OnOk, OnErr, true};
+ghost use Rattle.std.specs.Prelude.{◌≡◌, ◌≤◌, ◌<◌, ◌+◌, ◌-◌, ◌^◌, [], map, length, slice_get, slice_set, option_map, vec_len, vec_capacity, Some, IsSome, IsOk, OnOk, OnErr, IfSome, true};
 ghost use Rattle.std.specs.List.{insert, remove};
 ghost use Rattle.nq_held.specs.Leases.{lease_of, of_kind};
 ghost use Rattle.nq_model.specs.Client.{lease_on, drop_lease, put_lease, used_lease};
+ghost use Rattle.nq_model.specs.Hear.{holds_caching};
+ghost use Rattle.nq_model.specs.Send.{ending_in, renewed_in};
 ghost use Rattle.nq_client.specs.ByFile.{Ascends, IsPlace, of_file};
 ghost use Rattle.nq_client.specs.Leases.{lease_in, file_of_row};
 
-use nq_base::{FileId, Mode, NoMemory};
+use crate::due;
+use crate::notices::Notices;
+use nq_base::{FileId, Mode, NoMemory, Ticks};
+use nq_dirty::Dirty;
 use nq_held::{Held, Lease};
 use std::alloc::Global;
 use std::marker::Model;
 
 /// A lease with its kind.
 #[derive(Clone, Copy)]
-struct Row {
-    mode: Mode,
-    lease: Lease,
+pub(crate) struct Row {
+    pub(crate) mode: Mode,
+    pub(crate) lease: Lease,
 }
 
 /// The leases that a client holds, one for a file. Clauses see them in order of files, and for how many more files there
@@ -53,6 +58,22 @@ impl Leases {
         ensures { lease_of result ≡ lease_on file self.now.items }
     {
         held(find(&self.rows, file))
+    }
+
+    /// The least file whose delayed writes are to be pushed before its lease ends.
+    pub(crate) fn ending(&self, now: Ticks, dirty: &Dirty) -> Option<FileId>
+        requires { now < 2 ^ 62 }
+        ensures { result ≡ ending_in now self.now.items dirty.now.dirty dirty.now.push }
+    {
+        due::ending(&self.rows, now, dirty)
+    }
+
+    /// The least file whose lease is to be renewed.
+    pub(crate) fn renewed(&self, now: Ticks, notices: &Notices, dirty: &Dirty) -> Option<FileId>
+        ensures file { result ≡ renewed_in now self.now.items notices.now.items dirty.now.dirty dirty.now.push }
+        ensures caches { IfSome result (λ file. holds_caching (lease_on file self.now.items) ≡ true) }
+    {
+        due::renewed(&self.rows, now, notices, dirty)
     }
 
     /// Makes room for the leases of `files` files on which none is held.

@@ -1,11 +1,16 @@
 //! The client of one host: what it holds, caches, delays and asks for (Macklem 1994).
 #![tactic(auto)]
 
+mod answering;
 mod asked;
+mod asking;
 mod calling;
 mod client;
+mod counting;
+mod due;
 mod entries;
 mod finishing;
+mod granting;
 mod heard;
 mod leases;
 mod letters;
@@ -13,11 +18,13 @@ mod losses;
 mod next;
 mod notices;
 mod reading;
+mod sending;
 mod settling;
 mod state;
 mod step;
 mod stepping;
 mod ticking;
+mod vacating;
 
 pub use client::{Client, StartClient};
 pub use heard::Heard;

@@ -2,5 +2,6 @@ pub mod Capped
 pub mod InOrder
 pub mod Keeping
 pub mod KeeperLaws
+pub mod Named
 pub mod Shape
 pub mod StoredKeeper

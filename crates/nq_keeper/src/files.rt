@@ -5,32 +5,37 @@ ghost use Rattle.std.specs.List.{prefix_len};
 ghost use Rattle.std.specs.Option.{ForSome};
 ghost use Rattle.nq_keeper.specs.InOrder.{is_below, is_upto, of_id, IsRowAmong, FitsAmong};
 ghost use Rattle.nq_keeper.specs.Keeping.{body_at};
+ghost use Rattle.nq_keeper.specs.Named.{AreNamed, StandsAt};
 ghost use Rattle.nq_model.specs.Change.{AreApart, HasBlock, blocks_with, file_after, file_of, files_with, files_without, row_of_found, with_block, with_body, with_file};
 ghost use Rattle.nq_model.specs.Kept.{blocks_of, blocks_in_all, find_file, find_name, drop_file};
 ghost use Rattle.nq_model.specs.Profile.{most_files, most_blocks, most_blocks_of_file};
 
+use crate::names::{self, Names};
 use crate::stored_file::StoredFile;
 use nq_base::{Block, BlockChange, BlockNo, Change, FileId, FileRow, Name, NoMemory, Space};
 use std::alloc::Global;
+use std::collections::HashMap;
 use std::marker::Model;
 
-/// The files, and how many blocks they have together. Contracts see the list of the model's files.
+/// The files, their names, and how many blocks they have together. Contracts see the list of the model's files.
 #[derive(Drop)]
 pub(crate) struct Files {
     stored: Vec<StoredFile>,
+    names: Names,
     blocks: u32,
 }
 
 impl Model for Files {
     ghost use Rattle.std.specs.Prelude.{List};
     ghost use Rattle.nq_keeper.specs.InOrder.{AreStored};
+    ghost use Rattle.nq_keeper.specs.Named.{AreNamed};
     ghost use Rattle.nq_model.specs.Kept.{File};
 
     ghost Value = { List File };
 
     ghost view = { λ f. f.stored.items };
 
-    ghost invariant = { λ f. AreStored f.stored.items f.blocks };
+    ghost invariant = { λ f. AreStored f.stored.items f.blocks × AreNamed f.names.entries f.stored.items };
 }
 
 /// The place of an id: of its file, or where it would stand.
@@ -84,18 +89,6 @@ fn row_at(files: &[StoredFile], place: usize) -> Option<FileRow>
     }
 }
 
-/// The row of the file of this name.
-fn row_of_name(files: &[StoredFile], name: &Name) -> Option<FileRow>
-    ensures { result ≡ row_of_found (find_name name.now files.now) }
-{
-    for file in files {
-        if file.has_name(name) {
-            return Some(file.row());
-        }
-    }
-    None
-}
-
 /// Writes a body over a block of the file at a place.
 fn write_at(files: &mut Vec<StoredFile>, place: usize, block: BlockNo, body: &Block)
     requires within { place < vec_len files.old }
@@ -119,28 +112,44 @@ fn follow_at(files: &mut Vec<StoredFile>, place: usize, row: &FileRow) -> Result
     file.follow(row)
 }
 
-/// Adds the new file of a row at the end.
-fn add(files: &mut Vec<StoredFile>, alloc: Global, row: &FileRow) -> Result<(), NoMemory>
+/// Adds the new file of a row at the end, and its name.
+fn add(
+    files: &mut Vec<StoredFile>,
+    names: &mut Names,
+    alloc: Global,
+    row: &FileRow,
+) -> Result<(), NoMemory>
     requires { row.now.blocks ≤ most_blocks_of_file }
     ensures ok { OnOk result (files.new.items ≡ files.old.items ++ file_of row.now [] ∷ []) }
+    ensures named { OnOk result (StandsAt row.now.name (Some row.now.id) names.old.entries names.new.entries) }
     ensures err { OnErr result (files.new.items ≡ files.old.items) }
+    ensures same { OnErr result (names.new.entries ≡ names.old.entries) }
 {
     let file = StoredFile::new(alloc, row)?;
-    files.push(file)?;
+    files.reserve(1)?;
+    names::put(names, alloc, &row.name, row.id)?;
+    files.push(file).unwrap();
     Ok(())
 }
 
 /// Puts the file of a row there, and gives the number of blocks that it had before.
-fn put(files: &mut Vec<StoredFile>, alloc: Global, row: &FileRow) -> Result<u32, NoMemory>
+fn put(
+    files: &mut Vec<StoredFile>,
+    names: &mut Names,
+    alloc: Global,
+    row: &FileRow,
+) -> Result<u32, NoMemory>
     requires apart { AreApart files.old.items }
+    requires named { AreNamed names.old.entries files.old.items }
     requires among { IsRowAmong row.now files.old.items (find_file row.now.id files.old.items) }
     requires short { row.now.blocks ≤ most_blocks_of_file }
     ensures ok { OnOk result (files.new.items ≡ with_file row.now files.old.items) }
     ensures count { IfOk result (λ had. had + blocks_in_all files.new.items ≡ blocks_in_all files.old.items + row.now.blocks) }
     ensures err { OnErr result (files.new.items ≡ files.old.items) }
+    ensures named { AreNamed names.new.entries files.new.items }
 {
     let Some(place) = find(files.as_slice(), row.id) else {
-        add(files, alloc, row)?;
+        add(files, names, alloc, row)?;
         return Ok(0);
     };
     let had = files[place].row().blocks;
@@ -160,14 +169,20 @@ fn write(files: &mut Vec<StoredFile>, change: &BlockChange)
     write_at(files, place, change.block, &change.body);
 }
 
-/// Takes a file away, and gives the number of blocks that it had.
-fn take(files: &mut Vec<StoredFile>, id: FileId) -> u32
-    requires { AreApart files.old.items }
+/// Takes a file away with its name, and gives the number of blocks that it had.
+fn take(files: &mut Vec<StoredFile>, names: &mut Names, id: FileId) -> u32
+    requires apart { AreApart files.old.items }
+    requires named { AreNamed names.old.entries files.old.items }
     ensures files { files.new.items ≡ drop_file id files.old.items }
     ensures count { result + blocks_in_all files.new.items ≡ blocks_in_all files.old.items }
+    ensures named { AreNamed names.new.entries files.new.items }
 {
     match find(files.as_slice(), id) {
-        Some(place) => files.remove(place).row().blocks,
+        Some(place) => {
+            let row = files.remove(place).row();
+            names::take(names, &row.name);
+            row.blocks
+        }
         None => 0,
     }
 }
@@ -202,6 +217,7 @@ impl Files {
     {
         Files {
             stored: Vec::new(alloc),
+            names: HashMap::new(alloc),
             blocks: 0,
         }
     }
@@ -218,7 +234,8 @@ impl Files {
     pub(crate) fn row_of_name(&self, name: &Name) -> Option<FileRow>
         ensures { result ≡ row_of_found (find_name name.now self.now) }
     {
-        row_of_name(self.stored.as_slice(), name)
+        let id = names::id_of(&self.names, name)?;
+        self.row(id)
     }
 
     /// The row of the first file above this id; None where there is none.
@@ -256,7 +273,7 @@ impl Files {
         ensures ok { OnOk result (self.new ≡ with_file row.now self.old) }
         ensures err { OnErr result (self.new ≡ self.old) }
     {
-        let had = put(&mut self.stored, alloc, row)?;
+        let had = put(&mut self.stored, &mut self.names, alloc, row)?;
         self.blocks = self.blocks + row.blocks - had;
         Ok(())
     }
@@ -273,7 +290,7 @@ impl Files {
     pub(crate) fn remove(&mut self, id: FileId)
         ensures { self.new ≡ drop_file id self.old }
     {
-        let had = take(&mut self.stored, id);
+        let had = take(&mut self.stored, &mut self.names, id);
         self.blocks -= had;
     }
 

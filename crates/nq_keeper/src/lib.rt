@@ -8,6 +8,7 @@
 mod files;
 mod keeper;
 mod list_keeper;
+mod names;
 mod raising;
 mod stored_file;
 

@@ -91,7 +91,7 @@ within_skew hosts longest events of_replay = λ before part after split host bel
 -- it keeps to bounds: the first boot's longest term is 60, and there is no other boot
 keeps_bounds : (head : Head) (events : List Event) → FitsHead head → AreOfReplay head.hosts events → KeepsBounds 60 (beginning head) (reverse events)
 keeps_bounds head events fits of_replay = record {
-  hosts = fits.few_hosts;
+  hosts = fits.settings.few_hosts;
   first_long = omega arith;
   first_short = omega arith;
   boots = no_boots head.hosts 60 events of_replay;
@@ -102,8 +102,8 @@ keeps_bounds head events fits of_replay = record {
 -- a text that spells events spells those of a replay, with a head that fits
 of_replay-spelled : (head : Head) (events : List Event) (text : List ℕ) → SpellsEvents head events text → FitsHead head × AreOfReplay head.hosts events
 of_replay-spelled head events text spelled = (
-  spelled.1.0,
-  subst (AreOfReplay head.hosts) (events_of-once events) (of_replay-lines head.hosts (map once events) spelled.1.1.0 spelled.1.1.1),
+  spelled.0.1.0,
+  subst (AreOfReplay head.hosts) (events_of-once events) (of_replay-lines head (map once events) spelled.0.1.1.0 spelled.0.1.1.1 spelled.1.1),
 )
 
 -- the headline holds throughout the schedule that a text spells

@@ -1,5 +1,7 @@
 -- Runs of schedules: their steps, that they end in one way, and the lengths of files.
 use Rattle.std.proofs.Common.{◌≡◌, ℕ, ◌+◌, ◌<◌, ◌≤◌, ◌&&◌, Bool, true, false, List, [], ◌∷◌, length, map, reverse, drop, ◌⊎◌, inl, inr, Some, None, slice_get, zero, suc, refl, ap, sym, subst, ◌∙◌, arith}
+use Rattle.std.proofs.lemmas.Bool.{false≢true}
+use Rattle.std.proofs.lemmas.Option.{none-some, same_Some}
 use Rattle.std.proofs.lemmas.List.{drop_more, drop_all, length-replicate}
 use Rattle.std.proofs.lemmas.Option.{slice_get_within, get_or_from_slice_get, slice_get-get_or, slice_get-map}
 use Rattle.nq_base.specs.declared.Call.{Call}
@@ -10,15 +12,14 @@ use Rattle.nq_model.specs.ServerStep.{boot}
 use Rattle.nq_model.specs.World.{World, start, step, steps, first_files}
 use Rattle.nq_run.specs.Lengths.{lengths_in}
 use Rattle.nq_run.specs.Serving.{lengths}
-use Rattle.nq_run.specs.Playing.{IsReplayScript, SpellsEvents, AreSingle, once, event_of, events_of, AllRun, FirstStuck, Comes, IsRunOf, IsStuckAt, MakesJournal, GetsStuck, FaultyLine, can_run, event_line, first_world, head_lengths}
+use Rattle.nq_run.specs.Playing.{IsReplayScript, SpellsEvents, AreSingle, ArePlayed, FirstOther, IsOther, IsPlain, IsRefused, is_played, once, event_of, events_of, AllRun, FirstStuck, Comes, IsRunOf, IsStuckAt, MakesJournal, GetsStuck, FaultyLine, can_run, event_line, first_world, head_lengths}
 use Rattle.nq_run.specs.Stepping.{Took, Steps, is_there, is_sent, IsOfReplay, AreOfReplay}
 use Rattle.nq_run.specs.declared.playing.Outcome.{Outcome}
 use Rattle.nq_run.specs.declared.steps.Stepped.{Stepped}
 use Rattle.nq_run.proofs.Starting.{length-first_clients}
-use Rattle.nq_script.specs.Calls.{SpellsCall}
 use Rattle.nq_script.specs.Faults.{Names, Answers}
 use Rattle.nq_script.specs.Lines.{SpellsLine}
-use Rattle.nq_script.specs.Schedule.{NamesEvents, SpellsLines, SpellsSchedule, FirstBadLine}
+use Rattle.nq_script.specs.Schedule.{SpellsLines, SpellsSchedule, FirstBadLine}
 use Rattle.nq_script.specs.declared.lines.Line.{Line}
 use Rattle.nq_script.specs.declared.scripts.Script.{Script}
 use Rattle.std.specs.Option.{option_map}
@@ -181,14 +182,14 @@ sticks text number s (Outcome.Faulty line) comes =
     ∙ sym s.stuck.line
 sticks text number s Outcome.Memory comes = tt
 
-pub gets_stuck : (text : List ℕ) (head : Head) (events : List Event) (result : Outcome) → ((h : Head) (es : List Event) → SpellsEvents h es text → (head ≡ h) × (events ≡ es)) → ((n : ℕ) → FirstBadLine text n → ⊥) → Comes result (IsRunOf head events) (IsStuckAt head events) → (number : ℕ) → FaultyLine text number → Comes result (λ w. ⊥) (λ line. line ≡ number)
+pub gets_stuck : (text : List ℕ) (head : Head) (events : List Event) (result : Outcome) → ((h : Head) (es : List Event) → SpellsEvents h es text → (head ≡ h) × (events ≡ es)) → ((n : ℕ) → IsRefused text n → ⊥) → Comes result (IsRunOf head events) (IsStuckAt head events) → (number : ℕ) → FaultyLine text number → Comes result (λ w. ⊥) (λ line. line ≡ number)
 gets_stuck text head events result only good comes number (inl bad) = absurd (good number bad)
 gets_stuck text head events result only good comes number (inr s) =
     let same = only s.head s.events s.spelled in
     sticks text number s result (moved head s.head events s.events result same.0 same.1 comes)
 
 -- a text outside the grammar has one faulty line
-pub outside : (text : List ℕ) (place : ℕ) → ((h : Head) (es : List Event) → SpellsEvents h es text → ⊥) → ((n : ℕ) → FirstBadLine text n → place ≡ n) → (number : ℕ) → FaultyLine text number → place ≡ number
+pub outside : (text : List ℕ) (place : ℕ) → ((h : Head) (es : List Event) → SpellsEvents h es text → ⊥) → ((n : ℕ) → IsRefused text n → place ≡ n) → (number : ℕ) → FaultyLine text number → place ≡ number
 outside text place only first number (inl bad) = first number bad
 outside text place only first number (inr s) = absurd (only s.head s.events s.spelled)
 
@@ -196,68 +197,44 @@ outside text place only first number (inr s) = absurd (only s.head s.events s.sp
 pub names_bad : (fault : ScriptFault) (number : ℕ) (P : ℕ → Type 0) → fault ≡ ScriptFault.Bad number → Names fault P → P number
 names_bad fault number P is names = subst (λ e. Names e P) is names
 
--- a line of the grammar is that of one event
-single_line : (hosts : ℕ) (line : Line) (text : List ℕ) → NamesEvents line → SpellsLine hosts line text → line ≡ once (event_of line)
-single_line hosts (Line.Events (Event.Call host call) times) text names spells = ap (Line.Events (Event.Call host call)) spells.1.0
-single_line hosts (Line.Events (Event.Deliver k) times) text names spells = ap (Line.Events (Event.Deliver k)) spells.1.0
-single_line hosts (Line.Events Event.ServerTick times) text names spells = absurd spells.1
-single_line hosts (Line.Events (Event.ClientTick host) times) text names spells = absurd spells.1
-single_line hosts (Line.Events (Event.Restart host) times) text names spells = absurd spells.1
-single_line hosts (Line.Events (Event.Crash longest) times) text names spells = absurd spells.1
-single_line hosts (Line.Round times) text names spells = absurd spells
-single_line hosts Line.Flow text names spells = absurd spells
-single_line hosts Line.End text names spells = absurd names
+-- a line that a replay plays is that of one event
+single_line : (head : Head) (line : Line) (text : List ℕ) → SpellsLine head line text → is_played line ≡ true → line ≡ once (event_of line)
+single_line head (Line.Events (Event.Call host call) times) text spells played = ap (Line.Events (Event.Call host call)) spells.1.2
+single_line head (Line.Events (Event.Deliver k) times) text spells played = ap (Line.Events (Event.Deliver k)) spells.1.2
+single_line head other text spells played = absurd (false≢true played)
 
-single_lines : (hosts : ℕ) (lines : List Line) (texts : List (List ℕ)) → SpellsLines hosts lines texts → AreSingle lines
-single_lines hosts [] [] spells = refl
-single_lines hosts [] (text ∷ texts) spells = absurd spells
-single_lines hosts (line ∷ lines) [] spells = absurd spells
-single_lines hosts (line ∷ lines) (text ∷ texts) spells =
-    ap (λ (l : Line). l ∷ lines) (single_line hosts line text spells.0 spells.1)
-    ∙ ap (λ (ls : List Line). once (event_of line) ∷ ls) (single_lines hosts lines texts spells.2)
+single_lines : (head : Head) (lines : List Line) (texts : List (List ℕ)) → SpellsLines head lines texts → ArePlayed lines → AreSingle lines
+single_lines head [] [] spells played = refl
+single_lines head [] (text ∷ texts) spells played = absurd spells
+single_lines head (line ∷ lines) [] spells played = absurd spells
+single_lines head (line ∷ lines) (text ∷ texts) spells played =
+    ap (λ (l : Line). l ∷ lines) (single_line head line text spells.1 played.0)
+    ∙ ap (λ (ls : List Line). once (event_of line) ∷ ls) (single_lines head lines texts spells.2 played.1)
 
-pub are_single : (head : Head) (lines : List Line) (text : List ℕ) → SpellsSchedule head lines text → AreSingle lines
-are_single head lines text spells = single_lines head.hosts lines spells.1.1.0 spells.1.1.1
+-- and that of an event of a replay
+of_replay-line : (head : Head) (line : Line) (text : List ℕ) → SpellsLine head line text → is_played line ≡ true → IsOfReplay head.hosts (event_of line)
+of_replay-line head (Line.Events (Event.Call host (Call.Fetch file block)) times) text spells played = (spells.0, tt)
+of_replay-line head (Line.Events (Event.Call host (Call.WriteSync file block body)) times) text spells played =
+    (spells.0, (spells.1.0.0, spells.1.0.2))
+of_replay-line head (Line.Events (Event.Deliver k) times) text spells played = tt
+of_replay-line head other text spells played = absurd (false≢true played)
 
--- a line of the grammar is that of an event of a replay
-of_replay-call : (hosts host : ℕ) (call : Call) (words : List ℕ) → host < hosts → SpellsCall call words → IsOfReplay hosts (Event.Call host call)
-of_replay-call hosts host (Call.Fetch file block) words below spells = (below, tt)
-of_replay-call hosts host (Call.WriteSync file block body) words below spells = (below, (spells.2.0, spells.2.1.1))
-of_replay-call hosts host (Call.Create name blocks) words below spells = absurd spells
-of_replay-call hosts host (Call.Lookup name) words below spells = absurd spells
-of_replay-call hosts host (Call.Attr file) words below spells = absurd spells
-of_replay-call hosts host (Call.Read file block) words below spells = absurd spells
-of_replay-call hosts host (Call.Write file block body) words below spells = absurd spells
-of_replay-call hosts host (Call.Sync file) words below spells = absurd spells
-of_replay-call hosts host (Call.Resize file blocks) words below spells = absurd spells
-of_replay-call hosts host (Call.Remove file) words below spells = absurd spells
+pub of_replay-lines : (head : Head) (lines : List Line) (texts : List (List ℕ)) → SpellsLines head lines texts → ArePlayed lines → AreOfReplay head.hosts (events_of lines)
+of_replay-lines head [] [] spells played = tt
+of_replay-lines head [] (text ∷ texts) spells played = absurd spells
+of_replay-lines head (line ∷ lines) [] spells played = absurd spells
+of_replay-lines head (line ∷ lines) (text ∷ texts) spells played =
+    (of_replay-line head line text spells.1 played.0, of_replay-lines head lines texts spells.2 played.1)
 
-of_replay-line : (hosts : ℕ) (line : Line) (text : List ℕ) → NamesEvents line → SpellsLine hosts line text → IsOfReplay hosts (event_of line)
-of_replay-line hosts (Line.Events (Event.Call host call) times) text names spells = of_replay-call hosts host call spells.1.2.0 spells.0 spells.1.2.1
-of_replay-line hosts (Line.Events (Event.Deliver k) times) text names spells = tt
-of_replay-line hosts (Line.Events Event.ServerTick times) text names spells = absurd spells.1
-of_replay-line hosts (Line.Events (Event.ClientTick host) times) text names spells = absurd spells.1
-of_replay-line hosts (Line.Events (Event.Restart host) times) text names spells = absurd spells.1
-of_replay-line hosts (Line.Events (Event.Crash longest) times) text names spells = absurd spells.1
-of_replay-line hosts (Line.Round times) text names spells = absurd spells
-of_replay-line hosts Line.Flow text names spells = absurd spells
-of_replay-line hosts Line.End text names spells = absurd names
-
-pub of_replay-lines : (hosts : ℕ) (lines : List Line) (texts : List (List ℕ)) → SpellsLines hosts lines texts → AreOfReplay hosts (events_of lines)
-of_replay-lines hosts [] [] spells = tt
-of_replay-lines hosts [] (text ∷ texts) spells = absurd spells
-of_replay-lines hosts (line ∷ lines) [] spells = absurd spells
-of_replay-lines hosts (line ∷ lines) (text ∷ texts) spells =
-    (of_replay-line hosts line text spells.0 spells.1, of_replay-lines hosts lines texts spells.2)
-
-pub spells_events : (script : Script) (text : List ℕ) → SpellsSchedule script.head script.lines text → SpellsEvents script.head (events_of script.lines) text × IsReplayScript script
-spells_events script text spells =
-    let single = are_single script.head script.lines text spells in (
-      subst (λ ls. SpellsSchedule script.head ls text) single spells,
+spells_events : (script : Script) (text : List ℕ) → SpellsSchedule script.head script.lines text → IsPlain script.head script.lines
+    → SpellsEvents script.head (events_of script.lines) text × IsReplayScript script
+spells_events script text spells plain =
+    let single : AreSingle script.lines = single_lines script.head script.lines spells.1.1.0 spells.1.1.1 plain.1 in (
+      subst (λ ls. SpellsSchedule script.head ls text × IsPlain script.head ls) single (spells, plain),
       record {
         fits = spells.1.0;
         single = single;
-        replay = of_replay-lines script.head.hosts script.lines spells.1.1.0 spells.1.1.1;
+        replay = of_replay-lines script.head script.lines spells.1.1.0 spells.1.1.1 plain.1;
       },
     )
 
@@ -279,14 +256,96 @@ at_single lines place line single here =
 pub event_here : (lines : List Line) (place : ℕ) (line : Line) → slice_get lines place ≡ Some line → slice_get (events_of lines) place ≡ Some (event_of line)
 event_here lines place line here = slice_get-map event_of lines place ∙ ap (option_map event_of) here
 
--- the answer of a reader of lines, seen as events
-pub found_events : (result : Result Script ScriptFault) (text : List ℕ) → Answers result (λ script. SpellsSchedule script.head script.lines text) (λ number. FirstBadLine text number) → Answers result (λ script. SpellsEvents script.head (events_of script.lines) text × IsReplayScript script) (λ number. FirstBadLine text number)
-found_events (Ok script) text found = spells_events script text found
-found_events (Err fault) text found = found
+-- where a replay plays each line it does not play none of them
+played_or_other : (lines : List Line) (place : ℕ) → ArePlayed lines → FirstOther lines place → ⊥
+played_or_other [] place played other = other
+played_or_other (line ∷ lines) zero played other = false≢true (sym other ∙ played.0)
+played_or_other (line ∷ lines) (suc place) played other = played_or_other lines place played.1 other.1
 
-pub only_events : (result : Result Script ScriptFault) (head : Head) (events : List Event) → Answers result (λ script. (script.head ≡ head) × (script.lines ≡ map once events)) (λ number. ⊥) → Answers result (λ script. (script.head ≡ head) × (events_of script.lines ≡ events)) (λ number. ⊥)
-only_events (Ok script) head events only = (only.0, ap events_of only.1 ∙ events_of-once events)
-only_events (Err fault) head events only = only
+other_once : (lines : List Line) (m n : ℕ) → FirstOther lines m → FirstOther lines n → m ≡ n
+other_once [] m n one two = absurd one
+other_once (line ∷ lines) zero zero one two = refl
+other_once (line ∷ lines) zero (suc n) one two = absurd (false≢true (sym one ∙ two.0))
+other_once (line ∷ lines) (suc m) zero one two = absurd (false≢true (sym two ∙ one.0))
+other_once (line ∷ lines) (suc m) (suc n) one two = ap suc (other_once lines m n one.1 two.1)
+
+not_plain : (head : Head) (lines : List Line) (number : ℕ) → IsPlain head lines → IsOther head lines number → ⊥
+not_plain head lines number plain (inl later) = later.0 plain.0
+not_plain head lines number plain (inr other) = played_or_other lines other.1.0 plain.1 other.1.1
+
+one_other : (head : Head) (lines : List Line) (m n : ℕ) → IsOther head lines m → IsOther head lines n → m ≡ n
+one_other head lines m n (inl one) (inl two) = one.1 ∙ sym two.1
+one_other head lines m n (inl one) (inr two) = absurd (one.0 two.0)
+one_other head lines m n (inr one) (inl two) = absurd (two.0 one.0)
+one_other head lines m n (inr one) (inr two) = one.1.2 ∙ ap (event_line head) (other_once lines one.1.0 two.1.0 one.1.1 two.1.1) ∙ sym two.1.2
+
+-- before the first line that is not played each is
+pub none_other : (lines : List Line) → ((place : ℕ) → place < length lines → (line : Line) → slice_get lines place ≡ Some line → is_played line ≡ true) → ArePlayed lines
+none_other [] each = tt
+none_other (line ∷ lines) each = (each 0 (omega arith) line refl, none_other lines (λ place below l here. each (suc place) (omega arith) l here))
+
+here_other : (lines : List Line) (place : ℕ) (line : Line) → slice_get lines place ≡ Some line → is_played line ≡ false
+    → ((k : ℕ) → k < place → (l : Line) → slice_get lines k ≡ Some l → is_played l ≡ true) → FirstOther lines place
+here_other [] place line here other each = absurd (none-some line here)
+here_other (l ∷ lines) zero line here other each = ap is_played (same_Some l line here) ∙ other
+here_other (l ∷ lines) (suc place) line here other each =
+    (each 0 (omega arith) l refl, here_other lines place line here other (λ k below x at. each (suc k) (omega arith) x at))
+
+-- the same, of what a test says of the line there
+pub other_at : (lines : List Line) (place : ℕ) (plays : Bool) → place < length lines → ((line : Line) → slice_get lines place ≡ Some line → plays ≡ is_played line)
+    → plays ≡ false → ((k : ℕ) → k < place → (l : Line) → slice_get lines k ≡ Some l → is_played l ≡ true) → FirstOther lines place
+other_at lines place plays within tells not each =
+    let here = slice_get-get_or lines place Line.End within in
+    here_other lines place _ here (sym (tells _ here) ∙ not) each
+
+-- the answer of a reader of lines, seen as events
+pub found_events : (result : Result Script ScriptFault) (script : Script) (text : List ℕ) → SpellsSchedule script.head script.lines text
+    → Answers result (λ same. (same ≡ script) × IsPlain script.head script.lines) (λ number. IsOther script.head script.lines number)
+    → Answers result (λ s. SpellsEvents s.head (events_of s.lines) text × IsReplayScript s) (λ number. IsRefused text number)
+found_events (Ok same) script text spells said =
+    subst (λ s. SpellsEvents s.head (events_of s.lines) text × IsReplayScript s) (sym said.0) (spells_events script text spells said.1)
+found_events (Err (ScriptFault.Bad number)) script text spells said =
+    inr (record { head = script.head; lines = script.lines; spelled = spells; other = said })
+found_events (Err ScriptFault.Memory) script text spells said = tt
+
+pub only_events : (result : Result Script ScriptFault) (script : Script) (head : Head) (events : List Event) (text : List ℕ) → SpellsEvents head events text
+    → (script.head ≡ head) × (script.lines ≡ map once events)
+    → Answers result (λ same. (same ≡ script) × IsPlain script.head script.lines) (λ number. IsOther script.head script.lines number)
+    → Answers result (λ s. (s.head ≡ head) × (events_of s.lines ≡ events)) (λ number. ⊥)
+only_events (Ok same) script head events text spells is said =
+    (ap (λ (s : Script). s.head) said.0 ∙ is.0, ap (λ (s : Script). events_of s.lines) said.0 ∙ ap events_of is.1 ∙ events_of-once events)
+only_events (Err (ScriptFault.Bad number)) script head events text spells is said =
+    not_plain head (map once events) number spells.1
+    (subst (λ h. IsOther h (map once events) number) is.0 (subst (λ ls. IsOther script.head ls number) is.1 said))
+only_events (Err ScriptFault.Memory) script head events text spells is said = tt
+
+pub refused_at : (result : Result Script ScriptFault) (script : Script) (text : List ℕ) (number : ℕ)
+    → ((h : Head) (ls : List Line) → SpellsSchedule h ls text → (script.head ≡ h) × (script.lines ≡ ls)) → (FirstBadLine text number → ⊥)
+    → IsRefused text number
+    → Answers result (λ same. (same ≡ script) × IsPlain script.head script.lines) (λ place. IsOther script.head script.lines place)
+    → Answers result (λ s. ⊥) (λ place. place ≡ number)
+refused_at result script text number only good (inl bad) said = absurd (good bad)
+refused_at result script text number only good (inr other) said =
+    let is = only other.head other.lines other.spelled in
+    by_result result said
+    (subst (λ h. IsOther h script.lines number) (sym is.0) (subst (λ ls. IsOther other.head ls number) (sym is.1) other.other)) where
+      by_result : (r : Result Script ScriptFault)
+          → Answers r (λ same. (same ≡ script) × IsPlain script.head script.lines) (λ place. IsOther script.head script.lines place)
+          → IsOther script.head script.lines number → Answers r (λ s. ⊥) (λ place. place ≡ number)
+      by_result (Ok same) said here = not_plain script.head script.lines number said.1 here
+      by_result (Err (ScriptFault.Bad place)) said here = one_other script.head script.lines place number said here
+      by_result (Err ScriptFault.Memory) said here = tt
+
+-- a text that is outside the grammar is refused there, and no schedule is read
+pub outside_found : (fault : ScriptFault) (text : List ℕ) → Names fault (λ number. FirstBadLine text number) → Names fault (λ number. IsRefused text number)
+outside_found (ScriptFault.Bad number) text said = inl said
+outside_found ScriptFault.Memory text said = tt
+
+pub outside_bad : (fault : ScriptFault) (text : List ℕ) (number : ℕ) → ((h : Head) (ls : List Line) → SpellsSchedule h ls text → Names fault (λ place. ⊥))
+    → (FirstBadLine text number → Names fault (λ place. place ≡ number)) → IsRefused text number → Names fault (λ place. place ≡ number)
+outside_bad (ScriptFault.Bad place) text number only bad (inl here) = bad here
+outside_bad (ScriptFault.Bad place) text number only bad (inr other) = absurd (only other.head other.lines other.spelled)
+outside_bad ScriptFault.Memory text number only bad refused = tt
 
 -- there is a line at a place below the length
 pub is_somewhere : (lines : List Line) (place : ℕ) → place < length lines → slice_get lines place ≡ None → ⊥

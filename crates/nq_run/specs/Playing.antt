@@ -1,5 +1,7 @@
 -- The run of a schedule over the world, event by event.
-use Rattle.std.specs.Prelude.{◌≡◌, ◌⊎◌, ℕ, ◌+◌, true, false, ◌&&◌, Bool, List, [], ◌∷◌, length, map, reverse, zero, suc}
+use Rattle.std.specs.Prelude.{◌≡◌, ◌≢◌, ◌⊎◌, ℕ, ◌+◌, true, false, ◌&&◌, Bool, List, [], ◌∷◌, length, map, reverse, zero, suc}
+use Rattle.std.specs.List.{AllByRecursion}
+use Rattle.nq_base.specs.declared.Call.{Call}
 use Rattle.nq_base.specs.declared.Entry.{Entry}
 use Rattle.nq_base.specs.declared.Event.{Event}
 use Rattle.nq_model.specs.World.{World, Head as Beginning, start, step, steps}
@@ -16,9 +18,25 @@ use Rattle.nq_script.specs.declared.scripts.Script.{Script}
 abbrev pub once : Event → Line
 once event = Line.Events event 1
 
--- the text spells a schedule of this head and these events, each on a line of its own
+-- whether a replay plays a line: that of a put, a fetch or a delivery
+abbrev pub is_played : Line → Bool
+is_played (Line.Events (Event.Call host (Call.Fetch file block)) times) = true
+is_played (Line.Events (Event.Call host (Call.WriteSync file block body)) times) = true
+is_played (Line.Events (Event.Deliver k) times) = true
+is_played other = false
+
+-- a replay plays each of the lines
+abbrev pub ArePlayed : List Line → Type 0
+ArePlayed lines = AllByRecursion (λ line. is_played line ≡ true) lines
+
+-- a schedule of version 1 of which a replay plays each line
+abbrev pub IsPlain : Head → List Line → Type 0
+IsPlain head lines = (head.version ≡ 1) × ArePlayed lines
+
+-- the text spells a schedule of version 1 of this head and these events, each of which a replay plays, on a line of its
+-- own
 abbrev pub SpellsEvents : Head → List Event → List ℕ → Type 0
-SpellsEvents head events text = SpellsSchedule head (map once events) text
+SpellsEvents head events text = SpellsSchedule head (map once events) text × IsPlain head (map once events)
 
 -- the event of a line; a line of several events has none
 abbrev pub event_of : Line → Event
@@ -93,6 +111,27 @@ pub record MakesJournal (text : List ℕ) (entries : List Entry) : Type 0 where
 abbrev pub event_line : Head → (place : ℕ) → ℕ
 event_line head place = 4 + length head.files + place + 1
 
+-- the line at this place, counted from 0, is the first that a replay does not play
+abbrev pub FirstOther : List Line → (place : ℕ) → Type 0
+FirstOther [] place = ⊥
+FirstOther (line ∷ lines) zero = is_played line ≡ false
+FirstOther (line ∷ lines) (suc place) = (is_played line ≡ true) × FirstOther lines place
+
+-- the line of a schedule that a replay does not play: the first line of one in version 2, and else the first such line
+abbrev pub IsOther : Head → List Line → (number : ℕ) → Type 0
+IsOther head lines number = ((head.version ≢ 1) × (number ≡ 1)) ⊎ ((head.version ≡ 1) × ((place : ℕ) × FirstOther lines place × (number ≡ event_line head place)))
+
+-- the text is a schedule, and this line is one that a replay does not play
+pub record HasOther (text : List ℕ) (number : ℕ) : Type 0 where
+  pub head : Head
+  pub lines : List Line
+  pub spelled : SpellsSchedule head lines text
+  pub other : IsOther head lines number
+
+-- the line at which a text is refused before it is run: the first outside the grammar, or one that a replay does not play
+abbrev pub IsRefused : (text : List ℕ) → (number : ℕ) → Type 0
+IsRefused text number = FirstBadLine text number ⊎ HasOther text number
+
 -- the event on this line is the first of a schedule that cannot be run
 pub record IsStuckAt (head : Head) (events : List Event) (number : ℕ) : Type 0 where
   pub place : ℕ
@@ -106,9 +145,10 @@ pub record GetsStuck (text : List ℕ) (number : ℕ) : Type 0 where
   pub spelled : SpellsEvents head events text
   pub stuck : IsStuckAt head events number
 
--- the first faulty line: of a text outside the grammar the first that is, and of a schedule the first that cannot be run
+-- the faulty line: of a text outside the grammar the first that is, of a schedule with lines that a replay does not play
+-- the first of these, and of another schedule the first that cannot be run
 abbrev pub FaultyLine : (text : List ℕ) → (number : ℕ) → Type 0
-FaultyLine text number = FirstBadLine text number ⊎ GetsStuck text number
+FaultyLine text number = IsRefused text number ⊎ GetsStuck text number
 
 -- a world is as is said of worlds, and a faulty line as is said of lines; want of memory says nothing
 abbrev pub Comes : Outcome → (world : World → Type 0) → (line : ℕ → Type 0) → Type 0

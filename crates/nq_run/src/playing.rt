@@ -1,18 +1,18 @@
 //! The run of a schedule.
 
-ghost use Rattle.std.specs.Prelude.{◌≡◌, ◌<◌, ◌^◌, ℕ, List, Some, reverse, length, slice_get};
+ghost use Rattle.std.specs.Prelude.{◌≡◌, ◌<◌, ◌^◌, ℕ, List, Some, reverse, length, slice_get, IfSome, IsNone};
 ghost use Rattle.nq_base.specs.declared.Entry.{Entry};
 ghost use Rattle.nq_base.specs.declared.Event.{Event};
 ghost use Rattle.nq_run.specs.Lengths.{lengths_in};
 ghost use Rattle.nq_run.specs.Stepping.{AreOfReplay};
-ghost use Rattle.nq_run.specs.Playing.{IsReplayScript, Plays, Comes, SpellsEvents, AreSingle, once, event_of, events_of, IsRunOf, IsStuckAt, MakesJournal, FaultyLine, event_line};
-ghost use Rattle.nq_script.specs.Faults.{Answers};
-ghost use Rattle.nq_script.specs.Schedule.{FirstBadLine};
+ghost use Rattle.nq_run.specs.Playing.{IsReplayScript, Plays, Comes, SpellsEvents, AreSingle, once, event_of, events_of, IsRunOf, IsStuckAt, MakesJournal, FaultyLine, ArePlayed, FirstOther, IsOther, IsPlain, IsRefused, is_played, event_line};
+ghost use Rattle.nq_script.specs.Faults.{Answers, Names};
 ghost use Rattle.nq_script.specs.declared.heads.Head.{Head};
+ghost use Rattle.nq_script.specs.declared.lines.Line.{Line};
 
 use crate::steps::Stepped;
 use crate::worlds::World;
-use nq_base::Event;
+use nq_base::{Call, Event};
 use nq_script::{Head, Line, Lines, Script, ScriptFault, parse};
 use std::alloc::Global;
 
@@ -94,15 +94,96 @@ pub(crate) fn play_text(alloc: Global, text: &[u8]) -> Outcome
     }
 }
 
-/// Reads a schedule in which each line is that of one event.
+/// Reads a schedule of version 1 in which each line is that of a put, a fetch or a delivery.
 fn read(alloc: Global, text: &[u8]) -> Result<Script, ScriptFault>
     requires { length text.now < 2 ^ 31 }
-    ensures found { Answers result (λ script. SpellsEvents script.head (events_of script.lines) text.now × IsReplayScript script) (λ number. FirstBadLine text.now number) }
+    ensures found { Answers result (λ script. SpellsEvents script.head (events_of script.lines) text.now × IsReplayScript script) (λ number. IsRefused text.now number) }
     ensures only { (head : Head) (events : List Event) → SpellsEvents head events text.now
         → Answers result (λ script. (script.head ≡ head) × (events_of script.lines ≡ events)) (λ number. ⊥) }
-    ensures bad { (number : ℕ) → FirstBadLine text.now number → Answers result (λ script. ⊥) (λ place. place ≡ number) }
+    ensures bad { (number : ℕ) → IsRefused text.now number → Answers result (λ script. ⊥) (λ place. place ≡ number) }
 {
-    parse(alloc, text)
+    match parse(alloc, text) {
+        Ok(script) => if_plain(script),
+        Err(fault) => Err(fault),
+    }
+}
+
+/// A schedule, if a replay plays each of its lines.
+fn if_plain(script: Script) -> Result<Script, ScriptFault>
+    ensures { Answers result (λ same. (same ≡ script) × IsPlain script.head script.lines) (λ number. IsOther script.head script.lines number) }
+{
+    match other_line(&script) {
+        None => Ok(script),
+        Some(fault) => Err(fault),
+    }
+}
+
+/// Where a schedule has a line that a replay does not play.
+fn other_line(script: &Script) -> Option<ScriptFault>
+    ensures some { IfSome result (λ fault. Names fault (λ number. IsOther script.now.head script.now.lines number)) }
+    ensures none { IsNone result → IsPlain script.now.head script.now.lines }
+{
+    if script.head.version != 1 {
+        return Some(ScriptFault::Bad(1));
+    }
+    match first_other(&script.lines) {
+        None => None,
+        Some(place) => Some(fault_at(&script.head, place)),
+    }
+}
+
+/// The place of the first line that a replay does not play.
+fn first_other(lines: &Lines) -> Option<usize>
+    ensures some { IfSome result (λ place. FirstOther lines.now place) }
+    ensures none { IsNone result → ArePlayed lines.now }
+{
+    let count = lines.len();
+    for place in 0..count {
+        if !plays_at(lines, place) {
+            return Some(place);
+        }
+    }
+    None
+}
+
+/// Whether a replay plays the line at a place.
+fn plays_at(lines: &Lines, place: usize) -> bool
+    requires { place < length lines.now }
+    ensures { (line : Line) → slice_get lines.now place ≡ Some line → result ≡ is_played line }
+{
+    match lines.get(place) {
+        Some(line) => plays(&line),
+        None => unreachable!(),
+    }
+}
+
+/// Whether a replay plays a line: that of a put, a fetch or a delivery.
+fn plays(line: &Line) -> bool
+    ensures { result ≡ is_played line.now }
+{
+    match line {
+        Line::Events { event, .. } => match event {
+            Event::Call { call, .. } => {
+                matches!(call, Call::Fetch { .. } | Call::WriteSync { .. })
+            }
+            Event::Deliver(_) => true,
+            _ => false,
+        },
+        _ => false,
+    }
+}
+
+/// The fault of the line at a place.
+fn fault_at(head: &Head, place: usize) -> ScriptFault
+    ensures { Names result (λ number. number ≡ event_line head.now place) }
+{
+    match at_line(head, place) {
+        Outcome::Faulty(number) => match u32::try_from(number) {
+            Ok(number) => ScriptFault::Bad(number),
+            Err(_) => ScriptFault::Memory,
+        },
+        _ => ScriptFault::Memory,
+    }
 }
 
 /// Runs a schedule from its first world on.

@@ -26,8 +26,9 @@ const MOST_BYTES: usize = 16_777_216;
 ///
 /// - 0: the journal was printed.
 /// - 1: the words are not the one word `replay`; prints `usage`.
-/// - 2: a line is outside the grammar, names a file or a block that is not there, or delivers a packet that was not
-///   sent; prints `script line N`, with lines counted from 1.
+/// - 2: a line is outside the grammar, is none of a put, a fetch or a delivery, names a file or a block that is not there,
+///   or delivers a packet that was not sent, or the schedule is of version 2; prints `script line N`, with lines counted
+///   from 1.
 /// - 4: the source failed, which it has counted; prints nothing.
 /// - 5: the sink failed, which it has counted; a front of the journal is printed.
 /// - 7: memory was wanting; a front of the journal may be printed.

@@ -1,26 +1,26 @@
 -- Each text is a schedule or goes wrong at some line.
-use Rattle.std.proofs.Common.{◌≡◌, ◌≢◌, ◌⊎◌, inl, inr, ℕ, ◌+◌, ◌<◌, ◌≤◌, true, false, List, [], ◌∷◌, ◌++◌, length, drop, map, Option, Some, None, zero, suc, refl, ap, sym, ◌∙◌, arith, lit<, subst, codes}
+use Rattle.std.proofs.Common.{◌≡◌, ◌≢◌, ◌⊎◌, inl, inr, ℕ, ◌+◌, ◌<◌, ◌≤◌, ◌^◌, Bool, true, false, List, [], ◌∷◌, ◌++◌, length, drop, map, Option, Some, None, zero, suc, refl, ap, sym, ◌∙◌, arith, lit<, lit≤, eq-eqb, if◌then◌else◌, subst, codes}
 use Rattle.std.specs.List.{AllByRecursion}
+use Rattle.std.specs.Fmt.{decimal}
 use Rattle.std.specs.Str.{bytes_eq}
-use Rattle.std.proofs.lemmas.Bool.{cases_lt, cases_eq, cases_Bool, both_ways}
+use Rattle.std.proofs.lemmas.Bool.{cases_lt, cases_eq, cases_Bool, both_ways, ne_eqb}
 use Rattle.std.proofs.lemmas.List.{drop_at}
 use Rattle.std.proofs.lemmas.List.Elements.{recursion_from_All, All-from_recursion}
 use Rattle.std.proofs.lemmas.Slice.Eq.{bytes_eq-Decides}
 use Rattle.nq_base.specs.Name.{IsName, IsNameByte}
-use Rattle.nq_base.specs.declared.Told.{Told}
-use Rattle.nq_script.specs.Heads.{IsNew, FitFiles, FitsHead, AreSettings, blocks_of, file_line, file_lines, version_line, hosts_line, term_line, head_lines}
+use Rattle.nq_script.specs.Heads.{IsNew, FitFiles, FitsHead, AreSettings, IsLongest, blocks_of, file_line, file_lines, first_file, version_line, hosts_line, term_line, longest_line, most_term, settings_lines, head_lines}
 use Rattle.nq_script.specs.Lines.{line_of}
-use Rattle.nq_script.specs.Progress.{WrongFile, WrongLine, WrongEnd, ReadSoFar, EndsWith}
+use Rattle.nq_script.specs.Progress.{NoNumber, WrongFile, WrongLine, WrongEnd, ReadSoFar, EndsWith}
 use Rattle.nq_script.specs.Reading.{cut_at, told_line, file_of, ranged_of}
 use Rattle.nq_script.specs.Schedule.{NamesEvents, SpellsSchedule, FirstBadHeadLine, FirstBadLine, StandsInFront}
-use Rattle.nq_script.specs.Text.{text_of}
+use Rattle.nq_script.specs.Text.{IsVersion, text_of}
 use Rattle.nq_script.specs.declared.heads.Head.{Head}
 use Rattle.nq_script.specs.declared.lines.Line.{Line}
 use Rattle.nq_script.specs.declared.lines.ToldLine.{ToldLine}
 use Rattle.nq_script.proofs.EventLines.{wrong-no-line, wrong-no-read, ended, wrong-end, so-far-more}
 use Rattle.nq_script.proofs.FileLines.{after-shorter, files-no-line, files-no-file, files-begin, files-more, no-line, one-line, text-first, text-behind}
 use Rattle.nq_script.proofs.Fitting.{fit-more, fit-last, fit-none}
-use Rattle.nq_script.proofs.HeadLines.{wrong-version, wrong-hosts, wrong-term, wrong-file}
+use Rattle.nq_script.proofs.HeadLines.{known-version, are-settings, term-low, wrong-version, wrong-hosts, wrong-term, wrong-longest, wrong-file}
 use Rattle.nq_script.proofs.HeadReading.{file-found, file-none, file-same, ranged-found, ranged-none}
 use Rattle.nq_script.proofs.Splitting.{nil-cons}
 use Rattle.nq_script.proofs.Whole.{head-wrong, schedule-found, lines-wrong}
@@ -87,103 +87,118 @@ more-decided files f fit sized =
       by_parts (inl name) (inr few) small new = inr (λ fits. few (let room : length files < 256 = (fit-last files f fits).1 in omega arith))
       by_parts (inr name) few small new = inr (λ fits. name (fit-last files f fits).0.0)
 
-call-no-end : (host : ℕ) (told : Told) → ToldLine.Call host told ≡ ToldLine.End → ⊥
-call-no-end host told same = subst (λ t. NamesEvents (line_of t)) same tt
-
-deliver-no-end : (packet : ℕ) → ToldLine.Deliver packet ≡ ToldLine.End → ⊥
-deliver-no-end packet same = subst (λ t. NamesEvents (line_of t)) same tt
-
 -- the lines of events behind those that were read, with as much fuel as bytes are left
-Ends : (hosts first : ℕ) → List ℕ → Type 0
-Ends hosts first text =
-    ((lines : List Line) × EndsWith hosts lines text)
-    ⊎ ((number : ℕ) × (WrongLine hosts first text number ⊎ WrongEnd hosts first text number))
+Ends : Head → (first : ℕ) → List ℕ → Type 0
+Ends head first text =
+    ((lines : List Line) × EndsWith head lines text)
+    ⊎ ((number : ℕ) × (WrongLine head first text number ⊎ WrongEnd head first text number))
 
-lines-step : (hosts first : ℕ) (lines : List Line) (text rest : List ℕ) → ReadSoFar hosts lines text rest
-    → ((more : List Line) (after : List ℕ) → ReadSoFar hosts more text after → length after < length rest → Ends hosts first text) → Ends hosts first text
+lines-step : (head : Head) (first : ℕ) (lines : List Line) (text rest : List ℕ) → ReadSoFar head lines text rest
+    → ((more : List Line) (after : List ℕ) → ReadSoFar head more text after → length after < length rest → Ends head first text) → Ends head first text
 unfolding Ends
-lines-step hosts first lines text rest r next = by_cut (cut_at 10 rest) refl where
-  by_after : (line after : List ℕ) → cut_at 10 rest ≡ Some (line, after) → told_line hosts line ≡ Some ToldLine.End → (left : List ℕ) → after ≡ left → Ends hosts first text
-  by_after line after cut read [] none = inl (lines, ended hosts lines text rest line after ToldLine.End r cut read refl none)
+lines-step head first lines text rest r next = by_cut (cut_at 10 rest) refl where
+  by_after : (line after : List ℕ) → cut_at 10 rest ≡ Some (line, after) → told_line head line ≡ Some ToldLine.End → (left : List ℕ) → after ≡ left → Ends head first text
+  by_after line after cut read [] none = inl (lines, ended head lines text rest line after ToldLine.End r cut read refl none)
   by_after line after cut read (b ∷ left) some =
       inr (
         first + length lines + 1,
-        inr (wrong-end hosts first lines text rest line after ToldLine.End (first + length lines) r refl cut read refl
+        inr (wrong-end head first lines text rest line after ToldLine.End (first + length lines) r refl cut read refl
             (λ none. nil-cons (sym none ∙ some))),
       )
 
-  more : (line after : List ℕ) → cut_at 10 rest ≡ Some (line, after) → (told : ToldLine) → told_line hosts line ≡ Some told → told ≢ ToldLine.End → Ends hosts first text
+  more : (line after : List ℕ) → cut_at 10 rest ≡ Some (line, after) → (told : ToldLine) → told_line head line ≡ Some told → told ≢ ToldLine.End → Ends head first text
   more line after cut told read other =
-      next (lines ++ line_of told ∷ []) after (so-far-more hosts lines (lines ++ line_of told ∷ []) text rest line after told r cut read other refl)
+      next (lines ++ line_of told ∷ []) after (so-far-more head lines (lines ++ line_of told ∷ []) text rest line after told r cut read other refl)
       (after-shorter rest line after cut)
 
-  by_told : (line after : List ℕ) → cut_at 10 rest ≡ Some (line, after) → (told : ToldLine) → told_line hosts line ≡ Some told → Ends hosts first text
-  by_told line after cut (ToldLine.Call host told) read = more line after cut (ToldLine.Call host told) read (λ same. call-no-end host told same)
-  by_told line after cut (ToldLine.Deliver packet) read = more line after cut (ToldLine.Deliver packet) read (λ same. deliver-no-end packet same)
+  by_told : (line after : List ℕ) → cut_at 10 rest ≡ Some (line, after) → (told : ToldLine) → told_line head line ≡ Some told → Ends head first text
   by_told line after cut ToldLine.End read = by_after line after cut read after refl
+  by_told line after cut told read = more line after cut told read (λ same. subst (λ t. NamesEvents (line_of t)) same tt)
 
-  by_read : (line after : List ℕ) → cut_at 10 rest ≡ Some (line, after) → (o : Option ToldLine) → told_line hosts line ≡ o → Ends hosts first text
+  by_read : (line after : List ℕ) → cut_at 10 rest ≡ Some (line, after) → (o : Option ToldLine) → told_line head line ≡ o → Ends head first text
   by_read line after cut None none =
-      inr (first + length lines, inl (wrong-no-read hosts first lines text rest line after (first + length lines) r refl cut none))
+      inr (first + length lines, inl (wrong-no-read head first lines text rest line after (first + length lines) r refl cut none))
   by_read line after cut (Some told) read = by_told line after cut told read
 
-  by_cut : (o : Option (List ℕ × List ℕ)) → cut_at 10 rest ≡ o → Ends hosts first text
-  by_cut None none = inr (first + length lines, inl (wrong-no-line hosts first lines text rest (first + length lines) r refl none))
-  by_cut (Some p) cut = by_read p.0 p.1 cut (told_line hosts p.0) refl
+  by_cut : (o : Option (List ℕ × List ℕ)) → cut_at 10 rest ≡ o → Ends head first text
+  by_cut None none = inr (first + length lines, inl (wrong-no-line head first lines text rest (first + length lines) r refl none))
+  by_cut (Some p) cut = by_read p.0 p.1 cut (told_line head p.0) refl
 
-lines-decided : (fuel hosts first : ℕ) (lines : List Line) (text rest : List ℕ) → ReadSoFar hosts lines text rest → length rest ≤ fuel → Ends hosts first text
-lines-decided zero hosts first lines text rest r enough =
-    lines-step hosts first lines text rest r (λ more after s shorter. absurd (omega arith))
-lines-decided (suc fuel) hosts first lines text rest r enough =
-    lines-step hosts first lines text rest r (λ more after s shorter. lines-decided fuel hosts first more text after s (omega arith))
+lines-decided : (fuel : ℕ) (head : Head) (first : ℕ) (lines : List Line) (text rest : List ℕ) → ReadSoFar head lines text rest → length rest ≤ fuel → Ends head first text
+lines-decided zero head first lines text rest r enough =
+    lines-step head first lines text rest r (λ more after s shorter. absurd (omega arith))
+lines-decided (suc fuel) head first lines text rest r enough =
+    lines-step head first lines text rest r (λ more after s shorter. lines-decided fuel head first more text after s (omega arith))
 
 -- the lines of files behind those that were read
-Files : List ℕ → Type 0
-Files text =
+Files : (first : ℕ) → List ℕ → Type 0
+Files first text =
     ((files : List (List ℕ × ℕ)) × (rest : List ℕ) × FitFiles files × (text ≡ text_of (file_lines files) ++ rest))
-    ⊎ ((number : ℕ) × WrongFile text number)
+    ⊎ ((number : ℕ) × WrongFile first text number)
 
-files-step : (files : List (List ℕ × ℕ)) (text rest : List ℕ) → text ≡ text_of (map file_line files) ++ rest → FitFiles files
-    → ((more : List (List ℕ × ℕ)) (after : List ℕ) → text ≡ text_of (map file_line more) ++ after → FitFiles more → length after < length rest → Files text)
-    → Files text
+files-step : (first : ℕ) (files : List (List ℕ × ℕ)) (text rest : List ℕ) → text ≡ text_of (map file_line files) ++ rest → FitFiles files
+    → ((more : List (List ℕ × ℕ)) (after : List ℕ) → text ≡ text_of (map file_line more) ++ after → FitFiles more → length after < length rest → Files first text)
+    → Files first text
 unfolding Files
-files-step files text rest split fit next = by_cut (cut_at 10 rest) refl where
+files-step first files text rest split fit next = by_cut (cut_at 10 rest) refl where
   by_fit : (line after : List ℕ) → cut_at 10 rest ≡ Some (line, after) → line ≢ codes "begin" → (f : List ℕ × ℕ) → file_of line ≡ Some f
-      → FitFiles (files ++ f ∷ []) ⊎ (FitFiles (files ++ f ∷ []) → ⊥) → Files text
+      → FitFiles (files ++ f ∷ []) ⊎ (FitFiles (files ++ f ∷ []) → ⊥) → Files first text
   by_fit line after cut other f read (inl fits) =
       let more = files-more text files (files ++ f ∷ []) rest line after f (blocks_of files) split cut ((file-found line f read).0, fits) refl refl in
       next (files ++ f ∷ []) after more.0 fits (after-shorter rest line after cut)
   by_fit line after cut other f read (inr wrong) =
       inr (
-        length files + 4,
-        files-no-file text files rest line after (length files + 4) split fit refl cut other
+        first + length files,
+        files-no-file first text files rest line after (first + length files) split fit refl cut other
             (λ g spelled fits. wrong (subst (λ h. FitFiles (files ++ h ∷ [])) (sym (file-same line f g read (fit-last files g fits).0 spelled)) fits)),
       )
 
-  by_file : (line after : List ℕ) → cut_at 10 rest ≡ Some (line, after) → line ≢ codes "begin" → (o : Option (List ℕ × ℕ)) → file_of line ≡ o → Files text
+  by_file : (line after : List ℕ) → cut_at 10 rest ≡ Some (line, after) → line ≢ codes "begin" → (o : Option (List ℕ × ℕ)) → file_of line ≡ o → Files first text
   by_file line after cut other None none =
       inr (
-        length files + 4,
-        files-no-file text files rest line after (length files + 4) split fit refl cut other
+        first + length files,
+        files-no-file first text files rest line after (first + length files) split fit refl cut other
             (λ g spelled fits. file-none line none g (fit-last files g fits).0 spelled),
       )
   by_file line after cut other (Some f) read =
       let found = file-found line f read in by_fit line after cut other f read (more-decided files f fit (found.1, found.2))
 
-  by_line : (line after : List ℕ) → cut_at 10 rest ≡ Some (line, after) → (line ≡ codes "begin") ⊎ (line ≢ codes "begin") → Files text
+  by_line : (line after : List ℕ) → cut_at 10 rest ≡ Some (line, after) → (line ≡ codes "begin") ⊎ (line ≢ codes "begin") → Files first text
   by_line line after cut (inl begin) = inl (files, after, fit, files-begin text files rest line after split cut begin)
   by_line line after cut (inr other) = by_file line after cut other (file_of line) refl
 
-  by_cut : (o : Option (List ℕ × List ℕ)) → cut_at 10 rest ≡ o → Files text
-  by_cut None none = inr (length files + 4, files-no-line text files rest (length files + 4) split fit refl none)
+  by_cut : (o : Option (List ℕ × List ℕ)) → cut_at 10 rest ≡ o → Files first text
+  by_cut None none = inr (first + length files, files-no-line first text files rest (first + length files) split fit refl none)
   by_cut (Some p) cut = by_line p.0 p.1 cut (same-bytes p.0 (codes "begin"))
 
-files-decided : (fuel : ℕ) (files : List (List ℕ × ℕ)) (text rest : List ℕ) → text ≡ text_of (map file_line files) ++ rest → FitFiles files
-    → length rest ≤ fuel → Files text
-files-decided zero files text rest split fit enough =
-    files-step files text rest split fit (λ more after s f shorter. absurd (omega arith))
-files-decided (suc fuel) files text rest split fit enough =
-    files-step files text rest split fit (λ more after s f shorter. files-decided fuel more text after s f (omega arith))
+files-decided : (fuel first : ℕ) (files : List (List ℕ × ℕ)) (text rest : List ℕ) → text ≡ text_of (map file_line files) ++ rest → FitFiles files
+    → length rest ≤ fuel → Files first text
+files-decided zero first files text rest split fit enough =
+    files-step first files text rest split fit (λ more after s f shorter. absurd (omega arith))
+files-decided (suc fuel) first files text rest split fit enough =
+    files-step first files text rest split fit (λ more after s f shorter. files-decided fuel first more text after s f (omega arith))
+
+-- the first line is a number from `least` to `most` behind the prefix, or none is
+numbered : (prefix : List ℕ) (least most : ℕ) (text : List ℕ) → most < 2 ^ 64
+    → ((value : ℕ) × (after : List ℕ) × (least ≤ value) × (value ≤ most) × (text ≡ text_of ((prefix ++ decimal value) ∷ []) ++ after))
+    ⊎ NoNumber prefix least most text
+numbered prefix least most text wide = by_cut (cut_at 10 text) refl where
+  Numbered : Type 0
+  Numbered =
+      ((value : ℕ) × (after : List ℕ) × (least ≤ value) × (value ≤ most) × (text ≡ text_of ((prefix ++ decimal value) ∷ []) ++ after))
+      ⊎ NoNumber prefix least most text
+
+  by_number : (line after : List ℕ) → cut_at 10 text ≡ Some (line, after) → (o : Option ℕ) → ranged_of prefix least most line ≡ o → Numbered
+  by_number line after cut None none =
+      inr (λ value line' after' low high here lacks spelled.
+      ranged-none prefix least most line wide none value low high ((one-line text line after line' after' cut here lacks).0 ∙ spelled))
+  by_number line after cut (Some value) read =
+      let found = ranged-found prefix least most line value wide read in
+      inl (value, after, found.1, found.2, text-first text line after (prefix ++ decimal value) cut found.0)
+
+  by_cut : (o : Option (List ℕ × List ℕ)) → cut_at 10 text ≡ o → Numbered
+  by_cut None none = inr (λ value line after low high here lacks spelled. no-line text line after none here lacks)
+  by_cut (Some p) cut = by_number p.0 p.1 cut (ranged_of prefix least most p.0) refl
 
 -- a head in front, or the first line that is wrong in it
 Front : List ℕ → Type 0
@@ -191,74 +206,79 @@ Front text =
     ((head : Head) × (rest : List ℕ) × FitsHead head × (text ≡ text_of (head_lines head) ++ rest))
     ⊎ ((number : ℕ) × FirstBadHeadLine text number)
 
-front-files : (text rest : List ℕ) (hosts term : ℕ) → AreSettings hosts term → text ≡ text_of (version_line ∷ hosts_line hosts ∷ term_line term ∷ []) ++ rest
-    → Files rest → Front text
+front-files : (text rest : List ℕ) (version hosts term longest : ℕ) → AreSettings version hosts term longest
+    → text ≡ text_of (settings_lines version hosts term longest) ++ rest → Files (first_file version) rest → Front text
 unfolding Files Front
-front-files text rest hosts term settings split (inl found) =
+front-files text rest version hosts term longest settings split (inl found) =
     inl (
       head,
       found.1,
-      fits,
-      text-behind text (version_line ∷ hosts_line hosts ∷ term_line term ∷ []) (file_lines found.0) rest found.1 split found.3,
+      record { settings = settings; files = found.2 },
+      text-behind text (settings_lines version hosts term longest) (file_lines found.0) rest found.1 split found.3,
     ) where
       head : Head
-      head = record { hosts = hosts; term = term; files = found.0 }
+      head = record { version = version; hosts = hosts; term = term; longest = longest; files = found.0 }
+front-files text rest version hosts term longest settings split (inr wrong) =
+    inr (wrong.0, wrong-file text rest version hosts term longest wrong.0 settings split wrong.1)
 
-      fits : FitsHead head
-      fits = record { some_hosts = settings.0; few_hosts = settings.1; long_term = settings.2; short_term = settings.3; files = found.2 }
-front-files text rest hosts term settings split (inr wrong) =
-    inr (wrong.0, wrong-file text rest hosts term wrong.0 settings.0 settings.1 settings.2 settings.3 split wrong.1)
+front-settings : (text rest : List ℕ) (version hosts term longest : ℕ) → AreSettings version hosts term longest
+    → text ≡ text_of (settings_lines version hosts term longest) ++ rest → Front text
+front-settings text rest version hosts term longest settings split =
+    front-files text rest version hosts term longest settings split
+    (files-decided (length rest) (first_file version) [] rest rest refl fit-none (omega arith))
 
-front-term : (text rest : List ℕ) (hosts : ℕ) → 1 ≤ hosts → hosts ≤ 64 → text ≡ text_of (version_line ∷ hosts_line hosts ∷ []) ++ rest → Front text
+front-longest : (text rest : List ℕ) (version hosts term : ℕ) → IsVersion version → 1 ≤ hosts → hosts ≤ 64 → 5 ≤ term → term ≤ most_term version
+    → text ≡ text_of (version_line version ∷ hosts_line hosts ∷ term_line term ∷ []) ++ rest → Front text
 unfolding Front
-front-term text rest hosts some few split = by_cut (cut_at 10 rest) refl where
-  by_number : (line after : List ℕ) → cut_at 10 rest ≡ Some (line, after) → (o : Option ℕ) → ranged_of (codes "term ") 5 60 line ≡ o → Front text
-  by_number line after cut None none =
-      inr (
-        3,
-        wrong-term text rest hosts some few split (λ term line' after' low high here lacks spelled.
-            ranged-none (codes "term ") 5 60 line (lit< tt) none term low high ((one-line rest line after line' after' cut here lacks).0 ∙ spelled)),
-      )
-  by_number line after cut (Some term) read =
-      let found = ranged-found (codes "term ") 5 60 line term (lit< tt) read in
-      front-files text after hosts term (some, few, found.1, found.2)
-      (text-behind text (version_line ∷ hosts_line hosts ∷ []) (term_line term ∷ []) rest after split (text-first rest line after (term_line term) cut found.0))
-      (files-decided (length after) [] after after refl fit-none (omega arith))
+front-longest text rest version hosts term known some few long short split = by_version known where
+  by_number : version ≢ 1
+      → ((value : ℕ) × (after : List ℕ) × (5 ≤ value) × (value ≤ 600) × (rest ≡ text_of ((codes "longest " ++ decimal value) ∷ []) ++ after))
+      ⊎ NoNumber (codes "longest ") 5 600 rest → Front text
+  by_number other (inl found) =
+      front-settings text found.1 version hosts term found.0
+      (are-settings version hosts term found.0 known some few long short (found.2, found.3, λ first. absurd (other first)))
+      (subst (λ test. text ≡ text_of (version_line version ∷ hosts_line hosts ∷ term_line term ∷ (if test then [] else longest_line found.0 ∷ [])) ++ found.1)
+      (sym (ne_eqb version 1 other))
+      (text-behind text (version_line version ∷ hosts_line hosts ∷ term_line term ∷ []) (longest_line found.0 ∷ []) rest found.1 split found.4))
+  by_number other (inr none) = inr (4, wrong-longest text rest version hosts term known some few long short other split none)
 
-  by_cut : (o : Option (List ℕ × List ℕ)) → cut_at 10 rest ≡ o → Front text
-  by_cut None none = inr (3, wrong-term text rest hosts some few split (λ term line after low high here lacks spelled. no-line rest line after none here lacks))
-  by_cut (Some p) cut = by_number p.0 p.1 cut (ranged_of (codes "term ") 5 60 p.0) refl
+  by_version : IsVersion version → Front text
+  by_version (inl first) =
+      front-settings text rest version hosts term 60
+      (are-settings version hosts term 60 known some few long short (lit≤ tt, lit≤ tt, λ is. refl))
+      (subst (λ test. text ≡ text_of (version_line version ∷ hosts_line hosts ∷ term_line term ∷ (if test then [] else longest_line 60 ∷ [])) ++ rest)
+      (sym (eq-eqb version 1 first)) split)
+  by_version (inr second) = by_number (λ first. absurd (omega arith)) (numbered (codes "longest ") 5 600 rest (lit< tt))
 
-front-hosts : (text rest : List ℕ) → text ≡ text_of (version_line ∷ []) ++ rest → Front text
+front-term : (text rest : List ℕ) (version hosts : ℕ) → IsVersion version → 1 ≤ hosts → hosts ≤ 64
+    → text ≡ text_of (version_line version ∷ hosts_line hosts ∷ []) ++ rest → Front text
 unfolding Front
-front-hosts text rest split = by_cut (cut_at 10 rest) refl where
-  by_number : (line after : List ℕ) → cut_at 10 rest ≡ Some (line, after) → (o : Option ℕ) → ranged_of (codes "hosts ") 1 64 line ≡ o → Front text
-  by_number line after cut None none =
-      inr (
-        2,
-        wrong-hosts text rest split (λ hosts line' after' low high here lacks spelled.
-            ranged-none (codes "hosts ") 1 64 line (lit< tt) none hosts low high ((one-line rest line after line' after' cut here lacks).0 ∙ spelled)),
-      )
-  by_number line after cut (Some hosts) read =
-      let found = ranged-found (codes "hosts ") 1 64 line hosts (lit< tt) read in
-      front-term text after hosts found.1 found.2
-      (text-behind text (version_line ∷ []) (hosts_line hosts ∷ []) rest after split (text-first rest line after (hosts_line hosts) cut found.0))
+front-term text rest version hosts known some few split =
+    by_number (numbered (codes "term ") 5 (most_term version) rest (let low = term-low version (most_term version) (omega arith) in omega arith)) where
+      by_number : ((value : ℕ) × (after : List ℕ) × (5 ≤ value) × (value ≤ most_term version) × (rest ≡ text_of ((codes "term " ++ decimal value) ∷ []) ++ after))
+          ⊎ NoNumber (codes "term ") 5 (most_term version) rest → Front text
+      by_number (inl found) =
+          front-longest text found.1 version hosts found.0 known some few found.2 found.3
+          (text-behind text (version_line version ∷ hosts_line hosts ∷ []) (term_line found.0 ∷ []) rest found.1 split found.4)
+      by_number (inr none) = inr (3, wrong-term text rest version hosts known some few split none)
 
-  by_cut : (o : Option (List ℕ × List ℕ)) → cut_at 10 rest ≡ o → Front text
-  by_cut None none = inr (2, wrong-hosts text rest split (λ hosts line after low high here lacks spelled. no-line rest line after none here lacks))
-  by_cut (Some p) cut = by_number p.0 p.1 cut (ranged_of (codes "hosts ") 1 64 p.0) refl
+front-hosts : (text rest : List ℕ) (version : ℕ) → IsVersion version → text ≡ text_of (version_line version ∷ []) ++ rest → Front text
+unfolding Front
+front-hosts text rest version known split = by_number (numbered (codes "hosts ") 1 64 rest (lit< tt)) where
+  by_number : ((value : ℕ) × (after : List ℕ) × (1 ≤ value) × (value ≤ 64) × (rest ≡ text_of ((codes "hosts " ++ decimal value) ∷ []) ++ after))
+      ⊎ NoNumber (codes "hosts ") 1 64 rest → Front text
+  by_number (inl found) =
+      front-term text found.1 version found.0 known found.2 found.3
+      (text-behind text (version_line version ∷ []) (hosts_line found.0 ∷ []) rest found.1 split found.4)
+  by_number (inr none) = inr (2, wrong-hosts text rest version known split none)
 
 front-decided : (text : List ℕ) → Front text
 unfolding Front
-front-decided text = by_cut (cut_at 10 text) refl where
-  by_version : (line after : List ℕ) → cut_at 10 text ≡ Some (line, after) → (line ≡ version_line) ⊎ (line ≢ version_line) → Front text
-  by_version line after cut (inl version) = front-hosts text after (text-first text line after version_line cut version)
-  by_version line after cut (inr other) =
-      inr (1, wrong-version text (λ line' after' here lacks spelled. other ((one-line text line after line' after' cut here lacks).0 ∙ spelled)))
-
-  by_cut : (o : Option (List ℕ × List ℕ)) → cut_at 10 text ≡ o → Front text
-  by_cut None none = inr (1, wrong-version text (λ line after here lacks spelled. no-line text line after none here lacks))
-  by_cut (Some p) cut = by_version p.0 p.1 cut (same-bytes p.0 version_line)
+front-decided text = by_number (numbered (codes "nqnfs-schedule ") 1 2 text (lit< tt)) where
+  by_number : ((value : ℕ) × (after : List ℕ) × (1 ≤ value) × (value ≤ 2) × (text ≡ text_of ((codes "nqnfs-schedule " ++ decimal value) ∷ []) ++ after))
+      ⊎ NoNumber (codes "nqnfs-schedule ") 1 2 text → Front text
+  by_number (inl found) = front-hosts text found.1 found.0 (known-version found.0 found.2 found.3) found.4
+  by_number (inr none) = inr (1, wrong-version text none)
 
 stands : (head : Head) (text rest : List ℕ) → FitsHead head → text ≡ text_of (head_lines head) ++ rest
     → StandsInFront head (length (head_lines head)) (length (text_of (head_lines head))) text
@@ -271,7 +291,7 @@ stands head text rest fits split = record {
 }
 
 ends-decided : (head : Head) (text : List ℕ) → StandsInFront head (length (head_lines head)) (length (text_of (head_lines head))) text
-    → Ends head.hosts (length (head_lines head) + 1) (drop (length (text_of (head_lines head))) text)
+    → Ends head (length (head_lines head) + 1) (drop (length (text_of (head_lines head))) text)
     → ((g : Head) × (lines : List Line) × SpellsSchedule g lines text) ⊎ ((number : ℕ) × FirstBadLine text number)
 unfolding Ends
 ends-decided head text front (inl found) =
@@ -289,5 +309,5 @@ decided text = by_front (front-decided text) where
       let rest = drop (length (text_of (head_lines head))) text in
       let front = stands head text found.1 found.2 found.3 in
       ends-decided head text front
-      (lines-decided (length rest) head.hosts (length (head_lines head) + 1) [] rest rest (record { texts = []; spelled = tt; split = refl }) (omega arith))
+      (lines-decided (length rest) head (length (head_lines head) + 1) [] rest rest (record { texts = []; spelled = tt; split = refl }) (omega arith))
   by_front (inr wrong) = inr (wrong.0, head-wrong text wrong.0 wrong.1)

@@ -40,9 +40,9 @@ pub one-line : (rest line after line' after' : List ℕ) → cut_at 10 rest ≡ 
 one-line rest line after line' after' cut split lacks =
     some_pair_parts line line' after after' (sym cut ∙ ap (cut_at 10) split ∙ cut-again 10 line' after' lacks)
 
-pub files-no-line : (text : List ℕ) (files : List (List ℕ × ℕ)) (rest : List ℕ) (number : ℕ) → text ≡ text_of (map file_line files) ++ rest → FitFiles files
-    → number ≡ length files + 4 → cut_at 10 rest ≡ None → WrongFile text number
-files-no-line text files rest number split fit place none = record {
+pub files-no-line : (first : ℕ) (text : List ℕ) (files : List (List ℕ × ℕ)) (rest : List ℕ) (number : ℕ) → text ≡ text_of (map file_line files) ++ rest → FitFiles files
+    → number ≡ first + length files → cut_at 10 rest ≡ None → WrongFile first text number
+files-no-line first text files rest number split fit place none = record {
   files = files;
   rest = rest;
   split = split;
@@ -51,10 +51,10 @@ files-no-line text files rest number split fit place none = record {
   stuck = λ line after here lacks. absurd (no-line rest line after none here lacks);
 }
 
-pub files-no-file : (text : List ℕ) (files : List (List ℕ × ℕ)) (rest line after : List ℕ) (number : ℕ) → text ≡ text_of (map file_line files) ++ rest
-    → FitFiles files → number ≡ length files + 4 → cut_at 10 rest ≡ Some (line, after) → line ≢ codes "begin"
-    → ((f : List ℕ × ℕ) → line ≡ file_line f → FitFiles (files ++ f ∷ []) → ⊥) → WrongFile text number
-files-no-file text files rest line after number split fit place cut other none = record {
+pub files-no-file : (first : ℕ) (text : List ℕ) (files : List (List ℕ × ℕ)) (rest line after : List ℕ) (number : ℕ) → text ≡ text_of (map file_line files) ++ rest
+    → FitFiles files → number ≡ first + length files → cut_at 10 rest ≡ Some (line, after) → line ≢ codes "begin"
+    → ((f : List ℕ × ℕ) → line ≡ file_line f → FitFiles (files ++ f ∷ []) → ⊥) → WrongFile first text number
+files-no-file first text files rest line after number split fit place cut other none = record {
   files = files;
   rest = rest;
   split = split;

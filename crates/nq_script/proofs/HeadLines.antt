@@ -1,13 +1,14 @@
 -- The lines of a head: one head for them, and where they go wrong.
-use Rattle.std.proofs.Common.{◌≡◌, ◌⊎◌, inl, inr, ℕ, ◌+◌, ◌<◌, ◌≤◌, ◌^◌, List, [], ◌∷◌, ◌++◌, length, get_or, drop, map, refl, ap, sym, ◌∙◌, arith, lit<, lit≤, subst, append_assoc, codes, ◌-◌, Result, Ok, Err}
+use Rattle.std.proofs.Common.{◌≡◌, ◌≢◌, ◌⊎◌, inl, inr, Bool, true, false, ◌==◌, if◌then◌else◌, ℕ, ◌+◌, ◌<◌, ◌≤◌, ◌^◌, List, [], ◌∷◌, ◌++◌, length, get_or, drop, map, refl, ap, sym, ◌∙◌, arith, lit<, lit≤, subst, append_assoc, codes, ◌-◌, Result, Ok, Err}
 use Rattle.std.specs.Fmt.{decimal}
 use Rattle.std.specs.List.{AllByRecursion}
+use Rattle.std.proofs.lemmas.Bool.{cases_lt, eqb-true, ne_eqb}
 use Rattle.std.proofs.lemmas.Fmt.{decimal_injective}
 use Rattle.std.proofs.lemmas.List.{append-nil, length-map, drop_at, length-append}
-use Rattle.nq_script.specs.Heads.{IsFile, FitFiles, FitsHead, AreSettings, file_line, file_lines, version_line, hosts_line, term_line, head_lines}
-use Rattle.nq_script.specs.Progress.{WrongFile}
-use Rattle.nq_script.specs.Schedule.{IsHead, FirstBadHeadLine, StandsInFront}
-use Rattle.nq_script.specs.Text.{Lacks, text_of}
+use Rattle.nq_script.specs.Heads.{IsFile, FitFiles, FitsHead, AreSettings, IsLongest, file_line, file_lines, first_file, version_line, hosts_line, term_line, longest_line, longest_lines, most_term, settings_lines, head_lines}
+use Rattle.nq_script.specs.Progress.{WrongFile, NoNumber}
+use Rattle.nq_script.specs.Schedule.{Begins, IsHead, FirstBadHeadLine, StandsInFront}
+use Rattle.nq_script.specs.Text.{IsVersion, Lacks, text_of}
 use Rattle.nq_script.specs.Faults.{Answers}
 use Rattle.nq_script.specs.declared.faults.ScriptFault.{ScriptFault}
 use Rattle.nq_script.specs.declared.faults.ScriptFault.TheVariants.{Bad, Memory}
@@ -15,9 +16,10 @@ use Rattle.nq_script.specs.declared.heads.Head.{Head}
 use Rattle.nq_script.specs.declared.heads.HeadOut.{HeadOut}
 use Rattle.nq_script.proofs.FileLines.{text-behind}
 use Rattle.nq_script.proofs.Fitting.{each-append, each-back, fit-front, fit-none}
-use Rattle.nq_script.proofs.HeadReading.{name-lacks, file-line-same}
+use Rattle.nq_script.proofs.HeadReading.{file-line-same}
+use Rattle.nq_script.proofs.NameBytes.{name-lacks}
 use Rattle.nq_script.proofs.Numbers.{decimal-lacks}
-use Rattle.nq_script.proofs.Splitting.{first-same, rest-same, nil-cons, lacks-tested, lacks-append, splits, Splits, wrong-stuck, wrong-once}
+use Rattle.nq_script.proofs.Splitting.{first-same, rest-same, nil-cons, not-nil, lacks-tested, lacks-append, splits, Splits, wrong-stuck, wrong-once}
 
 -- no line of a head has a line feed
 number-line-lacks : (word : List ℕ) (n : ℕ) → Lacks 10 word → n < 2 ^ 64 → Lacks 10 (word ++ decimal n)
@@ -34,27 +36,50 @@ pub files-lack : (files : List (List ℕ × ℕ)) → AllByRecursion IsFile file
 files-lack [] each = tt
 files-lack (f ∷ files) each = (file-line-lacks f each.0, files-lack files each.1)
 
-pub version-lacks : Lacks 10 version_line
-version-lacks = lacks-tested 10 version_line refl
+-- a version, a term and a longest term are small
+pub version-low : (version : ℕ) → IsVersion version → (1 ≤ version) × (version ≤ 2)
+version-low version (inl first) = (omega arith, omega arith)
+version-low version (inr second) = (omega arith, omega arith)
 
-pub hosts-lacks : (hosts : ℕ) → hosts ≤ 64 → Lacks 10 (hosts_line hosts)
+pub term-low : (version term : ℕ) → term ≤ most_term version → term ≤ 600
+term-low version term low = by_test (version == 1) low where
+  by_test : (test : Bool) → term ≤ (if test then 60 else 600) → term ≤ 600
+  by_test true few = omega arith
+  by_test false few = few
+
+version-lacks : (version : ℕ) → IsVersion version → Lacks 10 (version_line version)
+version-lacks version known =
+    let low = version-low version known in
+    number-line-lacks (codes "nqnfs-schedule ") version (lacks-tested 10 (codes "nqnfs-schedule ") refl) (omega arith)
+
+hosts-lacks : (hosts : ℕ) → hosts ≤ 64 → Lacks 10 (hosts_line hosts)
 hosts-lacks hosts few = number-line-lacks (codes "hosts ") hosts (lacks-tested 10 (codes "hosts ") refl) (omega arith)
 
-pub term-lacks : (term : ℕ) → term ≤ 60 → Lacks 10 (term_line term)
+term-lacks : (term : ℕ) → term ≤ 600 → Lacks 10 (term_line term)
 term-lacks term short = number-line-lacks (codes "term ") term (lacks-tested 10 (codes "term ") refl) (omega arith)
 
-pub head-lacks : (head : Head) → FitsHead head → AllByRecursion (Lacks 10) (head_lines head)
-head-lacks head fits = (
-  version-lacks,
+longest-lacks : (version longest : ℕ) → longest ≤ 600 → AllByRecursion (Lacks 10) (longest_lines version longest)
+longest-lacks version longest short = by_test (version == 1) where
+  by_test : (test : Bool) → AllByRecursion (Lacks 10) (if test then [] else longest_line longest ∷ [])
+  by_test true = tt
+  by_test false = (number-line-lacks (codes "longest ") longest (lacks-tested 10 (codes "longest ") refl) (omega arith), tt)
+
+settings-lack : (version hosts term longest : ℕ) → AreSettings version hosts term longest
+    → AllByRecursion (Lacks 10) (settings_lines version hosts term longest)
+settings-lack version hosts term longest are = (
+  version-lacks version are.known,
   (
-    hosts-lacks head.hosts fits.few_hosts,
-    (
-      term-lacks head.term fits.short_term,
-      each-append (Lacks 10) (map file_line head.files) (codes "begin" ∷ []) (files-lack head.files fits.files.each)
-          (lacks-tested 10 (codes "begin") refl, tt),
-    ),
+    hosts-lacks hosts are.few_hosts,
+    (term-lacks term (term-low version term are.short_term), longest-lacks version longest are.fit_longest.1),
   ),
 )
+
+pub head-lacks : (head : Head) → FitsHead head → AllByRecursion (Lacks 10) (head_lines head)
+head-lacks head fits =
+    each-append (Lacks 10) (settings_lines head.version head.hosts head.term head.longest) (file_lines head.files)
+    (settings-lack head.version head.hosts head.term head.longest fits.settings)
+    (each-append (Lacks 10) (map file_line head.files) (codes "begin" ∷ []) (files-lack head.files fits.files.each)
+    (lacks-tested 10 (codes "begin") refl, tt))
 
 begin-no-file : (f : List ℕ × ℕ) → codes "begin" ≡ file_line f → ⊥
 begin-no-file f e = let first : ◌≡◌ {A = ℕ} 98 102 = ap (λ l. get_or l 0 0) e in absurd (omega arith)
@@ -74,15 +99,45 @@ same-number : (word : List ℕ) (m n : ℕ) → m < 2 ^ 64 → n < 2 ^ 64 → wo
 same-number [] m n low-m low-n e = decimal_injective m n low-m low-n e
 same-number (w ∷ word) m n low-m low-n e = same-number word m n low-m low-n (rest-same e)
 
+same-version : (v w : ℕ) → IsVersion v → IsVersion w → version_line v ≡ version_line w → v ≡ w
+same-version v w a b e =
+    let low = version-low v a in let low' = version-low w b in
+    same-number (codes "nqnfs-schedule ") v w (omega arith) (omega arith) e
+
+-- lines of a longest term that stand in front of two lists of one version are one
+one-longest : (version l m : ℕ) (xs ys : List (List ℕ)) → IsLongest version l → IsLongest version m
+    → longest_lines version l ++ xs ≡ longest_lines version m ++ ys → (l ≡ m) × (xs ≡ ys)
+one-longest version l m xs ys a b e = by_test (version == 1) refl e where
+  by_test : (test : Bool) → (version == 1) ≡ test → (if test then [] else longest_line l ∷ []) ++ xs ≡ (if test then [] else longest_line m ∷ []) ++ ys
+      → (l ≡ m) × (xs ≡ ys)
+  by_test true first same = let v = eqb-true version 1 first in (a.2 v ∙ sym (b.2 v), same)
+  by_test false other same =
+      (same-number (codes "longest ") l m (let few = a.1 in omega arith) (let few = b.1 in omega arith) (first-same same), rest-same same)
+
+-- settings whose lines stand in front of one list of lines are one
+one-settings : (v h t l v' h' t' l' : ℕ) (xs ys : List (List ℕ)) → AreSettings v h t l → AreSettings v' h' t' l'
+    → settings_lines v h t l ++ xs ≡ settings_lines v' h' t' l' ++ ys → (v ≡ v') × (h ≡ h') × (t ≡ t') × (l ≡ l') × (xs ≡ ys)
+one-settings v h t l v' h' t' l' xs ys a b e =
+    let version : v ≡ v' = same-version v v' a.known b.known (first-same e) in
+    let hosts : h ≡ h' = same-number (codes "hosts ") h h' (let few = a.few_hosts in omega arith) (let few = b.few_hosts in omega arith)
+    (first-same (rest-same e)) in
+    let term : t ≡ t' = same-number (codes "term ") t t' (let few = term-low v t a.short_term in omega arith) (let few = term-low v' t' b.short_term in omega arith)
+    (first-same (rest-same (rest-same e))) in
+    let longest = one-longest v' l l' xs ys (subst (λ u. IsLongest u l) version a.fit_longest) b.fit_longest
+    (subst (λ u. longest_lines u l ++ xs ≡ longest_lines v' l' ++ ys) version (rest-same (rest-same (rest-same e)))) in
+    (version, hosts, term, longest.0, longest.1)
+
 -- heads whose lines stand in front of one list of lines are one
 pub one-head : (g h : Head) (xs ys : List (List ℕ)) → FitsHead g → FitsHead h → head_lines g ++ xs ≡ head_lines h ++ ys → (g ≡ h) × (xs ≡ ys)
 one-head g h xs ys a b e =
-    let hosts : g.hosts ≡ h.hosts = same-number (codes "hosts ") g.hosts h.hosts (let few = a.few_hosts in omega arith) (let few = b.few_hosts in omega arith)
-    (first-same (rest-same e)) in
-    let term : g.term ≡ h.term = same-number (codes "term ") g.term h.term (let few = a.short_term in omega arith) (let few = b.short_term in omega arith)
-    (first-same (rest-same (rest-same e))) in
-    let files = one-files g.files h.files xs ys a.files.each b.files.each (rest-same (rest-same (rest-same e))) in
-    (λ i. record { hosts = hosts i; term = term i; files = files.0 i }, files.1)
+    let settings = one-settings g.version g.hosts g.term g.longest h.version h.hosts h.term h.longest (file_lines g.files ++ xs) (file_lines h.files ++ ys)
+    a.settings b.settings
+    (sym (append_assoc (settings_lines g.version g.hosts g.term g.longest) (file_lines g.files) xs) ∙ e
+    ∙ append_assoc (settings_lines h.version h.hosts h.term h.longest) (file_lines h.files) ys) in
+    let files = one-files g.files h.files xs ys a.files.each b.files.each settings.4 in (
+      λ i. record { version = settings.0 i; hosts = settings.1 i; term = settings.2 i; longest = settings.3 i; files = files.0 i },
+      files.1,
+    )
 
 -- what stands behind files in a head is `begin`, or one of its files behind them
 files-next : (fs gs : List (List ℕ × ℕ)) (line : List ℕ) (more : List (List ℕ)) → AllByRecursion IsFile fs → AllByRecursion IsFile gs
@@ -98,62 +153,118 @@ files-next (f ∷ fs) (g ∷ gs) line more a b e =
       behind same (inl begin) = inl begin
       behind same (inr w) = inr (w.0, w.1, w.2, rw (same, w.3) refl)
 
-plain-head : (hosts term : ℕ) → Head
-plain-head hosts term = record { hosts = hosts; term = term; files = [] }
+plain-head : (version hosts term : ℕ) → Head
+plain-head version hosts term = record { version = version; hosts = hosts; term = term; longest = 60; files = [] }
 
-plain-fits : (hosts term : ℕ) → 1 ≤ hosts → hosts ≤ 64 → 5 ≤ term → term ≤ 60 → FitsHead (plain-head hosts term)
+plain-fits : (version hosts term : ℕ) → IsVersion version → 1 ≤ hosts → hosts ≤ 64 → 5 ≤ term → term ≤ most_term version → FitsHead (plain-head version hosts term)
 unfolding plain-head
-plain-fits hosts term some few long short =
-    record { some_hosts = some; few_hosts = few; long_term = long; short_term = short; files = fit-none }
-
--- where there is no first line, or it is another than the one that names the version
-pub wrong-version : (text : List ℕ) → ((line after : List ℕ) → text ≡ line ++ 10 ∷ after → Lacks 10 line → line ≡ version_line → ⊥)
-    → FirstBadHeadLine text 1
-unfolding plain-head
-wrong-version text other = record {
-  before = [];
-  rest = text;
-  split = refl;
-  lines = tt;
-  place = refl;
-  begun = (head_lines (plain-head 1 5), (plain-head 1 5, plain-fits 1 5 (lit≤ tt) (lit≤ tt) (lit≤ tt) (lit≤ tt), refl));
-  unfinished = λ is. nil-cons is.2;
-  stuck = λ line after split lacks begun. other line after split lacks (first-same begun.1.2);
+plain-fits version hosts term known some few long short = record {
+  settings = record {
+    known = known;
+    some_hosts = some;
+    few_hosts = few;
+    long_term = long;
+    short_term = short;
+    fit_longest = (lit≤ tt, lit≤ tt, λ first. refl);
+  };
+  files = fit-none;
 }
+
+-- a term of 5 ticks may be in each version
+five-short : (version : ℕ) → 5 ≤ most_term version
+five-short version = by_test (version == 1) where
+  by_test : (test : Bool) → 5 ≤ (if test then 60 else 600)
+  by_test true = lit≤ tt
+  by_test false = lit≤ tt
+
+-- where behind lines with which a head begins there is no line, or it is no such number behind the prefix
+wrong-number : (text rest : List ℕ) (before : List (List ℕ)) (prefix : List ℕ) (least most : ℕ) → text ≡ text_of before ++ rest
+    → AllByRecursion (Lacks 10) before → Begins IsHead before → (IsHead before → ⊥)
+    → ((g : Head) (line : List ℕ) (more : List (List ℕ)) → FitsHead g → before ++ line ∷ [] ++ more ≡ head_lines g
+    → (value : ℕ) × (least ≤ value) × (value ≤ most) × (line ≡ prefix ++ decimal value))
+    → NoNumber prefix least most rest → FirstBadHeadLine text (length before + 1)
+wrong-number text rest before prefix least most split lacks begun unfinished next none = record {
+  before = before;
+  rest = rest;
+  split = split;
+  lines = lacks;
+  place = refl;
+  begun = begun;
+  unfinished = unfinished;
+  stuck = λ line after here lacks' more.
+      let found = next more.1.0 line more.0 more.1.1 more.1.2 in
+      none found.0 line after found.1 found.2 here lacks' found.3;
+}
+
+-- where the first line is none that names a version
+pub wrong-version : (text : List ℕ) → NoNumber (codes "nqnfs-schedule ") 1 2 text → FirstBadHeadLine text 1
+unfolding plain-head
+wrong-version text none =
+    wrong-number text text [] (codes "nqnfs-schedule ") 1 2 refl tt
+    (head_lines (plain-head 1 1 5), (plain-head 1 1 5, plain-fits 1 1 5 (inl refl) (lit≤ tt) (lit≤ tt) (lit≤ tt) (lit≤ tt), refl))
+    (λ is. nil-cons is.2)
+    (λ g line more fits same. let low = version-low g.version fits.settings.known in (g.version, low.0, low.1, first-same same)) none
 
 -- where behind it there is no line, or it names no number of hosts
-pub wrong-hosts : (text rest : List ℕ) → text ≡ text_of (version_line ∷ []) ++ rest
-    → ((hosts : ℕ) (line after : List ℕ) → 1 ≤ hosts → hosts ≤ 64 → rest ≡ line ++ 10 ∷ after → Lacks 10 line → line ≡ hosts_line hosts → ⊥)
-    → FirstBadHeadLine text 2
+pub wrong-hosts : (text rest : List ℕ) (version : ℕ) → IsVersion version → text ≡ text_of (version_line version ∷ []) ++ rest
+    → NoNumber (codes "hosts ") 1 64 rest → FirstBadHeadLine text 2
 unfolding plain-head
-wrong-hosts text rest split other = record {
-  before = version_line ∷ [];
-  rest = rest;
-  split = split;
-  lines = (version-lacks, tt);
-  place = refl;
-  begun = (hosts_line 1 ∷ term_line 5 ∷ codes "begin" ∷ [], (plain-head 1 5, plain-fits 1 5 (lit≤ tt) (lit≤ tt) (lit≤ tt) (lit≤ tt), refl));
-  unfinished = λ is. nil-cons (rest-same is.2);
-  stuck = λ line after here lacks begun.
-      other begun.1.0.hosts line after begun.1.1.some_hosts begun.1.1.few_hosts here lacks (first-same (rest-same begun.1.2));
-}
+wrong-hosts text rest version known split none =
+    wrong-number text rest (version_line version ∷ []) (codes "hosts ") 1 64 split (version-lacks version known, tt) (
+      hosts_line 1 ∷ term_line 5 ∷ longest_lines version 60 ++ codes "begin" ∷ [],
+      (plain-head version 1 5, plain-fits version 1 5 known (lit≤ tt) (lit≤ tt) (lit≤ tt) (five-short version), refl),
+    )
+    (λ is. nil-cons (rest-same is.2))
+    (λ g line more fits same. (g.hosts, fits.settings.some_hosts, fits.settings.few_hosts, first-same (rest-same same))) none
 
 -- where behind these there is no line, or it names no term
-pub wrong-term : (text rest : List ℕ) (hosts : ℕ) → 1 ≤ hosts → hosts ≤ 64 → text ≡ text_of (version_line ∷ hosts_line hosts ∷ []) ++ rest
-    → ((term : ℕ) (line after : List ℕ) → 5 ≤ term → term ≤ 60 → rest ≡ line ++ 10 ∷ after → Lacks 10 line → line ≡ term_line term → ⊥)
-    → FirstBadHeadLine text 3
+pub wrong-term : (text rest : List ℕ) (version hosts : ℕ) → IsVersion version → 1 ≤ hosts → hosts ≤ 64
+    → text ≡ text_of (version_line version ∷ hosts_line hosts ∷ []) ++ rest
+    → NoNumber (codes "term ") 5 (most_term version) rest → FirstBadHeadLine text 3
 unfolding plain-head
-wrong-term text rest hosts some few split other = record {
-  before = version_line ∷ hosts_line hosts ∷ [];
-  rest = rest;
-  split = split;
-  lines = (version-lacks, (hosts-lacks hosts few, tt));
-  place = refl;
-  begun = (term_line 5 ∷ codes "begin" ∷ [], (plain-head hosts 5, plain-fits hosts 5 some few (lit≤ tt) (lit≤ tt), refl));
-  unfinished = λ is. nil-cons (rest-same (rest-same is.2));
-  stuck = λ line after here lacks begun.
-      other begun.1.0.term line after begun.1.1.long_term begun.1.1.short_term here lacks (first-same (rest-same (rest-same begun.1.2)));
-}
+wrong-term text rest version hosts known some few split none =
+    wrong-number text rest (version_line version ∷ hosts_line hosts ∷ []) (codes "term ") 5 (most_term version) split
+    (version-lacks version known, (hosts-lacks hosts few, tt)) (
+      term_line 5 ∷ longest_lines version 60 ++ codes "begin" ∷ [],
+      (plain-head version hosts 5, plain-fits version hosts 5 known some few (lit≤ tt) (five-short version), refl),
+    )
+    (λ is. nil-cons (rest-same (rest-same is.2)))
+    (λ g line more fits same. (
+      g.term,
+      fits.settings.long_term,
+      subst (λ v. g.term ≤ most_term v) (sym (same-version version g.version known fits.settings.known (first-same same))) fits.settings.short_term,
+      first-same (rest-same (rest-same same)),
+    )) none
+
+-- lines before `begin` are not none
+some-lines : (xs : List (List ℕ)) (files : List (List ℕ × ℕ)) → xs ++ file_lines files ≡ [] → ⊥
+some-lines xs files e = not-nil (xs ++ map file_line files) (codes "begin") [] (append_assoc xs (map file_line files) (codes "begin" ∷ []) ∙ e)
+
+-- version 2 has a line of the longest term
+longest-next : (version longest : ℕ) (line : List ℕ) (more xs : List (List ℕ)) → version ≢ 1 → line ∷ more ≡ longest_lines version longest ++ xs
+    → line ≡ longest_line longest
+longest-next version longest line more xs other e =
+    first-same (subst (λ test. line ∷ more ≡ (if test then [] else longest_line longest ∷ []) ++ xs) (ne_eqb version 1 other) e)
+
+-- where behind these there is no line, or it names no longest term
+pub wrong-longest : (text rest : List ℕ) (version hosts term : ℕ) → IsVersion version → 1 ≤ hosts → hosts ≤ 64 → 5 ≤ term → term ≤ most_term version
+    → version ≢ 1 → text ≡ text_of (version_line version ∷ hosts_line hosts ∷ term_line term ∷ []) ++ rest
+    → NoNumber (codes "longest ") 5 600 rest → FirstBadHeadLine text 4
+unfolding plain-head
+wrong-longest text rest version hosts term known some few long short other split none =
+    wrong-number text rest (version_line version ∷ hosts_line hosts ∷ term_line term ∷ []) (codes "longest ") 5 600 split
+    (version-lacks version known, (hosts-lacks hosts few, (term-lacks term (term-low version term short), tt))) (
+      longest_lines version 60 ++ codes "begin" ∷ [],
+      (plain-head version hosts term, plain-fits version hosts term known some few long short, refl),
+    )
+    (λ is. some-lines (longest_lines is.0.version is.0.longest) is.0.files (sym (rest-same (rest-same (rest-same is.2)))))
+    (λ g line more fits same.
+    let is : version ≡ g.version = same-version version g.version known fits.settings.known (first-same same) in (
+      g.longest,
+      fits.settings.fit_longest.0,
+      fits.settings.fit_longest.1,
+      longest-next g.version g.longest line more (file_lines g.files) (λ first. other (is ∙ first)) (rest-same (rest-same (rest-same same))),
+    )) none
 
 no-begin : (fs gs : List (List ℕ × ℕ)) → map file_line fs ≡ file_lines gs → ⊥
 no-begin [] [] e = nil-cons e
@@ -161,26 +272,52 @@ no-begin [] (g ∷ gs) e = nil-cons e
 no-begin (f ∷ fs) [] e = begin-no-file f (sym (first-same e))
 no-begin (f ∷ fs) (g ∷ gs) e = no-begin fs gs (rest-same e)
 
+-- there are as many lines above the files as is said
+pub first-counted : (version hosts term longest : ℕ) → first_file version ≡ length (settings_lines version hosts term longest) + 1
+first-counted version hosts term longest = by_test (version == 1) where
+  by_test : (test : Bool) → (if test then 4 else 5) ≡ length (version_line version ∷ hosts_line hosts ∷ term_line term ∷ (if test then [] else longest_line longest ∷ [])) + 1
+  by_test true = refl
+  by_test false = refl
+
 -- where the lines of files go wrong behind these
-pub wrong-file : (text rest : List ℕ) (hosts term number : ℕ) → 1 ≤ hosts → hosts ≤ 64 → 5 ≤ term → term ≤ 60
-    → text ≡ text_of (version_line ∷ hosts_line hosts ∷ term_line term ∷ []) ++ rest → WrongFile rest number → FirstBadHeadLine text number
-wrong-file text rest hosts term number some few long short split w = record {
-  before = version_line ∷ hosts_line hosts ∷ term_line term ∷ map file_line w.files;
+pub wrong-file : (text rest : List ℕ) (version hosts term longest number : ℕ) → AreSettings version hosts term longest
+    → text ≡ text_of (settings_lines version hosts term longest) ++ rest → WrongFile (first_file version) rest number → FirstBadHeadLine text number
+wrong-file text rest version hosts term longest number settings split w = record {
+  before = above ++ map file_line w.files;
   rest = w.rest;
-  split = text-behind text (version_line ∷ hosts_line hosts ∷ term_line term ∷ []) (map file_line w.files) rest w.rest split w.split;
-  lines = (version-lacks, (hosts-lacks hosts few, (term-lacks term short, files-lack w.files w.fit.each)));
-  place = let here = w.place in let long = length-map w.files file_line in omega arith;
-  begun = (codes "begin" ∷ [], (head, fits, refl));
-  unfinished = λ is. no-begin w.files is.0.files (rest-same (rest-same (rest-same is.2)));
+  split = text-behind text above (map file_line w.files) rest w.rest split w.split;
+  lines = each-append (Lacks 10) above (map file_line w.files) (settings-lack version hosts term longest settings) (files-lack w.files w.fit.each);
+  place =
+      let here = w.place in
+      let first = first-counted version hosts term longest in
+      let long = length-map w.files file_line in
+      let whole = length-append above (map file_line w.files) in omega arith;
+  begun = (codes "begin" ∷ [], (head, fits, append_assoc above (map file_line w.files) (codes "begin" ∷ [])));
+  unfinished = λ is. no-begin w.files is.0.files (behind is.0 is.1 (map file_line w.files) is.2);
   stuck = λ line after here lacks begun.
       by_next line begun.1.0 begun.1.1 (w.stuck line after here lacks)
-      (files-next w.files begun.1.0.files line begun.0 w.fit.each begun.1.1.files.each (rest-same (rest-same (rest-same begun.1.2))));
+      (files-next w.files begun.1.0.files line begun.0 w.fit.each begun.1.1.files.each
+      (behind begun.1.0 begun.1.1 (map file_line w.files ++ line ∷ [] ++ begun.0) (regrouped line begun.0 begun.1.0 begun.1.2)));
 } where
+  above : List (List ℕ)
+  above = settings_lines version hosts term longest
+
   head : Head
-  head = record { hosts = hosts; term = term; files = w.files }
+  head = record { version = version; hosts = hosts; term = term; longest = longest; files = w.files }
 
   fits : FitsHead head
-  fits = record { some_hosts = some; few_hosts = few; long_term = long; short_term = short; files = w.fit }
+  fits = record { settings = settings; files = w.fit }
+
+  -- what stands behind the settings in a head is its files
+  behind : (g : Head) → FitsHead g → (xs : List (List ℕ)) → above ++ xs ≡ head_lines g → xs ≡ file_lines g.files
+  behind g fits xs same =
+      (one-settings version hosts term longest g.version g.hosts g.term g.longest xs (file_lines g.files) settings fits.settings same).4
+
+  regrouped : (line : List ℕ) (more : List (List ℕ)) (g : Head) → above ++ map file_line w.files ++ line ∷ [] ++ more ≡ head_lines g
+      → above ++ (map file_line w.files ++ line ∷ [] ++ more) ≡ head_lines g
+  regrouped line more g same =
+      sym (append_assoc above (map file_line w.files ++ line ∷ []) more)
+      ∙ ap (λ l. l ++ more) (sym (append_assoc above (map file_line w.files) (line ∷ []))) ∙ same
 
   by_next : (line : List ℕ) (g : Head) → FitsHead g
       → (line ≡ codes "begin" → ⊥) × ((f : List ℕ × ℕ) → line ≡ file_line f → FitFiles (w.files ++ f ∷ []) → ⊥)
@@ -222,24 +359,42 @@ front-drop text front rest e =
     e ∙ ap (λ r. front ++ r) (sym (drop_at front rest (length text - length rest) (sym (front-size text front rest e)))
     ∙ ap (drop (length text - length rest)) (sym e))
 
+-- the versions
+pub known-version : (version : ℕ) → 1 ≤ version → version ≤ 2 → IsVersion version
+known-version version low high = by_order (cases_lt version 2) where
+  by_order : (version < 2) ⊎ (2 ≤ version) → IsVersion version
+  by_order (inl below) = inl (omega arith)
+  by_order (inr above) = inr (omega arith)
+
+-- settings that fit, one by one
+pub are-settings : (version hosts term longest : ℕ) → IsVersion version → 1 ≤ hosts → hosts ≤ 64 → 5 ≤ term → term ≤ most_term version
+    → IsLongest version longest → AreSettings version hosts term longest
+are-settings version hosts term longest known some few long short is = record {
+  known = known;
+  some_hosts = some;
+  few_hosts = few;
+  long_term = long;
+  short_term = short;
+  fit_longest = is;
+}
+
 -- a head that was read stands in front
-pub head-in-front : (text rest rest' : List ℕ) (hosts term : ℕ) (files : List (List ℕ × ℕ)) (count : ℕ) → AreSettings hosts term
-    → text ≡ text_of (version_line ∷ hosts_line hosts ∷ term_line term ∷ []) ++ rest → FitFiles files → rest ≡ text_of (file_lines files) ++ rest'
-    → count ≡ length files + 4
-    → StandsInFront (record { hosts = hosts; term = term; files = files }) count (length text - length rest') text
-head-in-front text rest rest' hosts term files count settings split fit behind counted = record {
-  fits = record { some_hosts = settings.0; few_hosts = settings.1; long_term = settings.2; short_term = settings.3; files = fit };
+pub head-in-front : (text rest rest' : List ℕ) (head : Head) (count : ℕ) → AreSettings head.version head.hosts head.term head.longest
+    → text ≡ text_of (settings_lines head.version head.hosts head.term head.longest) ++ rest → FitFiles head.files
+    → rest ≡ text_of (file_lines head.files) ++ rest' → count ≡ first_file head.version + length head.files
+    → StandsInFront head count (length text - length rest') text
+head-in-front text rest rest' head count settings split fit behind counted = record {
+  fits = record { settings = settings; files = fit };
   split = front-drop text (text_of (head_lines head)) rest' whole;
   bytes = front-size text (text_of (head_lines head)) rest' whole;
   lines =
-      let long = length-append (map file_line files) (codes "begin" ∷ []) in
-      let same = length-map files file_line in omega arith;
+      let first = first-counted head.version head.hosts head.term head.longest in
+      let long = length-append (map file_line head.files) (codes "begin" ∷ []) in
+      let all = length-append (settings_lines head.version head.hosts head.term head.longest) (file_lines head.files) in
+      let same = length-map head.files file_line in omega arith;
 } where
-  head : Head
-  head = record { hosts = hosts; term = term; files = files }
-
   whole : text ≡ text_of (head_lines head) ++ rest'
-  whole = text-behind text (version_line ∷ hosts_line hosts ∷ term_line term ∷ []) (file_lines files) rest rest' split behind
+  whole = text-behind text (settings_lines head.version head.hosts head.term head.longest) (file_lines head.files) rest rest' split behind
 
 -- of two heads with which a text begins, the one is the other
 pub one-text-head : (g h : Head) (rest rest' : List ℕ) → FitsHead g → FitsHead h → text_of (head_lines g) ++ rest ≡ text_of (head_lines h) ++ rest' → g ≡ h

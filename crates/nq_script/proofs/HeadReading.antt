@@ -13,6 +13,7 @@ use Rattle.nq_script.specs.Reading.{after, cut_at, number_of, ranged_of, file_of
 use Rattle.nq_script.specs.Text.{Lacks}
 use Rattle.nq_script.proofs.Cuts.{after-found, after-again, cut-found, cut-again}
 use Rattle.nq_script.proofs.Fitting.{fit-more, fit-last}
+use Rattle.nq_script.proofs.NameBytes.{name-lacks}
 use Rattle.nq_script.proofs.Numbers.{number-found, number-again}
 
 -- a number in a range behind a prefix is read as it is spelled
@@ -39,16 +40,6 @@ pub ranged-none : (prefix : List ℕ) (least most : ℕ) (line : List ℕ) → m
     → (n : ℕ) → least ≤ n → n ≤ most → line ≡ prefix ++ decimal n → ⊥
 ranged-none prefix least most line wide none n low high spelled =
     none-some n (sym none ∙ ap (ranged_of prefix least most) spelled ∙ ranged-again prefix least most n wide low high)
-
-name-bytes-lack : (at : ℕ) (bytes : List ℕ) → at < 33 → AllByRecursion IsNameByte bytes → Lacks at bytes
-name-bytes-lack at [] low each = tt
-name-bytes-lack at (b ∷ bytes) low each =
-    let printable : 33 ≤ b = each.0.0 in
-    (λ same. let e : b ≡ at = same in absurd (omega arith), name-bytes-lack at bytes low each.1)
-
--- a name has no blank, no line feed, nor any other byte below 33
-pub name-lacks : (at : ℕ) (name : List ℕ) → at < 33 → IsName name → Lacks at name
-name-lacks at name low is = name-bytes-lack at name low (recursion_from_All IsNameByte name is.2)
 
 -- the line of a file is read as it is spelled
 pub file-found : (line : List ℕ) (f : List ℕ × ℕ) → file_of line ≡ Some f → (line ≡ file_line f) × (1 ≤ f.1) × (f.1 ≤ 1024)

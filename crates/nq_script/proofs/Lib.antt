@@ -1,9 +1,12 @@
 pub mod Cuts
 pub mod Numbers
+pub mod NameBytes
 pub mod CallReading
-pub mod LineReading
+pub mod CallWords
 pub mod HeadReading
+pub mod LineReading
 pub mod Fitting
+pub mod Keeping
 pub mod FileLines
 pub mod Splitting
 pub mod HeadLines

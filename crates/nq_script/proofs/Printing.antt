@@ -1,55 +1,78 @@
 -- What is printed is spelled so.
-use Rattle.std.proofs.Common.{◌≡◌, ℕ, List, [], ◌∷◌, ◌++◌, ap, sym, ◌∙◌, subst, append_assoc, codes, map, take, slice_get, Some, ◌+◌}
+use Rattle.std.proofs.Common.{◌≡◌, ℕ, ◌+◌, ◌/◌, ◌%◌, ◌<◌, ◌≤◌, ◌^◌, List, [], ◌∷◌, ◌++◌, refl, ap, sym, ◌∙◌, arith, append_assoc, codes, length, get_or, map, take, slice_get, Some, zero, suc, subst}
 use Rattle.std.specs.Fmt.{decimal}
+use Rattle.std.proofs.lemmas.Fmt.{decimal_step, decimal_digit}
 use Rattle.std.proofs.lemmas.List.{map-append, take_more}
-use Rattle.std.proofs.lemmas.Option.{slice_get_within, get_or_from_slice_get}
-use Rattle.nq_base.specs.Block.{value_of}
+use Rattle.std.proofs.lemmas.Option.{none-some, same_Some, slice_get_within, get_or_from_slice_get}
 use Rattle.nq_base.specs.declared.Call.{Call}
-use Rattle.nq_base.proofs.Filling.{filled-value}
-use Rattle.nq_script.specs.Calls.{SpellsCall}
-use Rattle.nq_script.specs.Heads.{file_line, version_line, hosts_line, term_line, head_lines}
+use Rattle.nq_script.specs.Calls.{call_words}
+use Rattle.nq_script.specs.Heads.{file_line, version_line, hosts_line, term_line, longest_lines, settings_lines, head_lines}
+use Rattle.nq_script.specs.Lines.{HasLine, SpellsLine}
+use Rattle.nq_script.specs.Schedule.{SpellsLines}
 use Rattle.nq_script.specs.Text.{spaced, text_of}
 use Rattle.nq_script.specs.declared.heads.Head.{Head}
+use Rattle.nq_script.specs.declared.lines.Line.{Line}
+use Rattle.nq_script.proofs.CallWords.{spaced-call}
 use Rattle.nq_script.proofs.FileLines.{text_of-append}
 
--- a write that has a spelling is spelled with the value of its block
-put-spelled : (file block : ℕ) (body words : List ℕ) → SpellsCall (Call.WriteSync file block body) words
-    → SpellsCall (Call.WriteSync file block body) (codes "put " ++ spaced (decimal file ∷ decimal block ∷ decimal (value_of body) ∷ []))
-put-spelled file block body words s =
-    let value = s.2.0 in
-    let same : value_of body ≡ value = ap value_of s.2.1.1 ∙ filled-value value in
-    (s.0, s.1, (value, s.2.1, ap (λ v. codes "put " ++ spaced (decimal file ∷ decimal block ∷ decimal v ∷ [])) same))
+-- the digits of a number: those of its tenth, if it has one, and the last
+pub digits-more : (n : ℕ) (old front new : List ℕ) → n < 2 ^ 64 → 10 ≤ n → front ≡ old ++ decimal (n / 10) → new ≡ front ++ (48 + n % 10) ∷ []
+    → new ≡ old ++ decimal n
+digits-more n old front new small big first last =
+    last ∙ ap (λ xs. xs ++ (48 + n % 10) ∷ []) first ∙ append_assoc old (decimal (n / 10)) ((48 + n % 10) ∷ [])
+    ∙ ap (λ xs. old ++ xs) (sym (decimal_step n big small))
 
-pub put-printed : (call : Call) (file block value f b : ℕ) (body before first after : List ℕ) → call ≡ Call.WriteSync file block body
-    → (words : List ℕ) × SpellsCall call words → f ≡ file → b ≡ block → value ≡ value_of body → first ≡ before ++ codes "put "
-    → after ≡ first ++ spaced (decimal f ∷ decimal b ∷ decimal value ∷ [])
-    → (words : List ℕ) × SpellsCall call words × (after ≡ before ++ words)
-put-printed call file block value f b body before first after is s same-file same-block same put rest =
-    let spelled = subst (λ k. SpellsCall k s.0) is s.1 in (
-      codes "put " ++ spaced (decimal file ∷ decimal block ∷ decimal (value_of body) ∷ []),
-      subst (λ k. SpellsCall k (codes "put " ++ spaced (decimal file ∷ decimal block ∷ decimal (value_of body) ∷ []))) (sym is)
-          (put-spelled file block body s.0 spelled),
-      rest ∙ ap (λ n. first ++ spaced (decimal n ∷ decimal b ∷ decimal value ∷ [])) same-file
-          ∙ ap (λ n. first ++ spaced (decimal file ∷ decimal n ∷ decimal value ∷ [])) same-block
-          ∙ ap (λ v. first ++ spaced (decimal file ∷ decimal block ∷ decimal v ∷ [])) same
-          ∙ ap (λ l. l ++ spaced (decimal file ∷ decimal block ∷ decimal (value_of body) ∷ [])) put
-          ∙ append_assoc before (codes "put ") (spaced (decimal file ∷ decimal block ∷ decimal (value_of body) ∷ [])),
-    )
+pub digits-one : (n : ℕ) (old new : List ℕ) → n < 10 → new ≡ old ++ (48 + n % 10) ∷ [] → new ≡ old ++ decimal n
+digits-one n old new small last =
+    let same : n % 10 ≡ n = omega arith in
+    last ∙ ap (λ d. old ++ (48 + d) ∷ []) same ∙ ap (λ xs. old ++ xs) (sym (decimal_digit n small))
+
+-- one word more, with a blank before it
+pub spaced-more : (word : List ℕ) (words : List (List ℕ)) (next : List ℕ) → spaced (word ∷ words ++ next ∷ []) ≡ spaced (word ∷ words) ++ 32 ∷ next
+spaced-more word [] next = refl
+spaced-more word (w ∷ words) next =
+    ap (λ t. word ++ 32 ∷ t) (spaced-more w words next) ∙ sym (append_assoc word (32 ∷ spaced (w ∷ words)) (32 ∷ next))
+
+-- one number more is printed
+pub number-printed : (before text blank new word : List ℕ) (numbers : List ℕ) (place : ℕ) → place < length numbers
+    → text ≡ before ++ spaced (word ∷ map decimal (take place numbers)) → blank ≡ text ++ codes " " → new ≡ blank ++ decimal (get_or numbers place 0)
+    → new ≡ before ++ spaced (word ∷ map decimal (take (place + 1) numbers))
+number-printed before text blank new word numbers place within so-far space last =
+    let number = get_or numbers place 0 in
+    last ∙ ap (λ t. t ++ decimal number) (space ∙ ap (λ t. t ++ codes " ") so-far)
+    ∙ append_assoc (before ++ spaced (word ∷ map decimal (take place numbers))) (codes " ") (decimal number)
+    ∙ append_assoc before (spaced (word ∷ map decimal (take place numbers))) (32 ∷ decimal number)
+    ∙ ap (λ t. before ++ t) (sym (spaced-more word (map decimal (take place numbers)) (decimal number)))
+    ∙ ap (λ l. before ++ spaced (word ∷ l)) (sym (map-append decimal (take place numbers) (number ∷ [])))
+    ∙ ap (λ l. before ++ spaced (word ∷ map decimal l)) (sym (take_more numbers place 0 within))
+
+-- the words of a call are printed behind those of its host
+pub call-printed : (before first blank new : List ℕ) (host : ℕ) (call : Call) → first ≡ before ++ spaced (codes "call" ∷ decimal host ∷ [])
+    → blank ≡ first ++ codes " " → new ≡ blank ++ spaced (call_words call) → new ≡ before ++ spaced (codes "call" ∷ decimal host ∷ call_words call)
+call-printed before first blank new host call one two three =
+    three ∙ ap (λ t. t ++ spaced (call_words call)) (two ∙ ap (λ t. t ++ codes " ") one)
+    ∙ append_assoc (before ++ spaced (codes "call" ∷ decimal host ∷ [])) (codes " ") (spaced (call_words call))
+    ∙ append_assoc before (codes "call " ++ decimal host) (32 ∷ spaced (call_words call))
+    ∙ ap (λ t. before ++ (codes "call " ++ t)) (sym (spaced-call (decimal host) call))
 
 -- lines are printed behind lines
 printed-more : (before after : List ℕ) (xs ys : List (List ℕ)) → before ≡ text_of xs → after ≡ before ++ text_of ys → after ≡ text_of (xs ++ ys)
 printed-more before after xs ys so-far more = more ∙ ap (λ t. t ++ text_of ys) so-far ∙ sym (text_of-append xs ys)
 
 -- a head is printed line by line
-pub head-printed : (head : Head) (t₀ t₁ t₂ t₃ t₄ t₅ : List ℕ) → t₀ ≡ [] → t₁ ≡ t₀ ++ text_of (version_line ∷ []) → t₂ ≡ t₁ ++ text_of (hosts_line head.hosts ∷ [])
-    → t₃ ≡ t₂ ++ text_of (term_line head.term ∷ []) → t₄ ≡ t₃ ++ text_of (map file_line head.files) → t₅ ≡ t₄ ++ text_of (codes "begin" ∷ [])
-    → t₅ ≡ text_of (head_lines head)
-head-printed head t₀ t₁ t₂ t₃ t₄ t₅ e₀ e₁ e₂ e₃ e₄ e₅ =
-    let one = printed-more t₀ t₁ [] (version_line ∷ []) e₀ e₁ in
-    let two = printed-more t₁ t₂ (version_line ∷ []) (hosts_line head.hosts ∷ []) one e₂ in
-    let three = printed-more t₂ t₃ (version_line ∷ hosts_line head.hosts ∷ []) (term_line head.term ∷ []) two e₃ in
-    let four = printed-more t₃ t₄ (version_line ∷ hosts_line head.hosts ∷ term_line head.term ∷ []) (map file_line head.files) three e₄ in
-    printed-more t₄ t₅ (version_line ∷ hosts_line head.hosts ∷ term_line head.term ∷ map file_line head.files) (codes "begin" ∷ []) four e₅
+pub head-printed : (head : Head) (t₀ t₁ t₂ t₃ t₄ t₅ t₆ : List ℕ) → t₀ ≡ [] → t₁ ≡ t₀ ++ text_of (version_line head.version ∷ [])
+    → t₂ ≡ t₁ ++ text_of (hosts_line head.hosts ∷ []) → t₃ ≡ t₂ ++ text_of (term_line head.term ∷ [])
+    → t₄ ≡ t₃ ++ text_of (longest_lines head.version head.longest) → t₅ ≡ t₄ ++ text_of (map file_line head.files)
+    → t₆ ≡ t₅ ++ text_of (codes "begin" ∷ []) → t₆ ≡ text_of (head_lines head)
+head-printed head t₀ t₁ t₂ t₃ t₄ t₅ t₆ e₀ e₁ e₂ e₃ e₄ e₅ e₆ =
+    let settings = settings_lines head.version head.hosts head.term head.longest in
+    let one = printed-more t₀ t₁ [] (version_line head.version ∷ []) e₀ e₁ in
+    let two = printed-more t₁ t₂ (version_line head.version ∷ []) (hosts_line head.hosts ∷ []) one e₂ in
+    let three = printed-more t₂ t₃ (version_line head.version ∷ hosts_line head.hosts ∷ []) (term_line head.term ∷ []) two e₃ in
+    let four = printed-more t₃ t₄ (version_line head.version ∷ hosts_line head.hosts ∷ term_line head.term ∷ []) (longest_lines head.version head.longest) three e₄ in
+    let five = printed-more t₄ t₅ settings (map file_line head.files) four e₅ in
+    printed-more t₅ t₆ (settings ++ map file_line head.files) (codes "begin" ∷ []) five e₆
+    ∙ ap text_of (append_assoc settings (map file_line head.files) (codes "begin" ∷ []))
 
 -- one more file is printed
 pub file-printed : (before text new : List ℕ) (files : List (List ℕ × ℕ)) (place : ℕ) (f : List ℕ × ℕ) → text ≡ before ++ text_of (map file_line (take place files))
@@ -61,3 +84,19 @@ file-printed before text new files place f so-far here more =
     ∙ ap (λ l. before ++ text_of l) (sym (map-append file_line (take place files) (f ∷ [])))
     ∙ ap (λ l. before ++ text_of (map file_line l)) (sym (take_more files place f (slice_get_within files place f here)
     ∙ ap (λ g. take place files ++ g ∷ []) (get_or_from_slice_get files place f f here)))
+
+-- a line that is spelled can be told
+pub spelled-has : (head : Head) (line : Line) (text : List ℕ) → SpellsLine head line text → HasLine head.version line
+spelled-has head (Line.Events event times) text s = (s.1.0, s.1.2)
+spelled-has head (Line.Round times) text s = s.1.0
+spelled-has head Line.Flow text s = tt
+spelled-has head Line.End text s = tt
+
+-- each line of a schedule can be told
+pub lines-have : (head : Head) (lines : List Line) (texts : List (List ℕ)) (place : ℕ) (line : Line) → SpellsLines head lines texts
+    → slice_get lines place ≡ Some line → HasLine head.version line
+lines-have head [] texts place line s here = absurd (none-some line here)
+lines-have head (l ∷ lines) [] place line s here = absurd s
+lines-have head (l ∷ lines) (text ∷ texts) zero line s here =
+    subst (HasLine head.version) (same_Some l line here) (spelled-has head l text s.1)
+lines-have head (l ∷ lines) (text ∷ texts) (suc place) line s here = lines-have head lines texts place line s.2 here

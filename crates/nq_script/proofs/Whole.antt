@@ -25,11 +25,11 @@ whole-lacks : (head : Head) (lines : List Line) (whole : List (List ℕ)) → Sp
 whole-lacks head lines whole s =
     subst (AllByRecursion (Lacks 10)) (sym s.1.2)
     (each-append (Lacks 10) (head_lines head) (s.1.0 ++ codes "end" ∷ []) (head-lacks head s.0)
-    (each-append (Lacks 10) s.1.0 (codes "end" ∷ []) (lines-lack head.hosts lines s.1.0 s.1.1) (lacks-tested 10 (codes "end") refl, tt)))
+    (each-append (Lacks 10) s.1.0 (codes "end" ∷ []) (lines-lack head lines s.1.0 s.1.1) (lacks-tested 10 (codes "end") refl, tt)))
 
 -- the text of a head, and behind it that of lines of events and `end`, is that of a schedule
 pub schedule-found : (head : Head) (count size : ℕ) (text : List ℕ) (lines : List Line) → StandsInFront head count size text
-    → EndsWith head.hosts lines (drop size text) → SpellsSchedule head lines text
+    → EndsWith head lines (drop size text) → SpellsSchedule head lines text
 schedule-found head count size text lines front ends = (
   head_lines head ++ (ends.0 ++ codes "end" ∷ []),
   (front.fits, (ends.0, ends.1, refl)),
@@ -102,29 +102,29 @@ head-wrong text number w = record {
 
 -- lines of events go wrong where a schedule does
 pub line-wrong : (head : Head) (count size : ℕ) (text : List ℕ) (number : ℕ) → StandsInFront head count size text
-    → WrongLine head.hosts (count + 1) (drop size text) number → FirstBadLine text number
+    → WrongLine head (count + 1) (drop size text) number → FirstBadLine text number
 line-wrong head count size text number front w = record {
   before = head_lines head ++ w.read.texts;
   rest = w.rest;
   split = text-behind text (head_lines head) w.read.texts (drop size text) w.rest front.split w.read.split;
-  lines = each-append (Lacks 10) (head_lines head) w.read.texts (head-lacks head front.fits) (lines-lack head.hosts w.lines w.read.texts w.read.spelled);
+  lines = each-append (Lacks 10) (head_lines head) w.read.texts (head-lacks head front.fits) (lines-lack head w.lines w.read.texts w.read.spelled);
   place =
       let here = w.place in
-      let many = as-many head.hosts w.lines w.read.texts w.read.spelled in
+      let many = as-many head w.lines w.read.texts w.read.spelled in
       let head_many = front.lines in
       let long = length-append (head_lines head) w.read.texts in omega arith;
   begun = (codes "end" ∷ [], (head, w.lines, (front.fits, (w.read.texts, w.read.spelled, append_assoc (head_lines head) w.read.texts (codes "end" ∷ [])))));
   unfinished = λ is.
       let whole = is.0.2 in
       let one = one-head head is.0.0 w.read.texts (whole.1.0 ++ codes "end" ∷ []) front.fits whole.0 whole.1.2 in
-      not-ended head.hosts w.lines is.0.1 w.read.texts whole.1.0 w.read.spelled
-      (subst (λ h. SpellsLines h.hosts is.0.1 whole.1.0) (sym one.0) whole.1.1) one.1;
+      not-ended head w.lines is.0.1 w.read.texts whole.1.0 w.read.spelled
+      (subst (λ h. SpellsLines h is.0.1 whole.1.0) (sym one.0) whole.1.1) one.1;
   stuck = λ line after here lacks begun.
       let whole = begun.1.2 in
       let one = one-head head begun.1.0 (w.read.texts ++ line ∷ begun.0) (whole.1.0 ++ codes "end" ∷ []) front.fits whole.0
       (regrouped line begun.0 (whole.1.0 ++ codes "end" ∷ []) begun.1.0 whole.1.2) in
-      let next = line-next head.hosts w.lines begun.1.1 w.read.texts whole.1.0 line begun.0 w.read.spelled
-      (subst (λ h. SpellsLines h.hosts begun.1.1 whole.1.0) (sym one.0) whole.1.1) one.1 in
+      let next = line-next head w.lines begun.1.1 w.read.texts whole.1.0 line begun.0 w.read.spelled
+      (subst (λ h. SpellsLines h begun.1.1 whole.1.0) (sym one.0) whole.1.1) one.1 in
       w.stuck line after here lacks next.0 next.1;
 } where
   regrouped : (line : List ℕ) (more end : List (List ℕ)) (g : Head) → head_lines head ++ w.read.texts ++ line ∷ [] ++ more ≡ head_lines g ++ end
@@ -134,7 +134,7 @@ line-wrong head count size text number front w = record {
 
 -- bytes behind `end` are wrong in a schedule
 pub end-wrong : (head : Head) (count size : ℕ) (text : List ℕ) (number : ℕ) → StandsInFront head count size text
-    → WrongEnd head.hosts (count + 1) (drop size text) number → FirstBadLine text number
+    → WrongEnd head (count + 1) (drop size text) number → FirstBadLine text number
 end-wrong head count size text number front w = record {
   before = head_lines head ++ (w.texts ++ codes "end" ∷ []);
   rest = w.rest;
@@ -142,7 +142,7 @@ end-wrong head count size text number front w = record {
   lines = whole-lacks head w.lines (head_lines head ++ (w.texts ++ codes "end" ∷ [])) is;
   place =
       let here = w.place in
-      let many = as-many head.hosts w.lines w.texts w.spelled in
+      let many = as-many head w.lines w.texts w.spelled in
       let head_many = front.lines in
       let tail = length-append w.texts (codes "end" ∷ []) in
       let long = length-append (head_lines head) (w.texts ++ codes "end" ∷ []) in omega arith;
@@ -152,8 +152,8 @@ end-wrong head count size text number front w = record {
       let whole = begun.1.2 in
       let one = one-head head begun.1.0 (w.texts ++ codes "end" ∷ line ∷ begun.0) (whole.1.0 ++ codes "end" ∷ []) front.fits whole.0
       (regrouped line begun.0 (whole.1.0 ++ codes "end" ∷ []) begun.1.0 whole.1.2) in
-      nothing-next head.hosts w.lines begun.1.1 w.texts whole.1.0 line begun.0 w.spelled
-      (subst (λ h. SpellsLines h.hosts begun.1.1 whole.1.0) (sym one.0) whole.1.1) one.1;
+      nothing-next head w.lines begun.1.1 w.texts whole.1.0 line begun.0 w.spelled
+      (subst (λ h. SpellsLines h begun.1.1 whole.1.0) (sym one.0) whole.1.1) one.1;
 } where
   is : SpellsWhole head w.lines (head_lines head ++ (w.texts ++ codes "end" ∷ []))
   is = (front.fits, (w.texts, w.spelled, refl))
@@ -205,13 +205,13 @@ one-schedule g h ls ms text s t =
     let one = one-head g h (s.1.1.0 ++ codes "end" ∷ []) (t.1.1.0 ++ codes "end" ∷ []) s.1.0 t.1.0 (sym s.1.1.2 ∙ whole ∙ t.1.1.2) in
     let texts = append_cancel_right s.1.1.0 t.1.1.0 (codes "end" ∷ []) one.1 in (
       one.0,
-      one-list-spelled h.hosts ls ms t.1.1.0
-          (subst (SpellsLines h.hosts ls) texts (subst (λ k. SpellsLines k.hosts ls s.1.1.0) one.0 s.1.1.1)) t.1.1.1,
+      one-list-spelled h ls ms t.1.1.0
+          (subst (SpellsLines h ls) texts (subst (λ k. SpellsLines k ls s.1.1.0) one.0 s.1.1.1)) t.1.1.1,
     )
 
 -- where lines of events go wrong, or bytes follow `end`, a schedule goes wrong
 pub lines-wrong : (head : Head) (count size : ℕ) (text : List ℕ) (number : ℕ) → StandsInFront head count size text
-    → WrongLine head.hosts (count + 1) (drop size text) number ⊎ WrongEnd head.hosts (count + 1) (drop size text) number → FirstBadLine text number
+    → WrongLine head (count + 1) (drop size text) number ⊎ WrongEnd head (count + 1) (drop size text) number → FirstBadLine text number
 lines-wrong head count size text number front (inl w) = line-wrong head count size text number front w
 lines-wrong head count size text number front (inr w) = end-wrong head count size text number front w
 
@@ -231,18 +231,18 @@ schedule-bad text number w (Ok script) said = schedule-right text number script.
 schedule-bad text number w (Err (Bad place)) said = wrong-once IsSchedule (λ before rest. IsSchedule before × (rest ≡ [])) text place number said w
 schedule-bad text number w (Err Memory) said = tt
 
-spelled-lines : (hosts : ℕ) (events : List Event) (texts : List (List ℕ)) → AreSpelled hosts events texts → SpellsLines hosts (map once events) texts
-spelled-lines hosts [] [] s = tt
-spelled-lines hosts [] (text ∷ texts) s = absurd s
-spelled-lines hosts (event ∷ events) [] s = absurd s
-spelled-lines hosts (event ∷ events) (text ∷ texts) s = (tt, (s.0, s.1), spelled-lines hosts events texts s.2)
+spelled-lines : (head : Head) (events : List Event) (texts : List (List ℕ)) → AreSpelled head events texts → SpellsLines head (map once events) texts
+spelled-lines head [] [] s = tt
+spelled-lines head [] (text ∷ texts) s = absurd s
+spelled-lines head (event ∷ events) [] s = absurd s
+spelled-lines head (event ∷ events) (text ∷ texts) s = (tt, (s.0, s.1), spelled-lines head events texts s.2)
 
 -- what is printed of a head and events is the text of their schedule
-pub printed-again : (head : Head) (events : List Event) (texts : List (List ℕ)) → FitsHead head → AreSpelled head.hosts events texts
+pub printed-again : (head : Head) (events : List Event) (texts : List (List ℕ)) → FitsHead head → AreSpelled head events texts
     → SpellsSchedule head (map once events) (text_of (head_lines head) ++ (text_of texts ++ codes "end\n"))
 printed-again head events texts fits s = (
   head_lines head ++ (texts ++ codes "end" ∷ []),
-  (fits, (texts, spelled-lines head.hosts events texts s, refl)),
+  (fits, (texts, spelled-lines head events texts s, refl)),
   sym (text_of-append (head_lines head) (texts ++ codes "end" ∷ [])
       ∙ ap (λ t. text_of (head_lines head) ++ t) (text_of-append texts (codes "end" ∷ []))),
 )

@@ -1,23 +1,53 @@
 -- The words of a call.
 use Rattle.std.specs.Prelude.{◌≡◌, ℕ, ◌<◌, ◌^◌, List, [], ◌∷◌, codes}
 use Rattle.std.specs.Fmt.{decimal}
-use Rattle.nq_base.specs.Block.{filled}
+use Rattle.nq_base.specs.Block.{filled, value_of}
+use Rattle.nq_base.specs.Name.{IsName}
 use Rattle.nq_base.specs.declared.Call.{Call}
 use Rattle.nq_base.specs.declared.Told.{Told}
 use Rattle.nq_script.specs.Text.{spaced}
 
 -- a body that a word can tell: a block filled with a number below 2 ^ 32
-abbrev pub IsFilled : (body : List ℕ) → (value : ℕ) → Type 0
-IsFilled body value = (value < 2 ^ 32) × (body ≡ filled value)
+abbrev pub IsFilled : (body : List ℕ) → Type 0
+IsFilled body = (value : ℕ) × (value < 2 ^ 32) × (body ≡ filled value)
+
+-- the words of a call; a body is told by its value
+abbrev pub call_words : Call → List (List ℕ)
+call_words (Call.Create name blocks) = codes "create" ∷ name ∷ decimal blocks ∷ []
+call_words (Call.Lookup name) = codes "lookup" ∷ name ∷ []
+call_words (Call.Attr file) = codes "attr" ∷ decimal file ∷ []
+call_words (Call.Read file block) = codes "read" ∷ decimal file ∷ decimal block ∷ []
+call_words (Call.Fetch file block) = codes "fetch" ∷ decimal file ∷ decimal block ∷ []
+call_words (Call.Write file block body) = codes "write" ∷ decimal file ∷ decimal block ∷ decimal (value_of body) ∷ []
+call_words (Call.WriteSync file block body) = codes "put" ∷ decimal file ∷ decimal block ∷ decimal (value_of body) ∷ []
+call_words (Call.Sync file) = codes "sync" ∷ decimal file ∷ []
+call_words (Call.Resize file blocks) = codes "resize" ∷ decimal file ∷ decimal blocks ∷ []
+call_words (Call.Remove file) = codes "remove" ∷ decimal file ∷ []
+
+-- a call that a version can tell: its body is a filled block, and only version 2 has resizes and removals
+abbrev pub HasCall : (version : ℕ) → Call → Type 0
+HasCall version (Call.Write file block body) = IsFilled body
+HasCall version (Call.WriteSync file block body) = IsFilled body
+HasCall version (Call.Resize file blocks) = version ≡ 2
+HasCall version (Call.Remove file) = version ≡ 2
+HasCall version other = Unit {0}
+
+-- a call whose names are names and whose numbers are below 2 ^ 32
+abbrev pub FitsCall : Call → Type 0
+FitsCall (Call.Create name blocks) = IsName name × (blocks < 2 ^ 32)
+FitsCall (Call.Lookup name) = IsName name
+FitsCall (Call.Attr file) = file < 2 ^ 32
+FitsCall (Call.Read file block) = (file < 2 ^ 32) × (block < 2 ^ 32)
+FitsCall (Call.Fetch file block) = (file < 2 ^ 32) × (block < 2 ^ 32)
+FitsCall (Call.Write file block body) = (file < 2 ^ 32) × (block < 2 ^ 32)
+FitsCall (Call.WriteSync file block body) = (file < 2 ^ 32) × (block < 2 ^ 32)
+FitsCall (Call.Sync file) = file < 2 ^ 32
+FitsCall (Call.Resize file blocks) = (file < 2 ^ 32) × (blocks < 2 ^ 32)
+FitsCall (Call.Remove file) = file < 2 ^ 32
 
 -- the words that spell a call
-abbrev pub SpellsCall : Call → List ℕ → Type 0
-SpellsCall (Call.Fetch file block) text =
-    (file < 2 ^ 32) × (block < 2 ^ 32) × (text ≡ spaced (codes "fetch" ∷ decimal file ∷ decimal block ∷ []))
-SpellsCall (Call.WriteSync file block body) text =
-    (file < 2 ^ 32) × (block < 2 ^ 32) × ((value : ℕ) × IsFilled body value
-    × (text ≡ spaced (codes "put" ∷ decimal file ∷ decimal block ∷ decimal value ∷ [])))
-SpellsCall other text = ⊥
+abbrev pub SpellsCall : (version : ℕ) → Call → List ℕ → Type 0
+SpellsCall version call text = HasCall version call × FitsCall call × (text ≡ spaced (call_words call))
 
 -- the call that is told, with its body
 abbrev pub call_of : Told → Call

@@ -1,11 +1,13 @@
 -- How words and numbers are read from the front of a text. The grammar does not speak of these; the laws in proofs/
 -- tie the two.
 use Rattle.std.specs.Prelude.{ℕ, ◌+◌, ◌*◌, ◌-◌, ◌==◌, ◌&&◌, nat_le, nat_lt, List, [], ◌∷◌, Option, Some, None, if◌then◌else◌, codes}
+use Rattle.nq_base.specs.Name.{is_name}
 use Rattle.nq_base.specs.Steps.{◌>>=◌}
 use Rattle.nq_base.specs.declared.Told.{Told}
 use Rattle.std.specs.Char.{is_ascii_digit}
 use Rattle.std.specs.Option.{option_map, option_and_then}
 use Rattle.std.specs.Str.{bytes_eq}
+use Rattle.nq_script.specs.declared.heads.Head.{Head}
 use Rattle.nq_script.specs.declared.lines.ToldLine.{ToldLine}
 
 -- the bytes before the first one that is `at`, and those after it
@@ -61,43 +63,70 @@ three_numbers text = do
   others ← two_numbers first.1
   Some (first.0, others.0, others.1)
 
--- what `fetch` tells by the words behind it
-unfoldable pub fetch_of : List ℕ → Option Told
-fetch_of text = do
+-- the name that a word spells
+unfoldable pub name_of : List ℕ → Option (List ℕ)
+name_of word = if is_name word then Some word else None
+
+-- what `create` tells by the words behind it
+unfoldable pub create_of : List ℕ → Option Told
+create_of text = do
+  parts ← cut_at 32 text
+  name ← name_of parts.0
+  blocks ← number_of 4294967295 parts.1
+  Some (Told.Create name blocks)
+
+-- what `lookup` tells by the word behind it
+unfoldable pub lookup_of : List ℕ → Option Told
+lookup_of text = do
+  name ← name_of text
+  Some (Told.Lookup name)
+
+-- what a call of one number tells by the word behind it
+unfoldable pub one_of : (tell : ℕ → Told) → List ℕ → Option Told
+one_of tell text = do
+  found ← number_of 4294967295 text
+  Some (tell found)
+
+-- what a call of two numbers tells by the words behind it
+unfoldable pub two_of : (tell : ℕ → ℕ → Told) → List ℕ → Option Told
+two_of tell text = do
   found ← two_numbers text
-  Some (Told.Fetch found.0 found.1)
+  Some (tell found.0 found.1)
 
--- what `put` tells by the words behind it
-unfoldable pub put_of : List ℕ → Option Told
-put_of text = do
+-- what a call of three numbers tells by the words behind it
+unfoldable pub three_of : (tell : ℕ → ℕ → ℕ → Told) → List ℕ → Option Told
+three_of tell text = do
   found ← three_numbers text
-  Some (Told.WriteSync found.0 found.1 found.2)
+  Some (tell found.0 found.1 found.2)
 
--- the call that the words tell
-unfoldable pub told_of : List ℕ → Option Told
-told_of words =
-    either (after (codes "fetch ") words) fetch_of
-    (either (after (codes "put ") words) put_of None)
+-- the call on blocks that the words tell
+unfoldable pub block_call : List ℕ → Option Told
+block_call words =
+    either (after (codes "read ") words) (two_of Told.Read)
+    (either (after (codes "write ") words) (three_of Told.Write)
+    (either (after (codes "fetch ") words) (two_of Told.Fetch)
+    (either (after (codes "put ") words) (three_of Told.WriteSync) None)))
 
--- a call at one of so many hosts
-unfoldable pub call_line : (hosts : ℕ) → List ℕ → Option ToldLine
-call_line hosts text = do
-  host ← number_then text
-  told ← told_of host.1
-  if nat_lt host.0 hosts then Some (ToldLine.Call host.0 told) else None
+-- the call on a whole file that the words tell
+unfoldable pub file_call : List ℕ → Option Told
+file_call words =
+    either (after (codes "sync ") words) (one_of Told.Sync)
+    (either (after (codes "create ") words) create_of
+    (either (after (codes "lookup ") words) lookup_of
+    (either (after (codes "attr ") words) (one_of Told.Attr) None)))
 
--- the delivery of a packet
-unfoldable pub deliver_line : List ℕ → Option ToldLine
-deliver_line text = do
-  packet ← number_of 18446744073709551615 text
-  Some (ToldLine.Deliver packet)
+-- the call that the words tell and that came with version 2
+unfoldable pub later_call : List ℕ → Option Told
+later_call words =
+    either (after (codes "resize ") words) (two_of Told.Resize)
+    (either (after (codes "remove ") words) (one_of Told.Remove) None)
 
--- the line that the text tells, in a schedule of so many hosts
-unfoldable pub told_line : (hosts : ℕ) → List ℕ → Option ToldLine
-told_line hosts text =
-    either (after (codes "call ") text) (call_line hosts)
-    (either (after (codes "deliver ") text) deliver_line
-    (if bytes_eq text (codes "end") then Some ToldLine.End else None))
+-- the call that the words tell in a version
+unfoldable pub told_of : (version : ℕ) → List ℕ → Option Told
+told_of version words =
+    either (block_call words) Some
+    (either (file_call words) Some
+    (if version == 2 then later_call words else None))
 
 -- a number from `least` to `most` behind a prefix
 unfoldable pub ranged_of : (prefix : List ℕ) → (least most : ℕ) → List ℕ → Option ℕ
@@ -105,6 +134,80 @@ ranged_of prefix least most line = do
   word ← after prefix line
   value ← number_of most word
   if nat_le least value then Some value else None
+
+-- how often a word says that something happens
+unfoldable pub times_of : List ℕ → Option ℕ
+times_of text = ranged_of [] 1 1000 text
+
+-- a call at one of so many hosts
+unfoldable pub call_line : Head → List ℕ → Option ToldLine
+call_line head text = do
+  host ← number_then text
+  told ← told_of head.version host.1
+  if nat_lt host.0 head.hosts then Some (ToldLine.Call host.0 told) else None
+
+-- the delivery of a packet
+unfoldable pub deliver_line : List ℕ → Option ToldLine
+deliver_line text = do
+  packet ← number_of 18446744073709551615 text
+  Some (ToldLine.Deliver packet)
+
+-- ticks of the server's clock
+unfoldable pub server_ticks : List ℕ → Option ToldLine
+server_ticks text = do
+  times ← times_of text
+  Some (ToldLine.ServerTicks times)
+
+-- ticks of a host's clock
+unfoldable pub client_ticks : (hosts : ℕ) → List ℕ → Option ToldLine
+client_ticks hosts text = do
+  host ← number_then text
+  times ← times_of host.1
+  if nat_lt host.0 hosts then Some (ToldLine.ClientTicks host.0 times) else None
+
+-- ticks of a clock
+unfoldable pub tick_line : (hosts : ℕ) → List ℕ → Option ToldLine
+tick_line hosts text = either (after (codes "s ") text) server_ticks (client_ticks hosts text)
+
+-- rounds
+unfoldable pub round_line : List ℕ → Option ToldLine
+round_line text = do
+  times ← times_of text
+  Some (ToldLine.Round times)
+
+-- a host that starts again
+unfoldable pub restart_line : (hosts : ℕ) → List ℕ → Option ToldLine
+restart_line hosts text = do
+  host ← number_of 4294967295 text
+  if nat_lt host hosts then Some (ToldLine.Restart host) else None
+
+-- a crash that tells the longest term, as version 2 has it
+unfoldable pub crash_line : Head → List ℕ → Option ToldLine
+crash_line head text = do
+  longest ← number_of 4294967295 text
+  if head.version == 2 && (nat_le 5 longest && nat_le longest head.longest) then Some (ToldLine.Crash longest) else None
+
+-- a line of one word
+unfoldable pub word_line : Head → List ℕ → Option ToldLine
+word_line head text =
+    if bytes_eq text (codes "flow") then Some ToldLine.Flow
+    else if bytes_eq text (codes "end") then Some ToldLine.End
+    else if bytes_eq text (codes "crash") && (head.version == 1 && nat_le 60 head.longest) then Some (ToldLine.Crash 60)
+    else None
+
+-- the line of a clock or a boot that the text tells
+unfoldable pub clock_line : Head → List ℕ → Option ToldLine
+clock_line head text =
+    either (after (codes "tick ") text) (tick_line head.hosts)
+    (either (after (codes "round ") text) round_line
+    (either (after (codes "restart ") text) (restart_line head.hosts)
+    (either (after (codes "crash ") text) (crash_line head) (word_line head text))))
+
+-- the line that the text tells, in a schedule with this head
+unfoldable pub told_line : Head → List ℕ → Option ToldLine
+told_line head text =
+    either (after (codes "call ") text) (call_line head)
+    (either (after (codes "deliver ") text) deliver_line (clock_line head text))
 
 -- the name and the length in the line of a file, whatever bytes the name has
 unfoldable pub file_of : List ℕ → Option (List ℕ × ℕ)

@@ -13,16 +13,16 @@ NamesEvents Line.End = ⊥
 NamesEvents other = Unit {0}
 
 -- texts that spell lines one by one, each of which names events
-abbrev pub SpellsLines : (hosts : ℕ) → List Line → List (List ℕ) → Type 0
-SpellsLines hosts [] [] = Unit {0}
-SpellsLines hosts [] (text ∷ texts) = ⊥
-SpellsLines hosts (line ∷ lines) [] = ⊥
-SpellsLines hosts (line ∷ lines) (text ∷ texts) = NamesEvents line × SpellsLine hosts line text × SpellsLines hosts lines texts
+abbrev pub SpellsLines : Head → List Line → List (List ℕ) → Type 0
+SpellsLines head [] [] = Unit {0}
+SpellsLines head [] (text ∷ texts) = ⊥
+SpellsLines head (line ∷ lines) [] = ⊥
+SpellsLines head (line ∷ lines) (text ∷ texts) = NamesEvents line × SpellsLine head line text × SpellsLines head lines texts
 
 -- the lines of a schedule: its head, the lines of its events, and `end`
 abbrev pub SpellsWhole : Head → List Line → List (List ℕ) → Type 0
 SpellsWhole head lines whole =
-    FitsHead head × ((texts : List (List ℕ)) × SpellsLines head.hosts lines texts
+    FitsHead head × ((texts : List (List ℕ)) × SpellsLines head lines texts
     × (whole ≡ head_lines head ++ (texts ++ codes "end" ∷ [])))
 
 -- the text spells a schedule of this head and these lines

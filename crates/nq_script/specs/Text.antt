@@ -1,5 +1,9 @@
 -- Words and lines.
-use Rattle.std.specs.Prelude.{◌≢◌, ℕ, List, [], ◌∷◌, ◌++◌}
+use Rattle.std.specs.Prelude.{◌≡◌, ◌≢◌, ◌⊎◌, ℕ, List, [], ◌∷◌, ◌++◌}
+
+-- there are two versions of the text
+abbrev pub IsVersion : ℕ → Type 0
+IsVersion version = (version ≡ 1) ⊎ (version ≡ 2)
 
 -- words with one blank between two of them
 abbrev pub spaced : List (List ℕ) → List ℕ

@@ -1,9 +1,9 @@
 //! The head of a schedule.
 
-ghost use Rattle.std.specs.Prelude.{◌≡◌, ◌≤◌, ◌<◌, ◌+◌, ◌↔◌, length, ◌++◌, ◌∷◌, [], ℕ, List, IfSome, IsNone, IsTrue};
+ghost use Rattle.std.specs.Prelude.{◌≡◌, ◌≤◌, ◌<◌, ◌+◌, ◌↔◌, ◌≢◌, length, ◌++◌, ◌∷◌, [], ℕ, List, IfSome, IsNone, IsTrue, codes};
 ghost use Rattle.std.specs.Option.{option_map};
 ghost use Rattle.std.specs.Fmt.{decimal};
-ghost use Rattle.nq_script.specs.Heads.{IsFile, IsNew, FitFiles, FitsHead, AreSettings, blocks_of, file_line, file_lines, version_line, hosts_line, term_line, head_lines};
+ghost use Rattle.nq_script.specs.Heads.{IsFile, IsNew, FitFiles, FitsHead, AreSettings, blocks_of, file_line, file_lines, head_lines, IsLongest, first_file, longest_lines, most_term, settings_lines};
 ghost use Rattle.nq_script.specs.Schedule.{StandsInFront, FirstBadHeadLine};
 ghost use Rattle.nq_script.specs.declared.heads.Head.{Head};
 ghost use Rattle.nq_script.specs.Faults.{Answers};
@@ -19,10 +19,14 @@ use std::alloc::Global;
 /// What a run begins with.
 #[derive(Drop)]
 pub struct Head {
+    /// The version of the text, 1 or 2.
+    pub version: u32,
     /// How many hosts there are, 1 to 64.
     pub hosts: u32,
-    /// The term that clients want, in ticks, 5 to 60.
+    /// The term that clients want, in ticks: 5 to 60 in version 1, and 5 to 600 in version 2.
     pub term: u32,
+    /// The longest term that a server is booted with, in ticks: 60 in version 1, and 5 to 600 in version 2.
+    pub longest: u32,
     /// The files that are there, with their lengths in blocks.
     pub files: FileList,
 }
@@ -37,9 +41,6 @@ pub struct HeadOut {
     /// How many bytes it has, line feeds and all.
     pub bytes: usize,
 }
-
-/// The first line of a head.
-const VERSION: &[u8] = b"nqnfs-schedule 1";
 
 /// The last line of a head.
 const BEGIN: &[u8] = b"begin";
@@ -61,29 +62,79 @@ pub fn parse_head(alloc: Global, lines: &[u8]) -> Result<HeadOut, ScriptFault>
 fn read_head(alloc: Global, lines: &[u8]) -> Result<HeadOut, ScriptFault>
     ensures { Answers result (λ out. StandsInFront out.head out.lines out.bytes lines.now) (λ number. FirstBadHeadLine lines.now number) }
 {
-    let (hosts, term, rest) = read_settings(lines)?;
-    let (files, rest) = read_files(alloc, rest)?;
-    let count = files.len() as u32 + 4;
+    let (settings, rest) = read_settings(lines)?;
+    let first = first_file(settings.version);
+    let (files, rest) = read_files(alloc, rest, first)?;
+    let count = first + files.len() as u32;
     Ok(HeadOut {
-        head: Head { hosts, term, files },
+        head: with_files(settings, files),
         lines: count,
         bytes: lines.len() - rest.len(),
     })
 }
 
-/// The number of hosts and the term, and what follows the three lines of which the last names it.
-fn read_settings(text: &[u8]) -> Result<(u32, u32, &[u8]), ScriptFault>
-    ensures { Answers result (λ p. AreSettings p.0 p.1 × (text.now ≡ text_of (version_line ∷ hosts_line p.0 ∷ term_line p.1 ∷ []) ++ p.2.now)) (λ number. FirstBadHeadLine text.now number) }
+/// What a head says above its files.
+#[derive(Clone, Copy)]
+pub(crate) struct Settings {
+    version: u32,
+    hosts: u32,
+    term: u32,
+    longest: u32,
+}
+
+/// The head of these settings and files.
+fn with_files(settings: Settings, files: FileList) -> Head
+    ensures { result ≡ record { version = settings.version; hosts = settings.hosts; term = settings.term; longest = settings.longest; files = files } }
 {
-    let Some((line, rest)) = cut(text, b'\n') else {
-        return Err(ScriptFault::Bad(1));
-    };
-    if line != VERSION {
-        return Err(ScriptFault::Bad(1));
+    Head {
+        version: settings.version,
+        hosts: settings.hosts,
+        term: settings.term,
+        longest: settings.longest,
+        files,
     }
+}
+
+/// The line of the first file, if there is one.
+fn first_file(version: u32) -> u32
+    ensures { result ≡ first_file version }
+{
+    if version == 1 { 4 } else { 5 }
+}
+
+/// The most ticks of a term in a version.
+fn most_term(version: u32) -> u32
+    ensures { result ≡ most_term version }
+{
+    if version == 1 { 60 } else { 600 }
+}
+
+/// The settings, and what follows their lines.
+fn read_settings(text: &[u8]) -> Result<(Settings, &[u8]), ScriptFault>
+    ensures { Answers result (λ p. AreSettings p.0.version p.0.hosts p.0.term p.0.longest
+        × (text.now ≡ text_of (settings_lines p.0.version p.0.hosts p.0.term p.0.longest) ++ p.1.now)) (λ number. FirstBadHeadLine text.now number) }
+{
+    let (version, rest) = ranged_line(text, b"nqnfs-schedule ", 1, 2, 1)?;
     let (hosts, rest) = ranged_line(rest, b"hosts ", 1, 64, 2)?;
-    let (term, rest) = ranged_line(rest, b"term ", 5, 60, 3)?;
-    Ok((hosts, term, rest))
+    let (term, rest) = ranged_line(rest, b"term ", 5, most_term(version), 3)?;
+    let (longest, rest) = read_longest(rest, version)?;
+    let settings = Settings {
+        version,
+        hosts,
+        term,
+        longest,
+    };
+    Ok((settings, rest))
+}
+
+/// The longest term, which version 2 tells in line 4, and what follows that line.
+fn read_longest(text: &[u8], version: u32) -> Result<(u32, &[u8]), ScriptFault>
+    ensures { Answers result (λ p. IsLongest version p.0 × (text.now ≡ text_of (longest_lines version p.0) ++ p.1.now)) (λ place. (place ≡ 4) × (version ≢ 1) × NoNumber (codes "longest ") 5 600 text.now) }
+{
+    if version == 1 {
+        return Ok((60, text));
+    }
+    ranged_line(text, b"longest ", 5, 600, 4)
 }
 
 /// The number behind the prefix in the first line of the text, which is line `number`, and what follows that line.
@@ -111,15 +162,16 @@ const MOST_FILES: usize = 256;
 /// The most blocks of all files together.
 const MOST_BLOCKS: u32 = 16_384;
 
-/// The files whose lines stand in front, and what follows `begin`. The text begins at line 4.
-fn read_files(alloc: Global, text: &[u8]) -> Result<(FileList, &[u8]), ScriptFault>
-    ensures { Answers result (λ p. FitFiles p.0 × (text.now ≡ text_of (file_lines p.0) ++ p.1.now)) (λ number. WrongFile text.now number) }
+/// The files whose lines stand in front, and what follows `begin`. The text begins at line `first`, which is 5 at most.
+fn read_files(alloc: Global, text: &[u8], first: u32) -> Result<(FileList, &[u8]), ScriptFault>
+    requires { first ≤ 5 }
+    ensures { Answers result (λ p. FitFiles p.0 × (text.now ≡ text_of (file_lines p.0) ++ p.1.now)) (λ number. WrongFile first text.now number) }
 {
     let mut files = FileList::new(alloc)?;
     let mut total: u32 = 0;
     let mut rest = text;
     'lines: loop {
-        let number = files.len() as u32 + 4;
+        let number = first + files.len() as u32;
         let Some((line, after)) = cut(rest, b'\n') else {
             return Err(ScriptFault::Bad(number));
         };

@@ -26,9 +26,9 @@ pub fn each_text()
     ensures { (text : List ℕ) → ((head : Head) × (lines : List Line) × SpellsSchedule head lines text) ⊎ ((number : ℕ) × FirstBadLine text number) }
 {}
 
-/// The text of a head, the lines of events of its hosts, each with its line feed, and `end` spell these events.
+/// The text of a head, the lines of events that it allows, each with its line feed, and `end` spell these events.
 pub fn printed_again()
-    ensures { (head : Head) (events : List Event) (texts : List (List ℕ)) → FitsHead head → AreSpelled head.hosts events texts
+    ensures { (head : Head) (events : List Event) (texts : List (List ℕ)) → FitsHead head → AreSpelled head events texts
         → SpellsSchedule head (map once events) (text_of (head_lines head) ++ (text_of texts ++ codes "end\n")) }
 {}
 

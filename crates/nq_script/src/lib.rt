@@ -9,6 +9,7 @@
 mod calls;
 mod faults;
 mod heads;
+mod kept;
 mod laws;
 mod lines;
 mod print;
@@ -21,7 +22,7 @@ pub use faults::ScriptFault;
 pub use heads::{Head, HeadOut, parse_head};
 pub use laws::{each_text, lines_are_short, one_fault, one_reading, printed_again};
 pub use lines::{Line, parse_line};
-pub use print::{print_event, print_head};
+pub use print::{print_event, print_head, print_line};
 pub use schedules::Schedule;
 pub use scripts::{Lines, Script, parse};
 

@@ -3,13 +3,14 @@
 ghost use Rattle.std.specs.Prelude.{◌≡◌, ◌≢◌, ◌↔◌, IsTrue};
 ghost use Rattle.nq_script.specs.Faults.{Answers};
 ghost use Rattle.nq_script.specs.Lines.{SpellsLine, line_of};
-ghost use Rattle.nq_script.specs.Reading.{told_line, call_line, deliver_line};
+ghost use Rattle.nq_script.specs.Reading.{told_line, call_line, deliver_line, clock_line, tick_line, server_ticks, client_ticks, round_line, restart_line, crash_line, word_line, times_of};
 ghost use Rattle.nq_script.specs.declared.faults.ScriptFault.{ScriptFault};
 ghost use Rattle.nq_script.specs.declared.lines.Line.{Line};
 
 use crate::calls::{call_of, read_told};
 use crate::faults::ScriptFault;
-use crate::words::{number, number_then, rest_after};
+use crate::heads::Head;
+use crate::words::{number, number_then, number32, ranged, rest_after};
 use nq_base::{Event, Host, Told};
 use std::alloc::Global;
 
@@ -20,7 +21,7 @@ pub enum Line {
     Events { event: Event, times: u32 },
     /// So many rounds: the clock of each host ticks, then the server's.
     Round(u32),
-    /// Each packet that was never delivered is delivered.
+    /// The least packet that was never delivered is delivered, again and again, until each packet was.
     Flow,
     /// The last line.
     End,
@@ -31,6 +32,12 @@ pub enum Line {
 pub(crate) enum ToldLine {
     Call { host: Host, told: Told },
     Deliver(u64),
+    ServerTicks(u32),
+    ClientTicks { host: Host, times: u32 },
+    Restart(Host),
+    Crash { longest: u32 },
+    Round(u32),
+    Flow,
     End,
 }
 
@@ -50,12 +57,24 @@ impl ToldLine {
 pub(crate) fn line_of(told: &ToldLine) -> Line
     ensures { result ≡ line_of told.now }
 {
-    match told {
-        ToldLine::Call { host, told } => once(Event::Call {
-            host: *host,
-            call: call_of(told),
-        }),
-        ToldLine::Deliver(packet) => once(Event::Deliver(*packet)),
+    match *told {
+        ToldLine::Call { host, told } => {
+            let call = call_of(&told);
+            once(Event::Call { host, call })
+        }
+        ToldLine::Deliver(packet) => once(Event::Deliver(packet)),
+        ToldLine::ServerTicks(times) => {
+            let event = Event::ServerTick;
+            Line::Events { event, times }
+        }
+        ToldLine::ClientTicks { host, times } => {
+            let event = Event::ClientTick(host);
+            Line::Events { event, times }
+        }
+        ToldLine::Restart(host) => once(Event::Restart(host)),
+        ToldLine::Crash { longest } => once(Event::Crash { longest }),
+        ToldLine::Round(times) => Line::Round(times),
+        ToldLine::Flow => Line::Flow,
         ToldLine::End => Line::End,
     }
 }
@@ -66,29 +85,44 @@ fn once(event: Event) -> Line
     Line::Events { event, times: 1 }
 }
 
-/// The line that the text writes in a schedule of so many hosts; None where it is outside the grammar.
+/// The line that the text writes in a schedule with this head; None where it is outside the grammar.
 #[tactic(auto, unfolding(crate::specs::Reading::told_line))]
-pub(crate) fn read_line(line: &[u8], hosts: u32) -> Option<ToldLine>
-    ensures { result ≡ told_line hosts line.now }
+pub(crate) fn read_line(line: &[u8], head: &Head) -> Option<ToldLine>
+    ensures { result ≡ told_line head.now line.now }
 {
     if let Some(rest) = rest_after(line, b"call ") {
-        read_call(rest, hosts)
+        read_call(rest, head)
     } else if let Some(rest) = rest_after(line, b"deliver ") {
         read_deliver(rest)
-    } else if line == b"end".as_slice() {
-        Some(ToldLine::End)
     } else {
-        None
+        read_clock(line, head)
+    }
+}
+
+#[tactic(auto, unfolding(crate::specs::Reading::clock_line))]
+fn read_clock(line: &[u8], head: &Head) -> Option<ToldLine>
+    ensures { result ≡ clock_line head.now line.now }
+{
+    if let Some(rest) = rest_after(line, b"tick ") {
+        read_tick(rest, head.hosts)
+    } else if let Some(rest) = rest_after(line, b"round ") {
+        read_round(rest)
+    } else if let Some(rest) = rest_after(line, b"restart ") {
+        read_restart(rest, head.hosts)
+    } else if let Some(rest) = rest_after(line, b"crash ") {
+        read_crash(rest, head)
+    } else {
+        read_word(line, head)
     }
 }
 
 #[tactic(auto, unfolding(crate::specs::Reading::call_line))]
-fn read_call(text: &[u8], hosts: u32) -> Option<ToldLine>
-    ensures { result ≡ call_line hosts text.now }
+fn read_call(text: &[u8], head: &Head) -> Option<ToldLine>
+    ensures { result ≡ call_line head.now text.now }
 {
     let (host, words) = number_then(text)?;
-    let told = read_told(words)?;
-    if host < hosts {
+    let told = read_told(words, head.version)?;
+    if host < head.hosts {
         Some(ToldLine::Call {
             host: Host(host),
             told,
@@ -106,17 +140,108 @@ fn read_deliver(text: &[u8]) -> Option<ToldLine>
     Some(ToldLine::Deliver(packet))
 }
 
-/// The line that the text writes, without its line feed, in a schedule of so many hosts. Takes no memory.
+/// How often a word says that something happens, 1 to 1000 times.
+#[tactic(auto, unfolding(crate::specs::Reading::times_of))]
+fn read_times(text: &[u8]) -> Option<u32>
+    ensures { result ≡ times_of text.now }
+{
+    ranged(text, b"", 1, 1000)
+}
+
+#[tactic(auto, unfolding(crate::specs::Reading::tick_line))]
+fn read_tick(text: &[u8], hosts: u32) -> Option<ToldLine>
+    ensures { result ≡ tick_line hosts text.now }
+{
+    if let Some(rest) = rest_after(text, b"s ") {
+        read_server_ticks(rest)
+    } else {
+        read_client_ticks(text, hosts)
+    }
+}
+
+#[tactic(auto, unfolding(crate::specs::Reading::server_ticks))]
+fn read_server_ticks(text: &[u8]) -> Option<ToldLine>
+    ensures { result ≡ server_ticks text.now }
+{
+    let times = read_times(text)?;
+    Some(ToldLine::ServerTicks(times))
+}
+
+#[tactic(auto, unfolding(crate::specs::Reading::client_ticks))]
+fn read_client_ticks(text: &[u8], hosts: u32) -> Option<ToldLine>
+    ensures { result ≡ client_ticks hosts text.now }
+{
+    let (host, word) = number_then(text)?;
+    let times = read_times(word)?;
+    if host < hosts {
+        Some(ToldLine::ClientTicks {
+            host: Host(host),
+            times,
+        })
+    } else {
+        None
+    }
+}
+
+#[tactic(auto, unfolding(crate::specs::Reading::round_line))]
+fn read_round(text: &[u8]) -> Option<ToldLine>
+    ensures { result ≡ round_line text.now }
+{
+    let times = read_times(text)?;
+    Some(ToldLine::Round(times))
+}
+
+#[tactic(auto, unfolding(crate::specs::Reading::restart_line))]
+fn read_restart(text: &[u8], hosts: u32) -> Option<ToldLine>
+    ensures { result ≡ restart_line hosts text.now }
+{
+    let host = number32(text)?;
+    if host < hosts {
+        Some(ToldLine::Restart(Host(host)))
+    } else {
+        None
+    }
+}
+
+/// A crash with the longest term that version 2 tells.
+#[tactic(auto, unfolding(crate::specs::Reading::crash_line))]
+fn read_crash(text: &[u8], head: &Head) -> Option<ToldLine>
+    ensures { result ≡ crash_line head.now text.now }
+{
+    let longest = number32(text)?;
+    if head.version == 2 && 5 <= longest && longest <= head.longest {
+        Some(ToldLine::Crash { longest })
+    } else {
+        None
+    }
+}
+
+#[tactic(auto, unfolding(crate::specs::Reading::word_line))]
+fn read_word(line: &[u8], head: &Head) -> Option<ToldLine>
+    ensures { result ≡ word_line head.now line.now }
+{
+    if line == b"flow".as_slice() {
+        Some(ToldLine::Flow)
+    } else if line == b"end".as_slice() {
+        Some(ToldLine::End)
+    } else if line == b"crash".as_slice() && head.version == 1 && 60 <= head.longest {
+        Some(ToldLine::Crash { longest: 60 })
+    } else {
+        None
+    }
+}
+
+/// The line that the text writes, without its line feed, in a schedule with this head. Takes no memory.
 ///
 /// # Errors
 ///
 /// `Bad(1)` where the text is outside the grammar.
-pub fn parse_line(_alloc: Global, line: &[u8], hosts: u32) -> Result<Line, ScriptFault>
-    ensures found { Answers result (λ found. SpellsLine hosts found line.now) (λ place. place ≡ 1) }
-    ensures only { (spelled : Line) → SpellsLine hosts spelled line.now → Answers result (λ found. found ≡ spelled) (λ place. ⊥) }
+pub fn parse_line(_alloc: Global, line: &[u8], head: &Head) -> Result<Line, ScriptFault>
+    ensures found { Answers result (λ found. SpellsLine head.now found line.now) (λ place. place ≡ 1) }
+    ensures only { (spelled : Line) → SpellsLine head.now spelled line.now → Answers result (λ found. found ≡ spelled) (λ place. ⊥) }
     ensures memory { result ≢ Err ScriptFault.Memory }
 {
-    match read_line(line, hosts) {
+    match read_line(line, head) {
         Some(told) => Ok(line_of(&told)),
         None => Err(ScriptFault::Bad(1)),
     }

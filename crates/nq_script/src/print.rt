@@ -1,13 +1,15 @@
-//! Heads and events, printed.
+//! Heads, lines and events, printed.
 
-ghost use Rattle.std.specs.Prelude.{◌≡◌, ◌++◌, ◌∷◌, [], ℕ, List, map, IfOk, OnOk};
+ghost use Rattle.std.specs.Prelude.{◌≡◌, ◌++◌, ◌∷◌, [], ℕ, List, map, codes, IfOk, OnOk};
 ghost use Rattle.std.specs.Fmt.{decimal};
-ghost use Rattle.nq_script.specs.Calls.{SpellsCall};
-ghost use Rattle.nq_script.specs.Heads.{FitsHead, file_line, head_lines};
-ghost use Rattle.nq_script.specs.Lines.{SpellsEvent};
-ghost use Rattle.nq_script.specs.Text.{spaced, text_of};
+ghost use Rattle.nq_base.specs.Name.{IsName};
+ghost use Rattle.nq_script.specs.Calls.{FitsCall, call_words};
+ghost use Rattle.nq_script.specs.Heads.{FitsHead, file_line, head_lines, longest_lines};
+ghost use Rattle.nq_script.specs.Lines.{HasEvent, HasLine, FitsEvent, SpellsEvent, TellsLine, event_words, longest_words};
+ghost use Rattle.nq_script.specs.Text.{IsVersion, spaced, text_of};
 
 use crate::heads::Head;
+use crate::lines::Line;
 use nq_base::{Call, Event, FileList, Name, NoMemory};
 use std::alloc::Global;
 
@@ -22,128 +24,204 @@ fn append(text: &mut Vec<u8>, bytes: &[u8]) -> Result<(), NoMemory>
 }
 
 /// Appends a number in decimal.
-fn append_number(alloc: Global, text: &mut Vec<u8>, number: u64) -> Result<(), NoMemory>
+fn append_number(text: &mut Vec<u8>, number: u64) -> Result<(), NoMemory>
     ensures { OnOk result (text.new.items ≡ text.old.items ++ decimal number) }
 {
-    match format!(in alloc; "{number}") {
-        Ok(digits) => append(text, digits.as_bytes()),
-        Err(_) => Err(NoMemory::Memory),
+    if number >= 10 {
+        append_number(text, number / 10)?;
     }
+    append(text, &[b'0' + (number % 10) as u8])
 }
 
-/// Appends two numbers with a blank between them.
-fn append_two(alloc: Global, text: &mut Vec<u8>, first: u32, second: u32) -> Result<(), NoMemory>
-    ensures { OnOk result (text.new.items ≡ text.old.items ++ spaced (decimal first ∷ decimal second ∷ [])) }
+/// Appends a word and numbers, with blanks between them.
+fn append_words(text: &mut Vec<u8>, word: &[u8], numbers: &[u64]) -> Result<(), NoMemory>
+    ensures { OnOk result (text.new.items ≡ text.old.items ++ spaced (word.now ∷ map decimal numbers.now)) }
 {
-    append_number(alloc, text, u64::from(first))?;
-    append(text, b" ")?;
-    append_number(alloc, text, u64::from(second))
-}
-
-/// Appends three numbers with blanks between them.
-fn append_three(
-    alloc: Global,
-    text: &mut Vec<u8>,
-    first: u32,
-    second: u32,
-    third: u32,
-) -> Result<(), NoMemory>
-    ensures { OnOk result (text.new.items ≡ text.old.items ++ spaced (decimal first ∷ decimal second ∷ decimal third ∷ [])) }
-{
-    append_number(alloc, text, u64::from(first))?;
-    append(text, b" ")?;
-    append_two(alloc, text, second, third)
+    append(text, word)?;
+    for number in numbers {
+        append(text, b" ")?;
+        append_number(text, *number)?;
+    }
+    Ok(())
 }
 
 /// Appends the words of a call.
-fn append_call(alloc: Global, text: &mut Vec<u8>, call: &Call) -> Result<(), NoMemory>
-    requires { (words : List ℕ) × SpellsCall call.now words }
-    ensures { OnOk result ((words : List ℕ) × SpellsCall call.now words × (text.new.items ≡ text.old.items ++ words)) }
+fn append_call(text: &mut Vec<u8>, call: &Call) -> Result<(), NoMemory>
+    ensures written { OnOk result (text.new.items ≡ text.old.items ++ spaced (call_words call.now)) }
+    ensures fits { OnOk result (FitsCall call.now) }
 {
     match call {
-        Call::Fetch { file, block } => {
-            append(text, b"fetch ")?;
-            append_two(alloc, text, file.0, block.0)
-        }
-        Call::WriteSync { file, block, body } => {
-            append(text, b"put ")?;
-            append_three(alloc, text, file.0, block.0, body.value())
-        }
-        _ => unreachable!(),
+        Call::Create { name, blocks } => append_create(text, name, *blocks),
+        Call::Lookup { name } => append_lookup(text, name),
+        Call::Attr { file } => append_words(text, b"attr", &[u64::from(file.0)]),
+        Call::Read { file, block } => append_words(
+            text,
+            b"read",
+            &[u64::from(file.0), u64::from(block.0)],
+        ),
+        Call::Fetch { file, block } => append_words(
+            text,
+            b"fetch",
+            &[u64::from(file.0), u64::from(block.0)],
+        ),
+        Call::Write { file, block, body } => append_words(
+            text,
+            b"write",
+            &[
+                u64::from(file.0),
+                u64::from(block.0),
+                u64::from(body.value()),
+            ],
+        ),
+        Call::WriteSync { file, block, body } => append_words(
+            text,
+            b"put",
+            &[
+                u64::from(file.0),
+                u64::from(block.0),
+                u64::from(body.value()),
+            ],
+        ),
+        Call::Sync { file } => append_words(text, b"sync", &[u64::from(file.0)]),
+        Call::Resize { file, blocks } => append_words(
+            text,
+            b"resize",
+            &[u64::from(file.0), u64::from(*blocks)],
+        ),
+        Call::Remove { file } => append_words(text, b"remove", &[u64::from(file.0)]),
     }
 }
 
-/// The line of an event, without its line feed. The event has a line: it is a call that the grammar has, with a block
-/// that `Block::fill` gives if it has one, or a delivery.
-pub fn print_event(alloc: Global, event: &Event) -> Result<Vec<u8>, NoMemory>
-    requires { (text : List ℕ) × SpellsEvent event.now text }
-    ensures { IfOk result (λ line. SpellsEvent event.now line.items) }
+fn append_create(text: &mut Vec<u8>, name: &Name, blocks: u32) -> Result<(), NoMemory>
+    ensures written { OnOk result (text.new.items ≡ text.old.items ++ spaced (codes "create" ∷ name.now ∷ decimal blocks ∷ [])) }
+    ensures fits { OnOk result (IsName name.now) }
 {
-    let mut line = Vec::new(alloc);
+    append(text, b"create ")?;
+    append_words(text, name.as_bytes(), &[u64::from(blocks)])
+}
+
+fn append_lookup(text: &mut Vec<u8>, name: &Name) -> Result<(), NoMemory>
+    ensures written { OnOk result (text.new.items ≡ text.old.items ++ spaced (codes "lookup" ∷ name.now ∷ [])) }
+    ensures fits { OnOk result (IsName name.now) }
+{
+    append(text, b"lookup ")?;
+    append(text, name.as_bytes())
+}
+
+/// Appends the words of an event, so many times over.
+fn append_event(text: &mut Vec<u8>, event: &Event, times: u32, version: u32) -> Result<(), NoMemory>
+    ensures written { OnOk result (text.new.items ≡ text.old.items ++ spaced (event_words version event.now times)) }
+    ensures fits { OnOk result (FitsEvent event.now) }
+{
     match event {
         Event::Call { host, call } => {
-            append(&mut line, b"call ")?;
-            append_number(alloc, &mut line, u64::from(host.0))?;
-            append(&mut line, b" ")?;
-            append_call(alloc, &mut line, call)?;
+            append_words(text, b"call", &[u64::from(host.0)])?;
+            append(text, b" ")?;
+            append_call(text, call)
         }
-        Event::Deliver(packet) => {
-            append(&mut line, b"deliver ")?;
-            append_number(alloc, &mut line, *packet)?;
-        }
-        _ => unreachable!(),
+        Event::Deliver(packet) => append_words(text, b"deliver", &[*packet]),
+        Event::ServerTick => append_words(text, b"tick s", &[u64::from(times)]),
+        Event::ClientTick(host) => append_words(
+            text,
+            b"tick",
+            &[u64::from(host.0), u64::from(times)],
+        ),
+        Event::Restart(host) => append_words(text, b"restart", &[u64::from(host.0)]),
+        Event::Crash { longest } => append_crash(text, *longest, version),
     }
-    Ok(line)
 }
 
-/// The text of a head, from its first line to `begin` with its line feed. The head fits: it has 1 to 64 hosts, a term of
-/// 5 to 60 ticks, and at most 256 files of 1 to 1024 blocks, of distinct names and of at most 16,384 blocks together.
+fn append_crash(text: &mut Vec<u8>, longest: u32, version: u32) -> Result<(), NoMemory>
+    ensures { OnOk result (text.new.items ≡ text.old.items ++ spaced (codes "crash" ∷ longest_words version longest)) }
+{
+    if version == 2 {
+        append_words(text, b"crash", &[u64::from(longest)])
+    } else {
+        append(text, b"crash")
+    }
+}
+
+/// The line of an event, without its line feed, in a version that can tell it: a block that it writes is one that
+/// `Block::fill` gives; version 2 alone has resizes and removals; and a crash has in version 1 the longest term 60, in
+/// version 2 one of 5 ticks or more.
+pub fn print_event(alloc: Global, event: &Event, version: u32) -> Result<Vec<u8>, NoMemory>
+    requires { HasEvent version event.now }
+    ensures { IfOk result (λ text. SpellsEvent version event.now text.items) }
+{
+    let mut text = Vec::new(alloc);
+    append_event(&mut text, event, 1, version)?;
+    Ok(text)
+}
+
+/// A line behind the head, without its line feed, in a version that can tell it. Ticks and rounds come 1 to 1000 times,
+/// each other event once.
+pub fn print_line(alloc: Global, line: &Line, version: u32) -> Result<Vec<u8>, NoMemory>
+    requires { HasLine version line.now }
+    ensures { IfOk result (λ text. TellsLine version line.now text.items) }
+{
+    let mut text = Vec::new(alloc);
+    match line {
+        Line::Events { event, times } => append_event(&mut text, event, *times, version)?,
+        Line::Round(times) => append_words(&mut text, b"round", &[u64::from(*times)])?,
+        Line::Flow => append(&mut text, b"flow")?,
+        Line::End => append(&mut text, b"end")?,
+    }
+    Ok(text)
+}
+
+/// The text of a head, from its first line to `begin` with its line feed. The head fits: it has 1 to 64 hosts, in version 1
+/// a term of 5 to 60 ticks and the longest term 60, in version 2 terms of 5 to 600 ticks, and at most 256 files of 1 to
+/// 1024 blocks, of distinct names and of at most 16,384 blocks together.
 pub fn print_head(alloc: Global, head: &Head) -> Result<Vec<u8>, NoMemory>
     requires { FitsHead head.now }
     ensures { IfOk result (λ text. text.items ≡ text_of (head_lines head.now)) }
 {
     let mut text = Vec::new(alloc);
-    append(&mut text, b"nqnfs-schedule 1\n")?;
-    append_line(alloc, &mut text, b"hosts ", head.hosts)?;
-    append_line(alloc, &mut text, b"term ", head.term)?;
-    append_files(alloc, &mut text, &head.files)?;
+    append_line(&mut text, b"nqnfs-schedule", head.version)?;
+    append_line(&mut text, b"hosts", head.hosts)?;
+    append_line(&mut text, b"term", head.term)?;
+    append_longest(&mut text, head.longest, head.version)?;
+    append_files(&mut text, &head.files)?;
     append(&mut text, b"begin\n")?;
     Ok(text)
 }
 
-/// Appends a line of a number behind a prefix.
-fn append_line(
-    alloc: Global,
-    text: &mut Vec<u8>,
-    prefix: &[u8],
-    number: u32,
-) -> Result<(), NoMemory>
-    ensures { OnOk result (text.new.items ≡ text.old.items ++ text_of ((prefix.now ++ decimal number) ∷ [])) }
+/// Appends a line of a word and a number.
+fn append_line(text: &mut Vec<u8>, word: &[u8], number: u32) -> Result<(), NoMemory>
+    ensures { OnOk result (text.new.items ≡ text.old.items ++ text_of (spaced (word.now ∷ decimal number ∷ []) ∷ [])) }
 {
-    append(text, prefix)?;
-    append_number(alloc, text, u64::from(number))?;
+    append_words(text, word, &[u64::from(number)])?;
     append(text, b"\n")
 }
 
+/// Appends the line of the longest term, where the version has it.
+fn append_longest(text: &mut Vec<u8>, longest: u32, version: u32) -> Result<(), NoMemory>
+    ensures { OnOk result (text.new.items ≡ text.old.items ++ text_of (longest_lines version longest)) }
+{
+    if version == 1 {
+        Ok(())
+    } else {
+        append_line(text, b"longest", longest)
+    }
+}
+
 /// Appends the lines of files.
-fn append_files(alloc: Global, text: &mut Vec<u8>, files: &FileList) -> Result<(), NoMemory>
+fn append_files(text: &mut Vec<u8>, files: &FileList) -> Result<(), NoMemory>
     ensures { OnOk result (text.new.items ≡ text.old.items ++ text_of (map file_line files.now)) }
 {
     for place in 0..files.len() {
         if let Some((name, length)) = files.get(place) {
-            append_file(alloc, text, name, length)?;
+            append_file(text, name, length)?;
         }
     }
     Ok(())
 }
 
 /// Appends the line of a file.
-fn append_file(alloc: Global, text: &mut Vec<u8>, name: &Name, blocks: u32) -> Result<(), NoMemory>
+fn append_file(text: &mut Vec<u8>, name: &Name, blocks: u32) -> Result<(), NoMemory>
     ensures { OnOk result (text.new.items ≡ text.old.items ++ text_of (file_line (name.now, blocks) ∷ [])) }
 {
     append(text, b"file ")?;
-    append(text, name.as_bytes())?;
-    append(text, b" ")?;
-    append_number(alloc, text, u64::from(blocks))?;
+    append_words(text, name.as_bytes(), &[u64::from(blocks)])?;
     append(text, b"\n")
 }

@@ -1,24 +1,31 @@
 //! Schedules: lists of events.
 
-ghost use Rattle.std.specs.Prelude.{◌≡◌, ◌≤◌, ◌↔◌, ◌++◌, ◌∷◌, [], length, slice_get, IsOk, IfOk, IfSome, IsNone, IsTrue, OnErr, OnOk};
+ghost use Rattle.std.specs.Prelude.{◌≡◌, ◌↔◌, ◌++◌, ◌∷◌, [], length, slice_get, IsOk, IfOk, IsTrue, OnErr, OnOk};
 
-use nq_base::{Event, NoMemory};
+use crate::kept::{KeptEvent, event_of, push};
+use nq_base::{Block, Event, Name, NoMemory};
 use std::alloc::Global;
 use std::marker::Model;
 
-/// A schedule: a list of events. Clauses see the list.
+/// A schedule: a list of events. A block that a number fills is kept as the number. Clauses see the list.
 #[derive(Drop)]
 pub struct Schedule {
-    events: Vec<Event>,
+    events: Vec<KeptEvent>,
+    names: Vec<Name>,
+    bodies: Vec<Block>,
 }
 
 impl Model for Schedule {
-    ghost use Rattle.std.specs.Prelude.{List};
+    ghost use Rattle.std.specs.Prelude.{List, map};
+    ghost use Rattle.std.specs.List.{AllByRecursion};
     ghost use Rattle.nq_base.specs.declared.Event.{Event};
+    ghost use Rattle.nq_script.specs.Kept.{event_in, IsEventIn};
 
     ghost Value = { List Event };
 
-    ghost view = { λ s. s.events.items };
+    ghost view = { λ s. map (event_in s.names.items s.bodies.items) s.events.items };
+
+    ghost invariant = { λ s. AllByRecursion (IsEventIn s.names.items s.bodies.items) s.events.items };
 }
 
 impl Schedule {
@@ -29,6 +36,8 @@ impl Schedule {
     {
         Ok(Schedule {
             events: Vec::new(alloc),
+            names: Vec::new(alloc),
+            bodies: Vec::new(alloc),
         })
     }
 
@@ -37,15 +46,7 @@ impl Schedule {
         ensures ok { OnOk result (self.new ≡ self.old ++ event ∷ []) }
         ensures err { OnErr result (self.new ≡ self.old) }
     {
-        // By cases, so that the prover meets the type of a call.
-        let pushed = match event {
-            Event::Call { host, call } => self.events.push(Event::Call { host, call }),
-            other => self.events.push(other),
-        };
-        match pushed {
-            Ok(()) => Ok(()),
-            Err(_) => Err(NoMemory::Memory),
-        }
+        push(&mut self.events, &mut self.names, &mut self.bodies, event)
     }
 
     /// How many there are.
@@ -63,10 +64,12 @@ impl Schedule {
     }
 
     /// The one at a place; None where the place is not below the length.
-    pub fn get(&self, place: usize) -> Option<&Event>
-        ensures none { IsNone result ↔ (length self.now ≤ place) }
-        ensures some { IfSome result (λ event. slice_get self.now place ≡ Some event.now) }
+    pub fn get(&self, place: usize) -> Option<Event>
+        ensures { result ≡ slice_get self.now place }
     {
-        self.events.get(place)
+        match self.events.get(place) {
+            Some(kept) => Some(event_of(&self.names, &self.bodies, *kept)),
+            None => None,
+        }
     }
 }

@@ -117,14 +117,14 @@ fn read_script(alloc: Global, text: &[u8]) -> Result<Script, ScriptFault>
 {
     let HeadOut { head, lines, bytes } = parse_head(alloc, text)?;
     let first = lines + 1;
-    let lines = read_lines(alloc, &text[bytes..], head.hosts, first)?;
+    let lines = read_lines(alloc, &text[bytes..], &head, first)?;
     Ok(Script { head, first, lines })
 }
 
 /// Reads the lines of events, of which the first has the number `first`, up to `end`, which ends the text.
-fn read_lines(alloc: Global, text: &[u8], hosts: u32, first: u32) -> Result<Lines, ScriptFault>
+fn read_lines(alloc: Global, text: &[u8], head: &Head, first: u32) -> Result<Lines, ScriptFault>
     requires { first + length text.now < 2 ^ 32 }
-    ensures { Answers result (λ lines. EndsWith hosts lines text.now) (λ number. WrongLine hosts first text.now number ⊎ WrongEnd hosts first text.now number) }
+    ensures { Answers result (λ lines. EndsWith head.now lines text.now) (λ number. WrongLine head.now first text.now number ⊎ WrongEnd head.now first text.now number) }
 {
     let mut lines = Lines::new(alloc);
     let mut rest = text;
@@ -133,7 +133,7 @@ fn read_lines(alloc: Global, text: &[u8], hosts: u32, first: u32) -> Result<Line
         let Some((line, after)) = cut(rest, b'\n') else {
             return Err(ScriptFault::Bad(number));
         };
-        let Some(read) = read_line(line, hosts) else {
+        let Some(read) = read_line(line, head) else {
             return Err(ScriptFault::Bad(number));
         };
         if read.is_end() {

@@ -2,7 +2,9 @@
 
 ghost use Rattle.std.specs.Prelude.{◌≡◌, ◌≤◌, IfSome};
 ghost use Rattle.std.specs.Option.{option_map};
-ghost use Rattle.nq_script.specs.Reading.{cut_at, number_of, digits_of, digit_on, after, number_then, two_numbers, three_numbers, ranged_of};
+ghost use Rattle.nq_script.specs.Reading.{cut_at, name_of, number_of, digits_of, digit_on, after, number_then, two_numbers, three_numbers, ranged_of};
+
+use nq_base::Name;
 
 /// The bytes before the first `at`, and those after it; None where there is none.
 pub(crate) fn cut(bytes: &[u8], at: u8) -> Option<(&[u8], &[u8])>
@@ -109,4 +111,11 @@ pub(crate) fn ranged(line: &[u8], prefix: &[u8], least: u32, most: u32) -> Optio
     let word = rest_after(line, prefix)?;
     let value = number(word, u64::from(most))? as u32;
     if value < least { None } else { Some(value) }
+}
+
+/// The name that a word spells.
+pub(crate) fn name(word: &[u8]) -> Option<Name>
+    ensures { result ≡ name_of word.now }
+{
+    Name::new(word)
 }

@@ -2,3 +2,4 @@ pub mod Showing
 pub mod Going
 pub mod Texts
 pub mod Outboxes
+pub mod Little

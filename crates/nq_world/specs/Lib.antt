@@ -3,3 +3,4 @@ pub mod Shown
 pub mod Stepping
 pub mod Running
 pub mod Sending
+pub mod Rooms

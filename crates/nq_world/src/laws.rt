@@ -1,5 +1,6 @@
 //! Worlds whose packets are bytes.
 
+ghost use Rattle.nq_world.specs.Rooms.{EventsSendLittle};
 ghost use Rattle.nq_world.specs.Running.{WorldsRun};
 ghost use Rattle.nq_world.specs.Stepping.{BytesShowTheRun};
 
@@ -11,4 +12,9 @@ pub fn bytes_show_the_run()
 /// A world that tests each event before it takes it in takes in a run of the protocol, of which the headline can be said.
 pub fn worlds_run()
     ensures { WorldsRun }
+{}
+
+/// An event of a run sends at most 64 datagrams of at most 4196 bytes.
+pub fn events_send_little()
+    ensures { EventsSendLittle }
 {}

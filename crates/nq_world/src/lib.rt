@@ -6,7 +6,7 @@ mod sending;
 mod stepped;
 mod testing;
 
-pub use laws::{bytes_show_the_run, worlds_run};
+pub use laws::{bytes_show_the_run, events_send_little, worlds_run};
 pub use sending::send;
 pub use stepped::{Limit, Stepped};
 pub use testing::{MOST_EVENTS, MOST_SENT, test};

@@ -1,6 +1,7 @@
 use Rattle.std.proofs.Common.{◌≡◌, ◌<◌, length, subst, ap, ◌∙◌, arith}
-use Rattle.std.specs.Prelude.{slice_get}
+use Rattle.std.specs.Prelude.{None, slice_get}
 use Rattle.nq_keeper.proofs.Edits.{blocks-added, counts-row, follows-row, get-index, id-at}
+use Rattle.nq_keeper.proofs.Naming.{named-at-end, named-in-place}
 use Rattle.nq_model.specs.Change.{row_of, with_file}
 use Rattle.nq_model.specs.Kept.{blocks_in_all, find_file}
 use Rattle.nq_keeper.proofs.files.put.Goals as goal
@@ -31,3 +32,13 @@ pub returns-clause-count : goal.returns-clause-count
 returns-clause-count c =
     counts-row c.args.files.now.items c.follow_at.new.files.items c.in-Some.place c.args.row.now c.row-had.result c.requires.apart (found-here c) (within-here c) (is-followed c)
     (λ f at. c.row-had.ensures ∙ ap row_of (c.index.ensures ∙ get-index c.args.files.now.items c.in-Some.place f _ at))
+
+pub returns-in_default-clause-named : goal.returns-in_default-clause-named
+returns-in_default-clause-named c =
+    named-at-end c.args.names.now.entries c.add.new.names.entries c.args.files.now.items c.add.new.files.items c.args.row.now c.requires.named c.requires.among
+    (subst (λ xs. find_file c.args.row.now.id xs ≡ None) c.as_slice.ensures.value c.in_default.ensures.none)
+    c.in_ok-add.ensures.named c.in_ok-add.ensures.ok
+
+pub returns-clause-named : goal.returns-clause-named
+returns-clause-named c =
+    named-in-place c.args.names.now.entries c.args.files.now.items c.follow_at.new.files.items c.in-Some.place c.args.row.now c.requires.apart c.requires.named c.requires.among (found-here c) (within-here c) (is-followed c)

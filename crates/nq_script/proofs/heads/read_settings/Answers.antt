@@ -1,52 +1,67 @@
-use Rattle.std.proofs.Common.{◌∙◌, ◌∷◌, [], sym, subst}
-use Rattle.std.proofs.lemmas.Bool.{both_ways, not-true, not-false}
+use Rattle.std.proofs.Common.{◌≡◌, ◌≤◌, ◌∙◌, ◌∷◌, ◌++◌, [], sym, subst, codes}
+use Rattle.std.specs.Fmt.{decimal}
 use Rattle.std.proofs.lemmas.Result.{err_from_is_err_and}
-use Rattle.std.proofs.lemmas.Slice.Eq.{bytes_eq-Decides}
-use Rattle.std.specs.Str.{bytes_eq}
-use Rattle.nq_script.specs.Heads.{version_line, hosts_line, term_line}
+use Rattle.nq_script.specs.Heads.{version_line, hosts_line, term_line, longest_lines}
+use Rattle.nq_script.specs.Progress.{NoNumber}
 use Rattle.nq_script.specs.Schedule.{FirstBadHeadLine}
-use Rattle.nq_script.proofs.FileLines.{no-line, one-line, text-first, text-behind}
-use Rattle.nq_script.proofs.HeadLines.{wrong-version, wrong-hosts, wrong-term}
+use Rattle.nq_script.specs.Text.{text_of}
+use Rattle.nq_script.proofs.FileLines.{text-behind}
+use Rattle.nq_script.proofs.HeadLines.{known-version, are-settings, wrong-version, wrong-hosts, wrong-term, wrong-longest}
 use Rattle.nq_script.proofs.Passing.{passed}
 use Rattle.nq_script.proofs.heads.read_settings.Goals as goal
 
-pub returns-in_default : goal.returns-in_default
-returns-in_default c =
-    wrong-version c.args.text.now (λ line after split lacks spelled. no-line c.args.text.now line after (sym c.in_default.ensures) split lacks)
-
-pub returns-then-ne : goal.returns-then-ne
-returns-then-ne c =
-    wrong-version c.args.text.now (λ line after split lacks spelled.
-    let first = (one-line c.args.text.now c.in-Some.line.now c.in-Some.rest.now line after (sym c.in-Some.ensures) split lacks).0 in
-    both_ways (bytes_eq c.in-Some.line.now version_line) (not-true _ (sym c.ne.ensures ∙ c.if-ne.true))
-    ((bytes_eq-Decides c.in-Some.line.now version_line).1 (first ∙ spelled)))
+pub returns-in_err-version : goal.returns-in_err-version
+returns-in_err-version c =
+    passed c.from_residual.result _ _ _ _ (err_from_is_err_and c.from_residual.result c.from_residual.ensures.1) c.in_err-version.ensures
+    (λ place said. subst (FirstBadHeadLine c.args.text.now) (sym said.0) (wrong-version c.args.text.now said.1))
 
 pub returns-in_err-hosts : goal.returns-in_err-hosts
 returns-in_err-hosts c =
-    let split = text-first c.args.text.now c.in-Some.line.now c.in-Some.rest.now version_line (sym c.in-Some.ensures)
-    ((bytes_eq-Decides c.in-Some.line.now version_line).0 (not-false _ (sym c.ne.ensures ∙ c.if-ne.false))) in
-    passed c.from_residual.result _ _ _ _ (err_from_is_err_and c.from_residual.result c.from_residual.ensures.1) c.in_err-hosts.ensures
-    (λ place said. subst (FirstBadHeadLine c.args.text.now) (sym said.0) (wrong-hosts c.args.text.now c.in-Some.rest.now split said.1))
+    let version = c.in_ok-version.ensures in
+    passed c.from_residual-in_err-hosts.result _ _ _ _ (err_from_is_err_and c.from_residual-in_err-hosts.result c.from_residual-in_err-hosts.ensures.1)
+    c.in_err-hosts.ensures
+    (λ place said. subst (FirstBadHeadLine c.args.text.now) (sym said.0)
+    (wrong-hosts c.args.text.now c.in_ok-version.rest.now c.in_ok-version.version (known-version _ version.0 version.1) version.2 said.1))
 
 pub returns-in_err-term : goal.returns-in_err-term
 returns-in_err-term c =
-    let split = text-first c.args.text.now c.in-Some.line.now c.in-Some.rest.now version_line (sym c.in-Some.ensures)
-    ((bytes_eq-Decides c.in-Some.line.now version_line).0 (not-false _ (sym c.ne.ensures ∙ c.if-ne.false))) in
+    let version = c.in_ok-version.ensures in
     let hosts = c.in_ok-hosts.ensures in
-    let both = text-behind c.args.text.now (version_line ∷ []) (hosts_line c.in_ok-hosts.hosts ∷ []) c.in-Some.rest.now c.in_ok-hosts.rest.now split hosts.2 in
+    let both = text-behind c.args.text.now (version_line c.in_ok-version.version ∷ []) (hosts_line c.in_ok-hosts.hosts ∷ []) c.in_ok-version.rest.now
+    c.in_ok-hosts.rest.now version.2 hosts.2 in
     passed c.from_residual-in_err-term.result _ _ _ _ (err_from_is_err_and c.from_residual-in_err-term.result c.from_residual-in_err-term.ensures.1)
     c.in_err-term.ensures
     (λ place said. subst (FirstBadHeadLine c.args.text.now) (sym said.0)
-    (wrong-term c.args.text.now c.in_ok-hosts.rest.now c.in_ok-hosts.hosts hosts.0 hosts.1 both said.1))
+    (wrong-term c.args.text.now c.in_ok-hosts.rest.now c.in_ok-version.version c.in_ok-hosts.hosts (known-version _ version.0 version.1) hosts.0 hosts.1 both
+    (subst (λ most. NoNumber (codes "term ") 5 most c.in_ok-hosts.rest.now) c.most_term.ensures said.1)))
+
+pub returns-in_err-longest : goal.returns-in_err-longest
+returns-in_err-longest c =
+    let version = c.in_ok-version.ensures in
+    let hosts = c.in_ok-hosts.ensures in
+    let term = c.in_ok-term.ensures in
+    let both = text-behind c.args.text.now (version_line c.in_ok-version.version ∷ []) (hosts_line c.in_ok-hosts.hosts ∷ []) c.in_ok-version.rest.now
+    c.in_ok-hosts.rest.now version.2 hosts.2 in
+    let all = text-behind c.args.text.now (version_line c.in_ok-version.version ∷ hosts_line c.in_ok-hosts.hosts ∷ []) (term_line c.in_ok-term.term ∷ [])
+    c.in_ok-hosts.rest.now c.in_ok-term.rest.now both term.2 in
+    passed c.from_residual-in_err-longest.result _ _ _ _
+    (err_from_is_err_and c.from_residual-in_err-longest.result c.from_residual-in_err-longest.ensures.1) c.in_err-longest.ensures
+    (λ place said. subst (FirstBadHeadLine c.args.text.now) (sym said.0)
+    (wrong-longest c.args.text.now c.in_ok-term.rest.now c.in_ok-version.version c.in_ok-hosts.hosts c.in_ok-term.term (known-version _ version.0 version.1)
+    hosts.0 hosts.1 term.0 (subst (λ most. c.in_ok-term.term ≤ most) c.most_term.ensures term.1) said.1 all said.2))
 
 pub returns : goal.returns
 returns c =
-    let split = text-first c.args.text.now c.in-Some.line.now c.in-Some.rest.now version_line (sym c.in-Some.ensures)
-    ((bytes_eq-Decides c.in-Some.line.now version_line).0 (not-false _ (sym c.ne.ensures ∙ c.if-ne.false))) in
+    let version = c.in_ok-version.ensures in
     let hosts = c.in_ok-hosts.ensures in
     let term = c.in_ok-term.ensures in
-    let both = text-behind c.args.text.now (version_line ∷ []) (hosts_line c.in_ok-hosts.hosts ∷ []) c.in-Some.rest.now c.in_ok-hosts.rest.now split hosts.2 in (
-      (hosts.0, hosts.1, term.0, term.1),
-      text-behind c.args.text.now (version_line ∷ hosts_line c.in_ok-hosts.hosts ∷ []) (term_line c.in_ok-term.term ∷ []) c.in_ok-hosts.rest.now
-          c.in_ok-term.rest.now both term.2,
+    let longest = c.in_ok-longest.ensures in
+    let both = text-behind c.args.text.now (version_line c.in_ok-version.version ∷ []) (hosts_line c.in_ok-hosts.hosts ∷ []) c.in_ok-version.rest.now
+    c.in_ok-hosts.rest.now version.2 hosts.2 in
+    let all = text-behind c.args.text.now (version_line c.in_ok-version.version ∷ hosts_line c.in_ok-hosts.hosts ∷ []) (term_line c.in_ok-term.term ∷ [])
+    c.in_ok-hosts.rest.now c.in_ok-term.rest.now both term.2 in (
+      are-settings c.in_ok-version.version c.in_ok-hosts.hosts c.in_ok-term.term c.in_ok-longest.longest (known-version _ version.0 version.1) hosts.0
+          hosts.1 term.0 (subst (λ most. c.in_ok-term.term ≤ most) c.most_term.ensures term.1) longest.0,
+      text-behind c.args.text.now (version_line c.in_ok-version.version ∷ hosts_line c.in_ok-hosts.hosts ∷ term_line c.in_ok-term.term ∷ [])
+          (longest_lines c.in_ok-version.version c.in_ok-longest.longest) c.in_ok-term.rest.now c.in_ok-longest.rest.now all longest.1,
     )

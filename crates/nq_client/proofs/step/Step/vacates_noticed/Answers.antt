@@ -1,0 +1,17 @@
+use Rattle.std.proofs.Common.{IsTrue, sym, subst, ◌∙◌}
+use Rattle.nq_client.specs.Step.{step_of}
+use Rattle.nq_client.proofs.NoticeList.{of-file}
+use Rattle.nq_client.proofs.Vacated.{vacated-taken}
+use Rattle.nq_model.specs.Client.{is_clean_in}
+use Rattle.nq_client.proofs.step.Step.vacates_noticed.Goals as goal
+
+pub vacates_lease-requires-clause-clean : goal.vacates_lease-requires-clause-clean
+vacates_lease-requires-clause-clean c =
+    subst (λ f. IsTrue (is_clean_in f c.args.self.now.state.dirty.dirty c.args.self.now.state.dirty.push))
+    (sym (of-file c.args.file c.args.self.now.state.notices.items c.in-Some.notice (sym c.take.ensures.found ∙ c.in-Some.is)))
+    c.requires.clean
+
+pub returns-in-Some : goal.returns-in-Some
+returns-in-Some c =
+    c.vacates_lease.ensures
+    ∙ vacated-taken (step_of c.args.self.now) c.args.file c.in-Some.notice c.take.new.self.items (sym c.in-Some.is ∙ c.take.ensures.found) c.take.ensures.items

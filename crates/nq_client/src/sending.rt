@@ -1,0 +1,119 @@
+//! Requests: each takes the next number, and is under way from then on.
+
+ghost use Rattle.std.specs.Prelude.{◌≡◌, ◌+◌, ◌<◌, ◌^◌, Some, None, true, false, is_some, IsTrue};
+ghost use Rattle.nq_base.specs.declared.Request.{Request};
+ghost use Rattle.nq_model.specs.Client.{pushing, revision_of, revision_or_zero};
+ghost use Rattle.nq_model.specs.Send.{after_seq, base_in, boot_of, pushes, sends_request};
+ghost use Rattle.nq_wire.specs.Request.{HasSpelling};
+ghost use Rattle.nq_held.specs.Leases.{lease_of};
+ghost use Rattle.nq_client.specs.Asked.{job_of};
+ghost use Rattle.nq_client.specs.Step.{HasNumbers, step_of};
+
+use crate::asked::{Asked, Job};
+use crate::leases::Leases;
+use crate::step::Step;
+use nq_base::{FileId, Push, PushBase, Request, Rev, Seq};
+use nq_cache::Cache;
+use nq_held::Held;
+
+/// The boot of the lease under which writes are delayed.
+fn boot_of(held: &Held) -> u32
+    ensures { result ≡ boot_of (lease_of held.now) }
+{
+    match held {
+        Held::Nothing => 0,
+        Held::NonCaching(lease) | Held::Reading(lease) | Held::Writing(lease) => lease.tag.boot,
+    }
+}
+
+/// What a push of a file rests on.
+fn base_of(leases: &Leases, cache: &Cache, file: FileId) -> PushBase
+    ensures { result ≡ base_in file leases.now.items cache.now.revisions }
+{
+    PushBase {
+        boot: boot_of(&leases.on(file)),
+        base: revision(cache, file),
+    }
+}
+
+/// The known revision of a file, or 0.
+fn revision(cache: &Cache, file: FileId) -> Rev
+    ensures { result ≡ revision_or_zero (revision_of file cache.now.revisions) }
+{
+    match cache.rev(file) {
+        Some(rev) => rev,
+        None => Rev(0),
+    }
+}
+
+#[tactic(auto, unfolding(nq_model::specs::Send::sends_request, nq_model::specs::Send::after_seq, nq_model::specs::Send::takes_push))]
+impl Step {
+    /// Sends a request. It takes no memory.
+    pub(crate) fn sends_request(&mut self, job: Job, request: Request)
+        requires idle { self.old.state.asked ≡ None }
+        requires time { self.old.state.time < 2 ^ 62 }
+        requires xid { self.old.state.xid + 1 < 2 ^ 32 }
+        requires spelled { HasSpelling request }
+        ensures step { step_of self.new ≡ sends_request (step_of self.old) (job_of job) request }
+        ensures sent { is_some self.new.state.asked ≡ true }
+    {
+        let xid = self.state.xid;
+        let asked = Asked::new(self.state.alloc, xid, self.state.time, request, job);
+        self.state.xid = xid + 1;
+        self.asks = true;
+        match self.state.asked.replace(asked) {
+            Some(old) => old.spent(),
+            None => {}
+        }
+    }
+
+    /// Pushes the first delayed writes of a file, and says whether it has some.
+    pub(crate) fn pushes(&mut self, file: FileId) -> bool
+        requires idle { self.old.state.asked ≡ None }
+        requires none { self.old.state.dirty.push ≡ None }
+        requires numbers { HasNumbers 1 self.old.state }
+        ensures step { step_of self.new ≡ pushes (step_of self.old) file }
+        ensures sent { IsTrue result → is_some self.new.state.asked ≡ true }
+        ensures quiet { result ≡ false → self.new ≡ self.old }
+    {
+        match self.state.dirty.next(file) {
+            Some(push) => {
+                self.sends_push(push);
+                true
+            }
+            None => false,
+        }
+    }
+
+    /// Sends delayed writes that are under way.
+    fn sends_push(&mut self, push: Push)
+        requires idle { self.old.state.asked ≡ None }
+        requires numbers { HasNumbers 1 self.old.state }
+        ensures step { step_of self.new ≡ sends_request (after_seq (step_of self.old)) pushing (Request.Write self.old.state.who self.old.state.seq push.file push.block push.first push.last (Some (base_in push.file self.old.state.leases.items self.old.state.cache.revisions)) push.body) }
+        ensures sent { is_some self.new.state.asked ≡ true }
+    {
+        let base = base_of(&self.state.leases, &self.state.cache, push.file);
+        let Push {
+            file,
+            block,
+            first,
+            last,
+            body,
+        } = push;
+        let seq = self.state.seq;
+        self.state.seq = Seq(seq.0 + 1);
+        self.sends_request(
+            Job::Pushing,
+            Request::Write {
+                who: self.state.who,
+                seq,
+                file,
+                block,
+                first,
+                last,
+                push: Some(base),
+                body,
+            },
+        );
+    }
+}

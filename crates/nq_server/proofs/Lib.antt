@@ -1,0 +1,4 @@
+pub mod TickedRows
+pub mod Ticked
+pub mod Booted
+pub mod Served

@@ -1,0 +1,68 @@
+-- How an event was taken, as those who sent it are told.
+use Rattle.std.proofs.Common.{◌≡◌, ◌+◌, ℕ, ◌++◌, Option, Result, Ok, Err, sym, ap, subst, ◌∙◌}
+use Rattle.std.specs.Prelude.{reverse}
+use Rattle.nq_journal.specs.Items.{EntryList}
+use Rattle.nq_model.specs.Kept.{Kept}
+use Rattle.nq_model.specs.Server.{ServerStep}
+use Rattle.nq_server.specs.declared.received.Halt.{Halt}
+use Rattle.nq_server.specs.declared.received.Halt.TheVariants.{Fault, Memory}
+use Rattle.nq_server.specs.declared.received.Received.{Received}
+use Rattle.nq_server.specs.declared.received.Received.TheVariants.{Spent}
+use Rattle.nq_server.specs.declared.received.Taken.{Taken}
+use Rattle.nq_server.specs.declared.received.Taken.TheVariants.{Done, Dropped}
+use Rattle.nq_server.specs.Holding.{Holding, IsTaken}
+use Rattle.nq_server.specs.State.{Beside}
+use Rattle.nq_server.specs.Stepping.{Takes, done_of, halted_of}
+use Rattle.nq_wire.specs.Outbox.{Datagrams}
+
+module _ {K : Type 0} (step : Kept → ServerStep) (told tells : Option Kept) (before count : ℕ) (old new : Holding K) (out out' : Datagrams) (log log' : EntryList) where
+  -- it was taken in
+  pub is-taken : (how : Taken) → new.taken ≡ old.taken + 1 → Takes step (Ok how) told tells before count old.beside new.beside out out' log log' → IsTaken step (done_of how) told tells before count old new out out' log log'
+  is-taken Done counted h =
+      (λ kept e within. let m = h.0 kept e within in record { outcome = m.0; makes = m.1 }, h.1, counted)
+  is-taken (Dropped reason) counted h =
+      (λ kept e within. let m = h.0 kept e within in record { outcome = m.0; makes = m.1 }, h.1, counted)
+
+  -- or it was not
+  pub is-not-taken : (why : Halt) → new.taken ≡ old.taken → Takes step (Err why) told tells before count old.beside new.beside out out' log log' → IsTaken step (halted_of why) told tells before count old new out out' log log'
+  is-not-taken Fault same h =
+      (h.0, h.1, record { untouched = record { beside = h.2; taken = same }; silent = h.3 })
+  is-not-taken Memory same h =
+      (h.0, h.1, record { untouched = record { beside = h.2; taken = same }; silent = h.3 })
+
+-- nothing that a step answers is spent
+pub done-is-not-spent : (how : Taken) → done_of how ≡ Spent → ⊥
+done-is-not-spent Done e = cc
+done-is-not-spent (Dropped reason) e = cc
+
+pub halted-is-not-spent : (why : Halt) → halted_of why ≡ Spent → ⊥
+halted-is-not-spent Fault e = cc
+halted-is-not-spent Memory e = cc
+
+-- what is held is as before where nothing was taken in
+pub stays-held : (why : Halt) (step : Kept → ServerStep) (told tells : Option Kept) (before count : ℕ) {K : Type 0} (old new : Holding K) (out out' : Datagrams) (log log' : EntryList) → Takes step (Err why) told tells before count old.beside new.beside out out' log log' → new.beside ≡ old.beside
+stays-held Fault step told tells before count old new out out' log log' h = h.2
+stays-held Memory step told tells before count old new out out' log log' h = h.2
+
+-- the journal had room made in it first
+pub relog : (step : Kept → ServerStep) (r : Result Taken Halt) (told tells : Option Kept) (before count : ℕ) (held after : Beside) (out out' : Datagrams) (log room log' : EntryList) → room.entries ≡ log.entries → Takes step r told tells before count held after out out' room log' → Takes step r told tells before count held after out out' log log'
+relog step (Ok how) told tells before count held after out out' log room log' same h = (
+  λ kept e within.
+      let m = h.0 kept e within in
+      (m.0, record { keeps = m.1.keeps; holds = m.1.holds; sends = m.1.sends; enters = m.1.enters ∙ ap (λ x. x ++ reverse (step kept).entries) same }),
+  h.1,
+)
+relog step (Err Fault) told tells before count held after out out' log room log' same h =
+    (h.0, h.1, h.2, record { first = h.3.first; datagrams = h.3.datagrams; entries = h.3.entries ∙ same })
+relog step (Err Memory) told tells before count held after out out' log room log' same h =
+    (h.0, h.1, h.2, record { first = h.3.first; datagrams = h.3.datagrams; entries = h.3.entries ∙ same })
+
+module _ {K : Type 0} (step : Kept → ServerStep) (told tells : Option Kept) (before count : ℕ) (old new : Holding K) (out out' : Datagrams) (log log' : EntryList) (answer : Received) where
+  -- so it is said
+  pub is-said-taken : (how : Taken) → answer ≡ done_of how → new.taken ≡ old.taken + 1 → Takes step (Ok how) told tells before count old.beside new.beside out out' log log' → IsTaken step answer told tells before count old new out out' log log'
+  is-said-taken how said counted h =
+      subst (λ r. IsTaken step r told tells before count old new out out' log log') (sym said) (is-taken step told tells before count old new out out' log log' how counted h)
+
+  pub is-said-not-taken : (why : Halt) → answer ≡ halted_of why → new.taken ≡ old.taken → Takes step (Err why) told tells before count old.beside new.beside out out' log log' → IsTaken step answer told tells before count old new out out' log log'
+  is-said-not-taken why said same h =
+      subst (λ r. IsTaken step r told tells before count old new out out' log log') (sym said) (is-not-taken step told tells before count old new out out' log log' why same h)

@@ -1,0 +1,187 @@
+-- What a tick does is the protocol's step.
+use Rattle.std.proofs.Common.{◌≡◌, ◌⊎◌, ◌<◌, ◌≤◌, ℕ, Bool, true, false, List, [], ◌∷◌, ◌++◌, Option, Some, None, Ok, Err, if◌then◌else◌, refl, sym, ◌∙◌, ap, subst, arith, append-nil, inl, inr}
+use Rattle.std.specs.Prelude.{nat_le, reverse}
+use Rattle.std.specs.List.{find}
+use Rattle.std.specs.Option.{option_map}
+use Rattle.std.proofs.lemmas.Bool.Decides.{nat_tests}
+use Rattle.nq_base.specs.declared.Entry.{Entry}
+use Rattle.nq_base.specs.declared.Row.{Row}
+use Rattle.nq_base.specs.declared.RowKey.{RowKey}
+use Rattle.nq_boot.specs.Booting.{ended_at, opened_by}
+use Rattle.nq_boot.specs.Recovery.{Recovery}
+use Rattle.nq_expire.specs.Ending.{fenced}
+use Rattle.nq_expire.specs.declared.Fence.{Fence}
+use Rattle.nq_journal.specs.Items.{EntryList}
+use Rattle.nq_keeper.specs.declared.KeepFault.{KeepFault}
+use Rattle.nq_keeper.specs.declared.KeepFault.TheVariants.{Failed, Memory}
+use Rattle.nq_lease.specs.Rows.{key_of}
+use Rattle.nq_model.specs.Kept.{Kept}
+use Rattle.nq_model.specs.Server.{serving, recovering, ServerStep, taken, quiet, with_table, keeping_with}
+use Rattle.nq_model.specs.ServerStep.{is_due, end_reading, end_writing, ends_writing, fence, opens, at_time, tick, tick_in}
+use Rattle.nq_model.specs.Table.{Table, drop_row, with_rows}
+use Rattle.nq_server.specs.declared.received.Taken.TheVariants.{Done}
+use Rattle.nq_server.specs.declared.ticks.Opened.{Opened}
+use Rattle.nq_server.specs.declared.state.Phase.{Phase as Held}
+use Rattle.nq_server.specs.declared.state.Phase.TheVariants as held
+use Rattle.nq_server.specs.Sound.{IsOfBoot, RowsRun}
+use Rattle.nq_server.specs.State.{Beside, server_of, phase_of}
+use Rattle.nq_server.specs.Stepping.{Takes, Makes, outcome_of}
+use Rattle.nq_server.specs.Ticking.{EndsRow, EndsFirst, OpensAt, at_tick, at_tick_opened, ended, fence_entries, opened_entries, halt_of}
+use Rattle.nq_server.proofs.TickedRows.{due-after-reading, filters-commute, run-later, some-run}
+use Rattle.nq_wire.specs.Outbox.{Datagrams}
+
+-- a step that sends nothing
+abbrev made : Beside → Kept → List Entry → ServerStep
+made s kept entries = record { server = server_of s kept; sends = []; entries = entries; outcome = taken }
+
+-- a tick while the server serves and no writing row is due
+quiet-tick : (s : Beside) (kept : Kept) (now : ℕ) → s.phase ≡ serving → find (is_due now) s.table.rows ≡ None → tick (server_of s kept) now ≡ made (at_tick s (with_rows s.table (end_reading now s.table.rows)) now) kept []
+unfolding at_time quiet with_table
+quiet-tick s kept now is none =
+    ap (λ p. tick_in (at_time (server_of s kept) now) p) is ∙ ap (λ o. end_writing (at_time (server_of s kept) now) (end_reading now s.table.rows) o) (due-after-reading now s.table.rows ∙ none)
+
+-- and where this row is due
+fenced-tick : (s : Beside) (kept : Kept) (now : ℕ) (row : Row) → s.phase ≡ serving → find (is_due now) s.table.rows ≡ Some row → tick (server_of s kept) now ≡ made (at_tick s (with_rows s.table (drop_row row.file row.who.host (end_reading now s.table.rows))) now) (fenced row.file kept) (Entry.F row.who row.file row.until row.heard now ∷ [])
+unfolding at_time ends_writing keeping_with
+fenced-tick s kept now row is due =
+    ap (λ p. tick_in (at_time (server_of s kept) now) p) is ∙ ap (λ o. end_writing (at_time (server_of s kept) now) (end_reading now s.table.rows) o) (due-after-reading now s.table.rows ∙ due)
+
+-- a step that sends nothing was made
+makes : (out : Datagrams) (s : Beside) (kept : Kept) (entries : List Entry) (tells : Option Kept) (after : Beside) (log log' : EntryList) (step : ServerStep) → step ≡ made s kept entries → tells ≡ Some kept → after ≡ s → log'.entries ≡ log.entries ++ reverse entries → (step.outcome ≡ outcome_of Done) × Makes step tells after out out log log'
+makes out s kept entries tells after log log' step is keeps holds enters =
+    subst
+    (λ x. (x.outcome ≡ outcome_of Done) × Makes x tells after out out log log')
+    (sym is)
+    (refl, record { keeps = keeps; holds = holds; sends = record { first = refl; added = sym (append-nil _) }; enters = enters })
+
+-- rows that ended one by one
+both-ended : (table : Table) (now file host : ℕ) → with_rows (with_rows table (drop_row file host table.rows)) (end_reading now (with_rows table (drop_row file host table.rows)).rows) ≡ with_rows table (drop_row file host (end_reading now table.rows))
+unfolding with_rows
+both-ended table now file host = ap (λ rows. record table { rows = rows }) (filters-commute _ _ table.rows)
+
+-- leases ended while the server serves
+pub takes-ends : (s after : Beside) (now : ℕ) (fence : Option Fence) (table : Table) (told tells : Option Kept) (before count : ℕ) (log log' : EntryList) → s.phase ≡ serving → EndsRow now (find (is_due now) s.table.rows) fence s.table table told tells → count ≡ before → after ≡ at_tick s (with_rows table (end_reading now table.rows)) now → log'.entries ≡ log.entries ++ reverse (fence_entries fence) → (out : Datagrams) → Takes (λ kept. tick (server_of s kept) now) (Ok Done) told tells before count s after out out log log'
+takes-ends s after now fence table told tells before count log log' is ends same holds enters out =
+    by (find (is_due now) s.table.rows) fence refl ends enters
+  where
+    by : (o : Option Row) (f : Option Fence) → find (is_due now) s.table.rows ≡ o → EndsRow now o f s.table table told tells → log'.entries ≡ log.entries ++ reverse (fence_entries f) → Takes (λ kept. tick (server_of s kept) now) (Ok Done) told tells before count s after out out log log'
+    by None None due h entries = (
+      λ kept e within.
+          makes out _ kept [] tells after log log' _ (quiet-tick s kept now is due) (h.1 ∙ e) (holds ∙ ap (λ t. at_tick s (with_rows t (end_reading now t.rows)) now) h.0) entries,
+      same,
+    )
+    by (Some row) (Some f) due h entries = (
+      λ kept e within.
+          makes out _ (fenced row.file kept) _ tells after log log' _ (fenced-tick s kept now row is due) (h.2 kept e within) (holds ∙ ap (λ t. at_tick s (with_rows t (end_reading now t.rows)) now) h.1 ∙ ap (λ t. at_tick s t now) (both-ended s.table now row.file row.who.host)) (entries ∙ ap (λ x. log.entries ++ reverse (fence_entries (Some x))) h.0),
+      same,
+    )
+    by None (Some f) due h entries = absurd h
+    by (Some row) None due h entries = absurd h
+
+-- nothing changed at a fault
+pub takes-no-end : (s after : Beside) (now : ℕ) (due : Option Row) (fault : KeepFault) (table : Table) (told tells : Option Kept) (before count : ℕ) (log : EntryList) → EndsFirst now due (Err fault) s.table table told tells before count → after ≡ at_tick s table s.time → (step : Kept → ServerStep) (out : Datagrams) → Takes step (Err (halt_of fault)) told tells before count s after out out log log
+takes-no-end s after now due Failed table told tells before count log h holds step out =
+    (h.1, h.2, holds ∙ ap (λ t. at_tick s t s.time) h.0, record { first = refl; datagrams = refl; entries = refl })
+takes-no-end s after now due Memory table told tells before count log h holds step out =
+    (h.1, h.2, holds ∙ ap (λ t. at_tick s t s.time) h.0, record { first = refl; datagrams = refl; entries = refl })
+
+-- what is kept after a tick while the server serves
+pub kept-ended : (s : Beside) (kept : Kept) (now : ℕ) → s.phase ≡ serving → (tick (server_of s kept) now).server.kept ≡ ended (find (is_due now) s.table.rows) kept
+kept-ended s kept now is = by (find (is_due now) s.table.rows) refl
+  where
+    by : (o : Option Row) → find (is_due now) s.table.rows ≡ o → (tick (server_of s kept) now).server.kept ≡ ended o kept
+    by None due = ap (λ x. x.server.kept) (quiet-tick s kept now is due)
+    by (Some row) due = ap (λ x. x.server.kept) (fenced-tick s kept now row is due)
+
+-- the row that is due by a key
+pub ended-by : (key : RowKey) (o : Option Row) (kept : Kept) → Some key ≡ option_map key_of o → fenced key.file kept ≡ ended o kept
+ended-by key None kept e = absurd (cc)
+ended-by key (Some row) kept e = let same : key ≡ key_of row = cc in ap (λ k. fenced k.file kept) same
+
+-- what a stop leaves, told in other words
+pub or-as : (found : Option Kept) (kept after other : Kept) → after ≡ other → (found ≡ Some kept) ⊎ (found ≡ Some after) → (found ≡ Some kept) ⊎ (found ≡ Some other)
+or-as found kept after other same (inl h) = inl h
+or-as found kept after other same (inr h) = inr (h ∙ ap (λ k. Some k) same)
+
+-- the rows that are left run
+pub runs-on : (time now : ℕ) (o : Option Row) (f : Option Fence) (table between after : Table) (told tells : Option Kept) → time ≤ now → EndsRow now o f table between told tells → after ≡ with_rows between (end_reading now between.rows) → RowsRun time table.rows → RowsRun now after.rows
+unfolding with_rows
+runs-on time now o f table between after told tells later ends same run =
+    subst (λ rows. RowsRun now rows) (sym (ap (λ t. t.rows) same)) (run-later time now between.rows later (by o f ends))
+  where
+    by : (p : Option Row) (g : Option Fence) → EndsRow now p g table between told tells → RowsRun time between.rows
+    by None None h = subst (λ t. RowsRun time t.rows) (sym h.0) run
+    by (Some row) (Some g) h = subst (λ t. RowsRun time t.rows) (sym h.1) (some-run time _ table.rows run)
+    by None (Some g) h = absurd h
+    by (Some row) None h = absurd h
+
+-- and no tag was drawn
+pub draws-none : (now : ℕ) (o : Option Row) (f : Option Fence) (table between after : Table) (told tells : Option Kept) → EndsRow now o f table between told tells → after ≡ with_rows between (end_reading now between.rows) → after.drawn ≡ table.drawn
+unfolding with_rows
+draws-none now None None table between after told tells h same = ap (λ t. t.drawn) same ∙ ap (λ t. t.drawn) h.0
+draws-none now (Some row) (Some f) table between after told tells h same =
+    ap (λ t. t.drawn) same ∙ ap (λ t. t.drawn) h.1
+draws-none now None (Some f) table between after told tells h same = absurd h
+draws-none now (Some row) None table between after told tells h same = absurd h
+
+-- a boot that serves needs no more
+pub serves-of-boot : (longest : ℕ) (phase : Held) (rows : List Row) → phase_of phase ≡ serving → IsOfBoot longest phase rows
+serves-of-boot longest (held.Serving number) rows is = tt
+serves-of-boot longest (held.Recovering recovery last) rows is = absurd (cc)
+
+-- one that recovers has its longest term, and no row
+pub of-recovering : (longest : ℕ) (phase : Held) (recovery : Recovery) (last : Option Table) (rows : List Row) → phase ≡ held.Recovering recovery last → IsOfBoot longest phase rows → (recovery.longest ≡ longest) × (rows ≡ [])
+of-recovering longest phase recovery last rows is h = subst (λ p. IsOfBoot longest p rows) is h
+
+-- ---- while the server recovers
+
+reached : (until now : ℕ) → until ≤ now → nat_le until now ≡ true
+reached until now h = grind (arith, nat_tests)
+
+not-reached : (until now : ℕ) → now < until → nat_le until now ≡ false
+not-reached until now h = grind (arith, nat_tests)
+
+is-reached : (until now : ℕ) → nat_le until now ≡ true → until ≤ now
+is-reached until now h = grind (arith, nat_tests)
+
+is-not-reached : (until now : ℕ) → nat_le until now ≡ false → now < until
+is-not-reached until now h = grind (arith, nat_tests)
+
+module _ (s : Beside) (r : Recovery) (last : Option Table) (is : s.phase ≡ recovering r.until r.heard last) (longest : r.longest ≡ s.longest) where
+  -- a tick at which the recovery has to wait
+  wait-tick : (kept : Kept) (now : ℕ) → now < r.until → tick (server_of s kept) now ≡ made (at_tick s s.table now) kept []
+  unfolding at_time quiet
+  wait-tick kept now h =
+      ap (λ p. tick_in (at_time (server_of s kept) now) p) is ∙ ap (λ b. if b then opens (at_time (server_of s kept) now) r.until r.heard else quiet (at_time (server_of s kept) now)) (not-reached r.until now h)
+
+  -- and one at which it ends
+  open-tick : (kept : Kept) (now : ℕ) → r.until ≤ now → tick (server_of s kept) now ≡ made (record { phase = serving; table = s.table; longest = s.longest; notice = s.notice; time = now }) (opened_by kept r.longest) (Entry.O kept.boot r.until r.heard now ∷ [])
+  unfolding at_time opens opened_by
+  open-tick kept now h =
+      ap (λ p. tick_in (at_time (server_of s kept) now) p) is ∙ ap (λ b. if b then opens (at_time (server_of s kept) now) r.until r.heard else quiet (at_time (server_of s kept) now)) (reached r.until now h) ∙ ap (λ n. made (record { phase = serving; table = s.table; longest = s.longest; notice = s.notice; time = now }) (record kept { opened = kept.boot; longest = n }) (Entry.O kept.boot r.until r.heard now ∷ [])) (sym longest)
+
+  -- what is kept after it
+  pub kept-opened : (kept : Kept) (now : ℕ) → (tick (server_of s kept) now).server.kept ≡ ended_at r now kept
+  kept-opened kept now = by (nat_le r.until now) refl
+    where
+      by : (b : Bool) → nat_le r.until now ≡ b → (tick (server_of s kept) now).server.kept ≡ (if b then opened_by kept r.longest else kept)
+      by true e = ap (λ x. x.server.kept) (open-tick kept now (is-reached r.until now e))
+      by false e = ap (λ x. x.server.kept) (wait-tick kept now (is-not-reached r.until now e))
+
+  -- the recovery ended, or waits
+  pub takes-opens : (after : Beside) (now : ℕ) (opened : Option Opened) (told tells : Option Kept) (before count : ℕ) (log log' : EntryList) → OpensAt r now (Ok opened) told tells before count → after ≡ at_tick_opened s opened now → log'.entries ≡ log.entries ++ reverse (opened_entries opened) → (out : Datagrams) → Takes (λ kept. tick (server_of s kept) now) (Ok Done) told tells before count s after out out log log'
+  takes-opens after now None told tells before count log log' h holds enters out =
+      (λ kept e within. makes out _ kept [] tells after log log' _ (wait-tick kept now h.0) (h.1 ∙ e) holds enters, h.2)
+  takes-opens after now (Some o) told tells before count log log' h holds enters out = (
+    λ kept e within.
+        let said = h.1 kept e in
+        makes out _ (opened_by kept r.longest) _ tells after log log' _ (open-tick kept now h.0) said.0 holds (enters ∙ ap (λ x. log.entries ++ reverse (x ∷ [])) said.1),
+    h.2,
+  )
+
+  -- nothing changed at a fault
+  pub takes-no-opening : (now : ℕ) (fault : KeepFault) (told tells : Option Kept) (before count : ℕ) (log : EntryList) → OpensAt r now (Err fault) told tells before count → (step : Kept → ServerStep) (out : Datagrams) → Takes step (Err (halt_of fault)) told tells before count s s out out log log
+  takes-no-opening now Failed told tells before count log h step out =
+      (h.0, h.1, refl, record { first = refl; datagrams = refl; entries = refl })
+  takes-no-opening now Memory told tells before count log h step out =
+      (h.0, h.1, refl, record { first = refl; datagrams = refl; entries = refl })

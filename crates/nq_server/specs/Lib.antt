@@ -1,0 +1,6 @@
+pub mod Booting
+pub mod Holding
+pub mod Sound
+pub mod State
+pub mod Stepping
+pub mod Ticking

@@ -1,0 +1,15 @@
+//! The server of the leased file sharing protocol over any keeper (Macklem 1994): each datagram, tick and boot is one step of
+//! the protocol's definitions.
+//!
+//! A server makes at most one commit in an event, and takes all memory before it. After a fault, or where memory is wanting,
+//! the server, the outbox and the journal are as before.
+#![tactic(auto)]
+
+mod booting;
+mod received;
+mod server;
+mod state;
+mod ticks;
+
+pub use received::{Reason, Received};
+pub use server::{BootFault, Server};

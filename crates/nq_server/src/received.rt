@@ -1,0 +1,53 @@
+//! How an event was taken.
+
+use nq_rpc::RpcFault;
+
+/// Why a datagram was dropped.
+#[derive(Clone, Copy, PartialEq, Eq, Drop)]
+pub enum Reason {
+    /// It has more than 4400 bytes.
+    TooLong,
+    /// It is no message of RPC (RFC 1057 section 8).
+    Rpc(RpcFault),
+    /// It is a reply.
+    NotACall,
+    /// The host that it names is not its sender, or is none that there can be.
+    WrongHost,
+    /// A later incarnation of its host is attached.
+    OldIncarnation,
+    /// It is a VACATED whose arguments are not in its grammar: no reply is owed.
+    NoReplyOwed,
+}
+
+/// How an event was taken.
+#[derive(Clone, Copy, PartialEq, Eq)]
+pub enum Received {
+    /// It was taken in.
+    Done,
+    /// The datagram was dropped.
+    Dropped(Reason),
+    /// The keeper failed. The server, the outbox and the journal are as before.
+    Fault,
+    /// Memory was wanting. The server, the outbox and the journal are as before.
+    Memory,
+    /// No more can be taken in. The server, the outbox and the journal are as before.
+    Spent,
+}
+
+/// How an event was taken in.
+#[derive(Clone, Copy, PartialEq, Eq)]
+pub(crate) enum Taken {
+    /// It was answered, or needs no answer.
+    Done,
+    /// The datagram was dropped.
+    Dropped(Reason),
+}
+
+/// Why an event was not taken in.
+#[derive(Clone, Copy, PartialEq, Eq)]
+pub(crate) enum Halt {
+    /// The keeper failed.
+    Fault,
+    /// Memory was wanting.
+    Memory,
+}

@@ -1,0 +1,178 @@
+//! Ticks of a server's clock.
+
+ghost use Rattle.std.specs.Prelude.{◌≡◌, ◌<◌, ◌≤◌, ◌^◌, [], ◌++◌, find, reverse};
+ghost use Rattle.nq_boot.specs.Booting.{LeavesThen, ended_at};
+ghost use Rattle.nq_model.specs.Server.{serving};
+ghost use Rattle.nq_model.specs.ServerStep.{is_due, tick as ticked};
+ghost use Rattle.nq_server.specs.Sound.{IsSound};
+ghost use Rattle.nq_server.specs.State.{beside_of, phase_of, server_of};
+ghost use Rattle.nq_server.specs.Stepping.{LeavesStep, Takes};
+ghost use Rattle.nq_server.specs.Ticking.{EndsFirst, LeavesEnded, OpensAt, at_tick_opened, fence_entries, halt_of, opened_entries};
+ghost use Rattle.nq_wire.specs.Outbox.{Datagrams};
+
+use crate::received::{Halt, Taken};
+use crate::state::{Phase, State};
+use nq_base::{Entry, Ticks};
+use nq_boot::{Recovering, Serving};
+use nq_expire::{Fence, due, end_reading, end_writing};
+use nq_journal::Journal;
+use nq_keeper::{KeepFault, Keeper};
+use nq_lease::Table;
+
+/// What a keeper's fault means for a step.
+pub(crate) fn halt_of(fault: KeepFault) -> Halt
+    ensures { result ≡ halt_of fault }
+{
+    match fault {
+        KeepFault::Failed => Halt::Fault,
+        KeepFault::Memory => Halt::Memory,
+    }
+}
+
+/// Ends the writing row that is due first, if one is.
+fn end_first<K: Keeper>(
+    keeper: &mut K,
+    table: &mut Table,
+    now: Ticks,
+) -> Result<Option<Fence>, KeepFault>
+    ensures ends { EndsFirst now (find (is_due now) table.old.rows) result table.old table.new (K.content keeper.old) (K.content keeper.new) (K.faults keeper.old) (K.faults keeper.new) }
+    ensures follows { K.follows keeper.old keeper.new }
+    ensures leaves { LeavesEnded (find (is_due now) table.old.rows) (K.content keeper.old) (K.leaves keeper.old keeper.new) }
+{
+    match due(table, now) {
+        None => Ok(None),
+        Some(key) => Ok(Some(end_writing(table, keeper, key, now)?)),
+    }
+}
+
+/// The entry of a writing lease that ended in silence.
+fn fence_entry(fence: Fence) -> Entry
+    ensures { result ≡ Entry.F fence.who fence.file fence.until fence.heard fence.now }
+{
+    Entry::F {
+        who: fence.who,
+        file: fence.file,
+        until: fence.until,
+        heard: fence.heard,
+        now: fence.now,
+    }
+}
+
+/// A recovery that ended.
+#[derive(Drop)]
+pub(crate) struct Opened {
+    /// The boot, which serves now.
+    serving: Serving,
+    /// What a journal tells of it.
+    entry: Entry,
+}
+
+/// Ends a recovery whose time has come; None where it has to wait.
+fn open<K: Keeper>(
+    keeper: &mut K,
+    recovery: &Recovering,
+    now: Ticks,
+) -> Result<Option<Opened>, KeepFault>
+    ensures opens { OpensAt recovery.now now result (K.content keeper.old) (K.content keeper.new) (K.faults keeper.old) (K.faults keeper.new) }
+    ensures follows { K.follows keeper.old keeper.new }
+    ensures leaves { LeavesThen (ended_at recovery.now now) (K.content keeper.old) (K.leaves keeper.old keeper.new) }
+{
+    let heads = keeper.heads()?;
+    let Some(serving) = recovery.end(keeper, now)? else {
+        return Ok(None);
+    };
+    let entry = Entry::O {
+        boot: heads.boot,
+        until: recovery.until(),
+        heard: recovery.heard(),
+        now,
+    };
+    Ok(Some(Opened { serving, entry }))
+}
+
+/// Tells of a writing lease that ended, if one did.
+fn tell_fence(fence: Option<Fence>, log: &mut Journal)
+    requires { 1 ≤ log.old.spare }
+    ensures { log.new.entries ≡ log.old.entries ++ reverse (fence_entries fence) }
+{
+    if let Some(fence) = fence {
+        log.push(fence_entry(fence)).unwrap();
+    }
+}
+
+/// Ends leases that are over at this time, while the server serves: all reading and non-caching ones, and the writing one that
+/// is due first.
+fn end_leases<K: Keeper>(
+    keeper: &mut K,
+    state: &mut State,
+    now: Ticks,
+    log: &mut Journal,
+) -> Result<Taken, Halt>
+    requires serves { phase_of state.old.phase ≡ serving }
+    requires room { 1 ≤ log.old.spare }
+    requires sound { IsSound state.old }
+    requires later { state.old.time ≤ now }
+    requires early { now < 2 ^ 62 }
+    ensures takes { (out : Datagrams) → Takes (λ kept. ticked (server_of (beside_of state.old) kept) now) result (K.content keeper.old) (K.content keeper.new) (K.faults keeper.old) (K.faults keeper.new) (beside_of state.old) (beside_of state.new) out out log.old log.new }
+    ensures sound { IsSound state.new }
+    ensures drawn { state.new.table.drawn ≡ state.old.table.drawn }
+    ensures follows { K.follows keeper.old keeper.new }
+    ensures leaves { LeavesStep (λ kept. ticked (server_of (beside_of state.old) kept) now) (K.content keeper.old) (K.leaves keeper.old keeper.new) }
+{
+    match end_first(keeper, &mut state.table, now) {
+        Err(fault) => Err(halt_of(fault)),
+        Ok(fence) => {
+            end_reading(&mut state.table, now);
+            state.time = now;
+            tell_fence(fence, log);
+            Ok(Taken::Done)
+        }
+    }
+}
+
+/// Goes on after a recovery that has ended, or that has to wait.
+fn go_on(state: &mut State, opened: Option<Opened>, now: Ticks, log: &mut Journal)
+    requires room { 1 ≤ log.old.spare }
+    requires sound { IsSound state.old }
+    requires empty { state.old.table.rows ≡ [] }
+    requires early { now < 2 ^ 62 }
+    ensures holds { beside_of state.new ≡ at_tick_opened (beside_of state.old) opened now }
+    ensures entries { log.new.entries ≡ log.old.entries ++ reverse (opened_entries opened) }
+    ensures sound { IsSound state.new }
+    ensures drawn { state.new.table.drawn ≡ state.old.table.drawn }
+{
+    state.time = now;
+    if let Some(Opened { serving, entry }) = opened {
+        state.phase = Phase::Serving(serving);
+        log.push(entry).unwrap();
+    }
+}
+
+/// Takes in a tick of the server's clock, which now shows this time. At most one change is kept, and no memory is taken.
+pub(crate) fn tick<K: Keeper>(
+    keeper: &mut K,
+    state: &mut State,
+    now: Ticks,
+    log: &mut Journal,
+) -> Result<Taken, Halt>
+    requires room { 1 ≤ log.old.spare }
+    requires sound { IsSound state.old }
+    requires later { state.old.time ≤ now }
+    requires early { now < 2 ^ 62 }
+    ensures takes { (out : Datagrams) → Takes (λ kept. ticked (server_of (beside_of state.old) kept) now) result (K.content keeper.old) (K.content keeper.new) (K.faults keeper.old) (K.faults keeper.new) (beside_of state.old) (beside_of state.new) out out log.old log.new }
+    ensures sound { IsSound state.new }
+    ensures drawn { state.new.table.drawn ≡ state.old.table.drawn }
+    ensures follows { K.follows keeper.old keeper.new }
+    ensures leaves { LeavesStep (λ kept. ticked (server_of (beside_of state.old) kept) now) (K.content keeper.old) (K.leaves keeper.old keeper.new) }
+{
+    match &state.phase {
+        Phase::Serving(_) => end_leases(keeper, state, now, log),
+        Phase::Recovering { recovery, .. } => match open(keeper, recovery, now) {
+            Err(fault) => Err(halt_of(fault)),
+            Ok(opened) => {
+                go_on(state, opened, now, log);
+                Ok(Taken::Done)
+            }
+        },
+    }
+}
