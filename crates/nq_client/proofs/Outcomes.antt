@@ -1,15 +1,18 @@
 -- What comes of a step.
-use Rattle.std.proofs.Common.{◌≡◌, ◌≤◌, ◌<◌, ◌+◌, ◌*◌, ◌^◌, ◌++◌, ℕ, Bool, true, false, List, [], ◌∷◌, Option, Some, None, if◌then◌else◌, refl, sym, ap, subst, ◌∙◌, arith}
+use Rattle.std.proofs.Common.{◌≡◌, ◌≤◌, ◌<◌, ◌+◌, ◌*◌, ◌^◌, ◌++◌, ℕ, Bool, true, false, List, [], ◌∷◌, Option, Some, None, map, if◌then◌else◌, refl, sym, ap, subst, ◌∙◌, arith}
 use Rattle.std.specs.Option.{option_map}
 use Rattle.std.proofs.lemmas.Bool.{false≢true}
 use Rattle.nq_base.specs.Plain.{plain_answer}
 use Rattle.nq_base.specs.declared.Answer.{Answer}
 use Rattle.nq_base.specs.declared.Entry.{Entry}
 use Rattle.nq_base.specs.declared.Who.{Who}
-use Rattle.nq_client.proofs.Calls.{Within}
+use Rattle.nq_base.specs.declared.Call.{Call}
+use Rattle.nq_client.proofs.Calls.{Within, called, ticked}
 use Rattle.nq_client.proofs.Counts.{within}
 use Rattle.nq_client.proofs.Settled.{is_given}
 use Rattle.nq_client.specs.Counted.{Counted, IsWithin}
+use Rattle.nq_client.specs.Entries.{Tells}
+use Rattle.nq_client.specs.Finishing.{Grows, to_server}
 use Rattle.nq_client.specs.Outcome.{Called, Gives, Heeded, IsHeard, or_pending}
 use Rattle.nq_client.specs.State.{client_of}
 use Rattle.nq_client.specs.Step.{IsBegun, request_message, step_of, vacated_message}
@@ -20,6 +23,7 @@ use Rattle.nq_client.specs.declared.step.Step.{Step}
 use Rattle.nq_client.specs.declared.step.Vacated.{Vacated}
 use Rattle.nq_journal.specs.Items.{EntryList}
 use Rattle.nq_model.specs.Client.{Client, ClientStep, Ticket, begun}
+use Rattle.nq_model.specs.ClientStep.{at_time, client_call, client_tick}
 use Rattle.nq_model.specs.Message.{Message}
 use Rattle.nq_model.specs.Profile.{most_taken_by_client}
 use Rattle.nq_wire.specs.Outbox.{Datagrams}
@@ -115,3 +119,39 @@ not_heard_spent Heard.Memory o h e = h
 not_heard_spent Heard.Ignored o h e = h
 not_heard_spent Heard.Nothing o h e = cc
 not_heard_spent (Heard.Answered a) o h e = cc
+
+-- an outbox and a journal grew, seen from before room was made in them
+pub grows_from : (t : ClientStep) (out out1 outs : Datagrams) (log log1 logs : EntryList) → out1.first ≡ out.first → out1.datagrams ≡ out.datagrams → log1.entries ≡ log.entries → Grows t out1 outs log1 logs → Grows t out outs log logs
+grows_from t out out1 outs log log1 logs f d l g = record {
+  first = g.first ∙ f;
+  sends = g.sends ∙ ap (λ ds. ds ++ map to_server t.sends) d;
+  entries = subst (λ es. Tells t.entries es logs.entries) l g.entries;
+}
+
+-- a step of the same client
+pub gives_from : (F : Client → ClientStep) (old new : Counted) (c : Client) (out outs : Datagrams) (log logs : EntryList) → c ≡ old.client → new.client ≡ (F c).client → new.taken ≡ old.taken + 1 → Grows (F c) out outs log logs → Gives (F old.client) old new out outs log logs
+gives_from F old new c out outs log logs e n k g = record {
+  client = n ∙ ap (λ x. (F x).client) e;
+  taken = k;
+  grows = subst (λ x. Grows (F x) out outs log logs) e g;
+}
+
+-- the numbers after a call
+pub call_within : (s0 s1 s2 : State) (op : Call) (taken : ℕ) → client_of s1 ≡ client_of s0 → client_of s2 ≡ (client_call (client_of s1) op).client → IsWithin s0 taken → taken < most_taken_by_client → IsWithin s2 (taken + 1)
+call_within s0 s1 s2 op taken e f w lt =
+    let h = within_same s0 s1 taken e w in
+    within_after 3 s2 (client_of s1) (client_call (client_of s1) op) taken f (called (client_of s1) op) lt h.time h.calls h.seq h.number h.xid h.tied
+
+-- the numbers after a tick
+pub tick_within : (s0 s1 s2 : State) (now taken : ℕ) → client_of s1 ≡ client_of s0 → client_of s2 ≡ (client_tick (client_of s1) now).client → IsWithin s0 taken → taken < most_taken_by_client → now < 2 ^ 62 → IsWithin s2 (taken + 1)
+unfolding at_time
+tick_within s0 s1 s2 now taken e f w lt early =
+    let h = within_same s0 s1 taken e w in
+    within_after 2 s2 (at_time (client_of s1) now) (client_tick (client_of s1) now) taken f (ticked (client_of s1) now) lt early h.calls h.seq h.number h.xid h.tied
+
+below : (n m : ℕ) → n ≤ m → (n ≡ m → ⊥) → n < m
+below n m le ne = grind arith
+
+-- not all was taken in
+pub not_all : (s : State) (taken : ℕ) → IsWithin s taken → (taken ≡ most_taken_by_client → ⊥) → taken < most_taken_by_client
+not_all s taken w ne = let few = w.taken_few in below taken most_taken_by_client few ne
