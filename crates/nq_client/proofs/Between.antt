@@ -1,8 +1,7 @@
 -- What is known after a step was settled, before its request is sent.
-use Rattle.std.proofs.Common.{◌≡◌, ◌≤◌, ◌<◌, ◌+◌, ◌^◌, ℕ, Option, Some, None, refl, sym, ap, subst, ◌∙◌, arith}
+use Rattle.std.proofs.Common.{◌≡◌, ◌≤◌, ◌<◌, ◌+◌, ◌^◌, Option, Some, None, refl, sym, ap, ◌∙◌, arith}
 use Rattle.nq_base.specs.declared.Push.{Push}
 use Rattle.nq_client.proofs.Settled.{settled, Settled}
-use Rattle.nq_client.specs.State.{client_of}
 use Rattle.nq_client.specs.Step.{HasNumbers, step_of}
 use Rattle.nq_client.specs.Tied.{Tied}
 use Rattle.nq_client.specs.declared.step.Step.{Step}

@@ -1,13 +1,12 @@
 -- How much a call or a tick takes, and what it keeps.
-use Rattle.std.proofs.Common.{◌≡◌, ◌≤◌, ◌+◌, ℕ, Bool, true, false, not, ◌||◌, List, [], ◌∷◌, length, Option, Some, None, nat_le, is_some, if◌then◌else◌, refl, sym, ap, subst, ◌∙◌, arith}
-use Rattle.nq_base.specs.declared.Answer.{Answer}
+use Rattle.std.proofs.Common.{◌≡◌, ◌≤◌, ◌+◌, ℕ, true, false, not, ◌||◌, List, [], ◌∷◌, length, Option, Some, None, nat_le, is_some, refl, sym, subst, ◌∙◌, arith}
 use Rattle.nq_base.specs.declared.Call.{Call}
 use Rattle.nq_base.specs.declared.Loss.{Loss}
 use Rattle.nq_client.specs.Tied.{Tied}
 use Rattle.nq_client.proofs.Requested.{sends, Sent}
 use Rattle.nq_client.proofs.Settled.{choice, settled, Settled, is_given}
 use Rattle.nq_model.specs.Client.{Ticket, Client, ClientStep, begun}
-use Rattle.nq_model.specs.ClientStep.{changed_file, begins_call, is_called, losses_for, sends_unless_cached, call_freely, tell_losses, call_past_losses, says_busy, client_call, at_time, sends_again, tick_asking, client_tick}
+use Rattle.nq_model.specs.ClientStep.{changed_file, begins_call, is_called, losses_for, call_freely, tell_losses, call_past_losses, says_busy, client_call, at_time, sends_again, tick_asking, client_tick}
 use Rattle.nq_model.specs.Profile.{patience}
 use Rattle.nq_model.specs.Send.{send_next}
 use Rattle.nq_model.specs.Settle.{answers, settle}

@@ -41,13 +41,7 @@ impl Letters {
 }
 
 /// Sends a call to the server, in room that is there.
-fn post(
-    letter: &mut Letter,
-    alloc: Global,
-    xid: u32,
-    request: &Request,
-    out: &mut Outbox,
-)
+fn post(letter: &mut Letter, alloc: Global, xid: u32, request: &Request, out: &mut Outbox)
     requires bytes { longest_call ≤ letter.old }
     requires place { 1 ≤ out.old.spare }
     requires spelled { HasSpelling request.now }
@@ -147,7 +141,13 @@ impl Step {
         let alloc = self.state.alloc;
         let vacated = self.vacated.take();
         post_vacated(&mut letters.vacated, alloc, self.state.who, vacated, out);
-        post_request(&mut letters.request, alloc, self.asks, &self.state.asked, out);
+        post_request(
+            &mut letters.request,
+            alloc,
+            self.asks,
+            &self.state.asked,
+            out,
+        );
         self.asks = false;
         self.cached = false;
         self.entries.tell(log);

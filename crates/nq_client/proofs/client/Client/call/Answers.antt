@@ -1,4 +1,4 @@
-use Rattle.std.proofs.Common.{◌≡◌, ◌+◌, sym, ap, ◌∙◌}
+use Rattle.std.proofs.Common.{◌≡◌, ◌+◌, ap, ◌∙◌}
 use Rattle.nq_client.proofs.Calls.{called}
 use Rattle.nq_client.proofs.Outcomes.{call_within, called_as, gives_from, grows_from, not_all, not_spent}
 use Rattle.nq_client.specs.Counted.{Counted, counted}

@@ -1,4 +1,4 @@
-use Rattle.std.proofs.Common.{◌≡◌, sym, subst, ap}
+use Rattle.std.proofs.Common.{sym, subst}
 use Rattle.nq_client.proofs.Between.{none, numbers}
 use Rattle.nq_client.specs.Tied.{Tied}
 use Rattle.nq_client.proofs.step.Step.call_freely.Goals as goal
