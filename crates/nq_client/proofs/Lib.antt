@@ -1,6 +1,7 @@
 pub mod Between
 pub mod Calls
 pub mod Counts
+pub mod Found
 pub mod Least
 pub mod Marks
 pub mod NextRequest
@@ -11,4 +12,5 @@ pub mod Renewals
 pub mod Requested
 pub mod Settled
 pub mod Spans
+pub mod Ties
 pub mod Vacated

@@ -6,7 +6,9 @@ pub mod Counted
 pub mod Entries
 pub mod Finishing
 pub mod Granting
+pub mod Hearing
 pub mod Leases
+pub mod Lost
 pub mod Notices
 pub mod Outcome
 pub mod Reading

@@ -18,6 +18,7 @@ still_fault Ending.ReadFault text held now r r' w w' ends fault = absurd ends
 still_fault Ending.WriteFault text held now r r' w w' ends fault = fault
 still_fault Ending.Memory text held now r r' w w' ends fault = tt
 still_fault Ending.Limit text held now r r' w w' ends fault = absurd fault
+still_fault Ending.NotSound text held now r r' w w' ends fault = absurd fault
 
 pub still_unless : (end wanted : Ending) (text : List ℕ) (held now : Option (List ℕ)) (r r' w w' : ℕ) → EndsText end text held now w w' → IsUnlessFault end wanted 0 0 w w' → IsUnlessFault end wanted r r' w w'
 still_unless end wanted text held now r r' w w' ends (inl same) = inl same

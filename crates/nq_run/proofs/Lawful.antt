@@ -141,3 +141,4 @@ lawful_end Ending.ReadFault status limit left rest held now r r' w w' is ends do
 lawful_end Ending.WriteFault status limit left rest held now r r' w w' is ends done = absurd (omega arith)
 lawful_end Ending.Memory status limit left rest held now r r' w w' is ends done = absurd (omega arith)
 lawful_end Ending.Limit status limit left rest held now r r' w w' is ends done = absurd (omega arith)
+lawful_end Ending.NotSound status limit left rest held now r r' w w' is ends done = absurd (omega arith)

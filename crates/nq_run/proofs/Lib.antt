@@ -3,9 +3,12 @@ mod Events
 mod Lawful
 mod Plays
 mod Reread
+mod SoundPrints
 mod WordLists
 pub mod Arrived
 pub mod Callings
+pub mod Commands
+pub mod Judgements
 pub mod Filled
 pub mod Numbering
 pub mod Requests

@@ -19,6 +19,7 @@ status_of Ending.ReadFault = 4
 status_of Ending.WriteFault = 5
 status_of Ending.Memory = 7
 status_of Ending.Limit = 9
+status_of Ending.NotSound = 12
 
 -- the exit status is that of an end of which this holds
 abbrev pub WithStatus : (status : ℕ) → (P : Ending → Type 0) → Type 0
@@ -43,6 +44,7 @@ Ends Ending.WriteFault limit left rest held now r r' w w' =
 Ends Ending.Memory limit left rest held now r r' w w' =
     (now ≡ held) ⊎ OfInput limit left rest (λ text. PrintsPart text held now)
 Ends Ending.Limit limit left rest held now r r' w w' = PrintsLimit limit left rest held now w w'
+Ends Ending.NotSound limit left rest held now r r' w w' = ⊥
 
 -- an end that may come in place of another: memory was wanting, or an object's count of faults rose
 abbrev pub IsFault : Ending → (r r' w w' : ℕ) → Type 0

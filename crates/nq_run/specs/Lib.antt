@@ -11,3 +11,4 @@ pub mod Playing
 pub mod Replay
 pub mod Promised
 pub mod Ending
+pub mod Judging

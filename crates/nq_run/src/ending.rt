@@ -20,6 +20,8 @@ pub(crate) enum Ending {
     Memory,
     /// The input passes a limit.
     Limit,
+    /// The journal is not sound.
+    NotSound,
 }
 
 impl Ending {
@@ -35,6 +37,7 @@ impl Ending {
             Ending::WriteFault => 5,
             Ending::Memory => 7,
             Ending::Limit => 9,
+            Ending::NotSound => 12,
         }
     }
 }

@@ -4,6 +4,7 @@
 mod clients;
 mod ending;
 mod files;
+mod judging;
 mod messages;
 mod packets;
 mod playing;

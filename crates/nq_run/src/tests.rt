@@ -165,10 +165,77 @@ fn a_faulty_line_is_told(rt: HostRuntime) -> Result<(), Fail> {
     Ok(())
 }
 
+// The status and what is printed by `check` for a journal. Reads and puts fail at the numbers given.
+fn checked(
+    alloc: Global,
+    journal: &[u8],
+    reads: &[u32],
+    puts: &[u32],
+) -> Result<(u8, Vec<u8>), Fail> {
+    let mut source = MemSource::new(journal.to_vec(alloc)?, reads.to_vec(alloc)?);
+    let mut sink = MemSink::new(alloc, 64, puts.to_vec(alloc)?)?;
+    let status = run(alloc, &words(alloc, &["check"])?, &mut source, &mut sink);
+    Ok((status, sink.bytes().to_vec(alloc)?))
+}
+
+#[test]
+fn journals_are_judged(rt: HostRuntime) -> Result<(), Fail> {
+    let alloc = rt.alloc();
+    for (right, wrong, status, told) in [
+        ("end", "end", 0, "yes\n"),
+        // Another value in a read and its answer: the read is the first at fault.
+        (
+            "7 served 3\nA 1 1 1 ok 7",
+            "8 served 3\nA 1 1 1 ok 8",
+            12,
+            "no line 6 D5\n",
+        ),
+        ("put 1 0 7", "put 1 0 8", 12, "no line 3 D7\n"),
+        (
+            "W 0 1 1 0 1 7 through",
+            "W 0 1 1 0 1 7 delayed",
+            12,
+            "no line 4 D11\n",
+        ),
+        (
+            "W 0 1 1 0 1 7 through\n",
+            "L 0 1 1 0 1 1\n",
+            12,
+            "no line 3 D8\n",
+        ),
+        ("A 0 1 1 ok", "A 0 1 1 okay", 2, "script line 4\n"),
+        ("nqnfs-journal 1", "nqnfs-journal 3", 2, "script line 1\n"),
+        ("nqnfs-journal 1", "nqnfs-journal 2", 0, "yes\n"),
+    ] {
+        let journal = PUT_AND_FETCH.1.replace(alloc, right, wrong)?;
+        let (ended, printed) = checked(alloc, journal.as_bytes(), &[], &[])?;
+        assert_eq!(rt; ended, status, "{wrong}");
+        assert_eq!(rt; printed.as_slice(), told.as_bytes(), "{wrong}");
+    }
+    Ok(())
+}
+
+#[test]
+fn faults_are_told_while_judging(rt: HostRuntime) -> Result<(), Fail> {
+    let alloc = rt.alloc();
+    let journal = PUT_AND_FETCH.1.as_bytes();
+    let (status, printed) = checked(alloc, journal, &[0], &[])?;
+    assert_eq!(rt; (status, printed.len()), (4, 0));
+    let (status, printed) = checked(alloc, journal, &[], &[0])?;
+    assert_eq!(rt; (status, printed.len()), (5, 0));
+    Ok(())
+}
+
 #[test]
 fn other_words_are_told_the_usage(rt: HostRuntime) -> Result<(), Fail> {
     let alloc = rt.alloc();
-    let cases: [&[&str]; 4] = [&[], &["replay", "x"], &["Replay"], &["replays"]];
+    let cases: [&[&str]; 5] = [
+        &[],
+        &["replay", "x"],
+        &["Replay"],
+        &["replays"],
+        &["check", "x"],
+    ];
     for all in cases {
         let mut source = MemSource::new(PUT_AND_FETCH.0.as_bytes().to_vec(alloc)?, Vec::new(alloc));
         let mut sink = MemSink::new(alloc, 64, Vec::new(alloc))?;

@@ -1,6 +1,7 @@
 //! The words that say what to run.
 
 ghost use Rattle.std.specs.Prelude.{◌≡◌, ◌↔◌, ◌++◌, ◌∷◌, [], IsOk, IfOk, OnOk, OnErr, IsTrue};
+ghost use Rattle.nq_run.specs.Judging.{IsCheck};
 ghost use Rattle.nq_run.specs.Replay.{IsReplay};
 
 use nq_base::NoMemory;
@@ -49,6 +50,16 @@ impl Words {
         match self.words.push(bytes) {
             Ok(()) => Ok(()),
             Err(_) => Err(NoMemory::Memory),
+        }
+    }
+
+    /// Whether they are the one word `check`.
+    pub(crate) fn are_check(&self) -> bool
+        ensures { IsTrue result ↔ IsCheck self.now }
+    {
+        match self.words.as_slice() {
+            [word] => word.as_slice() == b"check".as_slice(),
+            _ => false,
         }
     }
 

@@ -4,3 +4,5 @@ pub mod Sound
 pub mod State
 pub mod Stepping
 pub mod Ticking
+pub mod Answering
+pub mod Leasing

@@ -6,7 +6,11 @@
 #![tactic(auto)]
 
 mod booting;
+mod finding;
+mod leasing;
+mod looking;
 mod received;
+mod replying;
 mod server;
 mod state;
 mod ticks;

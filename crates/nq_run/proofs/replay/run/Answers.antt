@@ -1,10 +1,16 @@
 use Rattle.nq_run.specs.Replay.{most_bytes}
+use Rattle.nq_run.proofs.Commands.{check_or_replay}
 use Rattle.nq_run.proofs.Lawful.{lawful_end}
+use Rattle.nq_run.proofs.SoundPrints.{sound_end}
 use Rattle.nq_run.proofs.replay.run.Goals as goal
 
 pub returns-clause-ends : goal.returns-clause-ends
 unfolding most_bytes
-returns-clause-ends g c = (c.run_words.result, c.status.ensures, c.run_words.ensures.ends)
+returns-clause-ends g c = λ other. (c.run_words.result, c.status.ensures, c.run_words.ensures.ends other)
+
+pub returns-clause-judges : goal.returns-clause-judges
+unfolding most_bytes
+returns-clause-judges g c = λ is. (c.run_words.result, c.status.ensures, c.run_words.ensures.judges is)
 
 pub returns-clause-limit : goal.returns-clause-limit
 unfolding most_bytes
@@ -20,4 +26,8 @@ returns-clause-done g c = λ is text told within entries made. (c.run_words.resu
 
 pub returns-clause-headline : goal.returns-clause-headline
 unfolding most_bytes
-returns-clause-headline g c = lawful_end _ _ _ _ _ _ _ _ _ _ _ c.status.ensures c.run_words.ensures.ends
+returns-clause-headline g c = λ is. lawful_end _ _ _ _ _ _ _ _ _ _ _ c.status.ensures (c.run_words.ensures.ends (λ check. check_or_replay c.args.words.now check is))
+
+pub returns-clause-sound : goal.returns-clause-sound
+unfolding most_bytes
+returns-clause-sound g c = λ is. sound_end _ _ _ _ _ _ _ _ _ _ _ c.status.ensures (c.run_words.ensures.ends (λ check. check_or_replay c.args.words.now check is))
