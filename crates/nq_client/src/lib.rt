@@ -26,6 +26,7 @@ mod settling;
 mod state;
 mod step;
 mod stepping;
+mod storing;
 mod ticking;
 mod vacating;
 

@@ -157,7 +157,7 @@ read-alike s who xid next call file other block body access table Asked.NoLease 
 
 -- ---- steps that keep what is kept
 
-some-kept : Kept
+pub some-kept : Kept
 some-kept = record { files = []; hosts = []; boot = 0; opened = 0; longest = 0; next = 0 }
 
 -- a step that keeps what is kept is made, after that was read

@@ -5,4 +5,7 @@ pub mod Served
 pub mod AskedRows
 pub mod AnsweredSteps
 pub mod LeasedSteps
+pub mod DecidedSteps
+pub mod ConcludedSteps
 pub mod LeasedFinds
+pub mod VacatedRows

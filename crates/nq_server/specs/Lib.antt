@@ -6,3 +6,4 @@ pub mod Stepping
 pub mod Ticking
 pub mod Answering
 pub mod Leasing
+pub mod Deciding
