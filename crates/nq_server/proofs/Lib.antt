@@ -9,3 +9,5 @@ pub mod DecidedSteps
 pub mod ConcludedSteps
 pub mod LeasedFinds
 pub mod VacatedRows
+pub mod TakenSteps
+pub mod AdmittedSteps
