@@ -80,7 +80,7 @@ other-name a b apart = by (same_bytes a b) refl
     by true e = absurd (apart (same-name a b e))
     by false e = refl
 
-first-unnamed : (name : List ℕ) (id : ℕ) (files : List (List ℕ × ℕ)) → IsNew name files → find_name name (first_files id files) ≡ None
+pub first-unnamed : (name : List ℕ) (id : ℕ) (files : List (List ℕ × ℕ)) → IsNew name files → find_name name (first_files id files) ≡ None
 first-unnamed name id [] new = refl
 first-unnamed name id (f ∷ files) new =
     let other : same_bytes (new_file id f.0 f.1).name name ≡ false = ap (λ n. same_bytes n name) (new-name id f.0 f.1) ∙ other-name f.0 name new.0 in
@@ -94,11 +94,11 @@ first-apart id (f ∷ files) distinct = (
   first-apart (id + 1) files distinct.1,
 )
 
-first-length : (id : ℕ) (files : List (List ℕ × ℕ)) → length (first_files id files) ≡ length files
+pub first-length : (id : ℕ) (files : List (List ℕ × ℕ)) → length (first_files id files) ≡ length files
 first-length id [] = refl
 first-length id (f ∷ files) = let rest = first-length (id + 1) files in omega arith
 
-first-blocks : (id : ℕ) (files : List (List ℕ × ℕ)) → blocks_in_all (first_files id files) ≡ sum_by (λ f. f.1) files
+pub first-blocks : (id : ℕ) (files : List (List ℕ × ℕ)) → blocks_in_all (first_files id files) ≡ sum_by (λ f. f.1) files
 first-blocks id [] = refl
 first-blocks id (f ∷ files) =
     blocks-first (new_file id f.0 f.1) (first_files (id + 1) files)

@@ -3,4 +3,5 @@ pub mod FirstNumbers
 pub mod KeptNumbers
 pub mod KeptSteps
 pub mod Saying
+pub mod SomeFile
 pub mod WorldNumbers

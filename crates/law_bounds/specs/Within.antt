@@ -86,3 +86,12 @@ NumbersStayWithin =
     → AreGiven head events
     → length events ≤ most_events
     → IsServerAfter (length events) (run head events).server
+
+-- that this law speaks of something: there is a schedule that is given so, after which a file was made
+pub record NumbersAreMet : Type 0 where
+  pub head : Head
+  pub events : List Event
+  pub within : IsHeadWithin head
+  pub given : AreGiven head events
+  pub few : length events ≤ most_events
+  pub made : (run head events).server.kept.next ≡ (run head []).server.kept.next + 1

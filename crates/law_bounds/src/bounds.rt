@@ -1,9 +1,14 @@
 //! The bounds of numbers.
 
-ghost use Rattle.law_bounds.specs.Within.{NumbersStayWithin};
+ghost use Rattle.law_bounds.specs.Within.{NumbersAreMet, NumbersStayWithin};
 
 /// In every run of at most 100,000 events, from a head within its bounds, what the server keeps is within its bounds: no
 /// revision, boot or id grows faster than the events.
 pub fn numbers_stay_within()
     ensures { NumbersStayWithin }
+{}
+
+/// There is a schedule of which this law speaks: a file is created in its run.
+pub fn numbers_are_met()
+    ensures { NumbersAreMet }
 {}

@@ -10,3 +10,6 @@ mod starting;
 
 pub use recovering::{Finish, Recovering, Serving};
 pub use starting::{StartFault, Started, start};
+
+#[cfg(test)]
+mod tests;

@@ -1,4 +1,4 @@
-//! Tests of the judge, on worked journals. `nq_verdicts` judges those in `examples/`.
+//! Tests of the judge, on worked journals.
 
 use super::*;
 use nq_journal::parse;

@@ -29,7 +29,7 @@ impl Step {
     }
 
     /// Answers the call under way with what it is done with.
-    fn answers_nothing(&mut self)
+    pub(crate) fn answers_nothing(&mut self)
         requires { 1 ≤ self.old.entries.spare }
         ensures { step_of self.new ≡ answers_call (step_of self.old) (ok Value.Nothing) None }
     {
@@ -37,7 +37,7 @@ impl Step {
     }
 
     /// Answers the call under way with the id of a file.
-    fn answers_file(&mut self, file: FileId)
+    pub(crate) fn answers_file(&mut self, file: FileId)
         requires { 1 ≤ self.old.entries.spare }
         ensures { step_of self.new ≡ answers_call (step_of self.old) (ok (Value.File file)) None }
     {
@@ -45,7 +45,7 @@ impl Step {
     }
 
     /// Answers the call under way with the length of a file.
-    fn answers_blocks(&mut self, blocks: u32)
+    pub(crate) fn answers_blocks(&mut self, blocks: u32)
         requires { 1 ≤ self.old.entries.spare }
         ensures { step_of self.new ≡ answers_call (step_of self.old) (ok (Value.Blocks blocks)) None }
     {
@@ -53,7 +53,7 @@ impl Step {
     }
 
     /// Answers the call under way with a block that the server sent in the packet of this number.
-    fn answers_body(&mut self, body: Block, packet: u64)
+    pub(crate) fn answers_body(&mut self, body: Block, packet: u64)
         requires { 1 ≤ self.old.entries.spare }
         ensures { step_of self.new ≡ answers_call (step_of self.old) (ok (Value.Body body)) (Some packet) }
     {
@@ -62,7 +62,7 @@ impl Step {
     }
 
     /// Answers the call under way with what a refusal means.
-    fn answers_refusal(&mut self, status: Refusal)
+    pub(crate) fn answers_refusal(&mut self, status: Refusal)
         requires { 1 ≤ self.old.entries.spare }
         ensures { step_of self.new ≡ answers_call (step_of self.old) (answer_of status) None }
     {

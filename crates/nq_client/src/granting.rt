@@ -32,7 +32,7 @@ fn lets_cache(grant: &Option<Grant>) -> bool
 }
 
 /// Takes the clean blocks of a file out that are of another revision.
-fn cleans(cache: &mut Cache, file: FileId, rev: Rev)
+pub(crate) fn cleans(cache: &mut Cache, file: FileId, rev: Rev)
     ensures { cache.new ≡ record cache.old { clean = clean_at_revision file rev cache.old.revisions cache.old.clean } }
 {
     if !has_revision(cache, file, rev) {

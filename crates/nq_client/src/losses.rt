@@ -1,7 +1,8 @@
 //! Losses that no answer named yet.
 
 ghost use Rattle.std.specs.Prelude.{◌≡◌, ◌≤◌, ◌++◌, [], map, IfOk, OnOk};
-ghost use Rattle.nq_model.specs.Client.{losses_of, other_losses, span_of};
+ghost use Rattle.nq_model.specs.ByFile.{past, up_to};
+ghost use Rattle.nq_model.specs.Client.{add_losses, file_of_loss, losses_of, other_losses, span_of};
 
 use nq_base::{FileId, Loss, Losses, NoMemory, Span, Spans};
 use std::alloc::Global;
@@ -51,6 +52,22 @@ impl Unreported {
         Ok(of_file)
     }
 
+    /// These losses with newly found ones of a file, which go behind those of this file that are there.
+    pub(crate) fn with(
+        &self,
+        alloc: Global,
+        file: FileId,
+        found: &Losses,
+    ) -> Result<Unreported, NoMemory>
+        ensures { IfOk result (λ l. l.items ≡ add_losses file found.now.items self.now.items) }
+    {
+        let mut losses = Vec::new(alloc);
+        copy_up_to(&self.losses, file, &mut losses)?;
+        copy_all(found, &mut losses)?;
+        copy_past(&self.losses, file, &mut losses)?;
+        Ok(Unreported { losses })
+    }
+
     /// Forgets the losses of a file.
     pub(crate) fn forget(&mut self, file: FileId)
         ensures { self.new.items ≡ other_losses file self.old.items }
@@ -75,6 +92,44 @@ fn copy(losses: &[Loss], file: FileId, into: &mut Losses) -> Result<(), NoMemory
         if loss.file == file {
             into.push(*loss)?;
         }
+    }
+    Ok(())
+}
+
+/// Adds the losses of a file and of earlier ones to others.
+#[tactic(auto, using(std::proofs::lemmas::List::Elements::filter_more))]
+fn copy_up_to(losses: &[Loss], file: FileId, into: &mut Vec<Loss>) -> Result<(), NoMemory>
+    ensures { OnOk result (into.new.items ≡ into.old.items ++ up_to file_of_loss file losses.now) }
+{
+    for loss in losses {
+        if loss.file <= file {
+            into.push(*loss)?;
+        }
+    }
+    Ok(())
+}
+
+/// Adds the losses of later files to others.
+#[tactic(auto, using(std::proofs::lemmas::List::Elements::filter_more))]
+fn copy_past(losses: &[Loss], file: FileId, into: &mut Vec<Loss>) -> Result<(), NoMemory>
+    ensures { OnOk result (into.new.items ≡ into.old.items ++ past file_of_loss file losses.now) }
+{
+    for loss in losses {
+        if loss.file > file {
+            into.push(*loss)?;
+        }
+    }
+    Ok(())
+}
+
+/// Adds losses to others.
+#[tactic(auto, using(crate::proofs::Found::taken_more))]
+fn copy_all(losses: &Losses, into: &mut Vec<Loss>) -> Result<(), NoMemory>
+    ensures { OnOk result (into.new.items ≡ into.old.items ++ losses.now.items) }
+{
+    for place in 0..losses.len() {
+        let loss = losses.get(place).unwrap();
+        into.push(loss)?;
     }
     Ok(())
 }

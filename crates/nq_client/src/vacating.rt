@@ -3,6 +3,7 @@
 ghost use Rattle.std.specs.Prelude.{◌≡◌, ◌+◌, ◌≤◌, ◌<◌, ◌^◌, None, false, IsTrue};
 ghost use Rattle.nq_model.specs.Client.{is_clean_in, notice_on};
 ghost use Rattle.nq_model.specs.Hear.{evicted, notes_notice, vacates_if_clean, vacates_lease, vacates_noticed};
+ghost use Rattle.nq_client.specs.Hearing.{GivesUp};
 ghost use Rattle.nq_client.specs.Step.{step_of};
 
 use crate::step::{Step, Vacated};
@@ -35,7 +36,8 @@ impl Step {
         requires first { self.old.vacated ≡ None }
         requires xid { self.old.state.xid + 1 < 2 ^ 32 }
         requires clean { IsTrue (is_clean_in notice.file self.old.state.dirty.dirty self.old.state.dirty.push) }
-        ensures { step_of self.new ≡ vacates_lease (step_of self.old) notice.file notice.tag }
+        ensures step { step_of self.new ≡ vacates_lease (step_of self.old) notice.file notice.tag }
+        ensures kept { GivesUp self.old self.new }
     {
         let vacancy = vacancy(&self.state.dirty, notice);
         let file = vacancy.file();
@@ -52,7 +54,8 @@ impl Step {
         requires first { self.old.vacated ≡ None }
         requires xid { self.old.state.xid + 1 < 2 ^ 32 }
         requires clean { IsTrue (is_clean_in file self.old.state.dirty.dirty self.old.state.dirty.push) }
-        ensures { step_of self.new ≡ vacates_noticed (step_of self.old) file (notice_on file self.old.state.notices.items) }
+        ensures step { step_of self.new ≡ vacates_noticed (step_of self.old) file (notice_on file self.old.state.notices.items) }
+        ensures kept { GivesUp self.old self.new }
     {
         match self.state.notices.take(file) {
             Some(notice) => self.vacates_lease(notice),
@@ -65,7 +68,8 @@ impl Step {
         requires silent { self.old.asks ≡ false }
         requires first { self.old.vacated ≡ None }
         requires xid { self.old.state.xid + 1 < 2 ^ 32 }
-        ensures { step_of self.new ≡ vacates_if_clean (step_of self.old) file }
+        ensures step { step_of self.new ≡ vacates_if_clean (step_of self.old) file }
+        ensures kept { GivesUp self.old self.new }
     {
         if self.state.dirty.is_clean(file) {
             self.vacates_noticed(file);
@@ -78,7 +82,8 @@ impl Step {
         requires first { self.old.vacated ≡ None }
         requires xid { self.old.state.xid + 1 < 2 ^ 32 }
         requires room { 1 ≤ self.old.state.notices.spare }
-        ensures { step_of self.new ≡ evicted (step_of self.old) file tag }
+        ensures step { step_of self.new ≡ evicted (step_of self.old) file tag }
+        ensures kept { GivesUp self.old self.new }
     {
         let notice = Notice::new(file, tag);
         if self.state.dirty.is_clean(file) {

@@ -223,11 +223,6 @@ fn faults_are_told_while_judging(rt: HostRuntime) -> Result<(), Fail> {
     assert_eq!(rt; (status, printed.len()), (4, 0));
     let (status, printed) = checked(alloc, journal, &[], &[0])?;
     assert_eq!(rt; (status, printed.len()), (5, 0));
-    let mut long = b"nqnfs-journal 1\n".to_vec(alloc)?;
-    long.resize(16_777_217, b'x')?;
-    let (status, printed) = checked(alloc, &long, &[], &[])?;
-    assert_eq!(rt; status, 9);
-    assert_eq!(rt; printed.as_slice(), b"limit line 2 bytes\n".as_slice());
     Ok(())
 }
 

@@ -2,3 +2,12 @@ pub mod TickedRows
 pub mod Ticked
 pub mod Booted
 pub mod Served
+pub mod AskedRows
+pub mod AnsweredSteps
+pub mod LeasedSteps
+pub mod DecidedSteps
+pub mod ConcludedSteps
+pub mod LeasedFinds
+pub mod VacatedRows
+pub mod TakenSteps
+pub mod AdmittedSteps

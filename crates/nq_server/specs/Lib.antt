@@ -4,3 +4,6 @@ pub mod Sound
 pub mod State
 pub mod Stepping
 pub mod Ticking
+pub mod Answering
+pub mod Leasing
+pub mod Deciding

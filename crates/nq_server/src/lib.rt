@@ -6,7 +6,13 @@
 #![tactic(auto)]
 
 mod booting;
+mod deciding;
+mod finding;
+mod leasing;
+mod looking;
 mod received;
+mod replying;
+mod requests;
 mod server;
 mod state;
 mod ticks;

@@ -1,17 +1,18 @@
 -- The run of a world's events is a run of the protocol.
-use Rattle.std.proofs.Common.{◌≡◌, ◌≤◌, ℕ, List, length, refl, sym, subst, ap, ◌∙◌, arith}
+use Rattle.std.proofs.Common.{◌≡◌, ◌≤◌, ℕ, List, length, map, refl, sym, subst, ap, ◌∙◌, arith}
 use Rattle.std.proofs.lemmas.List.{length-map}
-use Rattle.std.proofs.lemmas.List.Elements.{All-cons}
+use Rattle.std.proofs.lemmas.List.Elements.{All-nil, All-cons}
+use Rattle.nq_base.specs.Plain.{plain}
 use Rattle.nq_base.specs.declared.Event.{Event}
 use Rattle.nq_clock.specs.Counts.{SkewCounts}
 use Rattle.nq_model.specs.Skew.{IsWithinSkew}
 use Rattle.nq_model.specs.SkewBroken.{skew_broken}
 use Rattle.nq_model.specs.Stepped.{stepped_at}
-use Rattle.nq_model.specs.World.{Head, run}
+use Rattle.nq_model.specs.World.{Head, run, start}
 use Rattle.nq_promises.specs.Bounds.{BootsWithin}
 use Rattle.law_bounds.proofs.WorldNumbers.{numbers-stay-within}
-use Rattle.nq_world.specs.Running.{IsRunOf, stepped_seen, TestsAreExact, RunsGoOn, RunsAreLawful}
-use Rattle.nq_world.specs.Shown.{datagram, Seen}
+use Rattle.nq_world.specs.Running.{IsRunOf, stepped_seen, RunsBegin, ServersBegin, TestsAreExact, RunsGoOn, RunsAreLawful}
+use Rattle.nq_world.specs.Shown.{datagram, FitsPacket, Seen}
 
 sent-as-seen : (head : Head) (events : List Event) (seen : Seen) (skew : SkewCounts) → IsRunOf head events seen skew → length seen.datagrams ≡ length (run head events).packets
 sent-as-seen head events seen skew r = ap length r.shows.datagrams ∙ length-map (run head events).packets datagram
@@ -33,6 +34,28 @@ tests-are-exact head events seen skew event r =
     tests-seen head events (length (run head events).packets) event
     ∙ ap (λ n. stepped_seen (length events) n (skew_broken head.hosts head.longest events) event) (sym (sent-as-seen head events seen skew r))
     ∙ ap (λ b. stepped_seen (length events) (length seen.datagrams) b event) (sym (same-broken head events seen skew r))
+
+pub runs-begin : RunsBegin
+unfolding start
+runs-begin head seen skew within clients none_sent none_told hosts window clocks = record {
+  within = within;
+  shows = record {
+    clients = clients;
+    datagrams = none_sent;
+    fit = All-nil FitsPacket;
+    entries = ap (map plain) none_told;
+  };
+  few = omega arith;
+  given = tt;
+  boots = All-nil (BootsWithin head.longest);
+  hosts = hosts;
+  window = window;
+  clocks = clocks;
+}
+
+pub servers-begin : ServersBegin
+unfolding start
+servers-begin head = refl
 
 pub runs-go-on : RunsGoOn
 runs-go-on head events event seen seen' skew skew' r few room given boots shows hosts window clocks = record {

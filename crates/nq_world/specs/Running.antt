@@ -1,5 +1,5 @@
 -- The run of the events that a world has taken in, and what it answers to the next one. Events are told with the newest first.
-use Rattle.std.specs.Prelude.{◌≡◌, ◌≤◌, ◌<◌, ℕ, List, ◌∷◌, Option, All, length, nat_lt, if◌then◌else◌}
+use Rattle.std.specs.Prelude.{◌≡◌, ◌≤◌, ◌<◌, ℕ, List, [], ◌∷◌, Option, None, All, length, nat_lt, if◌then◌else◌}
 use Rattle.nq_base.specs.declared.Event.{Event}
 use Rattle.nq_base.specs.declared.SkewBroken.{SkewBroken}
 use Rattle.nq_clock.specs.Counts.{SkewCounts}
@@ -10,7 +10,8 @@ use Rattle.nq_model.specs.Message.{Message}
 use Rattle.nq_model.specs.Skew.{IsWithinSkew}
 use Rattle.nq_model.specs.SkewBroken.{skew_broken}
 use Rattle.nq_model.specs.Stepped.{Stepped, too_many_events, no_packet, most_events, most_sent, tested_room, tested_skew, stepped}
-use Rattle.nq_model.specs.World.{Head, run, step}
+use Rattle.nq_model.specs.ServerStep.{boot}
+use Rattle.nq_model.specs.World.{Head, first_clients, first_kept, run, step}
 use Rattle.nq_promises.specs.Bounds.{BootsWithin, KeepsBounds}
 use Rattle.law_bounds.specs.Within.{CarriesText, IsGiven, AreGiven, IsHeadWithin}
 use Rattle.nq_world.specs.Shown.{Seen, Shows}
@@ -45,6 +46,23 @@ TestsAreExact =
     → stepped head events event
     ≡ stepped_seen (length events) (length seen.datagrams) (skew_broken (length skew.hosts) skew.window events) event
 
+-- a world without events is the start of the run: its clients are attached, and nothing was sent or told
+abbrev pub RunsBegin : Type 0
+RunsBegin =
+    (head : Head) (seen : Seen) (skew : SkewCounts)
+    → IsHeadWithin head
+    → seen.clients ≡ first_clients head.term 0 head.hosts
+    → seen.datagrams ≡ []
+    → seen.entries ≡ []
+    → length skew.hosts ≡ head.hosts
+    → skew.window ≡ head.longest
+    → Follows skew []
+    → IsRunOf head [] seen skew
+
+-- and its server is the boot of the protocol over what is kept first
+abbrev pub ServersBegin : Type 0
+ServersBegin = (head : Head) → (run head []).server ≡ boot (first_kept head) head.longest 0 None
+
 -- an event that is given goes on with the run
 abbrev pub RunsGoOn : Type 0
 RunsGoOn =
@@ -76,6 +94,8 @@ BytesCarryText = (m : Message) → FitsMessage m → All (λ b. b < 256) (bytes_
 
 -- the run of a world's events is a run of the protocol
 pub record WorldsRun : Type 0 where
+  pub begins : RunsBegin
+  pub servers : ServersBegin
   pub tests : TestsAreExact
   pub goes_on : RunsGoOn
   pub lawful : RunsAreLawful

@@ -11,7 +11,7 @@ vacates_lease-requires-clause-clean c =
     (sym (of-file c.args.file c.args.self.now.state.notices.items c.in-Some.notice (sym c.take.ensures.found ∙ c.in-Some.is)))
     c.requires.clean
 
-pub returns-in-Some : goal.returns-in-Some
-returns-in-Some c =
-    c.vacates_lease.ensures
+pub returns-in-Some-clause-step : goal.returns-in-Some-clause-step
+returns-in-Some-clause-step c =
+    c.vacates_lease.ensures.step
     ∙ vacated-taken (step_of c.args.self.now) c.args.file c.in-Some.notice c.take.new.self.items (sym c.in-Some.is ∙ c.take.ensures.found) c.take.ensures.items

@@ -1,0 +1,16 @@
+-- Losses as entries.
+use Rattle.std.specs.Prelude.{ℕ, Option, Some, None, if◌then◌else◌}
+use Rattle.nq_base.specs.declared.Entry.{Entry}
+use Rattle.nq_base.specs.declared.Loss.{Loss}
+use Rattle.nq_base.specs.declared.Who.{Who}
+use Rattle.nq_model.specs.Client.{UnderWay}
+use Rattle.nq_model.specs.Hear.{waits_for}
+
+-- the entry of a loss
+abbrev pub lost_entry : Who → Loss → Entry
+lost_entry who l = Entry.L who l.file l.block l.first l.last
+
+-- the number of the call under way, where it waits until a file is clean
+abbrev pub waiting : (file : ℕ) → Option UnderWay → Option ℕ
+waiting file None = None
+waiting file (Some u) = if waits_for file u.written u.call then Some u.q else None

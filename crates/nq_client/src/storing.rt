@@ -1,0 +1,162 @@
+//! Replies to writes.
+
+ghost use Rattle.std.specs.Prelude.{◌≡◌, ◌==◌, ◌≤◌, ◌<◌, ◌+◌, ◌^◌, ◌&&◌, None, false, is_some, IsTrue, OnOk, OnErr, if◌then◌else◌};
+ghost use Rattle.nq_held.specs.Leases.{lease_of};
+ghost use Rattle.nq_model.specs.Client.{dirty_at, is_push_of, is_revision_before, lease_on, purge, push_passes, put_clean, revision_of};
+ghost use Rattle.nq_model.specs.Hear.{answer_of, answers_call, holds_caching, is_put_off, pauses, push_done, write_done};
+ghost use Rattle.nq_client.specs.Step.{step_of};
+
+use crate::counting::is_put_off;
+use crate::leases::Leases;
+use crate::step::Step;
+use nq_base::{Block, BlockNo, FileId, NoMemory, Refusal, Rev};
+use nq_cache::Cache;
+use nq_dirty::Dirty;
+use nq_held::Held;
+
+/// Whether a caching lease is held, live or not.
+fn holds_caching(held: &Held) -> bool
+    ensures { result ≡ holds_caching (lease_of held.now) }
+{
+    match held {
+        Held::Reading(_) | Held::Writing(_) => true,
+        Held::Nothing | Held::NonCaching(_) => false,
+    }
+}
+
+/// Whether a revision comes right after another.
+fn comes_after(known: Rev, rev: Rev) -> bool
+    ensures { result ≡ (known + 1 == rev) }
+{
+    known.0 < rev.0 && rev.0 - known.0 == 1
+}
+
+/// Whether the known revision of a file is the one before this.
+fn is_revision_before(cache: &Cache, file: FileId, rev: Rev) -> bool
+    ensures { result ≡ is_revision_before rev (revision_of file cache.now.revisions) }
+{
+    match cache.rev(file) {
+        Some(known) => comes_after(known, rev),
+        None => false,
+    }
+}
+
+/// Caches the block of a write that went through where nothing else changed since the known revision. Else the clean
+/// blocks of the file go.
+fn caches_written(
+    leases: &Leases,
+    cache: &mut Cache,
+    file: FileId,
+    block: BlockNo,
+    body: &Block,
+    rev: Rev,
+) -> Result<(), NoMemory>
+    ensures cached { OnOk result (cache.new ≡ record cache.old { clean = (if holds_caching (lease_on file leases.now.items) && is_revision_before rev (revision_of file cache.old.revisions) then put_clean file block body.now cache.old.clean else purge file cache.old.clean) }) }
+    ensures refused { OnErr result (cache.new ≡ cache.old) }
+{
+    if holds_caching(&leases.on(file)) && is_revision_before(cache, file, rev) {
+        return cache.put(file, block, body);
+    }
+    cache.purge(file);
+    Ok(())
+}
+
+/// Caches the block of a push that was stored, unless it is dirty again.
+fn caches_stored(
+    dirty: &Dirty,
+    cache: &mut Cache,
+    file: FileId,
+    block: BlockNo,
+    body: &Block,
+) -> Result<(), NoMemory>
+    ensures cached { OnOk result (cache.new ≡ record cache.old { clean = (if is_some (dirty_at file block dirty.now.dirty) then cache.old.clean else put_clean file block body.now cache.old.clean) }) }
+    ensures refused { OnErr result (cache.new ≡ cache.old) }
+{
+    if dirty.holds(file, block) {
+        return Ok(());
+    }
+    cache.put(file, block, body)
+}
+
+#[tactic(auto, unfolding(nq_model::specs::Hear::caches_block, nq_model::specs::Hear::purges, nq_model::specs::Hear::knows_revision, nq_model::specs::Hear::ends_push))]
+impl Step {
+    /// A WRITE that goes through was done: the call under way is answered.
+    ///
+    /// # Errors
+    ///
+    /// Only want of memory, and then nothing changed.
+    pub(crate) fn write_done(
+        &mut self,
+        file: FileId,
+        block: BlockNo,
+        body: &Block,
+        rev: Rev,
+    ) -> Result<(), NoMemory>
+        requires entries { 1 ≤ self.old.entries.spare }
+        requires revision { 1 ≤ self.old.state.cache.spare }
+        ensures done { OnOk result (step_of self.new ≡ write_done (step_of self.old) file block body.now rev) }
+        ensures refused { OnErr result (self.new ≡ self.old) }
+    {
+        caches_written(
+            &self.state.leases,
+            &mut self.state.cache,
+            file,
+            block,
+            body,
+            rev,
+        )?;
+        self.state.cache.retag(file, rev).unwrap();
+        self.answers_nothing();
+        Ok(())
+    }
+
+    /// A push was stored. Where its file is now clean and a notice waits for it, the lease is given up.
+    ///
+    /// # Errors
+    ///
+    /// Only want of memory, and then nothing changed.
+    pub(crate) fn push_done(
+        &mut self,
+        file: FileId,
+        block: BlockNo,
+        body: &Block,
+        rev: Rev,
+    ) -> Result<(), NoMemory>
+        requires push { IsTrue (push_passes (is_push_of file) self.old.state.dirty.push) }
+        requires revision { 1 ≤ self.old.state.cache.spare }
+        requires silent { self.old.asks ≡ false }
+        requires first { self.old.vacated ≡ None }
+        requires xid { self.old.state.xid + 1 < 2 ^ 32 }
+        ensures done { OnOk result (step_of self.new ≡ push_done (step_of self.old) file block body.now rev) }
+        ensures refused { OnErr result (self.new ≡ self.old) }
+    {
+        caches_stored(&self.state.dirty, &mut self.state.cache, file, block, body)?;
+        self.state.dirty.stored(file);
+        self.state.cache.retag(file, rev).unwrap();
+        self.vacates_if_clean(file);
+        Ok(())
+    }
+
+    /// The call's request was refused: it is put off, or the call is answered.
+    pub(crate) fn call_refused(&mut self, status: Refusal)
+        requires entries { 1 ≤ self.old.entries.spare }
+        requires time { self.old.state.time < 2 ^ 62 }
+        ensures { step_of self.new ≡ (if is_put_off status then pauses (step_of self.old) else answers_call (step_of self.old) (answer_of status) None) }
+    {
+        if is_put_off(status) {
+            self.pauses();
+        } else {
+            self.answers_refusal(status);
+        }
+    }
+
+    /// A renewal was refused: it is put off, or nothing comes of it.
+    pub(crate) fn renewal_refused(&mut self, status: Refusal)
+        requires { self.old.state.time < 2 ^ 62 }
+        ensures { step_of self.new ≡ (if is_put_off status then pauses (step_of self.old) else step_of self.old) }
+    {
+        if is_put_off(status) {
+            self.pauses();
+        }
+    }
+}

@@ -1,0 +1,3 @@
+pub mod Menu
+pub mod Places
+pub mod Rules

@@ -1,0 +1,85 @@
+//! The menu of a moment, without listing it.
+
+ghost use Rattle.std.specs.Prelude.{◌≡◌, ◌<◌, ℕ, Some, length, slice_get};
+ghost use Rattle.nq_fate.specs.Menu.{all_ticks, call_at, host_call, menu};
+ghost use Rattle.nq_fate.specs.Places.{tick_count};
+ghost use Rattle.nq_fate.specs.declared.offers.Offer.{Offer};
+
+use crate::offers::Offer;
+use nq_base::{Block, BlockNo, Call, Event, FileId, Host};
+
+/// The longest term, in ticks, of a server that boots in a storm.
+const LONGEST: u32 = 60;
+
+/// The calls of one host.
+const CALLS: u32 = 26;
+
+/// The event at a place of the menu; what it writes, if it writes, is `number`.
+pub fn event_at(offer: &Offer, place: u32, number: u32) -> Event
+    requires { place < offer.now.size }
+    ensures { slice_get (menu offer.now number) place ≡ Some result }
+{
+    if place < offer.ticks_at {
+        Event::Deliver(u64::from(place))
+    } else if place < offer.restarts_at {
+        tick_at(offer.server_tick, place - offer.ticks_at)
+    } else if place < offer.crash_at {
+        Event::Restart(Host(place - offer.restarts_at))
+    } else if place < offer.calls_at {
+        Event::Crash { longest: LONGEST }
+    } else {
+        host_call(place - offer.calls_at, number)
+    }
+}
+
+/// The tick at a place among the ticks.
+fn tick_at(server_tick: bool, place: u32) -> Event
+    requires { place < tick_count server_tick }
+    ensures { slice_get (all_ticks server_tick) place ≡ Some result }
+{
+    if !server_tick {
+        Event::ClientTick(Host(place))
+    } else if place == 0 {
+        Event::ServerTick
+    } else {
+        Event::ClientTick(Host(place - 1))
+    }
+}
+
+/// The call at a place among those of all hosts.
+fn host_call(place: u32, number: u32) -> Event
+    requires { place < 104 }
+    ensures { result ≡ host_call number place }
+{
+    Event::Call {
+        host: Host(place / CALLS),
+        call: call_at(place % CALLS, number),
+    }
+}
+
+/// The call at a place among those of a host.
+fn call_at(place: u32, number: u32) -> Call
+    requires { place < 26 }
+    ensures { result ≡ call_at number place }
+{
+    let file = FileId(1 + place % 8 / 4);
+    let block = BlockNo(place % 4);
+    if place < 8 {
+        Call::Read { file, block }
+    } else if place < 16 {
+        let body = Block::fill(number);
+        Call::Write { file, block, body }
+    } else if place < 24 {
+        let body = Block::fill(number);
+        Call::WriteSync { file, block, body }
+    } else {
+        Call::Sync {
+            file: FileId(place - 23),
+        }
+    }
+}
+
+/// As many events stand on a menu as its offer says.
+pub fn menu_is_offered()
+    ensures { (offer : Offer) (number : ℕ) → length (menu offer number) ≡ offer.size }
+{}

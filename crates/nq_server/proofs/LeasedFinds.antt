@@ -1,0 +1,103 @@
+-- READ and GETLEASE, by what was found of the file.
+use Rattle.std.proofs.Common.{◌≡◌, ◌<◌, ◌≤◌, ℕ, Bool, true, false, List, Option, Some, None, if◌then◌else◌, length, refl, sym, ap, subst, ◌∙◌, arith}
+use Rattle.std.specs.Prelude.{nat_lt, slice_get}
+use Rattle.std.proofs.lemmas.Bool.Decides.{nat_tests}
+use Rattle.std.proofs.lemmas.Option.{slice_get_past}
+use Rattle.nq_base.specs.declared.Access.{Access}
+use Rattle.nq_base.specs.declared.Asked.{Asked}
+use Rattle.nq_base.specs.declared.FileRow.{FileRow}
+use Rattle.nq_base.specs.declared.Question.{Question}
+use Rattle.nq_base.specs.declared.Refusal.{Refusal}
+use Rattle.nq_base.specs.declared.Reply.{Reply as Answer}
+use Rattle.nq_base.specs.declared.Want.{Want}
+use Rattle.nq_base.specs.declared.Who.{Who}
+use Rattle.nq_keeper.specs.Keeping.{body_at}
+use Rattle.nq_model.specs.Ask.{ask}
+use Rattle.nq_model.specs.Change.{row_of, row_of_found}
+use Rattle.nq_model.specs.Kept.{File, Kept, blocks_of}
+use Rattle.nq_model.specs.Message.{reply}
+use Rattle.nq_model.specs.Server.{Server, ServerStep, says, after_notices, with_table}
+use Rattle.nq_model.specs.ServerStep.{get_lease, lease_asked, leases, read, read_asked, read_block, read_of, to_read, serves, tells_later}
+use Rattle.nq_model.specs.Table.{Table}
+use Rattle.nq_server.proofs.LeasedSteps.{read-alike}
+use Rattle.nq_server.specs.declared.leasing.Found.{Found}
+use Rattle.nq_server.specs.Leasing.{asks, file_asked, found_at}
+use Rattle.nq_server.specs.State.{Beside, server_of}
+
+-- ---- what is kept
+
+pub lease-keeps : (s : Server) (who : Who) (xid file : ℕ) (access : Access) (table : Table) (asked : Asked) → (lease_asked s who xid file access table asked).server.kept ≡ s.kept
+unfolding tells_later leases after_notices with_table
+lease-keeps s who xid file access table (Asked.TryLater clash) = refl
+lease-keeps s who xid file access table (Asked.Granted grant) = refl
+lease-keeps s who xid file access table Asked.Free = refl
+lease-keeps s who xid file access table Asked.NoLease = refl
+
+pub read-keeps : (s : Server) (who : Who) (xid next call : ℕ) (file : File) (block : ℕ) (body : List ℕ) (access : Access) (table : Table) (asked : Asked) → (read_asked s who xid next call file block body access table asked).server.kept ≡ s.kept
+unfolding tells_later serves after_notices with_table
+read-keeps s who xid next call file block body access table (Asked.TryLater clash) = refl
+read-keeps s who xid next call file block body access table (Asked.Granted grant) = refl
+read-keeps s who xid next call file block body access table Asked.Free = refl
+read-keeps s who xid next call file block body access table Asked.NoLease = refl
+
+-- ---- GETLEASE
+
+pub get-lease-stale : (s : Server) (who : Who) (xid : ℕ) (want : Want) (found : Option File) → None ≡ row_of_found found → get_lease s who xid want found ≡ says s who.host (reply xid (Answer.Refused who.inc Refusal.Stale))
+get-lease-stale s who xid want None h = refl
+get-lease-stale s who xid want (Some file) h = absurd (cc)
+
+-- what a question gives
+abbrev leased : Server → (xid : ℕ) → Question → ServerStep
+leased s xid q = lease_asked s q.who xid q.file q.access (ask s.table q).table (ask s.table q).asked
+
+pub get-lease-found : (held : Beside) (kept : Kept) (who : Who) (xid : ℕ) (want : Want) (found : Option File) (row : FileRow) (q : Question) → Some row ≡ row_of_found found → q ≡ asks held who row (Some want) → get_lease (server_of held kept) who xid want found ≡ lease_asked (server_of held kept) q.who xid q.file q.access (ask held.table q).table (ask held.table q).asked
+get-lease-found held kept who xid want None row q h is = absurd (cc)
+get-lease-found held kept who xid want (Some file) row q h is =
+    let own : row_of file ≡ row = cc in
+    ap (λ r. leased (server_of held kept) xid (asks held who r (Some want))) own ∙ ap (leased (server_of held kept) xid) (sym is)
+
+-- ---- READ
+
+pub read-stale : (s : Server) (who : Who) (xid next call block : ℕ) (want : Option Want) (found : Option File) → Found.Stale ≡ found_at block found → read s who xid next call block want found ≡ says s who.host (reply xid (Answer.Refused who.inc Refusal.Stale))
+read-stale s who xid next call block want None h = refl
+read-stale s who xid next call block want (Some file) h = step (nat_lt block (blocks_of file)) h
+  where
+    step : (b : Bool) → Found.Stale ≡ (if b then Found.Got (row_of file) else Found.Invalid) → read s who xid next call block want (Some file) ≡ says s who.host (reply xid (Answer.Refused who.inc Refusal.Stale))
+    step true e = absurd (cc)
+    step false e = absurd (cc)
+
+not-below : (block blocks : ℕ) → nat_lt block blocks ≡ false → blocks ≤ block
+not-below block blocks h = grind (arith, nat_tests)
+
+pub read-invalid : (s : Server) (who : Who) (xid next call block : ℕ) (want : Option Want) (found : Option File) → Found.Invalid ≡ found_at block found → read s who xid next call block want found ≡ says s who.host (reply xid (Answer.Refused who.inc Refusal.Inval))
+read-invalid s who xid next call block want None h = absurd (cc)
+read-invalid s who xid next call block want (Some file) h = step (nat_lt block (blocks_of file)) refl h
+  where
+    step : (b : Bool) → nat_lt block (blocks_of file) ≡ b → Found.Invalid ≡ (if b then Found.Got (row_of file) else Found.Invalid) → read s who xid next call block want (Some file) ≡ says s who.host (reply xid (Answer.Refused who.inc Refusal.Inval))
+    step true d e = absurd (cc)
+    step false d e = ap (read_block s who xid next call file block want) (slice_get_past file.bodies block (not-below block (blocks_of file) d))
+
+got-row : (block : ℕ) (file : File) (row : FileRow) → Found.Got row ≡ found_at block (Some file) → row_of file ≡ row
+got-row block file row h = step (nat_lt block (blocks_of file)) h
+  where
+    step : (b : Bool) → Found.Got row ≡ (if b then Found.Got (row_of file) else Found.Invalid) → row_of file ≡ row
+    step true e = cc
+    step false e = absurd (cc)
+
+-- what a question gives
+abbrev served : Server → (xid next call block : ℕ) → (file : File) → (body : List ℕ) → Question → ServerStep
+served s xid next call block file body q =
+    read_asked s q.who xid next call file block body q.access (ask s.table q).table (ask s.table q).asked
+
+read-has : (s : Server) (who : Who) (xid next call block : ℕ) (want : Option Want) (file : File) (body : List ℕ) → slice_get file.bodies block ≡ Some body → read s who xid next call block want (Some file) ≡ read_of s who xid next call file block body want (ask s.table (to_read s who file want))
+read-has s who xid next call block want file body has = ap (read_block s who xid next call file block want) has
+
+pub read-found : (held : Beside) (kept : Kept) (who : Who) (xid next call block : ℕ) (want : Option Want) (found : Option File) (row : FileRow) (body : List ℕ) (q : Question) → Found.Got row ≡ found_at block found → Some body ≡ body_at block found → q ≡ asks held who row want → read (server_of held kept) who xid next call block want found ≡ read_asked (server_of held kept) q.who xid next call (file_asked q) block body q.access (ask held.table q).table (ask held.table q).asked
+read-found held kept who xid next call block want None row body q h has is = absurd (cc)
+read-found held kept who xid next call block want (Some file) row body q h has is =
+    let s = server_of held kept in
+    let own : row_of file ≡ row = got-row block file row h in
+    let asked : q ≡ asks held who (row_of file) want = is ∙ ap (λ r. asks held who r want) (sym own) in
+    read-has s who xid next call block want file body (sym has)
+    ∙ ap (served s xid next call block file body) (sym asked)
+    ∙ read-alike s q.who xid next call file (file_asked q) block body q.access (ask held.table q).table (ask held.table q).asked (sym (ap (λ x. x.file) asked)) (sym (ap (λ x. x.rev) asked))

@@ -1,0 +1,96 @@
+-- Requests for a lease, and what a call does that makes a step which keeps what is kept.
+use Rattle.std.specs.Prelude.{◌≡◌, ◌≤◌, ℕ, List, [], Option, Some, None, Result, Ok, Err, find, is_some, nat_lt, if◌then◌else◌}
+use Rattle.nq_base.specs.declared.Asked.{Asked}
+use Rattle.nq_base.specs.declared.FileRow.{FileRow}
+use Rattle.nq_base.specs.declared.Grant.{Grant}
+use Rattle.nq_base.specs.declared.Question.{Question}
+use Rattle.nq_base.specs.declared.Row.{Row}
+use Rattle.nq_base.specs.declared.Want.{Want}
+use Rattle.nq_base.specs.declared.Who.{Who}
+use Rattle.nq_evict.specs.declared.NoticeTo.{NoticeTo}
+use Rattle.nq_evict.specs.declared.NoticeTo.TheVariants.{Others, Own}
+use Rattle.nq_journal.specs.Items.{EntryList}
+use Rattle.nq_model.specs.Ask.{conflicts}
+use Rattle.nq_model.specs.Change.{row_of}
+use Rattle.nq_model.specs.Kept.{File, blocks_of}
+use Rattle.nq_model.specs.Server.{ServerStep}
+use Rattle.nq_model.specs.ServerStep.{access_of}
+use Rattle.nq_model.specs.Table.{Table, find_row}
+use Rattle.nq_server.specs.declared.leasing.Found.{Found}
+use Rattle.nq_server.specs.declared.received.Halt.{Halt}
+use Rattle.nq_server.specs.declared.received.Halt.TheVariants as halt
+use Rattle.nq_server.specs.declared.received.Taken.{Taken}
+use Rattle.nq_server.specs.State.{Beside, beside}
+use Rattle.nq_server.specs.Stepping.{Sends, Enters, SaysNothing, outcome_of}
+use Rattle.nq_wire.specs.Outbox.{Datagrams}
+
+-- a step was made, but for what is kept
+pub record MakesBeside (step : ServerStep) (after : Beside) (out out' : Datagrams) (log log' : EntryList) : Type 0 where
+  pub holds : after ≡ beside step.server
+  pub sends : Sends step.sends out out'
+  pub enters : Enters step.entries log log'
+
+-- what a call does that makes a step which keeps what is kept, by its answer: where memory is wanting nothing changed
+abbrev pub Does : (step : ServerStep) → Result Taken Halt → (held after : Beside) (out out' : Datagrams) (log log' : EntryList) → Type 0
+Does step (Ok how) held after out out' log log' = (step.outcome ≡ outcome_of how) × MakesBeside step after out out' log log'
+Does step (Err halt.Memory) held after out out' log log' = (after ≡ held) × SaysNothing out out' log log'
+Does step (Err halt.Fault) held after out out' log log' = ⊥
+
+-- what the ask table is asked about a file of this row
+abbrev pub asks : Beside → Who → FileRow → Option Want → Question
+asks held who row want = record {
+  who = who;
+  file = row.id;
+  access = access_of want;
+  want = want;
+  longest = held.longest;
+  time = held.time;
+  rev = row.rev;
+  blocks = row.blocks;
+}
+
+-- a question is asked at the server's time, and with the longest term of its boot
+pub record IsAskedOf (held : Beside) (q : Question) : Type 0 where
+  pub time : q.time ≡ held.time
+  pub longest : q.longest ≡ held.longest
+
+-- a file of which a question tells the id and the revision
+abbrev pub file_asked : Question → File
+file_asked q = record { id = q.file; name = []; rev = q.rev; bodies = [] }
+
+-- the holder of the asker's own row is told, where that row is to be given up
+abbrev pub own_to_tell : (host : ℕ) → Option Want → Option Row → Option NoticeTo
+own_to_tell host None own = None
+own_to_tell host (Some want) None = None
+own_to_tell host (Some want) (Some own) = if own.evicting then Some (Own host) else None
+
+-- whose holders are told, where the asker is put off
+abbrev pub to_tell : Table → Question → Option NoticeTo
+to_tell table q =
+    if is_some (find (conflicts q.file q.who.host q.access) table.rows)
+    then Some (Others q.who.host q.access)
+    else own_to_tell q.who.host q.want (find_row q.file q.who.host table.rows)
+
+-- the grant that an asker was told of, if any
+abbrev pub granted_in : Asked → Option Grant
+granted_in (Asked.Granted grant) = Some grant
+granted_in Asked.Free = None
+granted_in Asked.NoLease = None
+granted_in (Asked.TryLater clash) = None
+
+-- room was made for a datagram and for so many entries, and nothing else changed
+pub record HasRoom (entries : ℕ) (out out' : Datagrams) (log log' : EntryList) : Type 0 where
+  pub nothing : SaysNothing out out' log log'
+  pub datagram : 1 ≤ out'.spare
+  pub lines : entries ≤ log'.spare
+
+-- what was found of a block: the row of its file, or why there is nothing to read
+abbrev pub found_at : (block : ℕ) → Option File → Found
+found_at block None = Found.Stale
+found_at block (Some file) = if nat_lt block (blocks_of file) then Found.Got (row_of file) else Found.Invalid
+
+-- the buffer has the body where the block was found
+abbrev pub HasBody : Found → List ℕ → Option (List ℕ) → Type 0
+HasBody (Found.Got row) buffer body = Some buffer ≡ body
+HasBody Found.Stale buffer body = Unit {0}
+HasBody Found.Invalid buffer body = Unit {0}

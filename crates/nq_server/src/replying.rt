@@ -1,0 +1,122 @@
+//! Replies to hosts.
+
+ghost use Rattle.std.specs.Prelude.{◌≡◌, ◌≤◌, ◌+◌, ◌%◌, [], ◌∷◌, ◌++◌, length, map, OnOk, OnErr};
+ghost use Rattle.nq_base.specs.declared.Refusal.{Refusal as Status};
+ghost use Rattle.nq_base.specs.declared.Reply.{Reply as Answer};
+ghost use Rattle.nq_datagrams.specs.Sent.{sent};
+ghost use Rattle.nq_evict.specs.Telling.{told_rows};
+ghost use Rattle.nq_model.specs.Message.{reply as reply_to};
+ghost use Rattle.nq_model.specs.Profile.{xid_end};
+ghost use Rattle.nq_model.specs.Server.{notices as notices_of, to_host};
+ghost use Rattle.nq_server.specs.Answering.{IsSilent};
+ghost use Rattle.nq_server.specs.Stepping.{Says, Sends};
+ghost use Rattle.nq_wire.specs.Reply.{results_len};
+
+use crate::received::{Halt, Taken};
+use nq_base::{FileId, Host, NoMemory, Party, Refusal, Reply, Who};
+use nq_datagrams::{BegunReply, reply_bytes};
+use nq_evict::{NoticeTo, notices};
+use nq_lease::Table;
+use nq_wire::Outbox;
+use std::alloc::Global;
+
+/// Who asks, and the number of his call.
+#[derive(Clone, Copy)]
+pub(crate) struct Caller {
+    /// The incarnation.
+    pub(crate) who: Who,
+    /// The number, which the reply repeats.
+    pub(crate) xid: u32,
+}
+
+/// Adds a reply to a host. Where memory is wanting the datagrams are as before.
+pub(crate) fn reply(
+    alloc: Global,
+    host: Host,
+    xid: u32,
+    said: &Reply,
+    out: &mut Outbox,
+) -> Result<(), NoMemory>
+    ensures sends { OnOk result (Sends (to_host host (reply_to xid said.now) ∷ []) out.old out.new) }
+    ensures refused { OnErr result (IsSilent out.old out.new) }
+{
+    let bytes = reply_bytes(alloc, xid, said)?;
+    out.push(Party::Client(host), bytes)
+}
+
+/// Answers a request with a reply, and does nothing else.
+pub(crate) fn answer(
+    alloc: Global,
+    host: Host,
+    xid: u32,
+    said: &Reply,
+    out: &mut Outbox,
+) -> Result<Taken, Halt>
+    ensures { Says (to_host host (reply_to xid said.now)) result out.old out.new }
+{
+    match reply(alloc, host, xid, said, out) {
+        Ok(()) => Ok(Taken::Done),
+        Err(NoMemory::Memory) => Err(Halt::Memory),
+    }
+}
+
+/// Refuses a request, and does nothing else.
+pub(crate) fn refuse(
+    alloc: Global,
+    who: Who,
+    xid: u32,
+    status: Refusal,
+    out: &mut Outbox,
+) -> Result<Taken, Halt>
+    ensures { Says (to_host who.host (reply_to xid (Answer.Refused who.inc status))) result out.old out.new }
+{
+    let said = Reply::Refused {
+        inc: who.inc,
+        status,
+    };
+    answer(alloc, who.host, xid, &said, out)
+}
+
+/// Ends a reply to a host, for which there is room. It takes no memory.
+pub(crate) fn end_reply(host: Host, begun: BegunReply, said: &Reply, out: &mut Outbox)
+    requires room { results_len said.now ≤ begun.room }
+    requires datagram { 1 ≤ out.old.spare }
+    ensures { Sends (to_host host (reply_to begun.xid said.now) ∷ []) out.old out.new }
+{
+    let bytes = begun.end(said);
+    out.push(Party::Client(host), bytes).unwrap();
+}
+
+/// Puts a request about a file off: notices to the holders of its rows, with numbers from `notice` on, and then the
+/// refusal. Where memory is wanting the datagrams and the number are as before.
+pub(crate) fn put_off(
+    alloc: Global,
+    table: &Table,
+    file: FileId,
+    to: NoticeTo,
+    who: Who,
+    xid: u32,
+    notice: &mut u32,
+    out: &mut Outbox,
+) -> Result<(), NoMemory>
+    ensures sends { OnOk result (Sends (notices_of notice.old (told_rows file to table.now.rows) ++ to_host who.host (reply_to xid (Answer.Refused who.inc Status.TryLater)) ∷ []) out.old out.new) }
+    ensures counted { OnOk result (notice.new ≡ (notice.old + length (told_rows file to table.now.rows)) % xid_end) }
+    ensures silent { OnErr result (IsSilent out.old out.new) }
+    ensures number { OnErr result (notice.new ≡ notice.old) }
+{
+    let before = *notice;
+    let len = out.len();
+    notices(alloc, table, file, to, notice, out)?;
+    let said = Reply::Refused {
+        inc: who.inc,
+        status: Refusal::TryLater,
+    };
+    match reply(alloc, who.host, xid, &said, out) {
+        Ok(()) => Ok(()),
+        Err(fault) => {
+            out.cut(len);
+            *notice = before;
+            Err(fault)
+        }
+    }
+}
