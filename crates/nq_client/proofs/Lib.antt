@@ -1,9 +1,12 @@
+pub mod Between
+pub mod Calls
 pub mod Counts
 pub mod Found
 pub mod Least
 pub mod Marks
 pub mod NextRequest
 pub mod NoticeList
+pub mod Outcomes
 pub mod Places
 pub mod Renewals
 pub mod Requested

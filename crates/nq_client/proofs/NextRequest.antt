@@ -1,11 +1,11 @@
 -- What the call under way asks for does not depend on whether the call stands in the client, or is put back behind the
 -- request.
-use Rattle.std.proofs.Common.{◌≡◌, ℕ, Bool, true, false, List, [], ◌∷◌, ◌++◌, Option, Some, None, is_some, if◌then◌else◌, nat_le, refl, sym, ap, ◌∙◌}
+use Rattle.std.proofs.Common.{◌≡◌, ℕ, Bool, true, false, List, Option, Some, None, if◌then◌else◌, refl, sym, ap, ◌∙◌}
 use Rattle.nq_base.specs.declared.Push.{Push}
 use Rattle.nq_base.specs.declared.Request.{Request}
 use Rattle.nq_client.specs.Step.{with_call}
-use Rattle.nq_model.specs.Client.{Client, ClientStep, Job, UnderWay, first_dirty, is_clean, for_call, lease_on}
-use Rattle.nq_model.specs.Send.{sends_request, after_seq, after_number, takes_push, gives_up, pushes_these, pushes, asks, sends_write, next_write, next_put, next_change, shares_live, want_of, then_ending, then_calls, then_renews, then_pushes, pushes_due, is_asking, noticed_file, ending_file, send_next}
+use Rattle.nq_model.specs.Client.{ClientStep, Job, UnderWay, first_dirty, is_clean, for_call}
+use Rattle.nq_model.specs.Send.{sends_request, after_seq, after_number, takes_push, gives_up, pushes_these, pushes, asks, sends_write, next_write, next_put, next_change, then_ending, then_calls, then_renews, then_pushes, pushes_due, is_asking, noticed_file, ending_file, send_next}
 
 pub sends-with_call : (t : ClientStep) (u : UnderWay) (job : Job) (r : Request) → with_call (sends_request t job r) u ≡ sends_request (with_call t u) job r
 unfolding sends_request

@@ -1,5 +1,5 @@
 -- A lease that is to be renewed lets its holder cache.
-use Rattle.std.proofs.Common.{◌≡◌, ℕ, ◌+◌, ◌&&◌, Bool, true, false, not, List, map, Option, Some, None, nat_le, is_some, IfSome, refl, sym, ◌∙◌}
+use Rattle.std.proofs.Common.{◌≡◌, ℕ, ◌+◌, ◌&&◌, Bool, true, false, not, List, map, Option, Some, None, nat_le, is_some, IfSome, refl, sym}
 use Rattle.nq_base.specs.declared.Push.{Push}
 use Rattle.nq_client.specs.ByFile.{Ascends}
 use Rattle.nq_client.specs.Leases.{lease_in, file_of_row}

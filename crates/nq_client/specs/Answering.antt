@@ -1,5 +1,5 @@
 -- How a step answers the call under way, in the steps of the code.
-use Rattle.std.specs.Prelude.{ℕ, List, ◌∷◌, Option, Some, None}
+use Rattle.std.specs.Prelude.{Option, Some, None}
 use Rattle.nq_base.specs.declared.Answer.{Answer}
 use Rattle.nq_base.specs.declared.Said.{Said}
 use Rattle.nq_client.specs.Settling.{ended}

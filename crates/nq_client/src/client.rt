@@ -1,15 +1,23 @@
 //! The client of one host.
 
-ghost use Rattle.std.specs.Prelude.{◌≡◌, ◌<◌, ◌^◌, is_some, unwrap_or, IfOk, if◌then◌else◌};
+ghost use Rattle.std.specs.Prelude.{◌≡◌, ◌≤◌, ◌<◌, ◌+◌, ◌^◌, ◌∷◌, ◌++◌, ◌↔◌, [], is_some, unwrap_or, IfOk, OnErr, if◌then◌else◌};
+ghost use Rattle.nq_base.specs.Plain.{plain_answer};
 ghost use Rattle.nq_model.specs.CachedAtOnce.{has_cached};
-ghost use Rattle.nq_model.specs.ClientStep.{attached_client};
+ghost use Rattle.nq_model.specs.ClientStep.{attached_client, client_call, client_tick};
+ghost use Rattle.nq_model.specs.Profile.{most_taken_by_client};
 ghost use Rattle.nq_model.specs.Settle.{after_read};
+ghost use Rattle.nq_client.specs.Outcome.{Called, Heeded};
 
+use crate::finishing::Letters;
+use crate::heard::Heard;
 use crate::reading::read_cached;
 use crate::state::State;
 use crate::step::Step;
-use nq_base::{Block, BlockNo, FileId, Host, Inc, NoMemory, Ticks, Who};
+use crate::stepping::{make_call, make_tick, reserve, room_for_call};
+use nq_base::{Answer, Block, BlockNo, Call, FileId, Host, Inc, NoMemory, Ticks, Who};
 use nq_dirty::Dirty;
+use nq_journal::Journal;
+use nq_wire::Outbox;
 use std::alloc::Global;
 use std::marker::Model;
 
@@ -24,11 +32,12 @@ pub enum StartClient {
 /// datagrams and ticks it took in. It has to be stopped in the end.
 pub struct Client {
     step: Step,
+    letters: Letters,
     taken: u64,
 }
 
 impl Model for Client {
-    ghost use Rattle.nq_client.specs.Counted.{Counted, counted, IsWithin};
+    ghost use Rattle.nq_client.specs.Counted.{Counted, IsWithin, counted};
     ghost use Rattle.nq_client.specs.Step.{IsBegun};
 
     ghost Value = { Counted };
@@ -39,6 +48,9 @@ impl Model for Client {
 }
 
 impl Client {
+    /// The most calls, datagrams and ticks that a client takes in.
+    pub const MOST_TAKEN: u64 = 1_073_741_824;
+
     /// A client that is attached from the start, and sends nothing. `term` is the term, in ticks, that it wants.
     ///
     /// # Errors
@@ -58,9 +70,58 @@ impl Client {
         match State::attached(alloc, Who { host, inc }, term, time) {
             Ok(state) => Ok(Client {
                 step: Step::begun(state),
+                letters: Letters::new(alloc),
                 taken: 0,
             }),
             Err(NoMemory::Memory) => Err(StartClient::Memory),
+        }
+    }
+
+    /// Takes in a call of a user. It is answered at once, or `Pending`: then a later datagram or tick brings the answer.
+    ///
+    /// # Errors
+    ///
+    /// `Busy` where another call is under way or the client is not attached, and the other call goes on. `Spent` exactly
+    /// where the client has taken in 2^30 calls, datagrams and ticks. After `Spent` and `Memory` the client, the outbox
+    /// and the journal are as before.
+    pub fn call(&mut self, call: &Call, out: &mut Outbox, log: &mut Journal) -> Answer
+        ensures spent { (result ≡ Answer.Spent) ↔ (self.old.taken ≡ most_taken_by_client) }
+        ensures called { Called result (client_call self.old.client call.now) self.old self.new out.old out.new log.old log.new }
+    {
+        if self.taken == Client::MOST_TAKEN {
+            return Answer::Spent;
+        }
+        match room_for_call(&mut self.step, &mut self.letters, call, out, log) {
+            Ok(named) => {
+                self.taken += 1;
+                make_call(&mut self.step, &mut self.letters, call, named, out, log)
+            }
+            Err(NoMemory::Memory) => Answer::Memory,
+        }
+    }
+
+    /// Takes in a tick of its clock, which shows this time now, in ticks. A request that waits for its reply for 2 ticks is
+    /// sent again.
+    ///
+    /// # Errors
+    ///
+    /// `Spent` exactly where the client has taken in 2^30 calls, datagrams and ticks. After `Spent` and `Memory` the
+    /// client, the outbox and the journal are as before. It is never `Ignored`.
+    pub fn tick(&mut self, now: Ticks, out: &mut Outbox, log: &mut Journal) -> Heard
+        requires early { now < 2 ^ 62 }
+        requires later { self.old.client.now ≤ now }
+        ensures spent { (result ≡ Heard.Spent) ↔ (self.old.taken ≡ most_taken_by_client) }
+        ensures heeded { Heeded result (client_tick self.old.client now) self.old self.new out.old out.new log.old log.new }
+    {
+        if self.taken == Client::MOST_TAKEN {
+            return Heard::Spent;
+        }
+        match reserve(&mut self.step, &mut self.letters, 2, out, log) {
+            Ok(()) => {
+                self.taken += 1;
+                make_tick(&mut self.step, &mut self.letters, now, out, log)
+            }
+            Err(NoMemory::Memory) => Heard::Memory,
         }
     }
 
@@ -100,7 +161,11 @@ impl Client {
 
     /// Ends the client: what it has under way and what waits is forgotten, and so are its delayed writes.
     pub fn stop(self) {
-        let Client { step, taken: _ } = self;
+        let Client {
+            step,
+            letters: _letters,
+            taken: _,
+        } = self;
         step.stop();
     }
 }

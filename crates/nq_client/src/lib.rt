@@ -4,14 +4,18 @@
 mod answering;
 mod asked;
 mod asking;
+mod calling;
 mod client;
 mod counting;
 mod due;
 mod entries;
+mod finishing;
 mod granting;
+mod heard;
 mod hearing;
 mod holding;
 mod leases;
+mod letters;
 mod losing;
 mod losses;
 mod next;
@@ -21,10 +25,13 @@ mod sending;
 mod settling;
 mod state;
 mod step;
+mod stepping;
 mod storing;
+mod ticking;
 mod vacating;
 
 pub use client::{Client, StartClient};
+pub use heard::Heard;
 
 #[cfg(test)]
 mod tests;

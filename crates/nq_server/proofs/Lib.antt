@@ -8,3 +8,6 @@ pub mod LeasedSteps
 pub mod DecidedSteps
 pub mod ConcludedSteps
 pub mod LeasedFinds
+pub mod VacatedRows
+pub mod TakenSteps
+pub mod AdmittedSteps

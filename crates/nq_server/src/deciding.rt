@@ -24,8 +24,8 @@ ghost use Rattle.nq_wire.specs.Reply.{results_len};
 
 use crate::finding;
 use crate::leasing::make_room;
-use crate::received::Halt;
-use crate::replying::Caller;
+use crate::received::{Halt, Reason, Taken};
+use crate::replying::{Caller, end_reply};
 use crate::state::{Phase, State};
 use nq_base::{
     Access, Decided, Entry, FileId, Gate, Heads, Host, Mode, NoMemory, Refusal, Reply, Request,
@@ -528,4 +528,37 @@ fn keep_warnings(decided: &Decided, len: usize, out: &mut Outbox)
     if !was_put_off(decided) {
         out.cut(len);
     }
+}
+
+/// Answers a request that was decided, and does what is due beside the kept state. It takes no memory.
+#[tactic(auto, unfolding(nq_model::specs::Decided::fresh_step, nq_model::specs::Server::says, nq_model::specs::Server::drops))]
+fn conclude(
+    state: &mut State,
+    caller: Caller,
+    request: &Request,
+    decided: &Decided,
+    ready: Ready,
+    blocks: u32,
+    out: &mut Outbox,
+    log: &mut Journal,
+) -> Taken
+    requires sound { IsSound state.old }
+    requires within { ready.len ≤ length out.old.datagrams }
+    requires number { ready.begun.xid ≡ caller.xid }
+    requires room { 16 ≤ ready.begun.room }
+    requires datagram { 1 ≤ out.old.spare }
+    requires line { 1 ≤ log.old.spare }
+    ensures makes { (kept : Kept) (before : Datagrams) (entries : EntryList) → IsReady caller.xid ready before out.old entries log.old → Warns (server_of (beside_of state.old) kept) caller.who request.now ready.notice before out.old → blocks ≡ length_in kept (told_file request.now) → Concludes (decided_step (server_of (beside_of state.old) kept) caller.who caller.xid request.now decided.now) result (beside_of state.new) before out.new entries log.new }
+    ensures sound { IsSound state.new }
+    ensures drawn { state.new.table.drawn ≡ state.old.table.drawn }
+{
+    let Ready { len, notice, begun } = ready;
+    let who = caller.who;
+    keep_warnings(decided, len, out);
+    let Some(said) = answer_to(&who, request, decided) else {
+        return Taken::Dropped(Reason::OldIncarnation);
+    };
+    end_reply(who.host, begun, &said, out);
+    do_if_fresh(state, who, request, decided, blocks, notice, log);
+    Taken::Done
 }

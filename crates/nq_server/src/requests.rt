@@ -1,7 +1,7 @@
 //! Requests to a server.
 
-ghost use Rattle.std.specs.Prelude.{◌≡◌, ◌<◌, ◌≤◌, ◌+◌, ◌^◌, ℕ, false};
-ghost use Rattle.nq_base.specs.declared.HostRow.{HostRow};
+ghost use Rattle.std.specs.Prelude.{◌≡◌, ◌<◌, ◌≤◌, ◌+◌, ◌^◌, ℕ, false, nat_lt};
+ghost use Rattle.nq_base.specs.declared.HostRow.{HostRow as Line};
 ghost use Rattle.nq_journal.specs.Items.{EntryList};
 ghost use Rattle.nq_model.specs.Decided.{is_decided_once as decided_once};
 ghost use Rattle.nq_model.specs.Message.{asker as asked_by};
@@ -15,12 +15,14 @@ ghost use Rattle.nq_server.specs.Sound.{IsSound};
 ghost use Rattle.nq_server.specs.State.{Beside, beside_of, phase_of, server_of};
 ghost use Rattle.nq_server.specs.Stepping.{LeavesStep, Takes, next_of};
 
+use crate::finding;
 use crate::leasing::{Wish, get_lease, read};
 use crate::looking::{get_attr, look_up};
-use crate::received::{Halt, Taken};
+use crate::received::{Halt, Reason, Taken};
 use crate::replying::{Caller, refuse};
-use crate::state::State;
-use nq_base::{Refusal, Request, Who};
+use crate::state::{Phase, State};
+use nq_base::{HostRow, Refusal, Request, Who};
+use nq_evict::vacated;
 use nq_journal::Journal;
 use nq_keeper::Keeper;
 use nq_wire::Outbox;
@@ -123,4 +125,82 @@ fn look<K: Keeper>(
         }
         _ => Ok(Taken::Done),
     }
+}
+
+/// Answers a request that is not decided once, of the incarnation that is attached.
+#[tactic(auto, unfolding(nq_model::specs::Server::quiet, nq_model::specs::Server::says, nq_model::specs::Server::with_table, nq_model::specs::ServerStep::vacates))]
+fn perform<K: Keeper>(
+    alloc: Global,
+    keeper: &mut K,
+    state: &mut State,
+    caller: Caller,
+    request: &Request,
+    out: &mut Outbox,
+    log: &mut Journal,
+) -> Result<Taken, Halt>
+    requires sound { IsSound state.old }
+    requires drawn { state.old.table.drawn < 2 ^ 62 }
+    requires other { decided_once request.now ≡ false }
+    ensures takes { (line : Kept → Line) → Takes (λ kept. performs (server_of (beside_of state.old) kept) caller.who caller.xid (next_of out.old) (line kept) request.now) result (K.content keeper.old) (K.content keeper.new) (K.faults keeper.old) (K.faults keeper.new) (beside_of state.old) (beside_of state.new) out.old out.new log.old log.new }
+    ensures sound { IsSound state.new }
+    ensures drawn { state.new.table.drawn ≤ state.old.table.drawn + 1 }
+    ensures follows { K.follows keeper.old keeper.new }
+    ensures leaves { LeavesOne (K.content keeper.old) (K.leaves keeper.old keeper.new) }
+{
+    match (request, &state.phase) {
+        (Request::Vacated { file, tag, .. }, _) => {
+            vacated(&mut state.table, caller.who, *file, *tag);
+            Ok(Taken::Done)
+        }
+        (Request::Null | Request::Evicted { .. }, _) => Ok(Taken::Done),
+        (_, Phase::Serving(_)) => look(alloc, keeper, state, caller, request, out, log),
+        (_, Phase::Recovering { .. }) => {
+            refuse(alloc, caller.who, caller.xid, Refusal::TryLater, out)
+        }
+    }
+}
+
+/// Whether an incarnation is an earlier one than the one that is attached.
+fn is_older(who: &Who, line: &HostRow) -> bool
+    ensures { result ≡ nat_lt who.now.inc line.now.inc }
+{
+    who.inc < line.inc
+}
+
+/// Whether an incarnation is a later one than the one that is attached.
+fn is_newer(who: &Who, line: &HostRow) -> bool
+    ensures { result ≡ nat_lt line.now.inc who.now.inc }
+{
+    line.inc < who.inc
+}
+
+/// Answers a request that is not decided once, by the incarnation of its host that is attached.
+fn admit<K: Keeper>(
+    alloc: Global,
+    keeper: &mut K,
+    state: &mut State,
+    caller: Caller,
+    request: &Request,
+    out: &mut Outbox,
+    log: &mut Journal,
+) -> Result<Taken, Halt>
+    requires sound { IsSound state.old }
+    requires drawn { state.old.table.drawn < 2 ^ 62 }
+    requires few { caller.who.host < most_hosts }
+    requires other { decided_once request.now ≡ false }
+    ensures takes { Takes (λ kept. admits (server_of (beside_of state.old) kept) caller.who caller.xid (next_of out.old) request.now (host_row kept caller.who.host)) result (K.content keeper.old) (K.content keeper.new) (K.faults keeper.old) (K.faults keeper.new) (beside_of state.old) (beside_of state.new) out.old out.new log.old log.new }
+    ensures sound { IsSound state.new }
+    ensures drawn { state.new.table.drawn ≤ state.old.table.drawn + 1 }
+    ensures follows { K.follows keeper.old keeper.new }
+    ensures leaves { LeavesOne (K.content keeper.old) (K.leaves keeper.old keeper.new) }
+{
+    let who = caller.who;
+    let line = finding::host(keeper, who.host)?;
+    if is_older(&who, &line) {
+        return Ok(Taken::Dropped(Reason::OldIncarnation));
+    }
+    if is_newer(&who, &line) {
+        return not_attached(alloc, caller, request, out);
+    }
+    perform(alloc, keeper, state, caller, request, out, log)
 }

@@ -1,4 +1,4 @@
-use Rattle.std.proofs.Common.{◌≡◌, sym, subst, ◌∙◌}
+use Rattle.std.proofs.Common.{sym, subst, ◌∙◌}
 use Rattle.nq_client.specs.ByFile.{Ascends, IsPlace}
 use Rattle.nq_client.proofs.NoticeList.{added}
 use Rattle.nq_model.specs.Client.{file_of_notice}

@@ -1,4 +1,4 @@
-use Rattle.std.proofs.Common.{◌≡◌, Some, sym, ap, ◌∙◌}
+use Rattle.std.proofs.Common.{◌≡◌, sym, ap, ◌∙◌}
 use Rattle.nq_client.proofs.NoticeList.{of-file, absent, kept}
 use Rattle.nq_model.specs.Client.{Notice, notice_on, drop_notice}
 use Rattle.nq_client.proofs.notices.put.Goals as goal

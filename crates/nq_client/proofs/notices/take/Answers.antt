@@ -1,4 +1,4 @@
-use Rattle.std.proofs.Common.{◌≡◌, ◌<◌, length, is_some, true, false, sym, subst, ◌∙◌, ap, arith}
+use Rattle.std.proofs.Common.{◌≡◌, is_some, true, false, sym, subst, ◌∙◌, ap, arith}
 use Rattle.nq_client.specs.ByFile.{Ascends, IsPlace}
 use Rattle.nq_client.proofs.NoticeList.{there, none-there, found-there, gone, none_gone}
 use Rattle.nq_model.specs.Client.{file_of_notice, notice_on}

@@ -1,4 +1,4 @@
-use Rattle.std.proofs.Common.{◌≡◌, sym, ap, ◌∙◌}
+use Rattle.std.proofs.Common.{sym, ap, ◌∙◌}
 use Rattle.nq_base.specs.declared.Request.{Request}
 use Rattle.nq_client.specs.State.{under_way}
 use Rattle.nq_client.specs.Step.{step_of, with_call}

@@ -1,0 +1,37 @@
+-- What a step gives to what it is lent.
+use Rattle.std.specs.Prelude.{◌≡◌, ◌≤◌, ◌++◌, ℕ, List, map}
+use Rattle.nq_base.specs.declared.Party.{Party}
+use Rattle.nq_client.specs.Entries.{Tells}
+use Rattle.nq_client.specs.declared.finishing.Letters.{Letters}
+use Rattle.nq_client.specs.declared.step.Step.{Step}
+use Rattle.nq_datagrams.specs.Messages.{bytes_of}
+use Rattle.nq_journal.specs.Items.{EntryList}
+use Rattle.nq_model.specs.Client.{ClientStep}
+use Rattle.nq_model.specs.Message.{Message}
+use Rattle.nq_wire.specs.Outbox.{Datagrams}
+
+-- a message to the server as a datagram
+abbrev pub to_server : Message → Party × List ℕ
+to_server m = (Party.Server, bytes_of m)
+
+-- an outbox and a journal grew by what a step gave
+pub record Grows (t : ClientStep) (out outs : Datagrams) (log logs : EntryList) : Type 0 where
+  pub first : outs.first ≡ out.first
+  pub sends : outs.datagrams ≡ out.datagrams ++ map to_server t.sends
+  pub entries : Tells t.entries log.entries logs.entries
+
+-- the most bytes of a call
+abbrev pub longest_call : ℕ
+longest_call = 4196
+
+-- there is memory for the bytes of what a step may send
+pub record HasLetters (l : Letters) : Type 0 where
+  pub vacated : longest_call ≤ l.vacated
+  pub request : longest_call ≤ l.request
+
+-- there is room for so many entries, for a block that becomes dirty and for what a step may send
+pub record HasRoomFor (entries : ℕ) (s : Step) (out : Datagrams) (log : EntryList) : Type 0 where
+  pub entries_made : entries ≤ s.entries.spare
+  pub block : 1 ≤ s.state.dirty.spare
+  pub places : 2 ≤ out.spare
+  pub entries_told : entries ≤ log.spare

@@ -1,0 +1,245 @@
+//! A call of a user.
+
+ghost use Rattle.std.specs.Prelude.{◌≡◌, ◌≤◌, ◌<◌, ◌+◌, ◌^◌, map, false, IfOk};
+ghost use Rattle.nq_model.specs.Client.{begun, losses_of, span_of};
+ghost use Rattle.nq_model.specs.ClientStep.{begins_call, call_freely, changed_file, client_call, is_called, losses_for, says_busy, tell_losses, told};
+ghost use Rattle.nq_model.specs.Settle.{names_losses};
+ghost use Rattle.nq_client.specs.Step.{HasNumbers, HasRoom, step_of};
+ghost use Rattle.nq_client.specs.Calling.{HasRoomToCall, IsNamedFor};
+ghost use Rattle.nq_client.specs.Tied.{Tied};
+
+use crate::losses::spans_of;
+use crate::state::{State, UnderWay};
+use crate::step::Step;
+use nq_base::{Answer, Call, Entry, FileId, Losses, NoMemory, Said, Spans, Told};
+use std::alloc::Global;
+
+/// The losses that a call is told before anything else, as its answer and as a journal names them.
+#[derive(Drop)]
+pub(crate) struct Named {
+    pub(crate) losses: Losses,
+    pub(crate) spans: Spans,
+}
+
+/// The losses of the file that a call changes or syncs, if it does.
+pub(crate) fn named_for(state: &State, call: &Call) -> Result<Named, NoMemory>
+    ensures { IfOk result (λ n. IsNamedFor n call.now state.now.losses.items) }
+{
+    let losses = match changed_file(call) {
+        Some(file) => state.losses.of(state.alloc, file)?,
+        None => Losses::new(state.alloc)?,
+    };
+    let spans = spans_of(state.alloc, &losses)?;
+    Ok(Named { losses, spans })
+}
+
+/// The file whose losses a call is told, if it changes or syncs one.
+fn changed_file(call: &Call) -> Option<FileId>
+    ensures { result ≡ changed_file call.now }
+{
+    match call {
+        Call::Write { file, .. }
+        | Call::WriteSync { file, .. }
+        | Call::Sync { file }
+        | Call::Resize { file, .. }
+        | Call::Remove { file } => Some(*file),
+        Call::Create { .. }
+        | Call::Lookup { .. }
+        | Call::Attr { .. }
+        | Call::Read { .. }
+        | Call::Fetch { .. } => None,
+    }
+}
+
+/// A call as a journal tells it.
+fn told(call: &Call) -> Told
+    ensures { result ≡ told call.now }
+{
+    match call {
+        Call::Create { name, blocks } => Told::Create {
+            name: *name,
+            blocks: *blocks,
+        },
+        Call::Lookup { name } => Told::Lookup { name: *name },
+        Call::Attr { file } => Told::Attr { file: *file },
+        Call::Read { file, block } => Told::Read {
+            file: *file,
+            block: *block,
+        },
+        Call::Fetch { file, block } => Told::Fetch {
+            file: *file,
+            block: *block,
+        },
+        Call::Write { file, block, body } => Told::Write {
+            file: *file,
+            block: *block,
+            value: body.value(),
+        },
+        Call::WriteSync { file, block, body } => Told::WriteSync {
+            file: *file,
+            block: *block,
+            value: body.value(),
+        },
+        Call::Sync { file } => Told::Sync { file: *file },
+        Call::Resize { file, blocks } => Told::Resize {
+            file: *file,
+            blocks: *blocks,
+        },
+        Call::Remove { file } => Told::Remove { file: *file },
+    }
+}
+
+/// A second call of the same words.
+fn copied(call: &Call) -> Call
+    ensures { result ≡ call.now }
+{
+    match call {
+        Call::Create { name, blocks } => Call::Create {
+            name: *name,
+            blocks: *blocks,
+        },
+        Call::Lookup { name } => Call::Lookup { name: *name },
+        Call::Attr { file } => Call::Attr { file: *file },
+        Call::Read { file, block } => Call::Read {
+            file: *file,
+            block: *block,
+        },
+        Call::Fetch { file, block } => Call::Fetch {
+            file: *file,
+            block: *block,
+        },
+        Call::Write { file, block, body } => Call::Write {
+            file: *file,
+            block: *block,
+            body: body.copied(),
+        },
+        Call::WriteSync { file, block, body } => Call::WriteSync {
+            file: *file,
+            block: *block,
+            body: body.copied(),
+        },
+        Call::Sync { file } => Call::Sync { file: *file },
+        Call::Resize { file, blocks } => Call::Resize {
+            file: *file,
+            blocks: *blocks,
+        },
+        Call::Remove { file } => Call::Remove { file: *file },
+    }
+}
+
+impl Step {
+    /// A call: busy, or told of losses, or under way.
+    pub(crate) fn call(&mut self, call: &Call, named: Named)
+        requires room { HasRoomToCall self.old }
+        requires numbers { HasNumbers 2 self.old.state }
+        requires calls { self.old.state.calls < 2 ^ 62 }
+        requires tied { Tied self.old.state.asked self.old.state.dirty.push }
+        requires named { IsNamedFor named call.now self.old.state.losses.items }
+        requires begun { step_of self.old ≡ begun (step_of self.old).client }
+        ensures { step_of self.new ≡ client_call (step_of self.old).client call.now }
+    {
+        let busy = self.state.call.is_some() || !self.state.attached;
+        self.begins_call(call);
+        if busy {
+            self.says_busy();
+        } else if named.losses.is_empty() {
+            self.call_freely(call);
+        } else {
+            self.tells_losses(call, named);
+        }
+    }
+
+    /// A call begins: it takes the next number.
+    #[tactic(auto, unfolding(nq_model::specs::ClientStep::begins_call))]
+    fn begins_call(&mut self, call: &Call)
+        requires room { HasRoomToCall self.old }
+        requires numbers { HasNumbers 2 self.old.state }
+        requires calls { self.old.state.calls < 2 ^ 62 }
+        requires begun { step_of self.old ≡ begun (step_of self.old).client }
+        ensures step { step_of self.new ≡ begins_call (step_of self.old).client call.now }
+        ensures room { HasRoom self.new }
+        ensures numbers { HasNumbers 2 self.new.state }
+        ensures losses { self.new.state.losses ≡ self.old.state.losses }
+        ensures asked { self.new.state.asked ≡ self.old.state.asked }
+        ensures dirty { self.new.state.dirty ≡ self.old.state.dirty }
+    {
+        self.state.calls += 1;
+        self.entries.note(Entry::C {
+            who: self.state.who,
+            q: self.state.calls,
+            told: told(call),
+        });
+    }
+
+    /// The call is answered at once, and the other one goes on.
+    #[tactic(auto, unfolding(nq_model::specs::ClientStep::says_busy))]
+    fn says_busy(&mut self)
+        requires { HasRoom self.old }
+        ensures { step_of self.new ≡ says_busy (step_of self.old) }
+    {
+        self.entries.note(Entry::A {
+            who: self.state.who,
+            q: self.state.calls,
+            said: Said::Busy,
+        });
+        self.answer = Some(Answer::Busy);
+    }
+
+    /// The call is told its losses, which are then named.
+    fn tells_losses(&mut self, call: &Call, named: Named)
+        requires room { HasRoom self.old }
+        requires named { IsNamedFor named call.now self.old.state.losses.items }
+        ensures { step_of self.new ≡ tell_losses (step_of self.old) (changed_file call.now) }
+    {
+        match changed_file(call) {
+            Some(file) => self.names_losses(self.state.calls, file, named),
+            None => {}
+        }
+    }
+
+    /// The answer that names all losses of a file, which are then named.
+    #[tactic(auto, unfolding(nq_model::specs::Settle::answers))]
+    pub(crate) fn names_losses(&mut self, q: u64, file: FileId, named: Named)
+        requires room { 1 ≤ self.old.entries.spare }
+        requires losses { named.losses.items ≡ losses_of file self.old.state.losses.items }
+        requires spans { named.spans.items ≡ map span_of (losses_of file self.old.state.losses.items) }
+        ensures { step_of self.new ≡ names_losses (step_of self.old) q file }
+    {
+        self.state.losses.forget(file);
+        let Named { losses, spans } = named;
+        self.ends_call(q, Answer::Lost(losses), Said::Lost(spans));
+    }
+
+    /// A call of a client that has none under way, and that is told of no losses.
+    fn call_freely(&mut self, call: &Call)
+        requires room { HasRoom self.old }
+        requires numbers { HasNumbers 2 self.old.state }
+        requires tied { Tied self.old.state.asked self.old.state.dirty.push }
+        ensures { step_of self.new ≡ call_freely (step_of self.old) call.now }
+    {
+        self.is_called(call);
+        self.settle();
+        if !self.cached {
+            self.send_next(false);
+        }
+    }
+
+    /// The call is under way.
+    #[tactic(auto, unfolding(nq_model::specs::ClientStep::is_called))]
+    fn is_called(&mut self, call: &Call)
+        requires room { HasRoom self.old }
+        requires numbers { HasNumbers 2 self.old.state }
+        ensures step { step_of self.new ≡ is_called (step_of self.old) call.now }
+        ensures room { HasRoom self.new }
+        ensures numbers { HasNumbers 2 self.new.state }
+        ensures asked { self.new.state.asked ≡ self.old.state.asked }
+        ensures dirty { self.new.state.dirty ≡ self.old.state.dirty }
+    {
+        self.state.call = Some(UnderWay {
+            q: self.state.calls,
+            call: copied(call),
+            through: false,
+            written: false,
+        });
+    }
+}

@@ -1,0 +1,156 @@
+//! What a step gives: its datagrams, its entries and its answer.
+
+ghost use Rattle.std.specs.Prelude.{◌≡◌, ◌≤◌, ◌+◌, ◌∷◌, ◌++◌, [], length, map, option_map, OnOk};
+ghost use Rattle.nq_base.specs.Plain.{plain_answer};
+ghost use Rattle.nq_model.specs.Message.{call};
+ghost use Rattle.nq_wire.specs.Request.{HasSpelling};
+ghost use Rattle.nq_client.specs.Finishing.{Grows, HasLetters, HasRoomFor, longest_call, to_server};
+ghost use Rattle.nq_client.specs.Step.{IsBegun, request_message, step_of, vacated_message};
+
+use crate::asked::Asked;
+use crate::letters::Letter;
+use crate::step::{Step, Vacated};
+use nq_base::{Answer, NoMemory, Party, Request, Who};
+use nq_journal::Journal;
+use nq_wire::Outbox;
+use std::alloc::Global;
+
+/// Memory for the bytes of what a step sends.
+#[derive(Drop)]
+pub(crate) struct Letters {
+    pub(crate) vacated: Letter,
+    pub(crate) request: Letter,
+}
+
+impl Letters {
+    /// No room. It takes no memory.
+    pub(crate) fn new(alloc: Global) -> Letters {
+        Letters {
+            vacated: Letter::new(alloc),
+            request: Letter::new(alloc),
+        }
+    }
+
+    /// Makes room for what a step may send.
+    pub(crate) fn reserve(&mut self) -> Result<(), NoMemory>
+        ensures { OnOk result (HasLetters self.new) }
+    {
+        self.vacated.reserve()?;
+        self.request.reserve()
+    }
+}
+
+/// Sends a call to the server, in room that is there.
+fn post(letter: &mut Letter, alloc: Global, xid: u32, request: &Request, out: &mut Outbox)
+    requires bytes { longest_call ≤ letter.old }
+    requires place { 1 ≤ out.old.spare }
+    requires spelled { HasSpelling request.now }
+    ensures first { out.new.first ≡ out.old.first }
+    ensures sent { out.new.datagrams ≡ out.old.datagrams ++ to_server (call xid request.now) ∷ [] }
+    ensures spare { out.old.spare ≤ out.new.spare + 1 }
+{
+    let bytes = letter.spell(alloc, xid, request);
+    out.push(Party::Server, bytes).unwrap();
+}
+
+/// Sends a vacated message, if there is one.
+fn post_vacated(
+    letter: &mut Letter,
+    alloc: Global,
+    who: Who,
+    vacated: Option<Vacated>,
+    out: &mut Outbox,
+)
+    requires bytes { longest_call ≤ letter.old }
+    requires place { 1 ≤ out.old.spare }
+    ensures first { out.new.first ≡ out.old.first }
+    ensures sent { out.new.datagrams ≡ out.old.datagrams ++ map to_server (vacated_message who vacated) }
+    ensures spare { out.old.spare ≤ out.new.spare + 1 }
+{
+    match vacated {
+        Some(Vacated { xid, vacancy }) => {
+            let request = Request::Vacated {
+                who,
+                file: vacancy.file(),
+                tag: vacancy.tag(),
+            };
+            post(letter, alloc, xid, &request, out);
+        }
+        None => {}
+    }
+}
+
+/// Sends the request under way, if the step sends it.
+fn post_request(
+    letter: &mut Letter,
+    alloc: Global,
+    asks: bool,
+    asked: &Option<Asked>,
+    out: &mut Outbox,
+)
+    requires bytes { longest_call ≤ letter.old }
+    requires place { 1 ≤ out.old.spare }
+    ensures first { out.new.first ≡ out.old.first }
+    ensures sent { out.new.datagrams ≡ out.old.datagrams ++ map to_server (request_message asks asked.now) }
+{
+    match asked {
+        Some(asked) if asks => post(letter, alloc, asked.xid(), asked.request(), out),
+        _ => {}
+    }
+}
+
+impl Step {
+    /// Makes room for so many entries, for a block that becomes dirty and for what may be sent.
+    pub(crate) fn reserve(
+        &mut self,
+        entries: usize,
+        out: &mut Outbox,
+        log: &mut Journal,
+    ) -> Result<(), NoMemory>
+        ensures step { step_of self.new ≡ step_of self.old }
+        ensures vacated { self.new.vacated ≡ self.old.vacated }
+        ensures asks { self.new.asks ≡ self.old.asks }
+        ensures answer { self.new.answer ≡ self.old.answer }
+        ensures first { out.new.first ≡ out.old.first }
+        ensures datagrams { out.new.datagrams ≡ out.old.datagrams }
+        ensures entries { log.new.entries ≡ log.old.entries }
+        ensures room { OnOk result (HasRoomFor entries self.new out.new log.new) }
+    {
+        self.entries.reserve(entries)?;
+        self.state.dirty.reserve(1)?;
+        out.reserve(2)?;
+        log.reserve(entries)
+    }
+
+    /// Gives what the step gave: its datagrams and entries go to an outbox and a journal that have room for them, and its
+    /// answer is returned.
+    pub(crate) fn finish(
+        &mut self,
+        letters: &mut Letters,
+        out: &mut Outbox,
+        log: &mut Journal,
+    ) -> Option<Answer>
+        requires letters { HasLetters letters.old }
+        requires places { 2 ≤ out.old.spare }
+        requires room { length self.old.entries.items ≤ log.old.spare }
+        ensures begun { IsBegun self.new }
+        ensures state { self.new.state ≡ self.old.state }
+        ensures answer { option_map plain_answer result ≡ option_map plain_answer self.old.answer }
+        ensures grows { Grows (step_of self.old) out.old out.new log.old log.new }
+    {
+        let alloc = self.state.alloc;
+        let vacated = self.vacated.take();
+        post_vacated(&mut letters.vacated, alloc, self.state.who, vacated, out);
+        post_request(
+            &mut letters.request,
+            alloc,
+            self.asks,
+            &self.state.asked,
+            out,
+        );
+        self.asks = false;
+        self.cached = false;
+        self.entries.tell(log);
+        self.answer.take()
+    }
+}

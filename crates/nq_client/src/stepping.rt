@@ -1,0 +1,116 @@
+//! Whole steps of a client: memory is taken first, then the step is made, then its outcome is given.
+
+ghost use Rattle.std.specs.Prelude.{◌≡◌, ◌≤◌, ◌<◌, ◌+◌, ◌^◌, IfOk, OnOk};
+ghost use Rattle.nq_base.specs.Plain.{plain_answer};
+ghost use Rattle.nq_model.specs.ClientStep.{client_call, client_tick};
+ghost use Rattle.nq_client.specs.Calling.{IsNamedFor};
+ghost use Rattle.nq_client.specs.Finishing.{Grows, HasLetters, HasRoomFor};
+ghost use Rattle.nq_client.specs.Outcome.{IsHeard, or_pending};
+ghost use Rattle.nq_client.specs.State.{client_of};
+ghost use Rattle.nq_client.specs.Step.{HasNumbers, IsBegun, step_of};
+ghost use Rattle.nq_client.specs.Tied.{Tied};
+
+use crate::calling::{Named, named_for};
+use crate::finishing::Letters;
+use crate::heard::Heard;
+use crate::step::Step;
+use nq_base::{Answer, Call, NoMemory, Ticks};
+use nq_journal::Journal;
+use nq_wire::Outbox;
+
+/// Takes the memory that a step may want: for so many entries, a block that becomes dirty, and what may be sent.
+pub(crate) fn reserve(
+    step: &mut Step,
+    letters: &mut Letters,
+    entries: usize,
+    out: &mut Outbox,
+    log: &mut Journal,
+) -> Result<(), NoMemory>
+    requires { IsBegun step.old }
+    ensures begun { IsBegun step.new }
+    ensures client { client_of step.new.state ≡ client_of step.old.state }
+    ensures first { out.new.first ≡ out.old.first }
+    ensures datagrams { out.new.datagrams ≡ out.old.datagrams }
+    ensures entries { log.new.entries ≡ log.old.entries }
+    ensures letters { OnOk result (HasLetters letters.new) }
+    ensures room { OnOk result (HasRoomFor entries step.new out.new log.new) }
+{
+    letters.reserve()?;
+    step.reserve(entries, out, log)
+}
+
+/// Takes the memory that a call may want, and makes the losses that it is told.
+pub(crate) fn room_for_call(
+    step: &mut Step,
+    letters: &mut Letters,
+    call: &Call,
+    out: &mut Outbox,
+    log: &mut Journal,
+) -> Result<Named, NoMemory>
+    requires { IsBegun step.old }
+    ensures begun { IsBegun step.new }
+    ensures client { client_of step.new.state ≡ client_of step.old.state }
+    ensures first { out.new.first ≡ out.old.first }
+    ensures datagrams { out.new.datagrams ≡ out.old.datagrams }
+    ensures entries { log.new.entries ≡ log.old.entries }
+    ensures letters { OnOk result (HasLetters letters.new) }
+    ensures room { OnOk result (HasRoomFor 3 step.new out.new log.new) }
+    ensures named { IfOk result (λ n. IsNamedFor n call.now step.new.state.losses.items) }
+{
+    reserve(step, letters, 3, out, log)?;
+    named_for(&step.state, call)
+}
+
+/// Makes a call, with the memory that it may want.
+pub(crate) fn make_call(
+    step: &mut Step,
+    letters: &mut Letters,
+    call: &Call,
+    named: Named,
+    out: &mut Outbox,
+    log: &mut Journal,
+) -> Answer
+    requires begun { IsBegun step.old }
+    requires letters { HasLetters letters.old }
+    requires room { HasRoomFor 3 step.old out.old log.old }
+    requires numbers { HasNumbers 2 step.old.state }
+    requires calls { step.old.state.calls < 2 ^ 62 }
+    requires named { IsNamedFor named call.now step.old.state.losses.items }
+    requires tied { Tied step.old.state.asked step.old.state.dirty.push }
+    ensures begun { IsBegun step.new }
+    ensures client { client_of step.new.state ≡ (client_call (client_of step.old.state) call.now).client }
+    ensures grows { Grows (client_call (client_of step.old.state) call.now) out.old out.new log.old log.new }
+    ensures answer { plain_answer result ≡ or_pending (client_call (client_of step.old.state) call.now).answer }
+{
+    step.call(call, named);
+    match step.finish(letters, out, log) {
+        Some(answer) => answer,
+        None => Answer::Pending,
+    }
+}
+
+/// Makes a tick, with the memory that it may want.
+pub(crate) fn make_tick(
+    step: &mut Step,
+    letters: &mut Letters,
+    now: Ticks,
+    out: &mut Outbox,
+    log: &mut Journal,
+) -> Heard
+    requires begun { IsBegun step.old }
+    requires letters { HasLetters letters.old }
+    requires room { HasRoomFor 2 step.old out.old log.old }
+    requires numbers { HasNumbers 2 step.old.state }
+    requires early { now < 2 ^ 62 }
+    requires tied { Tied step.old.state.asked step.old.state.dirty.push }
+    ensures begun { IsBegun step.new }
+    ensures client { client_of step.new.state ≡ (client_tick (client_of step.old.state) now).client }
+    ensures grows { Grows (client_tick (client_of step.old.state) now) out.old out.new log.old log.new }
+    ensures heard { IsHeard result (client_tick (client_of step.old.state) now).answer }
+{
+    step.tick(now);
+    match step.finish(letters, out, log) {
+        Some(answer) => Heard::Answered(answer),
+        None => Heard::Nothing,
+    }
+}

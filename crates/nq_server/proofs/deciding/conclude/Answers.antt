@@ -1,0 +1,21 @@
+use Rattle.std.proofs.Common.{◌≡◌, [], ◌∷◌, ◌++◌, sym, subst, ◌∙◌}
+use Rattle.nq_datagrams.specs.Sent.{sent}
+use Rattle.nq_model.specs.Message.{reply}
+use Rattle.nq_model.specs.Server.{to_host}
+use Rattle.nq_server.proofs.ConcludedSteps.{concluded}
+use Rattle.nq_server.specs.Deciding.{warnings}
+use Rattle.nq_server.specs.State.{beside_of, server_of}
+use Rattle.nq_server.proofs.deciding.conclude.Goals as goal
+
+pub returns-clause-makes : goal.returns-clause-makes
+returns-clause-makes c =
+    λ kept before entries ready warns is.
+    concluded (server_of (beside_of c.args.state.now) kept) c.args.caller.who c.args.caller.xid c.args.request.now c.in-Some.said before c.keep_warnings.new.out c.end_reply.new.out entries c.args.log.now
+    (c.end_reply.ensures.first ∙ c.keep_warnings.ensures.first ∙ warns.told.first)
+    (subst (λ xid. c.end_reply.new.out.datagrams ≡ c.keep_warnings.new.out.datagrams ++ sent (to_host c.args.caller.who.host (reply xid c.in-Some.said)) ∷ []) c.requires.number c.end_reply.ensures.added)
+    ready.entries c.args.decided.now
+    (beside_of c.do_if_fresh.new.state)
+    c.do_if_fresh.new.log
+    (sym c.in-Some.ensures.is)
+    (c.keep_warnings.ensures.kept before.datagrams (warnings (server_of (beside_of c.args.state.now) kept) c.args.caller.who c.args.request.now) ready.before warns.told.added)
+    (c.do_if_fresh.ensures.does kept is warns.counted)
