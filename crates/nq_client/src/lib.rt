@@ -23,6 +23,7 @@ mod notices;
 mod reading;
 mod sending;
 mod settling;
+mod starting;
 mod state;
 mod step;
 mod stepping;
