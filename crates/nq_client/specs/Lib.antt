@@ -8,9 +8,11 @@ pub mod Finishing
 pub mod Granting
 pub mod Hearing
 pub mod Leases
+pub mod Losing
 pub mod Lost
 pub mod Notices
 pub mod Outcome
+pub mod Prepared
 pub mod Reading
 pub mod Settling
 pub mod State
