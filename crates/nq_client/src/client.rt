@@ -171,6 +171,13 @@ impl Client {
         read_cached(&mut self.step.state, file, block, into)
     }
 
+    /// The host and its incarnation.
+    pub fn who(&self) -> Who
+        ensures { result ≡ self.now.client.who }
+    {
+        self.step.state.who
+    }
+
     /// The number of this incarnation.
     pub fn inc(&self) -> Inc
         ensures { result ≡ self.now.client.who.inc }
