@@ -9,6 +9,7 @@ pub mod NoticeList
 pub mod Outcomes
 pub mod Places
 pub mod Renewals
+pub mod Reported
 pub mod Requested
 pub mod Settled
 pub mod Spans
