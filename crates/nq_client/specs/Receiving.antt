@@ -1,0 +1,44 @@
+-- What a client makes of a datagram that counts, in the steps of the code.
+use Rattle.std.specs.Prelude.{ℕ, Bool, true, false, Option, Some, None}
+use Rattle.nq_base.specs.declared.Reply.{Reply}
+use Rattle.nq_base.specs.declared.Request.{Request}
+use Rattle.nq_base.specs.declared.Tag.{Tag}
+use Rattle.nq_client.specs.declared.receiving.News.{News}
+use Rattle.nq_model.specs.Client.{Client, ClientStep, Ticket, begun}
+use Rattle.nq_model.specs.Hear.{cancels, done, evicted, goes_on, is_reply_to, refused, replied}
+
+-- whether a reply counts, by the request under way
+abbrev pub counts : Client → (xid : ℕ) → Reply → Option Ticket → Bool
+counts c xid r None = false
+counts c xid r (Some ticket) = is_reply_to c xid r ticket
+
+-- the file whose delayed writes the reply to a request may lose, or 0
+abbrev pub file_at_stake : Request → ℕ
+file_at_stake (Request.Read who q file block want) = file
+file_at_stake (Request.Write who seq file block first last push body) = file
+file_at_stake (Request.GetLease who file want) = file
+file_at_stake other = 0
+
+-- likewise of the request under way
+abbrev pub at_stake : Option Ticket → ℕ
+at_stake None = 0
+at_stake (Some ticket) = file_at_stake ticket.request
+
+-- a request that is no more under way was answered
+abbrev pub answered : ClientStep → (number : ℕ) → Ticket → Reply → ClientStep
+answered t number ticket (Reply.Refused inc status) = refused t status ticket ticket.job
+answered t number ticket other = done t number ticket ticket.job other
+
+-- a reply that counts
+abbrev pub on_reply : Client → (number : ℕ) → Reply → Option Ticket → ClientStep
+on_reply c number r None = begun c
+on_reply c number r (Some ticket) = goes_on (replied (begun c) number ticket r)
+
+-- a notice that counts
+abbrev pub on_notice : Client → (file : ℕ) → Tag → ClientStep
+on_notice c file tag = goes_on (evicted (cancels (begun c) file) file tag)
+
+-- what counts, in the packet of this number
+abbrev pub on_news : Client → (number : ℕ) → News → ClientStep
+on_news c number (News.Notice file tag) = on_notice c file tag
+on_news c number (News.Reply r) = on_reply c number r c.ticket
