@@ -2,6 +2,7 @@ pub mod Between
 pub mod Calls
 pub mod Counts
 pub mod Found
+pub mod Grants
 pub mod Least
 pub mod Marks
 pub mod NextRequest

@@ -14,9 +14,9 @@ pub mod Notices
 pub mod Outcome
 pub mod Prepared
 pub mod Reading
-pub mod Receiving
 pub mod Settling
 pub mod State
 pub mod Step
+pub mod Taking
 pub mod Ticking
 pub mod Tied

@@ -164,7 +164,10 @@ impl Step {
             }
             Request::GetLease { file, .. } => return self.was_leased(*file, sent, reply),
             Request::Write {
-                file, block, body, ..
+                file,
+                block,
+                body,
+                ..
             } => return self.was_written(*file, *block, body, reply),
             Request::Null
             | Request::Attach { .. }

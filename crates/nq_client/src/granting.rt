@@ -60,7 +60,7 @@ fn caches_granted(
 
 /// What a reply to READ leaves in the cache: clean blocks of another revision than that of the grant go, and the block is
 /// cached under a caching grant.
-fn caches_read(
+pub(crate) fn caches_read(
     cache: &mut Cache,
     file: FileId,
     block: BlockNo,

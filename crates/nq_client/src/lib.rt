@@ -28,6 +28,7 @@ mod state;
 mod step;
 mod stepping;
 mod storing;
+mod taking;
 mod ticking;
 mod vacating;
 

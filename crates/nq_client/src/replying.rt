@@ -62,7 +62,10 @@ impl Step {
     {
         match request {
             Request::Write {
-                file, block, body, ..
+                file,
+                block,
+                body,
+                ..
             } => self.pushed(*file, *block, body, reply),
             _ => Ok(()),
         }
@@ -102,13 +105,7 @@ impl Step {
     }
 
     /// A request was done, by what it was for.
-    fn done(
-        &mut self,
-        job: Job,
-        asked: &Asked,
-        packet: u64,
-        reply: &Reply,
-    ) -> Result<(), NoMemory>
+    fn done(&mut self, job: Job, asked: &Asked, packet: u64, reply: &Reply) -> Result<(), NoMemory>
         requires prepared { IsPrepared (file_at_stake asked.now.request) self.old }
         requires tied { TiedFor (job_of job) asked.now.request self.old.state.dirty.push }
         ensures done { OnOk result (step_of self.new ≡ done (step_of self.old) packet asked.now (job_of job) reply.now) }
