@@ -1,5 +1,5 @@
 -- A file whose delayed writes were lost, and the call that is told of it.
-use Rattle.std.proofs.Common.{◌≡◌, ℕ, Bool, true, false, not, ◌||◌, ◌&&◌, List, [], ◌∷◌, Option, Some, None, IsTrue, if◌then◌else◌, refl, sym, ap}
+use Rattle.std.proofs.Common.{◌≡◌, ℕ, Bool, true, false, not, ◌||◌, ◌&&◌, List, [], ◌∷◌, filter, Option, Some, None, IsTrue, if◌then◌else◌, refl, sym, ap}
 use Rattle.std.specs.List.{list_any}
 use Rattle.nq_base.specs.declared.Push.{Push}
 use Rattle.nq_client.specs.Lost.{waiting}
@@ -25,13 +25,13 @@ untold t file (Some u) h = by (waits_for file u.written u.call) h
     by true h = absurd cc
     by false h = refl
 
-none-listed : (file : ℕ) (dirty : List Push) → list_any (is_push_of file) (other_dirty file dirty) ≡ false
-none-listed file [] = refl
-none-listed file (p ∷ dirty) = by (is_push_of file p) refl
-  where
-    by : (b : Bool) → is_push_of file p ≡ b → list_any (is_push_of file) (if not b then p ∷ other_dirty file dirty else other_dirty file dirty) ≡ false
-    by true e = none-listed file dirty
-    by false e = rw e (none-listed file dirty)
+none-step : (p : Push → Bool) (y : Push) (xs : List Push) (b : Bool) → list_any p xs ≡ false → p y ≡ b → list_any p (if not b then y ∷ xs else xs) ≡ false
+none-step p y xs true rest e = rest
+none-step p y xs false rest e = rw e rest
+
+none-passes : (p : Push → Bool) (xs : List Push) → list_any p (filter (λ x. not (p x)) xs) ≡ false
+none-passes p [] = refl
+none-passes p (y ∷ xs) = none-step p y (filter (λ x. not (p x)) xs) (p y) (none-passes p xs) refl
 
 none-under-way : (file : ℕ) (push : Option Push) → push_passes (is_push_of file) (other_push file push) ≡ false
 none-under-way file None = refl
@@ -43,4 +43,4 @@ none-under-way file (Some p) = by (is_push_of file p) refl
 
 -- a file whose delayed writes were lost is clean
 pub clean_after : (file : ℕ) (dirty : List Push) (push : Option Push) → IsTrue (is_clean_in file (other_dirty file dirty) (other_push file push))
-clean_after file dirty push = rw (none-listed file dirty, none-under-way file push) refl
+clean_after file dirty push = rw (none-passes (is_push_of file) dirty, none-under-way file push) refl

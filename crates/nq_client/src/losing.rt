@@ -142,7 +142,7 @@ fn named(alloc: Global, unreported: &Unreported, file: FileId) -> Result<Named, 
 }
 
 /// Makes what the loss of all delayed writes of a file needs.
-pub(crate) fn ready(state: &State, file: FileId) -> Result<Ready, NoMemory>
+pub(crate) fn ready_to_lose(state: &State, file: FileId) -> Result<Ready, NoMemory>
     ensures { IfOk result (λ r. IsReadyFor r file state.now) }
 {
     let found = losses_in(state.alloc, &state.dirty, file)?;
@@ -238,7 +238,7 @@ impl Step {
         ensures room { OnOk result (HasRoom self.new) }
         ensures refused { OnErr result (self.new ≡ self.old) }
     {
-        let ready = ready(&self.state, file)?;
+        let ready = ready_to_lose(&self.state, file)?;
         let named = self.loses(file, ready);
         self.drops_lease(file);
         self.follows_loss(file, named);

@@ -9,7 +9,7 @@ ghost use Rattle.nq_client.specs.Step.{step_of};
 ghost use Rattle.nq_client.specs.Taking.{IsTaking};
 
 use crate::granting::caches_read;
-use crate::losing::{Ready, ready};
+use crate::losing::{Ready, ready_to_lose};
 use crate::state::State;
 use crate::step::Step;
 use nq_base::{Block, BlockNo, FileId, Grant, NoMemory, Ticks};
@@ -26,13 +26,13 @@ pub(crate) struct Taking {
 
 /// Makes what a grant needs whose request was first sent at `sent`.
 #[tactic(auto, using(crate::proofs::Grants::broken_as))]
-fn taking(state: &State, file: FileId, grant: &Grant, sent: Ticks) -> Result<Taking, NoMemory>
+fn ready_to_take(state: &State, file: FileId, grant: &Grant, sent: Ticks) -> Result<Taking, NoMemory>
     requires { sent < 2 ^ 62 }
     ensures { IfOk result (λ t. IsTaking t file grant.now sent state.now) }
 {
     let Taken { held, how } = state.leases.on(file).take(file, grant, sent);
     if how.is_broken() && !state.dirty.is_clean(file) {
-        let losing = ready(state, file)?;
+        let losing = ready_to_lose(state, file)?;
         return Ok(Taking {
             held,
             losing: Some(losing),
@@ -71,7 +71,7 @@ impl Step {
         ensures block { OnOk result (1 ≤ self.new.state.dirty.spare) }
         ensures refused { OnErr result (self.new ≡ self.old) }
     {
-        let Taking { held, losing } = taking(&self.state, file, grant, sent)?;
+        let Taking { held, losing } = ready_to_take(&self.state, file, grant, sent)?;
         self.breaks_with(file, losing);
         self.holds(file, grant, sent, held);
         Ok(())
@@ -123,7 +123,7 @@ impl Step {
     {
         match grant {
             Some(given) => {
-                let Taking { held, losing } = taking(&self.state, file, given, sent)?;
+                let Taking { held, losing } = ready_to_take(&self.state, file, given, sent)?;
                 caches_read(&mut self.state.cache, file, block, body, grant)?;
                 self.breaks_with(file, losing);
                 self.keeps(file, given, sent, held);
