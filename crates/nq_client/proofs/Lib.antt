@@ -9,6 +9,8 @@ pub mod NoticeList
 pub mod Outcomes
 pub mod Places
 pub mod Renewals
+pub mod Received
+pub mod Replied
 pub mod Requested
 pub mod Settled
 pub mod Spans

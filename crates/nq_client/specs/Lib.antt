@@ -8,7 +8,6 @@ pub mod Finishing
 pub mod Granting
 pub mod Hearing
 pub mod Leases
-pub mod Losing
 pub mod Lost
 pub mod Notices
 pub mod Outcome

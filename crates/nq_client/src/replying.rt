@@ -6,7 +6,7 @@ ghost use Rattle.nq_base.specs.declared.PushBase.{PushBase};
 ghost use Rattle.nq_base.specs.declared.Request.{Request};
 ghost use Rattle.nq_base.specs.declared.Want.{Want};
 ghost use Rattle.nq_base.specs.declared.Who.{Who};
-ghost use Rattle.nq_model.specs.Client.{is_push_of, push_passes};
+ghost use Rattle.nq_model.specs.Client.{is_push_of, push_passes, pushing};
 ghost use Rattle.nq_model.specs.Hear.{done, done_push, done_renewal, refused, refused_push, replied};
 ghost use Rattle.nq_client.specs.Asked.{job_of};
 ghost use Rattle.nq_client.specs.Prepared.{IsPrepared};
@@ -62,7 +62,10 @@ impl Step {
     {
         match request {
             Request::Write {
-                file, block, body, ..
+                file,
+                block,
+                body,
+                ..
             } => self.pushed(*file, *block, body, reply),
             _ => Ok(()),
         }
@@ -102,13 +105,7 @@ impl Step {
     }
 
     /// A request was done, by what it was for.
-    fn done(
-        &mut self,
-        job: Job,
-        asked: &Asked,
-        packet: u64,
-        reply: &Reply,
-    ) -> Result<(), NoMemory>
+    fn done(&mut self, job: Job, asked: &Asked, packet: u64, reply: &Reply) -> Result<(), NoMemory>
         requires prepared { IsPrepared (file_at_stake asked.now.request) self.old }
         requires tied { TiedFor (job_of job) asked.now.request self.old.state.dirty.push }
         ensures done { OnOk result (step_of self.new ≡ done (step_of self.old) packet asked.now (job_of job) reply.now) }
