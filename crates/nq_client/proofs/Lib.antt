@@ -9,7 +9,9 @@ pub mod NextRequest
 pub mod NoticeList
 pub mod Outcomes
 pub mod Places
+pub mod Received
 pub mod Renewals
+pub mod Replied
 pub mod Reported
 pub mod Requested
 pub mod Settled

@@ -14,6 +14,7 @@ pub mod Notices
 pub mod Outcome
 pub mod Prepared
 pub mod Reading
+pub mod Receiving
 pub mod Settling
 pub mod State
 pub mod Step

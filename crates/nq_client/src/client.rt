@@ -2,21 +2,23 @@
 
 ghost use Rattle.std.specs.Prelude.{◌≡◌, ◌≤◌, ◌<◌, ◌+◌, ◌^◌, ◌∷◌, ◌++◌, ◌↔◌, [], is_some, map, option_copied, option_map, unwrap_or, IfOk, OnErr, OnOk, if◌then◌else◌};
 ghost use Rattle.nq_base.specs.Plain.{plain_answer};
+ghost use Rattle.nq_datagrams.specs.Incoming.{hears_in};
 ghost use Rattle.nq_model.specs.CachedAtOnce.{has_cached};
 ghost use Rattle.nq_model.specs.ClientStep.{attached_client, client_call, client_tick, starts};
 ghost use Rattle.nq_model.specs.Profile.{most_taken_by_client};
 ghost use Rattle.nq_model.specs.Settle.{after_read};
 ghost use Rattle.nq_client.specs.Finishing.{to_server};
-ghost use Rattle.nq_client.specs.Outcome.{Called, Heeded};
+ghost use Rattle.nq_client.specs.Outcome.{Called, Heeded, Received};
 ghost use Rattle.nq_client.specs.State.{call_of};
 
 use crate::finishing::Letters;
 use crate::heard::Heard;
 use crate::reading::read_cached;
+use crate::receiving::read;
 use crate::starting::begin;
 use crate::state::State;
 use crate::step::Step;
-use crate::stepping::{make_call, make_tick, reserve, room_for_call};
+use crate::stepping::{hear, make_call, make_tick, reserve, room_for_call};
 use nq_base::{Answer, Block, BlockNo, Call, FileId, Host, Inc, NoMemory, Ticks, Who};
 use nq_dirty::Dirty;
 use nq_journal::Journal;
@@ -154,6 +156,40 @@ impl Client {
             Ok(()) => {
                 self.taken += 1;
                 make_tick(&mut self.step, &mut self.letters, now, out, log)
+            }
+            Err(NoMemory::Memory) => Heard::Memory,
+        }
+    }
+
+    /// Takes in a datagram of the server, which is the packet of this number: the reply to the request under way, or a
+    /// notice of a lease. It is `Ignored` exactly where the protocol ignores it, and then it is counted and changes nothing
+    /// else. That takes no memory.
+    ///
+    /// # Errors
+    ///
+    /// `Spent` exactly where the client has taken in 2^30 calls, datagrams and ticks. After `Spent` and `Memory` the
+    /// client, the outbox and the journal are as before.
+    pub fn receive(
+        &mut self,
+        packet: u64,
+        datagram: &[u8],
+        out: &mut Outbox,
+        log: &mut Journal,
+    ) -> Heard
+        ensures spent { (result ≡ Heard.Spent) ↔ (self.old.taken ≡ most_taken_by_client) }
+        ensures received { Received result (hears_in self.old.client packet datagram.now) self.old self.new out.old out.new log.old log.new }
+    {
+        if self.taken == Client::MOST_TAKEN {
+            return Heard::Spent;
+        }
+        let Some(news) = read(&self.step.state, datagram) else {
+            self.taken += 1;
+            return Heard::Ignored;
+        };
+        match hear(&mut self.step, &mut self.letters, packet, &news, out, log) {
+            Ok(heard) => {
+                self.taken += 1;
+                heard
             }
             Err(NoMemory::Memory) => Heard::Memory,
         }

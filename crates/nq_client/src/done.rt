@@ -5,15 +5,57 @@ ghost use Rattle.nq_base.specs.declared.PushBase.{PushBase};
 ghost use Rattle.nq_base.specs.declared.Request.{Request};
 ghost use Rattle.nq_base.specs.declared.Want.{Want};
 ghost use Rattle.nq_base.specs.declared.Who.{Who};
-ghost use Rattle.nq_model.specs.Hear.{done_for_call};
+ghost use Rattle.nq_model.specs.Hear.{done_for_call, lease_done, read_done};
 ghost use Rattle.nq_client.specs.Prepared.{IsPrepared, Leaves};
 ghost use Rattle.nq_client.specs.Receiving.{file_at_stake};
 ghost use Rattle.nq_client.specs.Step.{HasRoom, step_of};
 
+use crate::granting::lets_cache;
 use crate::step::Step;
-use nq_base::{Block, BlockNo, FileId, NoMemory, Reply, Request, Ticks};
+use nq_base::{Block, BlockNo, FileId, Grant, NoMemory, Reply, Request, Ticks};
 
 impl Step {
+    /// READ of a block was done: a grant that came with it is taken, the block is cached under it, and the call is answered.
+    fn read_done(
+        &mut self,
+        file: FileId,
+        block: BlockNo,
+        body: &Block,
+        grant: &Option<Grant>,
+        sent: Ticks,
+        packet: u64,
+    ) -> Result<(), NoMemory>
+        requires prepared { IsPrepared file self.old }
+        requires sent { sent < 2 ^ 62 }
+        ensures done { OnOk result (step_of self.new ≡ read_done (step_of self.old) file block body.now grant.now sent packet) }
+        ensures room { OnOk result (HasRoom self.new) }
+        ensures refused { OnErr result (self.new ≡ self.old) }
+    {
+        self.takes_read(file, block, body, grant, sent)?;
+        self.answers_body(body.copied(), packet);
+        Ok(())
+    }
+
+    /// GETLEASE of a call was done: a grant is taken; without a caching one the write is to go through.
+    fn lease_done(
+        &mut self,
+        file: FileId,
+        grant: &Option<Grant>,
+        sent: Ticks,
+    ) -> Result<(), NoMemory>
+        requires prepared { IsPrepared file self.old }
+        requires sent { sent < 2 ^ 62 }
+        ensures done { OnOk result (step_of self.new ≡ lease_done (step_of self.old) file grant.now sent) }
+        ensures room { OnOk result (HasRoom self.new) }
+        ensures refused { OnErr result (self.new ≡ self.old) }
+    {
+        self.takes_optional(file, grant, sent)?;
+        if !lets_cache(grant) {
+            self.marks_through(true);
+        }
+        Ok(())
+    }
+
     /// LOOKUP was done.
     fn looked_up(&mut self, reply: &Reply)
         requires { 1 ≤ self.old.entries.spare }

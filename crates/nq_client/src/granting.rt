@@ -19,7 +19,7 @@ fn has_revision(cache: &Cache, file: FileId, rev: Rev) -> bool
 }
 
 /// Whether a grant, if there is one, lets its holder cache.
-fn lets_cache(grant: &Option<Grant>) -> bool
+pub(crate) fn lets_cache(grant: &Option<Grant>) -> bool
     ensures { result ≡ grant_caches grant.now }
 {
     match grant {

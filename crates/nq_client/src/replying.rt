@@ -6,7 +6,7 @@ ghost use Rattle.nq_base.specs.declared.PushBase.{PushBase};
 ghost use Rattle.nq_base.specs.declared.Request.{Request};
 ghost use Rattle.nq_base.specs.declared.Want.{Want};
 ghost use Rattle.nq_base.specs.declared.Who.{Who};
-ghost use Rattle.nq_model.specs.Client.{is_push_of, push_passes};
+ghost use Rattle.nq_model.specs.Client.{is_push_of, push_passes, pushing};
 ghost use Rattle.nq_model.specs.Hear.{done, done_push, done_renewal, refused, refused_push, replied};
 ghost use Rattle.nq_client.specs.Asked.{job_of};
 ghost use Rattle.nq_client.specs.Prepared.{IsPrepared};
