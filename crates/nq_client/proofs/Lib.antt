@@ -1,6 +1,7 @@
 pub mod Between
 pub mod Calls
 pub mod Counts
+pub mod Fitting
 pub mod Found
 pub mod Grants
 pub mod Least

@@ -128,6 +128,7 @@ pub grows_from : (t : ClientStep) (out out1 outs : Datagrams) (log log1 logs : E
 grows_from t out out1 outs log log1 logs f d l g = record {
   first = g.first ∙ f;
   sends = g.sends ∙ ap (λ ds. ds ++ map to_server t.sends) d;
+  fit = g.fit;
   entries = subst (λ es. Tells t.entries es logs.entries) l g.entries;
 }
 

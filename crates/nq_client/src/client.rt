@@ -1,8 +1,9 @@
 //! The client of one host.
 
-ghost use Rattle.std.specs.Prelude.{◌≡◌, ◌≤◌, ◌<◌, ◌+◌, ◌^◌, ◌∷◌, ◌++◌, ◌↔◌, [], is_some, map, option_copied, option_map, unwrap_or, IfOk, OnErr, OnOk, if◌then◌else◌};
+ghost use Rattle.std.specs.Prelude.{◌≡◌, ◌≤◌, ◌<◌, ◌+◌, ◌^◌, ◌∷◌, ◌++◌, ◌↔◌, [], All, is_some, map, option_copied, option_map, unwrap_or, IfOk, OnErr, OnOk, if◌then◌else◌};
 ghost use Rattle.nq_base.specs.Plain.{plain_answer};
 ghost use Rattle.nq_datagrams.specs.Incoming.{hears_in};
+ghost use Rattle.nq_datagrams.specs.Messages.{FitsMessage};
 ghost use Rattle.nq_model.specs.CachedAtOnce.{has_cached};
 ghost use Rattle.nq_model.specs.ClientStep.{attached_client, client_call, client_tick, starts};
 ghost use Rattle.nq_model.specs.Profile.{most_taken_by_client};
@@ -100,6 +101,7 @@ impl Client {
         ensures taken { IfOk result (λ c. c.taken ≡ 0) }
         ensures first { out.new.first ≡ out.old.first }
         ensures sent { OnOk result (out.new.datagrams ≡ out.old.datagrams ++ map to_server (starts (record { host = host; inc = inc }) term time).sends) }
+        ensures fit { OnOk result (All FitsMessage (starts (record { host = host; inc = inc }) term time).sends) }
         ensures refused { OnErr result (out.new.datagrams ≡ out.old.datagrams) }
     {
         let mut letters = Letters::new(alloc);

@@ -1,7 +1,8 @@
 //! The start of an incarnation.
 
-ghost use Rattle.std.specs.Prelude.{◌≡◌, ◌+◌, ◌<◌, ◌^◌, ◌++◌, None, map, IfOk, OnOk, OnErr};
+ghost use Rattle.std.specs.Prelude.{◌≡◌, ◌+◌, ◌<◌, ◌^◌, ◌++◌, None, All, map, IfOk, OnOk, OnErr};
 ghost use Rattle.nq_base.specs.declared.Request.{Request};
+ghost use Rattle.nq_datagrams.specs.Messages.{FitsMessage};
 ghost use Rattle.nq_model.specs.Client.{attaching};
 ghost use Rattle.nq_model.specs.ClientStep.{starts};
 ghost use Rattle.nq_model.specs.Send.{sends_request};
@@ -57,6 +58,7 @@ pub(crate) fn begin(
     ensures client { IfOk result (λ s. client_of s.state ≡ (starts who term time).client) }
     ensures first { out.new.first ≡ out.old.first }
     ensures sent { OnOk result (out.new.datagrams ≡ out.old.datagrams ++ map to_server (starts who term time).sends) }
+    ensures fit { OnOk result (All FitsMessage (starts who term time).sends) }
     ensures refused { OnErr result (out.new.datagrams ≡ out.old.datagrams) }
 {
     letters.reserve()?;
