@@ -1,10 +1,10 @@
 -- Grants that are taken: the loss that they may bring leaves the cache as it was.
-use Rattle.std.proofs.Common.{◌≡◌, ◌×◌, ℕ, Bool, true, false, not, ◌&&◌, List, Option, Some, None, is_some, if◌then◌else◌, refl, sym, ap, ◌∙◌}
+use Rattle.std.proofs.Common.{◌≡◌, ℕ, Bool, true, false, not, ◌&&◌, List, Option, Some, None, is_some, if◌then◌else◌, refl, sym, ap, ◌∙◌}
 use Rattle.nq_base.specs.declared.Grant.{Grant}
 use Rattle.nq_client.specs.Granting.{clean_after_reply, keeps, with_clean}
 use Rattle.nq_held.specs.Takes.{is_broken, taking}
 use Rattle.nq_model.specs.Client.{Clean, ClientStep, Lease, Notice, Revision, UnderWay, is_clean, lease_on, notice_on}
-use Rattle.nq_model.specs.Hear.{breaks, breaks_chain, caches_block, holds, if_broken, loses, reports_to, then_caches, vacates_lease, vacates_noticed, waits_for}
+use Rattle.nq_model.specs.Hear.{breaks, breaks_chain, caches_block, holds, if_broken, loses, reports_to, takes_optional, then_caches, vacates_lease, vacates_noticed, waits_for}
 use Rattle.nq_model.specs.Settle.{answers, names_losses}
 use Rattle.nq_model.specs.Table.{caches, tag_below}
 
@@ -91,12 +91,22 @@ held_with t s file block body g sent k =
     by false e = rw e refl
 
 -- a grant with a block: it is cached first, then the chain breaks, then the lease is held
-pub read_taken : (t : ClientStep) (file block : ℕ) (body : List ℕ) (g : Grant) (sent : ℕ) (lost : Bool) → lost ≡ (breaks g (lease_on file t.client.leases) && not (is_clean t.client file)) → keeps (if lost then breaks_chain (with_clean t (clean_after_reply file block body (Some g) t.client.revisions t.client.clean)) file else with_clean t (clean_after_reply file block body (Some g) t.client.revisions t.client.clean)) file g sent ≡ then_caches (holds (if_broken t file g) file g sent) file block body (Some g)
-read_taken t file block body g sent true e =
+taken_with : (t : ClientStep) (file block : ℕ) (body : List ℕ) (g : Grant) (sent : ℕ) (lost : Bool) → lost ≡ (breaks g (lease_on file t.client.leases) && not (is_clean t.client file)) → keeps (if lost then breaks_chain (with_clean t (clean_after_reply file block body (Some g) t.client.revisions t.client.clean)) file else with_clean t (clean_after_reply file block body (Some g) t.client.revisions t.client.clean)) file g sent ≡ then_caches (holds (if_broken t file g) file g sent) file block body (Some g)
+taken_with t file block body g sent true e =
     let clean = clean_after_reply file block body (Some g) t.client.revisions t.client.clean in
     ap (λ (x : ClientStep). keeps x file g sent) (breaks_beside t file clean)
     ∙ held_with t (breaks_chain t file) file block body g sent (breaks_keeps t file)
     ∙ ap (λ (b : Bool). then_caches (holds (if b then breaks_chain t file else t) file g sent) file block body (Some g)) e
-read_taken t file block body g sent false e =
+taken_with t file block body g sent false e =
     held_with t t file block body g sent (record { clean = refl; revisions = refl })
     ∙ ap (λ (b : Bool). then_caches (holds (if b then breaks_chain t file else t) file g sent) file block body (Some g)) e
+
+-- likewise step by step
+pub read_taken : (t u v w : ClientStep) (file block : ℕ) (body : List ℕ) (o : Option Grant) (g : Grant) (sent : ℕ) (lost : Bool) → o ≡ Some g → lost ≡ (breaks g (lease_on file t.client.leases) && not (is_clean t.client file)) → u ≡ with_clean t (clean_after_reply file block body o t.client.revisions t.client.clean) → v ≡ (if lost then breaks_chain u file else u) → w ≡ keeps v file g sent → w ≡ then_caches (takes_optional t file o sent) file block body o
+read_taken t u v w file block body o g sent lost some broken cached lost_then held =
+    held
+    ∙ ap (λ (x : ClientStep). keeps x file g sent) lost_then
+    ∙ ap (λ (x : ClientStep). keeps (if lost then breaks_chain x file else x) file g sent) cached
+    ∙ ap (λ (q : Option Grant). keeps (if lost then breaks_chain (with_clean t (clean_after_reply file block body q t.client.revisions t.client.clean)) file else with_clean t (clean_after_reply file block body q t.client.revisions t.client.clean)) file g sent) some
+    ∙ taken_with t file block body g sent lost broken
+    ∙ sym (ap (λ (q : Option Grant). then_caches (takes_optional t file q sent) file block body q) some)

@@ -30,6 +30,8 @@ fn ready_to_take(state: &State, file: FileId, grant: &Grant, sent: Ticks) -> Res
     requires { sent < 2 ^ 62 }
     ensures { IfOk result (λ t. IsTaking t file grant.now sent state.now) }
 {
+    // Once it is read, the term is known to be within its field.
+    let _term = grant.term;
     let Taken { held, how } = state.leases.on(file).take(file, grant, sent);
     if how.is_broken() && !state.dirty.is_clean(file) {
         let losing = ready_to_lose(state, file)?;
