@@ -26,7 +26,12 @@ pub(crate) struct Taking {
 
 /// Makes what a grant needs whose request was first sent at `sent`.
 #[tactic(auto, using(crate::proofs::Grants::broken_as))]
-fn ready_to_take(state: &State, file: FileId, grant: &Grant, sent: Ticks) -> Result<Taking, NoMemory>
+fn ready_to_take(
+    state: &State,
+    file: FileId,
+    grant: &Grant,
+    sent: Ticks,
+) -> Result<Taking, NoMemory>
     requires { sent < 2 ^ 62 }
     ensures { IfOk result (λ t. IsTaking t file grant.now sent state.now) }
 {
