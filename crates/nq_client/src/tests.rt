@@ -85,6 +85,9 @@ const RUNS: [Run; 3] = [
     },
 ];
 
+/// Incarnation 2 of host 1 begins: ATTACH, procedure 1 of program 20004e51, with number 1 (RFC 1057 section 8).
+const ATTACH: [u32; 12] = [1, 0, 2, 0x2000_4e51, 1, 1, 0, 0, 0, 0, 1, 2];
+
 /// The file of all runs.
 const FILE: FileId = FileId(5);
 
@@ -228,6 +231,18 @@ impl Desk {
     }
 }
 
+/// Whether these words, the highest byte of each first, are all that is sent.
+fn sends_only(alloc: Global, out: &Outbox, words: &[u32]) -> Result<bool, Fail> {
+    let mut bytes = Vec::new(alloc);
+    for word in words {
+        bytes.extend_from_slice(&word.to_be_bytes())?;
+    }
+    Ok(match out.get(0) {
+        Some((_, sent)) => out.len() == 1 && *sent == *bytes,
+        None => false,
+    })
+}
+
 /// Follows a run: how many events come out as told, and how many datagrams were sent.
 fn follow(alloc: Global, run: &Run) -> Result<(usize, usize), Fail> {
     let mut desk = Desk {
@@ -250,6 +265,20 @@ fn worked_runs_come_out_as_told(rt: HostRuntime) -> Result<(), Fail> {
             assert!(rt; false);
         }
     }
+    Ok(())
+}
+
+#[test]
+fn a_client_begins_by_asking_to_be_attached(rt: HostRuntime) -> Result<(), Fail> {
+    let alloc = rt.alloc();
+    let mut out = Outbox::new(alloc, 0)?;
+    let client = Client::start(alloc, Host(1), Inc(2), 30, Ticks(7), &mut out)?;
+    assert!(rt; !client.is_attached());
+    assert!(rt; client.inc() == Inc(2));
+    assert_eq!(rt; client.term(), 30);
+    assert!(rt; client.call_under_way().is_none());
+    client.stop();
+    assert!(rt; sends_only(alloc, &out, &ATTACH)?);
     Ok(())
 }
 
