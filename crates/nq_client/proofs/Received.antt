@@ -1,16 +1,19 @@
 -- How much a datagram takes that counts, and what it keeps.
-use Rattle.std.proofs.Common.{◌≡◌, ◌≤◌, ◌+◌, ◌==◌, ◌&&◌, ℕ, Bool, true, false, List, length, Option, Some, None, IsTrue, refl, sym, ap, subst, ◌∙◌, arith, if◌then◌else◌}
+use Rattle.std.proofs.Common.{◌≡◌, ◌≤◌, ◌<◌, ◌^◌, ◌+◌, ◌==◌, ◌&&◌, ℕ, Bool, true, false, List, length, Option, Some, None, IsTrue, refl, sym, ap, subst, ◌∙◌, arith, if◌then◌else◌}
 use Rattle.std.specs.Option.{option_map}
 use Rattle.nq_base.specs.declared.Reply.{Reply}
 use Rattle.nq_base.specs.declared.Tag.{Tag}
 use Rattle.nq_client.proofs.Calls.{Within}
-use Rattle.nq_client.proofs.Replied.{Kept, answered-kept, answered-none, vacated}
+use Rattle.nq_client.proofs.Replied.{Kept, answered-kept, answered-none}
 use Rattle.nq_client.proofs.Requested.{sends, Sent}
 use Rattle.nq_client.proofs.Settled.{choice, settled, Settled, is_given}
 use Rattle.nq_client.proofs.Ties.{tied-cancelled}
 use Rattle.nq_client.specs.Receiving.{answered, after_reply, at_stake, counts, Counts, file_at_stake, IsHeeded, most_entries, on_news, on_notice, on_reply}
+use Rattle.nq_client.specs.State.{client_of}
+use Rattle.nq_client.specs.Step.{HasNumbers, step_of}
 use Rattle.nq_client.specs.Tied.{Tied, TiedFor}
 use Rattle.nq_client.specs.declared.receiving.News.{News}
+use Rattle.nq_client.specs.declared.step.Step.{Step}
 use Rattle.nq_model.specs.Client.{Client, ClientStep, Ticket, begun, is_clean}
 use Rattle.nq_model.specs.Hear.{all_dirty, cancelled, cancels, evicted, goes_on, hear_reply, inc_of, is_reply_to, notes_notice, replied, reply_counts, spends, vacates_lease}
 use Rattle.nq_model.specs.Send.{send_next}
@@ -31,7 +34,7 @@ reply-ignored c number xid r None h = refl
 reply-ignored c number xid r (Some ticket) h = rw h refl
 
 last : (a b c : Bool) → (a && b && c) ≡ true → IsTrue c
-last true true true h = tt
+last true true true h = refl
 last true true false h = absurd cc
 last true false c h = absurd cc
 last false b c h = absurd cc
@@ -77,6 +80,60 @@ reply-within : (c : Client) (number : ℕ) (r : Reply) (o : Option Ticket) → c
 reply-within c number r None e h = absurd h
 reply-within c number r (Some ticket) e h =
     subst (λ s. Within (length (all_dirty c (file_at_stake ticket.request)) + 4) c (goes_on s)) (sym (replied-answered (begun c) number ticket r)) (replied-within c number ticket r e h)
+
+-- ---- what a reply leaves for the client to go on with
+
+-- a part of a step of this client that takes one number of a request at most
+record IsNear (c : Client) (s : ClientStep) : Type 0 where
+  now : s.client.now ≡ c.now
+  seq : s.client.seq ≡ c.seq
+  number : s.client.number ≡ c.number
+  xid : s.client.xid ≤ c.xid + 1
+  tied : Tied s.client.ticket s.client.push
+
+near-answered : (c : Client) (number : ℕ) (ticket : Ticket) (r : Reply) → TiedFor ticket.job ticket.request c.push → IsTrue (reply_counts r ticket) → IsNear c (answered (spends (begun c)) number ticket r)
+unfolding spends
+near-answered c number ticket r tied h =
+    let k : Kept 1 (length (all_dirty c (file_at_stake ticket.request)) + 2) (spends (begun c)) (answered (spends (begun c)) number ticket r) = answered-kept (spends (begun c)) number ticket r in
+    record {
+      now = k.now;
+      seq = k.seq;
+      number = k.number;
+      xid = k.xid;
+      tied = no-ticket None (answered (spends (begun c)) number ticket r) k.ticket (answered-none (spends (begun c)) number ticket r tied h);
+    }
+
+near-reply : (c : Client) (number : ℕ) (r : Reply) (o : Option Ticket) → Tied o c.push → Counts o r → IsNear c (after_reply (begun c) number o r)
+near-reply c number r None tied h = absurd h
+near-reply c number r (Some ticket) tied h =
+    subst (IsNear c) (sym (replied-answered (begun c) number ticket r)) (near-answered c number ticket r tied h)
+
+near-same : (c : Client) (s u : ClientStep) → u ≡ s → IsNear c s → IsNear c u
+near-same c s u e x = subst (IsNear c) (sym e) x
+
+-- the step of the code after a reply is that of the model
+pub reply-made : (t u : ClientStep) (c : Client) (number : ℕ) (r : Reply) (o : Option Ticket) → t ≡ begun c → Counts o r → ((ticket : Ticket) → o ≡ Some ticket → u ≡ replied t number ticket r) → u ≡ after_reply (begun c) number o r
+reply-made t u c number r None e h made = absurd h
+reply-made t u c number r (Some ticket) e h made = made ticket refl ∙ ap (λ x. replied x number ticket r) e
+
+-- delayed writes are not under way any more
+pub tied-after : (c : Client) (s : Step) (number : ℕ) (r : Reply) (o : Option Ticket) → step_of s ≡ after_reply (begun c) number o r → Tied o c.push → Counts o r → Tied s.state.asked s.state.dirty.push
+tied-after c s number r o e tied h =
+    (near-same c (after_reply (begun c) number o r) (step_of s) e (near-reply c number r o tied h)).tied
+
+-- the numbers of what follows are left
+pub numbers-after : (a s : Step) (number : ℕ) (r : Reply) (o : Option Ticket) → step_of s ≡ after_reply (begun (client_of a.state)) number o r → Tied o a.state.dirty.push → Counts o r → HasNumbers 3 a.state → HasNumbers 2 s.state
+numbers-after a s number r o e tied h left =
+    let x = near-same (client_of a.state) (after_reply (begun (client_of a.state)) number o r) (step_of s) e (near-reply (client_of a.state) number r o tied h) in
+    let now : s.state.time ≡ a.state.time = x.now in
+    let seq : s.state.seq ≡ a.state.seq = x.seq in
+    let writes : s.state.number ≡ a.state.number = x.number in
+    let xid : s.state.xid ≤ a.state.xid + 1 = x.xid in
+    let early : a.state.time < 2 ^ 62 = left.time in
+    let seqs : a.state.seq + 3 < 2 ^ 64 = left.seq in
+    let numbers : a.state.number + 3 < 2 ^ 64 = left.number in
+    let xids : a.state.xid + 3 < 2 ^ 32 = left.xid in
+    record { time = omega arith; seq = omega arith; number = omega arith; xid = omega arith }
 
 -- ---- notices
 

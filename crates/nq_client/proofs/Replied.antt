@@ -44,8 +44,8 @@ same t = record {
 }
 
 -- one part after another
-then : (a b m n : ℕ) (t s u : ClientStep) → Kept a m t s → Kept b n s u → Kept (a + b) (m + n) t u
-then a b m n t s u x y = record {
+after : (a b m n : ℕ) (t s u : ClientStep) → Kept a m t s → Kept b n s u → Kept (a + b) (m + n) t u
+after a b m n t s u x y = record {
   now = y.now ∙ x.now;
   calls = y.calls ∙ x.calls;
   seq = y.seq ∙ x.seq;
@@ -287,8 +287,8 @@ pub chain-broken : (t : ClientStep) (file : ℕ) → Kept 1 (length (all_dirty t
 chain-broken t file =
     let lost-step = loses t file in
     let vacated-step = vacates_noticed lost-step file (notice_on file t.client.notices) in
-    let both : Kept (0 + 1) (length (all_dirty t.client file) + 0) t vacated-step = then 0 1 (length (all_dirty t.client file)) 0 t lost-step vacated-step (lost t file) (vacated-noticed lost-step file (notice_on file t.client.notices)) in
-    let all = then (0 + 1) 0 (length (all_dirty t.client file) + 0) 1 t vacated-step (reports vacated-step file) both (reported vacated-step file vacated-step.client.call) in
+    let both : Kept (0 + 1) (length (all_dirty t.client file) + 0) t vacated-step = after 0 1 (length (all_dirty t.client file)) 0 t lost-step vacated-step (lost t file) (vacated-noticed lost-step file (notice_on file t.client.notices)) in
+    let all = after (0 + 1) 0 (length (all_dirty t.client file) + 0) 1 t vacated-step (reports vacated-step file) both (reported vacated-step file vacated-step.client.call) in
     more (0 + 1 + 0) 1 (length (all_dirty t.client file) + 0 + 1) (length (all_dirty t.client file) + 1) t (reports vacated-step file) (omega arith) (omega arith) all
 
 pub push-refused : (t : ClientStep) (file : ℕ) → Kept 1 (length (all_dirty t.client file) + 1) t (push_refused t file)
@@ -296,9 +296,9 @@ push-refused t file =
     let lost-step = loses t file in
     let unleased-step = without_lease lost-step file in
     let vacated-step = vacates_noticed unleased-step file (notice_on file t.client.notices) in
-    let first = then 0 0 (length (all_dirty t.client file)) 0 t lost-step unleased-step (lost t file) (unleased lost-step file) in
-    let both = then (0 + 0) 1 (length (all_dirty t.client file) + 0) 0 t unleased-step vacated-step first (vacated-noticed unleased-step file (notice_on file t.client.notices)) in
-    let all = then (0 + 0 + 1) 0 (length (all_dirty t.client file) + 0 + 0) 1 t vacated-step (reports vacated-step file) both (reported vacated-step file vacated-step.client.call) in
+    let first = after 0 0 (length (all_dirty t.client file)) 0 t lost-step unleased-step (lost t file) (unleased lost-step file) in
+    let both = after (0 + 0) 1 (length (all_dirty t.client file) + 0) 0 t unleased-step vacated-step first (vacated-noticed unleased-step file (notice_on file t.client.notices)) in
+    let all = after (0 + 0 + 1) 0 (length (all_dirty t.client file) + 0 + 0) 1 t vacated-step (reports vacated-step file) both (reported vacated-step file vacated-step.client.call) in
     more (0 + 0 + 1 + 0) 1 (length (all_dirty t.client file) + 0 + 0 + 1) (length (all_dirty t.client file) + 1) t (reports vacated-step file) (omega arith) (omega arith) all
 
 -- ---- grants
@@ -313,14 +313,14 @@ taken : (t : ClientStep) (file : ℕ) (g : Grant) (sent : ℕ) → Kept 1 (lengt
 taken t file g sent =
     let n = length (all_dirty t.client file) + 1 in
     more (1 + 0) 1 (n + 0) n t (takes_grant t file g sent) (omega arith) (omega arith)
-    (then 1 0 n 0 t (if_broken t file g) (takes_grant t file g sent) (broken t file g) (held (if_broken t file g) file g sent))
+    (after 1 0 n 0 t (if_broken t file g) (takes_grant t file g sent) (broken t file g) (held (if_broken t file g) file g sent))
 
 taken-optional : (t : ClientStep) (file : ℕ) (o : Option Grant) (sent : ℕ) → Kept 1 (length (all_dirty t.client file) + 1) t (takes_optional t file o sent)
 taken-optional t file None sent = more 0 1 0 (length (all_dirty t.client file) + 1) t t (omega arith) (omega arith) (same t)
 taken-optional t file (Some g) sent = taken t file g sent
 
-then-cached : (t : ClientStep) (file block : ℕ) (body : List ℕ) (o : Option Grant) → Kept 0 0 t (then_caches t file block body o)
-then-cached t file block body o = choice (Kept 0 0 t) (grant_caches o) _ _ (cached t file block body) (same t)
+block-cached : (t : ClientStep) (file block : ℕ) (body : List ℕ) (o : Option Grant) → Kept 0 0 t (then_caches t file block body o)
+block-cached t file block body o = choice (Kept 0 0 t) (grant_caches o) _ _ (cached t file block body) (same t)
 
 read-done : (t : ClientStep) (file block : ℕ) (body : List ℕ) (o : Option Grant) (sent number : ℕ) → Kept 1 (length (all_dirty t.client file) + 2) t (read_done t file block body o sent number)
 read-done t file block body o sent number =
@@ -329,8 +329,8 @@ read-done t file block body o sent number =
     let cached-step = then_caches taken-step file block body o in
     let answered-step = answers_call cached-step (Answer.Ok (Value.Body body)) (Some number) in
     more (1 + 0 + 0) 1 (n + 0 + 1) (length (all_dirty t.client file) + 2) t answered-step (omega arith) (omega arith)
-    (then (1 + 0) 0 (n + 0) 1 t cached-step answered-step
-    (then 1 0 n 0 t taken-step cached-step (taken-optional t file o sent) (then-cached taken-step file block body o))
+    (after (1 + 0) 0 (n + 0) 1 t cached-step answered-step
+    (after 1 0 n 0 t taken-step cached-step (taken-optional t file o sent) (block-cached taken-step file block body o))
     (answered-call cached-step (Answer.Ok (Value.Body body)) (Some number) cached-step.client.call refl))
 
 lease-done : (t : ClientStep) (file : ℕ) (o : Option Grant) (sent : ℕ) → Kept 1 (length (all_dirty t.client file) + 2) t (lease_done t file o sent)
@@ -340,7 +340,7 @@ lease-done t file o sent =
     choice (Kept 1 (length (all_dirty t.client file) + 2) t) (grant_caches o) _ _
     (more 1 1 n (length (all_dirty t.client file) + 2) t taken-step (omega arith) (omega arith) (taken-optional t file o sent))
     (more (1 + 0) 1 (n + 0) (length (all_dirty t.client file) + 2) t (marks_through true taken-step) (omega arith) (omega arith)
-    (then 1 0 n 0 t taken-step (marks_through true taken-step) (taken-optional t file o sent) (marked taken-step true)))
+    (after 1 0 n 0 t taken-step (marks_through true taken-step) (taken-optional t file o sent) (marked taken-step true)))
 
 -- ---- writes
 
@@ -355,13 +355,13 @@ known-answered : (t : ClientStep) (file rev : ℕ) (answer : Answer) → is_give
 known-answered t file rev answer given =
     let known-step = knows_revision t file rev in
     more (0 + 0) 0 (0 + 1) 1 t (answers_call known-step answer None) (omega arith) (omega arith)
-    (then 0 0 0 1 t known-step (answers_call known-step answer None) (known t file rev) (answered-call known-step answer None known-step.client.call given))
+    (after 0 0 0 1 t known-step (answers_call known-step answer None) (known t file rev) (answered-call known-step answer None known-step.client.call given))
 
 write-done : (t : ClientStep) (file block : ℕ) (body : List ℕ) (rev : ℕ) → Kept 0 1 t (write_done t file block body rev)
 write-done t file block body rev =
     let cached-step = caches_write t file block body rev in
     more (0 + 0) 0 (0 + 1) 1 t (write_done t file block body rev) (omega arith) (omega arith)
-    (then 0 0 0 1 t cached-step (write_done t file block body rev) (cached-write t file block body rev) (known-answered cached-step file rev (Answer.Ok Value.Nothing) refl))
+    (after 0 0 0 1 t cached-step (write_done t file block body rev) (cached-write t file block body rev) (known-answered cached-step file rev (Answer.Ok Value.Nothing) refl))
 
 cached-push : (t : ClientStep) (file block : ℕ) (body : List ℕ) → Kept 0 0 t (caches_push t file block body)
 cached-push t file block body = choice (Kept 0 0 t) (is_some (dirty_at file block t.client.dirty)) _ _ (same t) (cached t file block body)
@@ -375,14 +375,14 @@ after-stored t file block body rev =
     let known-step = knows_revision t file rev in
     let cached-step = caches_push known-step file block body in
     more (0 + 0 + 1) 1 (0 + 0 + 0) 0 t (vacates_if_clean cached-step file) (omega arith) (omega arith)
-    (then (0 + 0) 1 (0 + 0) 0 t cached-step (vacates_if_clean cached-step file)
-    (then 0 0 0 0 t known-step cached-step (known t file rev) (cached-push known-step file block body))
+    (after (0 + 0) 1 (0 + 0) 0 t cached-step (vacates_if_clean cached-step file)
+    (after 0 0 0 0 t known-step cached-step (known t file rev) (cached-push known-step file block body))
     (vacated-clean cached-step file))
 
 push-done : (t : ClientStep) (file block : ℕ) (body : List ℕ) (rev : ℕ) → Kept 1 0 t (push_done t file block body rev)
 push-done t file block body rev =
     more (0 + 1) 1 (0 + 0) 0 t (push_done t file block body rev) (omega arith) (omega arith)
-    (then 0 1 0 0 t (ends_push t) (push_done t file block body rev) (stored t) (after-stored (ends_push t) file block body rev))
+    (after 0 1 0 0 t (ends_push t) (push_done t file block body rev) (stored t) (after-stored (ends_push t) file block body rev))
 
 -- ---- the reply, by what the request was for
 
@@ -475,7 +475,7 @@ other-none file (Some p) h = go (is_push_of file p) h
   where
     go : (b : Bool) → IsTrue b → (if b then None else Some p) ≡ None
     go true i = refl
-    go false i = absurd i
+    go false i = absurd cc
 
 lost-none : (t : ClientStep) (file : ℕ) → IsTrue (push_passes (is_push_of file) t.client.push) → (loses t file).client.push ≡ None
 unfolding loses
@@ -499,7 +499,7 @@ stored-none t file block body rev = (after-stored (ends_push t) file block body 
 
 pushed-none : (t : ClientStep) (request : Request) (r : Reply) → Stores request t.client.push → IsTrue (is_of_procedure r request) → (done_push t request r).client.push ≡ None
 pushed-none t (Request.Write who seq file block first last push body) (Reply.Write inc rev) tied counts = stored-none t file block body rev
-pushed-none t (Request.Write who seq file block first last push body) other tied counts = absurd counts
+pushed-none t (Request.Write who seq file block first last push body) other tied counts = absurd cc
 pushed-none t other r tied counts = absurd tied
 
 refused-push-none : (t : ClientStep) (request : Request) → Stores request t.client.push → (refused_push t request).client.push ≡ None
