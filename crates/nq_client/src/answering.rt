@@ -118,7 +118,7 @@ impl Step {
     pub(crate) fn knows_revision(&mut self, file: FileId, rev: Rev)
         requires { 1 ≤ self.old.state.cache.spare }
         ensures step { step_of self.new ≡ knows_revision (step_of self.old) file rev }
-        ensures left { Leaves 1 self.old self.new }
+        ensures left { Leaves 0 self.old self.new }
     {
         self.state.cache.retag(file, rev).unwrap();
     }
