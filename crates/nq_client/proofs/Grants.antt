@@ -1,5 +1,5 @@
 -- Grants that are taken: the loss that they may bring leaves the cache as it was.
-use Rattle.std.proofs.Common.{◌≡◌, ℕ, Bool, true, false, not, ◌&&◌, List, Option, Some, None, is_some, if◌then◌else◌, refl, sym, ap, ◌∙◌}
+use Rattle.std.proofs.Common.{◌≡◌, ℕ, Bool, true, false, not, ◌&&◌, List, Option, Some, None, if◌then◌else◌, refl, sym, ap, ◌∙◌}
 use Rattle.nq_base.specs.declared.Grant.{Grant}
 use Rattle.nq_client.specs.Granting.{clean_after_reply, keeps, with_clean}
 use Rattle.nq_held.specs.Takes.{is_broken, taking}

@@ -1,6 +1,5 @@
 -- How much a datagram takes that counts, and what it keeps.
-use Rattle.std.proofs.Common.{◌≡◌, ◌≤◌, ◌<◌, ◌^◌, ◌+◌, ◌==◌, ◌&&◌, ℕ, Bool, true, false, List, length, Option, Some, None, IsTrue, refl, sym, ap, subst, ◌∙◌, arith, if◌then◌else◌}
-use Rattle.std.specs.Option.{option_map}
+use Rattle.std.proofs.Common.{◌≡◌, ◌≤◌, ◌<◌, ◌^◌, ◌+◌, ◌==◌, ◌&&◌, ℕ, Bool, true, false, length, Option, Some, None, IsTrue, refl, sym, ap, subst, ◌∙◌, arith}
 use Rattle.nq_base.specs.declared.Reply.{Reply}
 use Rattle.nq_base.specs.declared.Tag.{Tag}
 use Rattle.nq_client.proofs.Calls.{Within}
@@ -15,7 +14,7 @@ use Rattle.nq_client.specs.Tied.{Tied, TiedFor}
 use Rattle.nq_client.specs.declared.receiving.News.{News}
 use Rattle.nq_client.specs.declared.step.Step.{Step}
 use Rattle.nq_model.specs.Client.{Client, ClientStep, Ticket, begun, is_clean}
-use Rattle.nq_model.specs.Hear.{all_dirty, cancelled, cancels, evicted, goes_on, hear_reply, inc_of, is_reply_to, notes_notice, replied, reply_counts, spends, vacates_lease}
+use Rattle.nq_model.specs.Hear.{all_dirty, cancelled, cancels, evicted, goes_on, hear_reply, inc_of, notes_notice, replied, reply_counts, spends, vacates_lease}
 use Rattle.nq_model.specs.Send.{send_next}
 use Rattle.nq_model.specs.Settle.{settle}
 

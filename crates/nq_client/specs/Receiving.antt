@@ -1,5 +1,5 @@
 -- What a client makes of a datagram that counts, in the steps of the code.
-use Rattle.std.specs.Prelude.{◌≤◌, ◌+◌, ℕ, Bool, true, false, length, Option, Some, None, IsTrue}
+use Rattle.std.specs.Prelude.{◌≤◌, ◌+◌, ℕ, Bool, false, length, Option, Some, None, IsTrue}
 use Rattle.nq_base.specs.declared.Reply.{Reply}
 use Rattle.nq_base.specs.declared.Request.{Request}
 use Rattle.nq_base.specs.declared.Tag.{Tag}

@@ -13,7 +13,7 @@ none_asked true o e = absurd cc
 none_asked false None e = refl
 none_asked false (Some k) e = refl
 
-with_sends : ClientStep → List Message → ClientStep
+abbrev with_sends : ClientStep → List Message → ClientStep
 with_sends t ms = record t { sends = ms }
 
 -- a silent step whose request was taken out has spent it

@@ -1,5 +1,4 @@
 use Rattle.std.proofs.Common.{◌≤◌, ◌+◌, arith}
-use Rattle.nq_client.specs.Prepared.{Leaves}
 use Rattle.nq_client.proofs.step.Step.resized.Goals as goal
 
 pub answers_nothing-requires : goal.answers_nothing-requires

@@ -1,4 +1,4 @@
-use Rattle.std.proofs.Common.{◌≡◌, ◌&&◌, not, is_some, sym, ap, ◌∙◌, arith}
+use Rattle.std.proofs.Common.{◌≡◌, ◌&&◌, not, is_some, ap, arith}
 use Rattle.nq_cache.specs.Cached.{Cached}
 use Rattle.nq_client.proofs.Grants.{read_taken}
 use Rattle.nq_client.specs.Granting.{clean_after_reply, with_clean}
