@@ -4,7 +4,7 @@ ghost use Rattle.std.specs.Prelude.{◌≡◌, ◌+◌, ◌≤◌, ◌++◌, IsO
 ghost use Rattle.nq_model.specs.Message.{call};
 ghost use Rattle.nq_wire.specs.Request.{HasSpelling, procedure_of};
 ghost use Rattle.nq_wire.specs.Procedure.{number_of};
-ghost use Rattle.nq_datagrams.specs.Messages.{bytes_of, program, version};
+ghost use Rattle.nq_datagrams.specs.Messages.{FitsMessage, bytes_of, program, version};
 
 use crate::numbers::{PROGRAM, VERSION};
 use nq_base::{NoMemory, Request};
@@ -21,6 +21,7 @@ pub const LONGEST_CALL: usize = 40 + LONGEST_ARGUMENTS;
 pub fn write_call(xid: u32, request: &Request, out: &mut Writer) -> Result<(), NoMemory>
     requires { HasSpelling request.now }
     ensures written { OnOk result (out.new.bytes ≡ out.old.bytes ++ bytes_of (call xid request.now)) }
+    ensures fits { OnOk result (FitsMessage (call xid request.now)) }
     ensures refused { OnErr result (out.new ≡ out.old) }
     ensures succeeds { LONGEST_CALL ≤ out.old.spare → IsOk result }
     ensures spare { out.old.spare ≤ out.new.spare + LONGEST_CALL }

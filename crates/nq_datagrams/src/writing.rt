@@ -1,8 +1,8 @@
 //! Messages as datagrams.
 
-ghost use Rattle.std.specs.Prelude.{◌≡◌, ◌≤◌, IfOk};
+ghost use Rattle.std.specs.Prelude.{◌≡◌, ◌≤◌, IfOk, OnOk};
 ghost use Rattle.nq_model.specs.Message.{call, reply as reply_to, error};
-ghost use Rattle.nq_datagrams.specs.Messages.{bytes_of, error_outcome};
+ghost use Rattle.nq_datagrams.specs.Messages.{FitsMessage, bytes_of, error_outcome};
 ghost use Rattle.nq_datagrams.specs.Told.{told_error};
 ghost use Rattle.nq_wire.specs.Reply.{results_len};
 ghost use Rattle.nq_wire.specs.Request.{HasSpelling};
@@ -35,7 +35,8 @@ pub enum ErrorReply {
 #[tactic(auto, unfolding(crate::specs::Messages::bytes_of))]
 pub fn call_bytes(alloc: Global, xid: u32, request: &Request) -> Result<Vec<u8>, NoMemory>
     requires { HasSpelling request.now }
-    ensures { IfOk result (λ v. v.items ≡ bytes_of (call xid request.now)) }
+    ensures written { IfOk result (λ v. v.items ≡ bytes_of (call xid request.now)) }
+    ensures fits { OnOk result (FitsMessage (call xid request.now)) }
 {
     let mut out = Writer::new(alloc)?;
     begin_call(&head_of(xid, request), &mut out)?;
@@ -46,7 +47,8 @@ pub fn call_bytes(alloc: Global, xid: u32, request: &Request) -> Result<Vec<u8>,
 /// The datagram of a reply.
 #[tactic(auto, unfolding(crate::specs::Messages::bytes_of))]
 pub fn reply_bytes(alloc: Global, xid: u32, reply: &Reply) -> Result<Vec<u8>, NoMemory>
-    ensures { IfOk result (λ v. v.items ≡ bytes_of (reply_to xid reply.now)) }
+    ensures written { IfOk result (λ v. v.items ≡ bytes_of (reply_to xid reply.now)) }
+    ensures fits { OnOk result (FitsMessage (reply_to xid reply.now)) }
 {
     let mut out = Writer::new(alloc)?;
     begin_reply(xid, &mut out)?;
@@ -76,7 +78,8 @@ fn outcome_of(error: ErrorReply) -> Outcome
 /// The datagram of a reply without a result.
 #[tactic(auto, unfolding(crate::specs::Messages::bytes_of))]
 pub fn error_bytes(alloc: Global, xid: u32, said: ErrorReply) -> Result<Vec<u8>, NoMemory>
-    ensures { IfOk result (λ v. v.items ≡ bytes_of (error xid (told_error said))) }
+    ensures written { IfOk result (λ v. v.items ≡ bytes_of (error xid (told_error said))) }
+    ensures fits { OnOk result (FitsMessage (error xid (told_error said))) }
 {
     let outcome = outcome_of(said);
     encode(alloc, &Message::Reply(ReplyMessage { xid, outcome }))
@@ -117,7 +120,8 @@ impl BegunReply {
     #[tactic(auto, unfolding(crate::specs::Messages::bytes_of))]
     pub fn end(self, reply: &Reply) -> Vec<u8>
         requires { results_len reply.now ≤ self.room }
-        ensures { result.items ≡ bytes_of (reply_to self.xid reply.now) }
+        ensures written { result.items ≡ bytes_of (reply_to self.xid reply.now) }
+        ensures fits { FitsMessage (reply_to self.xid reply.now) }
     {
         let BegunReply { xid: _, mut out } = self;
         encode_reply_into(reply, &mut out).unwrap();

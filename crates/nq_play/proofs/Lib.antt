@@ -1,0 +1,4 @@
+pub mod Skewing
+pub mod Ending
+pub mod Lawfully
+pub mod Flags

@@ -1,0 +1,3 @@
+pub mod Delivering
+pub mod Playing
+pub mod Lawful
