@@ -1,0 +1,2 @@
+pub mod ServedRows
+pub mod SomeServed

@@ -1,0 +1,2 @@
+pub mod ServedRowsAreMet
+pub mod Serving
