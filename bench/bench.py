@@ -1,15 +1,18 @@
 #!/usr/bin/env python3
 """Times `nqnfs replay` on inputs that it makes, and prints events per second and peak memory; or times `nq_bench`, and
-prints datagrams and megabytes, or calls of the parts of server and client, per second.
+prints datagrams and megabytes, or calls of the parts of server and client, per second; or times `nqnfs check` on journals.
 
     bench/bench.py PROGRAM [--words WORD ...]
     bench/bench.py PROGRAM --codecs
     bench/bench.py PROGRAM --parts
+    bench/bench.py PROGRAM --journals LINES
 
 PROGRAM is the built program, `nqnfs` or, with --codecs or --parts, `nq_bench` (`rt run` in the crate's folder builds it, and says
-where). Each input is run three times; the fastest run counts. The words are `replay` where none are given.
+where). Each input is run three times; the fastest run counts. The words are `replay` where none are given. With --journals it times
+`nqnfs check` on sound journals of four kinds, of a tenth of so many lines and of so many.
 """
 import argparse
+import collections
 import itertools
 import os
 import subprocess
@@ -172,13 +175,161 @@ def parts(program):
     return 0
 
 
+# ---- journals for the judge
+
+HOSTS = 64
+
+
+class Clients:
+    """The numbers of the calls and writes of each host's one incarnation, and of packets and grants."""
+
+    def __init__(self):
+        self.calls = collections.Counter()
+        self.writes = collections.Counter()
+        self.packet = 0
+
+    def call(self, host):
+        self.calls[host] += 1
+        return self.calls[host]
+
+    def write(self, host):
+        self.writes[host] += 1
+        return self.writes[host]
+
+    def send(self):
+        self.packet += 1
+        return self.packet
+
+
+def many_calls():
+    """Puts and fetches by all hosts in turn."""
+    clients = Clients()
+    for turn in itertools.count():
+        writer, reader, block = turn % HOSTS, (turn + 1) % HOSTS, turn % 64
+        q = clients.call(writer)
+        yield f"C {writer} 1 {q} put 1 {block} {turn}"
+        yield f"W {writer} 1 1 {block} {clients.write(writer)} {turn} through"
+        yield f"A {writer} 1 {q} ok"
+        q, packet = clients.call(reader), clients.send()
+        yield f"C {reader} 1 {q} fetch 1 {block}"
+        yield f"R {reader} 1 {q} 1 {block} {turn} served {packet}"
+        yield f"A {reader} 1 {q} ok {turn} by {packet}"
+
+
+def many_writes():
+    """Delayed writes of one block by one host, which reads it and stores it now and then."""
+    clients = Clients()
+    stored = 0
+    for turn in itertools.count():
+        q = clients.call(0)
+        yield f"C 0 1 {q} write 1 0 {turn}"
+        if turn == 0:
+            yield "G 0 1 1 writing 1 1 600 0"
+        number = clients.write(0)
+        yield f"W 0 1 1 0 {number} {turn} delayed"
+        yield f"A 0 1 {q} ok"
+        if turn % 16 == 15:
+            q = clients.call(0)
+            yield f"C 0 1 {q} read 1 0"
+            yield f"R 0 1 {q} 1 0 {turn} cached"
+            yield f"A 0 1 {q} ok {turn}"
+            q = clients.call(0)
+            yield f"C 0 1 {q} sync 1"
+            yield f"S 0 1 1 0 {stored + 1} {number} 0"
+            yield f"A 0 1 {q} ok"
+            stored = number
+
+
+def many_losses():
+    """Hosts in turn write and are cut off, and name what they lost."""
+    clients = Clients()
+    for turn in itertools.count():
+        host, block, time_now = turn % HOSTS, turn % 64, 13 * turn
+        q = clients.call(host)
+        yield f"C {host} 1 {q} write 1 {block} {turn}"
+        yield f"G {host} 1 1 writing 1 {turn + 1} 5 {time_now}"
+        number = clients.write(host)
+        yield f"W {host} 1 1 {block} {number} {turn} delayed"
+        yield f"A {host} 1 {q} ok"
+        yield f"F {host} 1 1 {time_now + 8} {time_now} {time_now + 13}"
+        yield f"L {host} 1 1 {block} {number} {number}"
+        q = clients.call(host)
+        yield f"C {host} 1 {q} sync 1"
+        yield f"A {host} 1 {q} lost {block}:{number}-{number}"
+
+
+def many_grants():
+    """Hosts in turn read a block under a new lease, and once more from their cache."""
+    clients = Clients()
+    for turn in itertools.count():
+        host, packet = turn % HOSTS, clients.send()
+        q = clients.call(host)
+        yield f"C {host} 1 {q} read 1 0"
+        yield f"G {host} 1 1 reading 1 {turn + 1} 30 {turn}"
+        yield f"R {host} 1 {q} 1 0 0 served {packet}"
+        yield f"A {host} 1 {q} ok 0 by {packet}"
+        q = clients.call(host)
+        yield f"C {host} 1 {q} read 1 0"
+        yield f"R {host} 1 {q} 1 0 0 cached"
+        yield f"A {host} 1 {q} ok 0"
+
+
+KINDS = [
+    ("many calls", many_calls),
+    ("many writes on one block", many_writes),
+    ("many losses", many_losses),
+    ("many grants", many_grants),
+]
+
+
+def write_journal(entries, lines):
+    """A file with a journal of so many lines at most, which ends with an answer."""
+    waiting = []
+    with tempfile.NamedTemporaryFile("w", suffix=".journal", delete=False) as made:
+        made.write("nqnfs-journal 1\n")
+        for entry in itertools.islice(entries, lines - 2):
+            waiting.append(entry + "\n")
+            if entry.startswith("A"):
+                made.writelines(waiting)
+                waiting = []
+        made.write("end\n")
+    return made.name
+
+
+def judged(program, entries, lines):
+    """Seconds, peak memory in MB and status of the fastest of three runs of the judge."""
+    path = write_journal(entries, lines)
+    try:
+        runs = [run(program, ["check"], path) for _ in range(3)]
+    finally:
+        os.unlink(path)
+    took, _, status, _ = min(runs)
+    return took, max(one[1] for one in runs), status
+
+
+def journals(program, lines):
+    """Prints how fast journals of four kinds are judged, and how much longer ten times the entries take."""
+    print(f"{'journal':26} {'lines':>9} {'seconds':>8} {'MB':>6} {'times as long':>14} status")
+    failed = False
+    for name, made in KINDS:
+        short = judged(program, made(), lines // 10)
+        long = judged(program, made(), lines)
+        for count, (took, memory, status), ratio in ((lines // 10, short, ""), (lines, long, f"{long[0] / short[0]:.1f}")):
+            print(f"{name:26} {count:9,} {took:8.3f} {memory:6.0f} {ratio:>14} {status:6}")
+            failed = failed or status != 0
+    return 1 if failed else 0
+
+
 def main():
-    parser = argparse.ArgumentParser(description="Times nqnfs replay, or nq_bench.")
+    parser = argparse.ArgumentParser(description="Times nqnfs replay or check, or nq_bench.")
     parser.add_argument("program")
     parser.add_argument("--words", nargs="*", default=["replay"])
     parser.add_argument("--codecs", action="store_true")
     parser.add_argument("--parts", action="store_true")
+    parser.add_argument("--journals", type=int, metavar="LINES")
     asked = parser.parse_args()
+    if asked.journals:
+        return journals(asked.program, asked.journals)
     if asked.codecs:
         return codecs(asked.program)
     if asked.parts:

@@ -1,8 +1,9 @@
 //! The server's notices.
 
-ghost use Rattle.std.specs.Prelude.{◌≡◌, ◌+◌, ◌%◌, [], ◌∷◌, ◌++◌, length, map, OnOk, OnErr};
+ghost use Rattle.std.specs.Prelude.{◌≡◌, ◌+◌, ◌%◌, [], ◌∷◌, ◌++◌, All, length, map, OnOk, OnErr};
 ghost use Rattle.nq_base.specs.declared.Request.{Request as Asks};
-ghost use Rattle.nq_datagrams.specs.Sent.{sent};
+ghost use Rattle.nq_datagrams.specs.Messages.{FitsMessage};
+ghost use Rattle.nq_datagrams.specs.Sent.{FitsPacket, sent};
 ghost use Rattle.nq_evict.specs.Telling.{Grows, own_rows, told_among, told_rows};
 ghost use Rattle.nq_model.specs.Message.{call};
 ghost use Rattle.nq_model.specs.Profile.{xid_end};
@@ -32,6 +33,7 @@ pub enum NoticeTo {
 fn tell(alloc: Global, row: &Row, xid: u32, out: &mut Outbox) -> Result<(), NoMemory>
     ensures first { out.new.first ≡ out.old.first }
     ensures told { OnOk result (out.new.datagrams ≡ out.old.datagrams ++ sent (to_host row.now.who.host (call xid (Asks.Evicted row.now.who row.now.file row.now.tag))) ∷ []) }
+    ensures fits { OnOk result (FitsMessage (call xid (Asks.Evicted row.now.who row.now.file row.now.tag))) }
     ensures refused { OnErr result (out.new.datagrams ≡ out.old.datagrams) }
 {
     let request = Request::Evicted {
@@ -58,6 +60,7 @@ fn tell_among(
     ensures grows { Grows out.old.datagrams out.new.datagrams }
     ensures number { OnErr result (xid.new ≡ xid.old) }
     ensures told { OnOk result (out.new.datagrams ≡ out.old.datagrams ++ map sent (notices_of xid.old (told_among file host access rows.now))) }
+    ensures fit { OnOk result (All FitsPacket (notices_of xid.old (told_among file host access rows.now))) }
     ensures counted { OnOk result (xid.new ≡ (xid.old + length (told_among file host access rows.now)) % xid_end) }
 {
     let mut number = *xid;
@@ -82,6 +85,7 @@ fn tell_own(
     ensures grows { Grows out.old.datagrams out.new.datagrams }
     ensures number { OnErr result (xid.new ≡ xid.old) }
     ensures told { OnOk result (out.new.datagrams ≡ out.old.datagrams ++ map sent (notices_of xid.old (own_rows own))) }
+    ensures fit { OnOk result (All FitsPacket (notices_of xid.old (own_rows own))) }
     ensures counted { OnOk result (xid.new ≡ (xid.old + length (own_rows own)) % xid_end) }
 {
     let number = *xid;
@@ -105,6 +109,7 @@ fn tell_all(
     ensures grows { Grows out.old.datagrams out.new.datagrams }
     ensures number { OnErr result (xid.new ≡ xid.old) }
     ensures told { OnOk result (out.new.datagrams ≡ out.old.datagrams ++ map sent (notices_of xid.old (told_rows file to table.now.rows))) }
+    ensures fit { OnOk result (All FitsPacket (notices_of xid.old (told_rows file to table.now.rows))) }
     ensures counted { OnOk result (xid.new ≡ (xid.old + length (told_rows file to table.now.rows)) % xid_end) }
 {
     match to {
@@ -135,6 +140,7 @@ pub fn notices(
 ) -> Result<(), NoMemory>
     ensures first { out.new.first ≡ out.old.first }
     ensures told { OnOk result (out.new.datagrams ≡ out.old.datagrams ++ map sent (notices_of xid.old (told_rows file to table.now.rows))) }
+    ensures fit { OnOk result (All FitsPacket (notices_of xid.old (told_rows file to table.now.rows))) }
     ensures counted { OnOk result (xid.new ≡ (xid.old + length (told_rows file to table.now.rows)) % xid_end) }
     ensures refused { OnErr result ((out.new.datagrams ≡ out.old.datagrams) × (xid.new ≡ xid.old)) }
 {

@@ -1,15 +1,15 @@
 -- A request that was decided is answered.
 use Rattle.std.proofs.Common.{◌≡◌, ℕ, Bool, true, false, List, [], ◌∷◌, ◌++◌, Option, Some, None, length, map, refl, sym, ap, subst, ◌∙◌, append-nil}
-use Rattle.std.proofs.lemmas.List.{append_assoc, map-append}
-use Rattle.std.specs.Prelude.{reverse}
+use Rattle.std.proofs.lemmas.List.Elements.{All-nil, All-push}
+use Rattle.std.specs.Prelude.{All, reverse}
 use Rattle.nq_base.specs.declared.Decided.{Decided}
 use Rattle.nq_base.specs.declared.Decided.TheVariants.{Fresh, Again, Old, OldIncarnation, NotAttached}
-use Rattle.nq_base.specs.declared.Party.{Party}
 use Rattle.nq_base.specs.declared.Reply.{Reply as Answer}
 use Rattle.nq_base.specs.declared.Request.{Request}
 use Rattle.nq_base.specs.declared.Verdict.{Verdict}
 use Rattle.nq_base.specs.declared.Who.{Who}
-use Rattle.nq_datagrams.specs.Sent.{sent}
+use Rattle.nq_datagrams.specs.Messages.{FitsMessage}
+use Rattle.nq_datagrams.specs.Sent.{FitsPacket, sent}
 use Rattle.nq_journal.specs.Items.{EntryList}
 use Rattle.nq_model.specs.Decided.{aside, decided_answer, decided_step, fresh_step}
 use Rattle.nq_model.specs.Kept.{Kept}
@@ -17,6 +17,7 @@ use Rattle.nq_model.specs.Message.{Packet, reply}
 use Rattle.nq_model.specs.Server.{Phase, Server, says, drops, to_host}
 use Rattle.nq_model.specs.Table.{Table}
 use Rattle.nq_server.proofs.DecidedSteps.{warned}
+use Rattle.nq_server.proofs.PushedPackets.{behind-notices, one-sent}
 use Rattle.nq_server.specs.declared.received.Reason.TheVariants as reason
 use Rattle.nq_server.specs.declared.received.Taken.TheVariants as took
 use Rattle.nq_server.specs.Deciding.{DoesAside, DoesIfFresh, Concludes, answer_to, is_later, is_put_off, warnings, warnings_if}
@@ -32,11 +33,6 @@ beside-is a phase table longest notice time p t l n m =
     ∙ ap (λ x. record { phase = phase; table = table; longest = x; notice = a.notice; time = a.time }) l
     ∙ ap (λ x. record { phase = phase; table = table; longest = longest; notice = x; time = a.time }) n
     ∙ ap (λ x. record { phase = phase; table = table; longest = longest; notice = notice; time = x }) m
-
--- a reply stands behind the notices
-behind-notices : (before between after : List (Party × List ℕ)) (packets : List Packet) (answer : Packet) → between ≡ before ++ map sent packets → after ≡ between ++ sent answer ∷ [] → after ≡ before ++ map sent (packets ++ answer ∷ [])
-behind-notices before between after packets answer e f =
-    f ∙ ap (λ d. d ++ sent answer ∷ []) e ∙ append_assoc before (map sent packets) (sent answer ∷ []) ∙ ap (λ d. before ++ d) (sym (map-append sent packets (answer ∷ [])))
 
 -- one that is fresh
 concluded-fresh : (s : Server) (who : Who) (xid : ℕ) (r : Request) (verdict : Verdict) (value : ℕ) (after : Beside) (out out' : Datagrams) (entries log log' : EntryList) → DoesAside (aside s who r verdict) (beside s) after log log' → log.entries ≡ entries.entries → Sends (warnings_if (is_later verdict) (warnings s who r) ++ to_host who.host (reply xid (decided_answer who.inc verdict value r)) ∷ []) out out' → Concludes (decided_step s who xid r (Fresh verdict value)) took.Done after out out' entries log'
@@ -67,25 +63,35 @@ concluded-drop s who xid r Old out out' entries log none first sends same = absu
 concluded-drop s who xid r NotAttached out out' entries log none first sends same = absurd (cc)
 concluded-drop s who xid r OldIncarnation out out' entries log none first sends same = record {
   outcome = refl;
-  makes = record { holds = refl; sends = record { first = first; added = sends }; enters = same ∙ sym (append-nil _) };
+  makes = record { holds = refl; sends = record { first = first; added = sends; fit = All-nil FitsPacket }; enters = same ∙ sym (append-nil _) };
 }
+
+-- notices fit where they may be sent
+warnings-fit : (b : Bool) (packets : List Packet) → All FitsPacket packets → All FitsPacket (warnings_if b packets)
+warnings-fit true packets fit = fit
+warnings-fit false packets fit = All-nil FitsPacket
 
 -- a request is not fresh
 abbrev pub IsPast : Decided → Type 0
 IsPast (Fresh verdict value) = ⊥
 IsPast other = Unit {0}
 
-module _ (s : Server) (who : Who) (xid : ℕ) (r : Request) (said : Answer) (out between out' : Datagrams) (entries log : EntryList) (first : out'.first ≡ out.first) (pushed : out'.datagrams ≡ between.datagrams ++ sent (to_host who.host (reply xid said)) ∷ []) (same : log.entries ≡ entries.entries) where
+module _ (s : Server) (who : Who) (xid : ℕ) (r : Request) (said : Answer) (out between out' : Datagrams) (entries log : EntryList) (first : out'.first ≡ out.first) (pushed : out'.datagrams ≡ between.datagrams ++ sent (to_host who.host (reply xid said)) ∷ []) (same : log.entries ≡ entries.entries) (fits : FitsMessage (reply xid said)) where
   -- a fresh one, by what was done beside the kept state
-  pub fresh-answered : (verdict : Verdict) (value : ℕ) (after : Beside) (log' : EntryList) → answer_to who r (Fresh verdict value) ≡ Some said → between.datagrams ≡ out.datagrams ++ map sent (warnings_if (is_put_off (Fresh verdict value)) (warnings s who r)) → DoesAside (aside s who r verdict) (beside s) after log log' → Concludes (decided_step s who xid r (Fresh verdict value)) took.Done after out out' entries log'
-  fresh-answered verdict value after log' is warns does =
+  pub fresh-answered : (verdict : Verdict) (value : ℕ) (after : Beside) (log' : EntryList) → answer_to who r (Fresh verdict value) ≡ Some said → between.datagrams ≡ out.datagrams ++ map sent (warnings_if (is_put_off (Fresh verdict value)) (warnings s who r)) → All FitsPacket (warnings s who r) → DoesAside (aside s who r verdict) (beside s) after log log' → Concludes (decided_step s who xid r (Fresh verdict value)) took.Done after out out' entries log'
+  fresh-answered verdict value after log' is warns fit does =
       let own : decided_answer who.inc verdict value r ≡ said = cc in
       concluded-fresh s who xid r verdict value after out out' entries log log' does same
       (subst (λ a. Sends (warnings_if (is_later verdict) (warnings s who r) ++ to_host who.host (reply xid a) ∷ []) out out') (sym own)
-      (record { first = first; added = behind-notices out.datagrams between.datagrams out'.datagrams (warnings_if (is_later verdict) (warnings s who r)) (to_host who.host (reply xid said)) warns pushed }))
+      (record {
+        first = first;
+        added = behind-notices out.datagrams between.datagrams out'.datagrams (warnings_if (is_later verdict) (warnings s who r)) (to_host who.host (reply xid said)) warns pushed;
+        fit = All-push FitsPacket (warnings_if (is_later verdict) (warnings s who r)) (to_host who.host (reply xid said)) (warnings-fit (is_later verdict) (warnings s who r) fit) fits;
+      }))
 
   alone : between.datagrams ≡ out.datagrams ++ [] → Sends (to_host who.host (reply xid said) ∷ []) out out'
-  alone e = record { first = first; added = pushed ∙ ap (λ d. d ++ sent (to_host who.host (reply xid said)) ∷ []) (e ∙ append-nil _) }
+  alone e =
+      one-sent (to_host who.host (reply xid said)) out out' fits first (pushed ∙ ap (λ d. d ++ sent (to_host who.host (reply xid said)) ∷ []) (e ∙ append-nil _))
 
   is-alone : (answer : Answer) → Some answer ≡ Some said → between.datagrams ≡ out.datagrams ++ [] → Concludes (says s who.host (reply xid answer)) took.Done (beside s) out out' entries log
   is-alone answer is e =
@@ -107,9 +113,9 @@ module _ (s : Server) (who : Who) (xid : ℕ) (r : Request) (said : Answer) (out
   again-answered OldIncarnation stale is e = absurd (cc)
 
   -- each, by what was done beside the kept state
-  pub concluded : (d : Decided) (after : Beside) (log' : EntryList) → answer_to who r d ≡ Some said → between.datagrams ≡ out.datagrams ++ map sent (warnings_if (is_put_off d) (warnings s who r)) → DoesIfFresh s who r d (beside s) after log log' → Concludes (decided_step s who xid r d) took.Done after out out' entries log'
-  concluded (Fresh verdict value) after log' is warns does = fresh-answered verdict value after log' is warns does
-  concluded (Again verdict value) after log' is warns does = unchanged (Again verdict value) after log' does (again-answered (Again verdict value) tt is warns)
-  concluded Old after log' is warns does = unchanged Old after log' does (again-answered Old tt is warns)
-  concluded OldIncarnation after log' is warns does = absurd (cc)
-  concluded NotAttached after log' is warns does = unchanged NotAttached after log' does (again-answered NotAttached tt is warns)
+  pub concluded : (d : Decided) (after : Beside) (log' : EntryList) → answer_to who r d ≡ Some said → between.datagrams ≡ out.datagrams ++ map sent (warnings_if (is_put_off d) (warnings s who r)) → All FitsPacket (warnings s who r) → DoesIfFresh s who r d (beside s) after log log' → Concludes (decided_step s who xid r d) took.Done after out out' entries log'
+  concluded (Fresh verdict value) after log' is warns fit does = fresh-answered verdict value after log' is warns fit does
+  concluded (Again verdict value) after log' is warns fit does = unchanged (Again verdict value) after log' does (again-answered (Again verdict value) tt is warns)
+  concluded Old after log' is warns fit does = unchanged Old after log' does (again-answered Old tt is warns)
+  concluded OldIncarnation after log' is warns fit does = absurd (cc)
+  concluded NotAttached after log' is warns fit does = unchanged NotAttached after log' does (again-answered NotAttached tt is warns)

@@ -25,7 +25,7 @@ use Rattle.nq_server.specs.declared.state.Phase.TheVariants.{Serving, Recovering
 use Rattle.nq_journal.specs.Items.{EntryList}
 use Rattle.nq_server.specs.State.{Beside}
 use Rattle.nq_server.specs.Stepping.{Enters, SaysNothing, Sends}
-use Rattle.nq_server.specs.Deciding.{DoesAside, file_to_tell, length_in, heard_rows, is_later, warnings, warnings_if, rows_serving, entries_serving, rows_recovering, recovery_after, entries_recovering}
+use Rattle.nq_server.specs.Deciding.{DoesAside, file_to_tell, length_in, heard_rows, is_later, warnings, warnings_if, rows_serving, entries_serving, recovery_after, entries_recovering}
 use Rattle.nq_server.specs.Sound.{Runs, RowsRun, IsOfBoot}
 
 -- ---- what is done beside the kept state
@@ -59,13 +59,20 @@ done-serving s who (GetLease w file want) blocks is = refl
 done-serving s who (Vacated w file tag) blocks is = refl
 done-serving s who (Evicted w file tag) blocks is = refl
 
+-- a table without rows loses none
+no-rows : (table : Table) (host : ℕ) → table.rows ≡ [] → with_rows table (drop_host host table.rows) ≡ table
+unfolding with_rows
+no-rows table host empty =
+    ap (λ rows. record table { rows = drop_host host rows }) empty ∙ ap (λ rows. record table { rows = rows }) (sym empty)
+
 -- a request was done while the server recovers
-pub done-recovering : (s : Server) (until heard : ℕ) (last : Option Table) (recovery : Recovery) (who : Who) (r : Request) → recovery.until ≡ until → recovery.heard ≡ heard → s.phase ≡ recovering until heard last → done_aside s (recovering until heard last) who r ≡ aside_as (with_rows s.table (rows_recovering who r s.table.rows)) (recovering (recovery_after r s.now recovery).until (recovery_after r s.now recovery).heard last) s.notice (entries_recovering who r s.now)
-unfolding nothing_aside heard_aside rows_aside with_rows after_write
-done-recovering s until heard last recovery who (Attach w) u h p =
-    ap (λ x. aside_as (with_rows s.table (drop_host who.host s.table.rows)) x s.notice []) (p ∙ ap (λ n. recovering n heard last) (sym u) ∙ ap (λ n. recovering recovery.until n last) (sym h))
-done-recovering s until heard last recovery who (Write w seq file block first final push body) u h p = rw u refl
-done-recovering s until heard last recovery who other u h p =
+pub done-recovering : (s : Server) (until heard : ℕ) (last : Option Table) (recovery : Recovery) (who : Who) (r : Request) → recovery.until ≡ until → recovery.heard ≡ heard → s.phase ≡ recovering until heard last → s.table.rows ≡ [] → done_aside s (recovering until heard last) who r ≡ aside_as s.table (recovering (recovery_after r s.now recovery).until (recovery_after r s.now recovery).heard last) s.notice (entries_recovering who r s.now)
+unfolding nothing_aside heard_aside rows_aside after_write
+done-recovering s until heard last recovery who (Attach w) u h p empty =
+    ap (λ t. aside_as t s.phase s.notice []) (no-rows s.table who.host empty)
+    ∙ ap (λ x. aside_as s.table x s.notice []) (p ∙ ap (λ n. recovering n heard last) (sym u) ∙ ap (λ n. recovering recovery.until n last) (sym h))
+done-recovering s until heard last recovery who (Write w seq file block first final push body) u h p empty = rw u refl
+done-recovering s until heard last recovery who other u h p empty =
     ap (λ x. aside_as s.table x s.notice []) (p ∙ ap (λ n. recovering n heard last) (sym u) ∙ ap (λ n. recovering recovery.until n last) (sym h))
 
 -- ---- what is sent before the reply
@@ -113,10 +120,6 @@ serving-runs time now who (Write w seq file block first last (Some base) body) r
 serving-runs time now who (Remove w seq q file) rows h = some-run time (λ row. not (row.file == file)) rows h
 serving-runs time now who other rows h = h
 
-pub recovering-empty : (who : Who) (r : Request) (rows : List Row) → rows ≡ [] → rows_recovering who r rows ≡ []
-recovering-empty who (Attach w) rows e = rw e refl
-recovering-empty who other rows e = e
-
 -- ---- what was done beside the kept state
 
 pub does-serving : (s : Server) (phase : Phase) (who : Who) (r : Request) (blocks : ℕ) (held after : Beside) (log log' : EntryList) → phase ≡ serving → blocks ≡ length_in s.kept (file_to_tell r) → after.table ≡ with_rows s.table (rows_serving who r s.now s.table.rows) → after.phase ≡ s.phase → after.notice ≡ s.notice → after.longest ≡ held.longest → after.time ≡ held.time → Enters (entries_serving who r blocks s.now) log log' → DoesAside (done_aside s phase who r) held after log log'
@@ -126,11 +129,11 @@ does-serving s phase who r blocks held after log log' serves is table same notic
     (sym (ap (λ p. done_aside s p who r) serves ∙ done-serving s who r blocks is))
     (record { table = table; phase = same; notice = notice; longest = longest; time = time; entries = entries })
 
-pub does-recovering : (s : Server) (phase : Phase) (recovery new : Recovery) (last : Option Table) (who : Who) (r : Request) (held after : Beside) (log log' : EntryList) → phase ≡ recovering recovery.until recovery.heard last → s.phase ≡ phase → new ≡ recovery_after r s.now recovery → after.table ≡ with_rows s.table (rows_recovering who r s.table.rows) → after.phase ≡ recovering new.until new.heard last → after.notice ≡ s.notice → after.longest ≡ held.longest → after.time ≡ held.time → Enters (entries_recovering who r s.now) log log' → DoesAside (done_aside s phase who r) held after log log'
-does-recovering s phase recovery new last who r held after log log' recovers own is table becomes notice longest time entries =
+pub does-recovering : (s : Server) (phase : Phase) (recovery new : Recovery) (last : Option Table) (who : Who) (r : Request) (held after : Beside) (log log' : EntryList) → phase ≡ recovering recovery.until recovery.heard last → s.phase ≡ phase → s.table.rows ≡ [] → new ≡ recovery_after r s.now recovery → after.table ≡ s.table → after.phase ≡ recovering new.until new.heard last → after.notice ≡ s.notice → after.longest ≡ held.longest → after.time ≡ held.time → Enters (entries_recovering who r s.now) log log' → DoesAside (done_aside s phase who r) held after log log'
+does-recovering s phase recovery new last who r held after log log' recovers own empty is table becomes notice longest time entries =
     subst
     (λ a. DoesAside a held after log log')
-    (sym (ap (λ p. done_aside s p who r) recovers ∙ done-recovering s recovery.until recovery.heard last recovery who r refl refl (own ∙ recovers)))
+    (sym (ap (λ p. done_aside s p who r) recovers ∙ done-recovering s recovery.until recovery.heard last recovery who r refl refl (own ∙ recovers) empty))
     (record { table = table; phase = becomes ∙ ap (λ x. recovering x.until x.heard last) is; notice = notice; longest = longest; time = time; entries = entries })
 
 -- a recovery keeps the longest term of its boot
@@ -158,7 +161,7 @@ sends-grow packets out out' s =
     omega arith
 
 pub sends-through : (packets : List Packet) (out between out' : Datagrams) (log log' : EntryList) → Sends packets out between → SaysNothing between out' log log' → Sends packets out out'
-sends-through packets out between out' log log' s n = record { first = n.first ∙ s.first; added = n.datagrams ∙ s.added }
+sends-through packets out between out' log log' s n = record { first = n.first ∙ s.first; added = n.datagrams ∙ s.added; fit = s.fit }
 
 pub taken-back : (packets : List Packet) (out between later back : Datagrams) (len : ℕ) (log middle log' : EntryList) → len ≡ length out.datagrams → Sends packets out between → SaysNothing between later log log' → back.first ≡ later.first → back.datagrams ≡ take len later.datagrams → SaysNothing out back log log'
 taken-back packets out between later back len log middle log' is s n first cut = record {

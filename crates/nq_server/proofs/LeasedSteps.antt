@@ -185,7 +185,11 @@ of-serving longest (Recovering recovery last) rows h = absurd (cc)
 pub after-room : (step : ServerStep) (after : Beside) (out between out' : Datagrams) (log middle log' : EntryList) → SaysNothing out between log middle → MakesBeside step after between out' middle log' → MakesBeside step after out out' log log'
 after-room step after out between out' log middle log' nothing made = record {
   holds = made.holds;
-  sends = record { first = made.sends.first ∙ nothing.first; added = made.sends.added ∙ ap (λ d. d ++ map sent step.sends) nothing.datagrams };
+  sends = record {
+    first = made.sends.first ∙ nothing.first;
+    added = made.sends.added ∙ ap (λ d. d ++ map sent step.sends) nothing.datagrams;
+    fit = made.sends.fit;
+  };
   enters = made.enters ∙ ap (λ l. l ++ reverse step.entries) nothing.entries;
 }
 

@@ -11,3 +11,7 @@ pub mod LeasedFinds
 pub mod VacatedRows
 pub mod TakenSteps
 pub mod AdmittedSteps
+pub mod DecidedOnce
+pub mod SentRequests
+pub mod AskedStates
+pub mod PushedPackets

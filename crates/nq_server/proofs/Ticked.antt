@@ -4,11 +4,13 @@ use Rattle.std.specs.Prelude.{nat_le, reverse}
 use Rattle.std.specs.List.{find}
 use Rattle.std.specs.Option.{option_map}
 use Rattle.std.proofs.lemmas.Bool.Decides.{nat_tests}
+use Rattle.std.proofs.lemmas.List.Elements.{All-nil}
 use Rattle.nq_base.specs.declared.Entry.{Entry}
 use Rattle.nq_base.specs.declared.Row.{Row}
 use Rattle.nq_base.specs.declared.RowKey.{RowKey}
 use Rattle.nq_boot.specs.Booting.{ended_at, opened_by}
 use Rattle.nq_boot.specs.Recovery.{Recovery}
+use Rattle.nq_datagrams.specs.Sent.{FitsPacket}
 use Rattle.nq_expire.specs.Ending.{fenced}
 use Rattle.nq_expire.specs.declared.Fence.{Fence}
 use Rattle.nq_journal.specs.Items.{EntryList}
@@ -52,7 +54,7 @@ makes out s kept entries tells after log log' step is keeps holds enters =
     subst
     (λ x. (x.outcome ≡ outcome_of Done) × Makes x tells after out out log log')
     (sym is)
-    (refl, record { keeps = keeps; holds = holds; sends = record { first = refl; added = sym (append-nil _) }; enters = enters })
+    (refl, record { keeps = keeps; holds = holds; sends = record { first = refl; added = sym (append-nil _); fit = All-nil FitsPacket }; enters = enters })
 
 -- rows that ended one by one
 both-ended : (table : Table) (now file host : ℕ) → with_rows (with_rows table (drop_row file host table.rows)) (end_reading now (with_rows table (drop_row file host table.rows)).rows) ≡ with_rows table (drop_row file host (end_reading now table.rows))

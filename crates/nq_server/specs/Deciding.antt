@@ -109,12 +109,7 @@ entries_serving who (Resize w seq q file blocks) length now = Entry.Z who q file
 entries_serving who (Remove w seq q file) length now = Entry.Z who q file length 0 ∷ []
 entries_serving who other length now = []
 
--- the rows after a request was done while the server recovers
-abbrev pub rows_recovering : Who → Request → List Row → List Row
-rows_recovering who (Attach w) rows = drop_host who.host rows
-rows_recovering who other rows = rows
-
--- the recovery after it
+-- the recovery after a request was done
 abbrev pub recovery_after : Request → (now : ℕ) → Recovery → Recovery
 recovery_after (Write w seq file block first last push body) now recovery = after_write recovery now
 recovery_after other now recovery = recovery

@@ -1,5 +1,5 @@
 -- Requests for a lease, and what a call does that makes a step which keeps what is kept.
-use Rattle.std.specs.Prelude.{◌≡◌, ◌≤◌, ℕ, List, [], Option, Some, None, Result, Ok, Err, find, is_some, nat_lt, if◌then◌else◌}
+use Rattle.std.specs.Prelude.{◌≡◌, ◌<◌, ◌≤◌, ◌^◌, ℕ, List, [], Option, Some, None, Result, Ok, Err, find, is_some, nat_lt, if◌then◌else◌}
 use Rattle.nq_base.specs.declared.Asked.{Asked}
 use Rattle.nq_base.specs.declared.FileRow.{FileRow}
 use Rattle.nq_base.specs.declared.Grant.{Grant}
@@ -13,14 +13,16 @@ use Rattle.nq_journal.specs.Items.{EntryList}
 use Rattle.nq_model.specs.Ask.{conflicts}
 use Rattle.nq_model.specs.Change.{row_of}
 use Rattle.nq_model.specs.Kept.{File, blocks_of}
-use Rattle.nq_model.specs.Server.{ServerStep}
+use Rattle.nq_model.specs.Server.{ServerStep, serving}
 use Rattle.nq_model.specs.ServerStep.{access_of}
 use Rattle.nq_model.specs.Table.{Table, find_row}
 use Rattle.nq_server.specs.declared.leasing.Found.{Found}
 use Rattle.nq_server.specs.declared.received.Halt.{Halt}
 use Rattle.nq_server.specs.declared.received.Halt.TheVariants as halt
 use Rattle.nq_server.specs.declared.received.Taken.{Taken}
-use Rattle.nq_server.specs.State.{Beside, beside}
+use Rattle.nq_server.specs.declared.state.State.{State}
+use Rattle.nq_server.specs.Sound.{IsSound}
+use Rattle.nq_server.specs.State.{Beside, beside, beside_of, phase_of}
 use Rattle.nq_server.specs.Stepping.{Sends, Enters, SaysNothing, outcome_of}
 use Rattle.nq_wire.specs.Outbox.{Datagrams}
 
@@ -53,6 +55,13 @@ asks held who row want = record {
 pub record IsAskedOf (held : Beside) (q : Question) : Type 0 where
   pub time : q.time ≡ held.time
   pub longest : q.longest ≡ held.longest
+
+-- a server that serves may be asked this: its time and its longest term are those of the question, and tags are left
+pub record MayAsk (s : State) (q : Question) : Type 0 where
+  pub sound : IsSound s
+  pub serves : phase_of s.phase ≡ serving
+  pub drawn : s.table.drawn < 2 ^ 62
+  pub asked : IsAskedOf (beside_of s) q
 
 -- a file of which a question tells the id and the revision
 abbrev pub file_asked : Question → File

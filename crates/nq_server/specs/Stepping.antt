@@ -1,10 +1,11 @@
 -- What a call does that takes an event in. Below, `told` is what the keeper told of its content before the call and `tells` is
 -- what it tells after it; `before` and `count` are its counts of faults.
-use Rattle.std.specs.Prelude.{◌≡◌, ◌⊎◌, ℕ, ◌+◌, List, [], ◌∷◌, ◌++◌, Option, Some, Result, Ok, Err, length, map, min, reverse}
+use Rattle.std.specs.Prelude.{◌≡◌, ◌⊎◌, ℕ, ◌+◌, List, [], ◌∷◌, ◌++◌, Option, Some, Result, Ok, Err, All, length, map, min, reverse}
 use Rattle.std.specs.Option.{ForSome}
 use Rattle.nq_base.specs.declared.Entry.{Entry}
 use Rattle.nq_base.specs.declared.Party.{Party}
 use Rattle.nq_datagrams.specs.Messages.{bytes_of}
+use Rattle.nq_datagrams.specs.Sent.{FitsPacket}
 use Rattle.nq_io.specs.Faults.{Rose}
 use Rattle.nq_journal.specs.Items.{EntryList}
 use Rattle.nq_keeper.specs.Keeping.{StaysOrEnds}
@@ -45,10 +46,11 @@ datagram_of_packet p = (p.to, bytes_of p.message)
 abbrev pub next_of : Datagrams → ℕ
 next_of out = min (out.first + length out.datagrams) 18446744073709551615
 
--- these datagrams were added to an outbox
+-- these packets were added to an outbox as datagrams, and each is read again as it was sent
 pub record Sends (packets : List Packet) (old new : Datagrams) : Type 0 where
   pub first : new.first ≡ old.first
   pub added : new.datagrams ≡ old.datagrams ++ map datagram_of_packet packets
+  pub fit : All FitsPacket packets
 
 -- these entries, of which the newest stands first, were added to a journal
 abbrev pub Enters : List Entry → (old new : EntryList) → Type 0

@@ -1,169 +1,44 @@
 //! Requests that are decided once.
 
-ghost use Rattle.std.specs.Prelude.{◌≡◌, ◌<◌, ◌≤◌, ◌+◌, ◌^◌, [], ◌∷◌, ◌++◌, ℕ, List, Some, true, length, map, OnOk, OnErr, IfOk, IfSome};
+ghost use Rattle.std.specs.Prelude.{◌≡◌, ◌≤◌, ◌+◌, ◌++◌, ℕ, List, true, length, map, take, OnOk, OnErr, IfOk};
 ghost use Rattle.std.specs.Option.{ForSome};
-ghost use Rattle.nq_base.specs.declared.Entry.{Entry as Line};
 ghost use Rattle.nq_base.specs.declared.Party.{Party as Receiver};
-ghost use Rattle.nq_base.specs.declared.Verdict.{Verdict as Said};
 ghost use Rattle.nq_datagrams.specs.Sent.{sent};
+ghost use Rattle.nq_files.specs.Deciding.{IsOfHost};
 ghost use Rattle.nq_journal.specs.Items.{EntryList};
 ghost use Rattle.nq_keeper.specs.Keeping.{LeavesOne};
 ghost use Rattle.nq_model.specs.Change.{heads_of};
-ghost use Rattle.nq_model.specs.Decided.{aside, decided as decided_of, decided_answer, decided_step, done_aside, file_to_change as changed_file, gate_in, gate_of, is_decided_once, later_aside, is_held_writing};
+ghost use Rattle.nq_model.specs.Decided.{decided as decided_of, decided_step, gate_of, is_decided_once, later_aside};
 ghost use Rattle.nq_model.specs.Kept.{Kept};
-ghost use Rattle.nq_model.specs.Message.{Packet, asker};
-ghost use Rattle.nq_model.specs.Profile.{most_hosts};
-ghost use Rattle.nq_model.specs.Table.{find_row, with_rows};
+ghost use Rattle.nq_model.specs.Message.{Packet};
 ghost use Rattle.nq_server.specs.Answering.{Finds, IsSilent};
-ghost use Rattle.nq_server.specs.Deciding.{Concludes, DoesAside, DoesIfFresh, IsReady, Warns, answer_to as answer_of, entries_recovering, entries_serving, file_to_tell as told_file, heard_rows, is_put_off, length_in, recovery_after, rows_recovering, rows_serving, warnings_if};
+ghost use Rattle.nq_server.specs.Deciding.{Concludes, IsReady, Warns, file_to_tell as told_file, is_put_off, length_in, warnings_if};
 ghost use Rattle.nq_server.specs.Sound.{IsSound};
 ghost use Rattle.nq_server.specs.State.{beside_of, phase_of, server_of};
-ghost use Rattle.nq_server.specs.Stepping.{Enters, LeavesStep, SaysNothing, Sends, Takes};
+ghost use Rattle.nq_server.specs.Stepping.{LeavesStep, SaysNothing, Sends, Takes};
+ghost use Rattle.nq_server.specs.Ticking.{halt_of as as_halt};
 ghost use Rattle.nq_wire.specs.Outbox.{Datagrams};
-ghost use Rattle.nq_wire.specs.Reply.{results_len};
 
+use crate::aside::do_if_fresh;
 use crate::finding;
+use crate::gates::{file_to_change, file_to_tell, gate};
 use crate::leasing::make_room;
 use crate::received::{Halt, Reason, Taken};
 use crate::replying::{Caller, end_reply};
 use crate::state::{Phase, State};
-use nq_base::{
-    Access, Decided, Entry, FileId, Gate, Heads, Host, Mode, NoMemory, Refusal, Reply, Request,
-    Rev, Row, RowKey, Ticks, Verdict, Who,
-};
-use nq_boot::Recovering;
+use crate::ticks::halt_of;
+use crate::verdicts::answer_to;
+use nq_base::{Access, Decided, FileId, Heads, NoMemory, Request, Verdict, Who};
 use nq_datagrams::BegunReply;
 use nq_evict::{NoticeTo, notices};
-use nq_grant::conflict;
+use nq_files::decide;
 use nq_journal::Journal;
-use nq_keeper::Keeper;
-use nq_lease::Table;
+use nq_keeper::{KeepFault, Keeper};
 use nq_wire::Outbox;
 use std::alloc::Global;
 
 /// The most bytes of results of a request that is decided once: those of a WRITE.
 const LONGEST_DECIDED: usize = 16;
-
-/// The file that a request is about to change.
-fn file_to_change(request: &Request) -> Option<FileId>
-    ensures { result ≡ changed_file request.now }
-{
-    match request {
-        Request::Write { file, .. } => Some(*file),
-        Request::Resize { file, .. } => Some(*file),
-        Request::Remove { file, .. } => Some(*file),
-        _ => None,
-    }
-}
-
-/// The file whose kept length a journal tells of.
-fn file_to_tell(request: &Request) -> Option<FileId>
-    ensures { result ≡ told_file request.now }
-{
-    match request {
-        Request::Resize { file, .. } => Some(*file),
-        Request::Remove { file, .. } => Some(*file),
-        _ => None,
-    }
-}
-
-/// Whether a row is a writing lease of this incarnation.
-fn is_held(who: &Who, row: &Option<Row>) -> bool
-    ensures { result ≡ is_held_writing who.now row.now }
-{
-    match row {
-        Some(row) => matches!(row.mode, Mode::Writing) && row.who.inc == who.inc,
-        None => false,
-    }
-}
-
-/// What the server knows beside what is kept, when an incarnation is about to change a file.
-fn gate(state: &State, heads: &Heads, who: &Who, file: Option<FileId>) -> Gate
-    ensures { (kept : Kept) → heads.now ≡ heads_of kept → result ≡ gate_in (server_of (beside_of state.now) kept) (phase_of state.now.phase) who.now file }
-{
-    match (&state.phase, file) {
-        (Phase::Recovering { .. }, _) => Gate::Recovering {
-            opened: heads.opened,
-        },
-        (Phase::Serving(_), None) => Gate::Serving {
-            boot: heads.boot,
-            conflict: false,
-            writing_row: false,
-        },
-        (Phase::Serving(_), Some(file)) => {
-            let host = who.host;
-            Gate::Serving {
-                boot: heads.boot,
-                conflict: conflict(&state.table, host, file, Access::Write),
-                writing_row: is_held(who, &state.table.row(RowKey { file, host })),
-            }
-        }
-    }
-}
-
-/// The reply to a request that was done, with the kept value.
-fn done_reply(who: &Who, value: u64, request: &Request) -> Reply
-    ensures { result ≡ decided_answer who.now.inc Said.Done value request.now }
-{
-    let inc = who.inc;
-    match request {
-        Request::Attach { .. } => Reply::Attach { inc },
-        Request::Create { .. } => Reply::Create {
-            inc,
-            file: FileId((value % 0x1_0000_0000) as u32),
-        },
-        Request::Write { .. } => Reply::Write {
-            inc,
-            rev: Rev(value),
-        },
-        Request::Resize { .. } => Reply::Resize {
-            inc,
-            rev: Rev(value),
-        },
-        Request::Remove { .. } => Reply::Remove { inc },
-        _ => Reply::Null,
-    }
-}
-
-/// The reply that a verdict and a value give.
-fn verdict_reply(who: &Who, verdict: Verdict, value: u64, request: &Request) -> Reply
-    ensures { result ≡ decided_answer who.now.inc verdict value request.now }
-{
-    if let Request::Attach { .. } = request {
-        return Reply::Attach { inc: who.inc };
-    }
-    let status = match verdict {
-        Verdict::Done => return done_reply(who, value, request),
-        Verdict::Fenced => Refusal::Fenced,
-        Verdict::Exist => Refusal::Exist,
-        Verdict::NoSpace => Refusal::NoSpc,
-        Verdict::Invalid => Refusal::Inval,
-        Verdict::Stale => Refusal::Stale,
-        Verdict::TryLater => Refusal::TryLater,
-    };
-    Reply::Refused {
-        inc: who.inc,
-        status,
-    }
-}
-
-/// The reply to a request that was decided; None where a later incarnation is attached.
-fn answer_to(who: &Who, request: &Request, decided: &Decided) -> Option<Reply>
-    ensures is { result ≡ answer_of who.now request.now decided.now }
-    ensures short { IfSome result (λ said. results_len said ≤ 16) }
-{
-    let refused = |status| Reply::Refused {
-        inc: who.inc,
-        status,
-    };
-    match decided {
-        Decided::Fresh { verdict, value } => Some(verdict_reply(who, *verdict, *value, request)),
-        Decided::Again { verdict, value } => Some(verdict_reply(who, *verdict, *value, request)),
-        Decided::Old => Some(refused(Refusal::Old)),
-        Decided::OldIncarnation => None,
-        Decided::NotAttached => Some(refused(Refusal::NotAttached)),
-    }
-}
 
 /// What a step reads before it decides a request.
 #[derive(Clone, Copy)]
@@ -270,241 +145,6 @@ fn prepare(
     }
 }
 
-/// A write of the holder of this row was heard now.
-#[tactic(auto, unfolding(nq_model::specs::Table::with_rows))]
-fn put_heard(table: &mut Table, row: &Row, time: Ticks)
-    requires { find_row row.now.file row.now.who.host table.old.rows ≡ Some row.now }
-    ensures { table.new ≡ with_rows table.old (heard_rows time (Some row.now) table.old.rows) }
-{
-    let heard = Row {
-        heard: time,
-        ..*row
-    };
-    table.put_row(heard).unwrap();
-}
-
-/// A write of the holder of a row was heard now.
-#[tactic(auto, unfolding(nq_model::specs::Table::with_rows))]
-fn hear(table: &mut Table, file: FileId, host: Host, time: Ticks)
-    ensures { table.new ≡ with_rows table.old (heard_rows time (find_row file host table.old.rows) table.old.rows) }
-{
-    if let Some(row) = table.row(RowKey { file, host }) {
-        put_heard(table, &row, time);
-    }
-}
-
-/// Adds an entry, for which there is room.
-fn enter(log: &mut Journal, entry: Entry)
-    requires { 1 ≤ log.old.spare }
-    ensures { Enters (entry ∷ []) log.old log.new }
-{
-    log.push(entry).unwrap();
-}
-
-/// Tells of a length that a file got.
-fn tell_length(log: &mut Journal, who: Who, call: u64, file: FileId, from: u32, to: u32)
-    requires { 1 ≤ log.old.spare }
-    ensures { Enters (Line.Z who call file from to ∷ []) log.old log.new }
-{
-    let entry = Entry::Z {
-        who,
-        q: call,
-        file,
-        from,
-        to,
-    };
-    enter(log, entry);
-}
-
-/// What is done beside the kept state where a request was done while serving; `length` is the length that its file had.
-#[tactic(auto, unfolding(nq_model::specs::Table::with_rows))]
-fn done_serving(
-    table: &mut Table,
-    who: Who,
-    request: &Request,
-    length: u32,
-    now: Ticks,
-    log: &mut Journal,
-)
-    requires { 1 ≤ log.old.spare }
-    ensures table { table.new ≡ with_rows table.old (rows_serving who request.now now table.old.rows) }
-    ensures entries { Enters (entries_serving who request.now length now) log.old log.new }
-{
-    match request {
-        Request::Attach { .. } => table.drop_host(who.host),
-        Request::Write {
-            file,
-            block,
-            first,
-            push: None,
-            body,
-            ..
-        } => {
-            let entry = Entry::W {
-                who,
-                file: *file,
-                block: *block,
-                number: *first,
-                value: body.value(),
-                through: true,
-            };
-            enter(log, entry);
-        }
-        Request::Write {
-            file,
-            block,
-            first,
-            last,
-            push: Some(_),
-            ..
-        } => {
-            hear(table, *file, who.host, now);
-            let entry = Entry::S {
-                who,
-                file: *file,
-                block: *block,
-                first: *first,
-                last: *last,
-                now,
-            };
-            enter(log, entry);
-        }
-        Request::Resize {
-            call,
-            file,
-            blocks,
-            ..
-        } => tell_length(log, who, *call, *file, length, *blocks),
-        Request::Remove { call, file, .. } => {
-            table.drop_file(*file);
-            tell_length(log, who, *call, *file, length, 0);
-        }
-        _ => {}
-    }
-}
-
-/// What is done beside the kept state where a request was done while the server recovers.
-#[tactic(auto, unfolding(nq_model::specs::Table::with_rows))]
-fn done_recovering(
-    table: &mut Table,
-    recovery: &mut Recovering,
-    who: Who,
-    request: &Request,
-    now: Ticks,
-    log: &mut Journal,
-)
-    requires line { 1 ≤ log.old.spare }
-    requires early { now < 2 ^ 62 }
-    ensures table { table.new ≡ with_rows table.old (rows_recovering who request.now table.old.rows) }
-    ensures recovery { recovery.new ≡ recovery_after request.now now recovery.old }
-    ensures entries { Enters (entries_recovering who request.now now) log.old log.new }
-{
-    match request {
-        Request::Attach { .. } => table.drop_host(who.host),
-        Request::Write {
-            file,
-            block,
-            first,
-            last,
-            ..
-        } => {
-            recovery.wrote(now);
-            let entry = Entry::S {
-                who,
-                file: *file,
-                block: *block,
-                first: *first,
-                last: *last,
-                now,
-            };
-            enter(log, entry);
-        }
-        _ => {}
-    }
-}
-
-/// What is done beside the kept state where a request was done; `length` is the length that its file had.
-fn done(state: &mut State, who: Who, request: &Request, length: u32, log: &mut Journal)
-    requires line { 1 ≤ log.old.spare }
-    requires sound { IsSound state.old }
-    ensures sound { IsSound state.new }
-    ensures drawn { state.new.table.drawn ≡ state.old.table.drawn }
-    ensures does { (kept : Kept) → length ≡ length_in kept (told_file request.now) → DoesAside (done_aside (server_of (beside_of state.old) kept) (phase_of state.old.phase) who request.now) (beside_of state.old) (beside_of state.new) log.old log.new }
-{
-    let now = state.time;
-    match &mut state.phase {
-        Phase::Serving(_) => done_serving(&mut state.table, who, request, length, now, log),
-        Phase::Recovering { recovery, .. } => {
-            done_recovering(&mut state.table, recovery, who, request, now, log);
-        }
-    }
-}
-
-/// What is done beside the kept state where a request was put off: the rows in the way are to be given up.
-#[tactic(auto, unfolding(nq_model::specs::Decided::put_off_aside, nq_model::specs::Decided::nothing_aside, nq_model::specs::Table::with_rows))]
-fn put_off(state: &mut State, who: Who, file: Option<FileId>, notice: u32, log: &Journal)
-    requires { IsSound state.old }
-    ensures sound { IsSound state.new }
-    ensures drawn { state.new.table.drawn ≡ state.old.table.drawn }
-    ensures does { (kept : Kept) → notice ≡ (later_aside (server_of (beside_of state.old) kept) (phase_of state.old.phase) who file).notice → DoesAside (later_aside (server_of (beside_of state.old) kept) (phase_of state.old.phase) who file) (beside_of state.old) (beside_of state.new) log.now log.now }
-{
-    match (&state.phase, file) {
-        (Phase::Recovering { .. }, _) | (Phase::Serving(_), None) => {}
-        (Phase::Serving(_), Some(file)) => {
-            state.table.mark_evicting(file, who.host, Access::Write);
-            state.notice = notice;
-        }
-    }
-}
-
-/// What is done beside the kept state, by the verdict of a fresh request.
-#[tactic(auto, unfolding(nq_model::specs::Decided::nothing_aside))]
-fn do_aside(
-    state: &mut State,
-    who: Who,
-    request: &Request,
-    verdict: Verdict,
-    length: u32,
-    notice: u32,
-    log: &mut Journal,
-)
-    requires line { 1 ≤ log.old.spare }
-    requires sound { IsSound state.old }
-    ensures sound { IsSound state.new }
-    ensures drawn { state.new.table.drawn ≡ state.old.table.drawn }
-    ensures does { (kept : Kept) → length ≡ length_in kept (told_file request.now) → notice ≡ (later_aside (server_of (beside_of state.old) kept) (phase_of state.old.phase) who (changed_file request.now)).notice → DoesAside (aside (server_of (beside_of state.old) kept) who request.now verdict) (beside_of state.old) (beside_of state.new) log.old log.new }
-{
-    match verdict {
-        Verdict::Done => done(state, who, request, length, log),
-        Verdict::TryLater => put_off(state, who, file_to_change(request), notice, log),
-        _ => {}
-    }
-}
-
-/// What is done beside the kept state, where a request is fresh.
-fn do_if_fresh(
-    state: &mut State,
-    who: Who,
-    request: &Request,
-    decided: &Decided,
-    length: u32,
-    notice: u32,
-    log: &mut Journal,
-)
-    requires line { 1 ≤ log.old.spare }
-    requires sound { IsSound state.old }
-    ensures sound { IsSound state.new }
-    ensures drawn { state.new.table.drawn ≡ state.old.table.drawn }
-    ensures does { (kept : Kept) → length ≡ length_in kept (told_file request.now) → notice ≡ (later_aside (server_of (beside_of state.old) kept) (phase_of state.old.phase) who (changed_file request.now)).notice → DoesIfFresh (server_of (beside_of state.old) kept) who request.now decided.now (beside_of state.old) (beside_of state.new) log.old log.new }
-{
-    match decided {
-        Decided::Fresh { verdict, .. } => {
-            do_aside(state, who, request, *verdict, length, notice, log);
-        }
-        Decided::Again { .. } | Decided::Old | Decided::OldIncarnation | Decided::NotAttached => {}
-    }
-}
-
 /// Whether a request was put off just now.
 fn was_put_off(decided: &Decided) -> bool
     ensures { result ≡ is_put_off decided.now }
@@ -561,4 +201,54 @@ fn conclude(
     end_reply(who.host, begun, &said, out);
     do_if_fresh(state, who, request, decided, blocks, notice, log);
     Taken::Done
+}
+/// Takes the datagrams back behind the first `len`, and gives up.
+fn give_up(fault: KeepFault, len: usize, out: &mut Outbox) -> Halt
+    requires { len ≤ length out.old.datagrams }
+    ensures fault { result ≡ as_halt fault }
+    ensures first { out.new.first ≡ out.old.first }
+    ensures kept { out.new.datagrams ≡ take len out.old.datagrams }
+{
+    out.cut(len);
+    halt_of(fault)
+}
+
+/// Decides a request that is decided once, and answers it. At most one change is kept, and all memory is taken before it.
+pub(crate) fn decide_once<K: Keeper>(
+    alloc: Global,
+    keeper: &mut K,
+    state: &mut State,
+    caller: Caller,
+    request: &Request,
+    out: &mut Outbox,
+    log: &mut Journal,
+) -> Result<Taken, Halt>
+    requires sound { IsSound state.old }
+    requires once { is_decided_once request.now ≡ true }
+    requires host { IsOfHost request.now }
+    ensures takes { Takes (λ kept. decided_step (server_of (beside_of state.old) kept) caller.who caller.xid request.now (decided_of kept (gate_of (server_of (beside_of state.old) kept) caller.who request.now) request.now)) result (K.content keeper.old) (K.content keeper.new) (K.faults keeper.old) (K.faults keeper.new) (beside_of state.old) (beside_of state.new) out.old out.new log.old log.new }
+    ensures sound { IsSound state.new }
+    ensures drawn { state.new.table.drawn ≡ state.old.table.drawn }
+    ensures follows { K.follows keeper.old keeper.new }
+    ensures leaves { LeavesStep (λ kept. decided_step (server_of (beside_of state.old) kept) caller.who caller.xid request.now (decided_of kept (gate_of (server_of (beside_of state.old) kept) caller.who request.now) request.now)) (K.content keeper.old) (K.leaves keeper.old keeper.new) }
+{
+    let before = read_before(keeper, request)?;
+    let gate = gate(state, &before.heads, &caller.who, file_to_change(request));
+    let ready = match prepare(alloc, state, caller, request, out, log) {
+        Ok(ready) => ready,
+        Err(NoMemory::Memory) => return Err(Halt::Memory),
+    };
+    match decide(keeper, request, gate) {
+        Err(fault) => Err(give_up(fault, ready.len, out)),
+        Ok(decided) => Ok(conclude(
+            state,
+            caller,
+            request,
+            &decided,
+            ready,
+            before.length,
+            out,
+            log,
+        )),
+    }
 }

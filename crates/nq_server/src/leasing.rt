@@ -10,7 +10,7 @@ ghost use Rattle.nq_model.specs.Kept.{Kept, find_file};
 ghost use Rattle.nq_model.specs.Server.{Server, serving};
 ghost use Rattle.nq_model.specs.ServerStep.{access_of as access_as, get_lease as gets_lease, grants, lease_asked, leases, read as reads, read_asked, serves, tells_later};
 ghost use Rattle.nq_server.specs.Answering.{Finds};
-ghost use Rattle.nq_server.specs.Leasing.{Does, HasBody, HasRoom, IsAskedOf, MakesBeside, asks, file_asked, found_at, granted_in as grant_of, to_tell as to_tell_of};
+ghost use Rattle.nq_server.specs.Leasing.{Does, HasBody, HasRoom, MakesBeside, MayAsk, asks, file_asked, found_at, granted_in as grant_of, to_tell as to_tell_of};
 ghost use Rattle.nq_server.specs.Sound.{IsSound};
 ghost use Rattle.nq_server.specs.State.{beside_of, phase_of, server_of};
 ghost use Rattle.nq_server.specs.Stepping.{Enters, SaysNothing, Takes, next_of};
@@ -151,10 +151,7 @@ fn later(
     xid: u32,
     out: &mut Outbox,
 ) -> Result<Taken, Halt>
-    requires sound { IsSound state.old }
-    requires serves { phase_of state.old.phase ≡ serving }
-    requires drawn { state.old.table.drawn < 2 ^ 62 }
-    requires asked { IsAskedOf (beside_of state.old) question.now }
+    requires { MayAsk state.old question.now }
     ensures does { (kept : Kept) (log : EntryList) → Does (tells_later (server_of (beside_of state.old) kept) question.now.who xid (asked_of state.old.table question.now).table (told_rows question.now.file to state.old.table.rows)) result (beside_of state.old) (beside_of state.new) out.old out.new log log }
     ensures sound { IsSound state.new }
     ensures drawn { state.new.table.drawn ≤ state.old.table.drawn + 1 }
@@ -189,10 +186,7 @@ fn give_in_room(
     out: &mut Outbox,
     log: &mut Journal,
 )
-    requires sound { IsSound state.old }
-    requires serves { phase_of state.old.phase ≡ serving }
-    requires drawn { state.old.table.drawn < 2 ^ 62 }
-    requires asked { IsAskedOf (beside_of state.old) question.now }
+    requires may { MayAsk state.old question.now }
     requires room { 56 ≤ begun.room }
     requires datagram { 1 ≤ out.old.spare }
     requires line { 1 ≤ log.old.spare }
@@ -220,10 +214,7 @@ fn give(
     out: &mut Outbox,
     log: &mut Journal,
 ) -> Result<Taken, Halt>
-    requires sound { IsSound state.old }
-    requires serves { phase_of state.old.phase ≡ serving }
-    requires drawn { state.old.table.drawn < 2 ^ 62 }
-    requires asked { IsAskedOf (beside_of state.old) question.now }
+    requires { MayAsk state.old question.now }
     ensures does { (kept : Kept) → Does (leases (server_of (beside_of state.old) kept) question.now.who xid question.now.file (asked_of state.old.table question.now).table (grant_of (asked_of state.old.table question.now).asked)) result (beside_of state.old) (beside_of state.new) out.old out.new log.old log.new }
     ensures sound { IsSound state.new }
     ensures drawn { state.new.table.drawn ≤ state.old.table.drawn + 1 }
@@ -246,10 +237,7 @@ fn lease(
     out: &mut Outbox,
     log: &mut Journal,
 ) -> Result<Taken, Halt>
-    requires sound { IsSound state.old }
-    requires serves { phase_of state.old.phase ≡ serving }
-    requires drawn { state.old.table.drawn < 2 ^ 62 }
-    requires asked { IsAskedOf (beside_of state.old) question.now }
+    requires { MayAsk state.old question.now }
     ensures does { (kept : Kept) → Does (lease_asked (server_of (beside_of state.old) kept) question.now.who xid question.now.file question.now.access (asked_of state.old.table question.now).table (asked_of state.old.table question.now).asked) result (beside_of state.old) (beside_of state.new) out.old out.new log.old log.new }
     ensures sound { IsSound state.new }
     ensures drawn { state.new.table.drawn ≤ state.old.table.drawn + 1 }
@@ -337,10 +325,7 @@ fn serve_in_room(
     out: &mut Outbox,
     log: &mut Journal,
 )
-    requires sound { IsSound state.old }
-    requires serves { phase_of state.old.phase ≡ serving }
-    requires drawn { state.old.table.drawn < 2 ^ 62 }
-    requires asked { IsAskedOf (beside_of state.old) question.now }
+    requires may { MayAsk state.old question.now }
     requires room { 4164 ≤ begun.room }
     requires datagram { 1 ≤ out.old.spare }
     requires lines { 2 ≤ log.old.spare }
@@ -383,10 +368,7 @@ fn serve(
     out: &mut Outbox,
     log: &mut Journal,
 ) -> Result<Taken, Halt>
-    requires sound { IsSound state.old }
-    requires serves { phase_of state.old.phase ≡ serving }
-    requires drawn { state.old.table.drawn < 2 ^ 62 }
-    requires asked { IsAskedOf (beside_of state.old) question.now }
+    requires { MayAsk state.old question.now }
     ensures does { (kept : Kept) → Does (serves (server_of (beside_of state.old) kept) question.now.who xid (next_of out.old) wish.now.call (file_asked question.now) wish.now.block body (asked_of state.old.table question.now).table (grant_of (asked_of state.old.table question.now).asked)) result (beside_of state.old) (beside_of state.new) out.old out.new log.old log.new }
     ensures sound { IsSound state.new }
     ensures drawn { state.new.table.drawn ≤ state.old.table.drawn + 1 }
@@ -411,10 +393,7 @@ fn read_found(
     out: &mut Outbox,
     log: &mut Journal,
 ) -> Result<Taken, Halt>
-    requires sound { IsSound state.old }
-    requires serves { phase_of state.old.phase ≡ serving }
-    requires drawn { state.old.table.drawn < 2 ^ 62 }
-    requires asked { IsAskedOf (beside_of state.old) question.now }
+    requires { MayAsk state.old question.now }
     ensures does { (kept : Kept) → Does (read_asked (server_of (beside_of state.old) kept) question.now.who xid (next_of out.old) wish.now.call (file_asked question.now) wish.now.block body question.now.access (asked_of state.old.table question.now).table (asked_of state.old.table question.now).asked) result (beside_of state.old) (beside_of state.new) out.old out.new log.old log.new }
     ensures sound { IsSound state.new }
     ensures drawn { state.new.table.drawn ≤ state.old.table.drawn + 1 }

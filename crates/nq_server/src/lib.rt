@@ -5,17 +5,21 @@
 //! the server, the outbox and the journal are as before.
 #![tactic(auto)]
 
+mod aside;
 mod booting;
 mod deciding;
 mod finding;
+mod gates;
 mod leasing;
 mod looking;
+mod reading;
 mod received;
 mod replying;
 mod requests;
 mod server;
 mod state;
 mod ticks;
+mod verdicts;
 
 pub use received::{Reason, Received};
 pub use server::{BootFault, Server};

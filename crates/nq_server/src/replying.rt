@@ -4,8 +4,9 @@ ghost use Rattle.std.specs.Prelude.{◌≡◌, ◌≤◌, ◌+◌, ◌%◌, [], 
 ghost use Rattle.nq_base.specs.declared.Refusal.{Refusal as Status};
 ghost use Rattle.nq_base.specs.declared.Reply.{Reply as Answer};
 ghost use Rattle.nq_datagrams.specs.Sent.{sent};
+ghost use Rattle.nq_datagrams.specs.Told.{told_error};
 ghost use Rattle.nq_evict.specs.Telling.{told_rows};
-ghost use Rattle.nq_model.specs.Message.{reply as reply_to};
+ghost use Rattle.nq_model.specs.Message.{error as error_to, reply as reply_to};
 ghost use Rattle.nq_model.specs.Profile.{xid_end};
 ghost use Rattle.nq_model.specs.Server.{notices as notices_of, to_host};
 ghost use Rattle.nq_server.specs.Answering.{IsSilent};
@@ -14,7 +15,7 @@ ghost use Rattle.nq_wire.specs.Reply.{results_len};
 
 use crate::received::{Halt, Taken};
 use nq_base::{FileId, Host, NoMemory, Party, Refusal, Reply, Who};
-use nq_datagrams::{BegunReply, reply_bytes};
+use nq_datagrams::{BegunReply, ErrorReply, error_bytes, reply_bytes};
 use nq_evict::{NoticeTo, notices};
 use nq_lease::Table;
 use nq_wire::Outbox;
@@ -75,6 +76,37 @@ pub(crate) fn refuse(
         status,
     };
     answer(alloc, who.host, xid, &said, out)
+}
+
+/// Answers a call that is no request with a reply that brings no result. Where memory is wanting the datagrams are as before.
+pub(crate) fn say_error(
+    alloc: Global,
+    host: Host,
+    xid: u32,
+    said: ErrorReply,
+    out: &mut Outbox,
+) -> Result<Taken, Halt>
+    ensures { Says (to_host host (error_to xid (told_error said))) result out.old out.new }
+{
+    match push_error(alloc, host, xid, said, out) {
+        Ok(()) => Ok(Taken::Done),
+        Err(NoMemory::Memory) => Err(Halt::Memory),
+    }
+}
+
+/// Adds a reply that brings no result. Where memory is wanting the datagrams are as before.
+fn push_error(
+    alloc: Global,
+    host: Host,
+    xid: u32,
+    said: ErrorReply,
+    out: &mut Outbox,
+) -> Result<(), NoMemory>
+    ensures sends { OnOk result (Sends (to_host host (error_to xid (told_error said)) ∷ []) out.old out.new) }
+    ensures refused { OnErr result (IsSilent out.old out.new) }
+{
+    let bytes = error_bytes(alloc, xid, said)?;
+    out.push(Party::Client(host), bytes)
 }
 
 /// Ends a reply to a host, for which there is room. It takes no memory.

@@ -1,6 +1,6 @@
 //! Requests to a server.
 
-ghost use Rattle.std.specs.Prelude.{◌≡◌, ◌<◌, ◌≤◌, ◌+◌, ◌^◌, ℕ, false, nat_lt};
+ghost use Rattle.std.specs.Prelude.{◌≡◌, ◌<◌, ◌≤◌, ◌+◌, ◌^◌, ◌==◌, ◌&&◌, ℕ, false, nat_lt};
 ghost use Rattle.nq_base.specs.declared.HostRow.{HostRow as Line};
 ghost use Rattle.nq_journal.specs.Items.{EntryList};
 ghost use Rattle.nq_model.specs.Decided.{is_decided_once as decided_once};
@@ -15,13 +15,14 @@ ghost use Rattle.nq_server.specs.Sound.{IsSound};
 ghost use Rattle.nq_server.specs.State.{Beside, beside_of, phase_of, server_of};
 ghost use Rattle.nq_server.specs.Stepping.{LeavesStep, Takes, next_of};
 
+use crate::deciding::decide_once;
 use crate::finding;
 use crate::leasing::{Wish, get_lease, read};
 use crate::looking::{get_attr, look_up};
 use crate::received::{Halt, Reason, Taken};
-use crate::replying::{Caller, refuse};
+use crate::replying::{self, Caller, refuse};
 use crate::state::{Phase, State};
-use nq_base::{HostRow, Refusal, Request, Who};
+use nq_base::{Host, HostRow, Refusal, Reply, Request, Who};
 use nq_evict::vacated;
 use nq_journal::Journal;
 use nq_keeper::Keeper;
@@ -203,4 +204,54 @@ fn admit<K: Keeper>(
         return not_attached(alloc, caller, request, out);
     }
     perform(alloc, keeper, state, caller, request, out, log)
+}
+
+/// The hosts that there can be.
+const MOST_HOSTS: u32 = 64;
+
+/// Whether a host is one that there can be.
+fn is_known(host: Host) -> bool
+    ensures { result ≡ nat_lt host most_hosts }
+{
+    host.0 < MOST_HOSTS
+}
+
+/// Whether an incarnation is of the sender, and of a host that there can be.
+fn is_of_sender(who: &Who, sender: Host) -> bool
+    ensures { result ≡ (who.now.host == sender && nat_lt who.now.host most_hosts) }
+{
+    who.host == sender && is_known(who.host)
+}
+
+/// Answers a request that came from this host. At most one change is kept, and all memory is taken before it.
+pub(crate) fn answer<K: Keeper>(
+    alloc: Global,
+    keeper: &mut K,
+    state: &mut State,
+    sender: Host,
+    xid: u32,
+    request: &Request,
+    out: &mut Outbox,
+    log: &mut Journal,
+) -> Result<Taken, Halt>
+    requires sound { IsSound state.old }
+    requires drawn { state.old.table.drawn < 2 ^ 62 }
+    ensures takes { Takes (λ kept. answer_request (server_of (beside_of state.old) kept) sender xid (next_of out.old) request.now (asked_by request.now)) result (K.content keeper.old) (K.content keeper.new) (K.faults keeper.old) (K.faults keeper.new) (beside_of state.old) (beside_of state.new) out.old out.new log.old log.new }
+    ensures sound { IsSound state.new }
+    ensures drawn { state.new.table.drawn ≤ state.old.table.drawn + 1 }
+    ensures follows { K.follows keeper.old keeper.new }
+    ensures leaves { LeavesStep (λ kept. answer_request (server_of (beside_of state.old) kept) sender xid (next_of out.old) request.now (asked_by request.now)) (K.content keeper.old) (K.leaves keeper.old keeper.new) }
+{
+    let Some(who) = asker(request) else {
+        return replying::answer(alloc, sender, xid, &Reply::Null, out);
+    };
+    if !is_of_sender(&who, sender) {
+        return Ok(Taken::Dropped(Reason::WrongHost));
+    }
+    let caller = Caller { who, xid };
+    if is_decided_once(request) {
+        decide_once(alloc, keeper, state, caller, request, out, log)
+    } else {
+        admit(alloc, keeper, state, caller, request, out, log)
+    }
 }

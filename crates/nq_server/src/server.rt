@@ -3,18 +3,20 @@
 ghost use Rattle.std.specs.Prelude.{◌≡◌, ◌<◌, ◌≤◌, ◌^◌, ◌↔◌, IfOk, IsTrue};
 ghost use Rattle.std.specs.Option.{ForSome, option_copied};
 ghost use Rattle.nq_boot.specs.Booting.{LeavesThen};
+ghost use Rattle.nq_datagrams.specs.Incoming.{datagram_in};
 ghost use Rattle.nq_keeper.specs.Keeping.{LeavesOne, Reads};
 ghost use Rattle.nq_model.specs.Change.{file_after, row_of_found};
 ghost use Rattle.nq_model.specs.Kept.{host_row};
 ghost use Rattle.nq_model.specs.Profile.{most_hosts, most_taken_by_server};
 ghost use Rattle.nq_model.specs.Server.{serving};
-ghost use Rattle.nq_model.specs.ServerStep.{booted, tick as ticked};
+ghost use Rattle.nq_model.specs.ServerStep.{booted, receive as received, tick as ticked};
 ghost use Rattle.nq_server.specs.Booting.{after_fault};
 ghost use Rattle.nq_server.specs.Holding.{Boots, IsTaken, IsUntouched, Reboots, keeper_in, last_known};
 ghost use Rattle.nq_server.specs.State.{server_of};
-ghost use Rattle.nq_server.specs.Stepping.{LeavesStep, done_of, halted_of};
+ghost use Rattle.nq_server.specs.Stepping.{LeavesStep, done_of, halted_of, next_of};
 
 use crate::booting::{begin, replace_state, state_after, tell_crash};
+use crate::reading::take_in;
 use crate::received::{Halt, Received, Taken};
 use crate::state::{Phase, State};
 use crate::ticks::tick;
@@ -120,6 +122,47 @@ impl<K: Keeper> Server<K> {
             Err(StartFault::Failed) => Err(BootFault::Failed(keeper)),
             Err(StartFault::Memory) => Err(BootFault::Memory(keeper)),
             Err(StartFault::Spent) => Err(BootFault::Spent(keeper)),
+        }
+    }
+
+    /// Takes in a datagram from a host, whatever its bytes are, and adds to the outbox what is due: notices stand before the reply
+    /// (Macklem 1994). One that names another host than its sender, or none that there can be, is dropped. At most one change is
+    /// kept, and all memory is taken before it.
+    ///
+    /// # Errors
+    ///
+    /// `Fault` only where the keeper counted a fault, `Memory` where memory was refused, `Spent` exactly where 2^61 datagrams
+    /// and ticks were taken in since the boot. Then the server, the outbox and the journal are as before.
+    pub fn receive(
+        &mut self,
+        alloc: Global,
+        sender: Host,
+        datagram: &[u8],
+        out: &mut Outbox,
+        log: &mut Journal,
+    ) -> Received
+        ensures takes { IsTaken (λ kept. received (server_of self.old.beside kept) sender (next_of out.old) (datagram_in datagram.now)) result (K.content self.old.keeper) (K.content self.new.keeper) (K.faults self.old.keeper) (K.faults self.new.keeper) self.old self.new out.old out.new log.old log.new }
+        ensures spent { (result ≡ Received.Spent) ↔ (self.old.taken ≡ most_taken_by_server) }
+        ensures follows { K.follows self.old.keeper self.new.keeper }
+        ensures leaves { LeavesStep (λ kept. received (server_of self.old.beside kept) sender (next_of out.old) (datagram_in datagram.now)) (K.content self.old.keeper) (K.leaves self.old.keeper self.new.keeper) }
+    {
+        if self.taken == MOST_TAKEN {
+            return Received::Spent;
+        }
+        match take_in(
+            alloc,
+            &mut self.keeper,
+            &mut self.state,
+            sender,
+            datagram,
+            out,
+            log,
+        ) {
+            Ok(taken) => {
+                self.taken += 1;
+                done(taken)
+            }
+            Err(halt) => halted(halt),
         }
     }
 

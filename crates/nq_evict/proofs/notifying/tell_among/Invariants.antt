@@ -1,5 +1,5 @@
-use Rattle.std.proofs.Common.{◌≡◌, ◌<◌, ◌+◌, ◌%◌, ◌++◌, drop, length, map}
-use Rattle.nq_datagrams.specs.Sent.{sent}
+use Rattle.std.proofs.Common.{◌≡◌, ◌<◌, ◌+◌, ◌%◌, ◌++◌, All, drop, length, map}
+use Rattle.nq_datagrams.specs.Sent.{FitsPacket, sent}
 use Rattle.nq_evict.specs.Telling.{Grows, told_among}
 use Rattle.nq_model.specs.Profile.{xid_end}
 use Rattle.nq_model.specs.Server.{notices}
@@ -10,6 +10,7 @@ invariant-loop-row l = record {
   first : l.out.first ≡ l.fn.out.first;
   grows : Grows l.fn.out.datagrams l.out.datagrams;
   told : l.fn.out.datagrams ++ map sent (notices l.fn.xid (told_among l.file l.host l.access l.rows)) ≡ l.out.datagrams ++ map sent (notices l.number (told_among l.file l.host l.access (drop l.row-index l.rows)));
+  fit : All FitsPacket (notices l.number (told_among l.file l.host l.access (drop l.row-index l.rows))) → All FitsPacket (notices l.fn.xid (told_among l.file l.host l.access l.rows));
   counted : (l.fn.xid + length (told_among l.file l.host l.access l.rows)) % xid_end ≡ (l.number + length (told_among l.file l.host l.access (drop l.row-index l.rows))) % xid_end;
   small : l.number < xid_end;
 }

@@ -1,5 +1,7 @@
 use Rattle.std.proofs.Common.{◌≡◌, [], ◌∷◌, ◌++◌, sym, subst, ◌∙◌}
-use Rattle.nq_datagrams.specs.Sent.{sent}
+use Rattle.std.proofs.lemmas.List.Elements.{All-head}
+use Rattle.nq_datagrams.specs.Messages.{FitsMessage}
+use Rattle.nq_datagrams.specs.Sent.{FitsPacket, sent}
 use Rattle.nq_model.specs.Message.{reply}
 use Rattle.nq_model.specs.Server.{to_host}
 use Rattle.nq_server.proofs.ConcludedSteps.{concluded}
@@ -13,9 +15,12 @@ returns-clause-makes c =
     concluded (server_of (beside_of c.args.state.now) kept) c.args.caller.who c.args.caller.xid c.args.request.now c.in-Some.said before c.keep_warnings.new.out c.end_reply.new.out entries c.args.log.now
     (c.end_reply.ensures.first ∙ c.keep_warnings.ensures.first ∙ warns.told.first)
     (subst (λ xid. c.end_reply.new.out.datagrams ≡ c.keep_warnings.new.out.datagrams ++ sent (to_host c.args.caller.who.host (reply xid c.in-Some.said)) ∷ []) c.requires.number c.end_reply.ensures.added)
-    ready.entries c.args.decided.now
+    ready.entries
+    (subst (λ xid. FitsMessage (reply xid c.in-Some.said)) c.requires.number (All-head FitsPacket _ [] c.end_reply.ensures.fit))
+    c.args.decided.now
     (beside_of c.do_if_fresh.new.state)
     c.do_if_fresh.new.log
     (sym c.in-Some.ensures.is)
     (c.keep_warnings.ensures.kept before.datagrams (warnings (server_of (beside_of c.args.state.now) kept) c.args.caller.who c.args.request.now) ready.before warns.told.added)
+    warns.told.fit
     (c.do_if_fresh.ensures.does kept is warns.counted)

@@ -16,8 +16,13 @@ returns-in-None-clause-takes g c =
     takes-answered c.args.caller.who.host (reply c.args.caller.xid (Answer.Refused c.args.caller.who.inc Refusal.Stale)) c.refuse.result (λ kept. get_lease (server_of (beside_of c.args.state.now) kept) c.args.caller.who c.args.caller.xid c.args.want (find_file c.args.file kept.files)) (g.K.Keeper.content c.args.keeper.now) _ _ _ (beside_of c.args.state.now) c.args.out.now _ c.args.log.now c.in_ok-file.ensures.finds.0 c.in_ok-file.ensures.finds.1 c.refuse.ensures
     (λ kept told. get-lease-stale (server_of (beside_of c.args.state.now) kept) c.args.caller.who c.args.caller.xid c.args.want (find_file c.args.file kept.files) (sym c.in-None.is ∙ c.in_ok-file.ensures.told kept told))
 
-pub lease-requires-clause-asked : goal.lease-requires-clause-asked
-lease-requires-clause-asked g c = record { time = ap (λ q. q.time) c.question-question.ensures; longest = ap (λ q. q.longest) c.question-question.ensures }
+pub lease-requires : goal.lease-requires
+lease-requires g c = record {
+  sound = c.requires.sound;
+  serves = c.requires.serves;
+  drawn = c.requires.drawn;
+  asked = record { time = ap (λ q. q.time) c.question-question.ensures; longest = ap (λ q. q.longest) c.question-question.ensures };
+}
 
 pub returns-in-Some-clause-takes : goal.returns-in-Some-clause-takes
 returns-in-Some-clause-takes g c =

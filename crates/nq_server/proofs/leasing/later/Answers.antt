@@ -1,7 +1,5 @@
-use Rattle.std.proofs.Common.{◌<◌, ◌≤◌, ◌^◌, sym, subst}
-use Rattle.nq_model.specs.Profile.{longest_term}
-use Rattle.nq_server.proofs.AskedRows.{asked-run, asked-draws, own-runs}
-use Rattle.nq_server.proofs.LeasedSteps.{of-serving}
+use Rattle.nq_server.proofs.AskedRows.{own-runs}
+use Rattle.nq_server.proofs.AskedStates.{asked-sound, asked-draws-one}
 use Rattle.nq_server.proofs.leasing.later.Goals as goal
 
 pub ask-requires-clause-shared : goal.ask-requires-clause-shared
@@ -10,14 +8,9 @@ ask-requires-clause-shared c =
     own-runs c.args.state.now.time c.args.state.now.table c.args.question.now row c.requires.asked.time c.requires.sound.run found caches
 
 pub returns-in-Ok-clause-sound : goal.returns-in-Ok-clause-sound
-returns-in-Ok-clause-sound c = record {
-  early = c.requires.sound.early;
-  long = c.requires.sound.long;
-  short = c.requires.sound.short;
-  run = asked-run c.args.state.now.time c.args.state.now.table c.ask.new.table c.args.question.now c.requires.asked.time (subst (λ n. n ≤ longest_term) (sym c.requires.asked.longest) c.requires.sound.short) c.requires.sound.run (c.ask.ensures.table (subst (λ n. n < 2 ^ 62) (sym c.requires.asked.time) c.requires.sound.early));
-  of_boot = of-serving _ _ _ c.requires.serves;
-}
+returns-in-Ok-clause-sound c =
+    asked-sound c.args.state.now c.ask.new.table c.args.question.now c.put_off-told.new.notice c.requires c.ask.ensures.table
 
 pub returns-in-Ok-clause-drawn : goal.returns-in-Ok-clause-drawn
 returns-in-Ok-clause-drawn c =
-    asked-draws c.args.state.now.table c.ask.new.table c.args.question.now (c.ask.ensures.table (subst (λ n. n < 2 ^ 62) (sym c.requires.asked.time) c.requires.sound.early))
+    asked-draws-one c.args.state.now c.ask.new.table c.args.question.now c.requires c.ask.ensures.table

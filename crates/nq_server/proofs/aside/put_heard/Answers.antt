@@ -1,6 +1,6 @@
 use Rattle.std.proofs.Common.{sym, ◌∙◌}
 use Rattle.nq_server.proofs.DecidedSteps.{is-ok, none-some}
-use Rattle.nq_server.proofs.deciding.put_heard.Goals as goal
+use Rattle.nq_server.proofs.aside.put_heard.Goals as goal
 
 pub unwrap-requires : goal.unwrap-requires
 unwrap-requires c =

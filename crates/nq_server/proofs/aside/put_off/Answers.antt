@@ -5,7 +5,7 @@ use Rattle.nq_server.proofs.AskedRows.{marked-run}
 use Rattle.nq_server.proofs.LeasedSteps.{of-serving}
 use Rattle.nq_server.specs.Sound.{RowsRun}
 use Rattle.nq_server.specs.State.{phase_of}
-use Rattle.nq_server.proofs.deciding.put_off.Goals as goal
+use Rattle.nq_server.proofs.aside.put_off.Goals as goal
 
 pub returns-in-Serving-Some-clause-sound : goal.returns-in-Serving-Some-clause-sound
 unfolding with_rows

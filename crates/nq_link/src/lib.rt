@@ -1,0 +1,17 @@
+//! Links, over which a party sends datagrams and receives them: the trait `Link`, a link in memory, and one over UDP.
+//!
+//! A contract knows a link by the datagrams that were sent over it and those that wait, where the link tells them, and by a
+//! count of its faults. An answer `Failed` comes only where that count rose in the call.
+#![tactic(auto)]
+
+mod link;
+mod mem_link;
+mod udp_link;
+
+pub use link::{Came, Link, Sent};
+pub use mem_link::MemLink;
+pub use nq_base::{NoMemory, Party};
+pub use udp_link::UdpLink;
+
+#[cfg(test)]
+mod tests;
