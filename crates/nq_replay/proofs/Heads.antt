@@ -14,7 +14,8 @@ use Rattle.nq_script.specs.Text.{text_of}
 use Rattle.nq_script.specs.declared.heads.Head.{Head}
 use Rattle.nq_script.specs.declared.lines.Line.{Line}
 use Rattle.nq_script.specs.declared.scripts.Script.{Script}
-use Rattle.nq_world.specs.First.{AreDistinct, AreFirstFiles, IsNew}
+use Rattle.law_bounds.specs.Within.{AreDistinct, IsNew}
+use Rattle.nq_world.specs.First.{AreFirstFiles}
 use Rattle.nq_world.specs.Playing.{CanCome, HasSettings, WorldOver}
 
 -- ---- the files
