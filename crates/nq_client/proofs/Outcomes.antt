@@ -9,15 +9,18 @@ use Rattle.nq_base.specs.declared.Who.{Who}
 use Rattle.nq_base.specs.declared.Call.{Call}
 use Rattle.nq_client.proofs.Calls.{Within, called, ticked}
 use Rattle.nq_client.proofs.Counts.{within}
+use Rattle.nq_client.proofs.Received.{news-within}
 use Rattle.nq_client.proofs.Settled.{is_given}
 use Rattle.nq_client.specs.Counted.{Counted, IsWithin}
 use Rattle.nq_client.specs.Entries.{Tells}
 use Rattle.nq_client.specs.Finishing.{Grows, to_server}
-use Rattle.nq_client.specs.Outcome.{Called, Gives, Heeded, IsHeard, or_pending}
+use Rattle.nq_client.specs.Outcome.{Called, Counts, Gives, Heeded, IsHeard, or_pending, Received, Stays}
+use Rattle.nq_client.specs.Receiving.{IsHeeded, most_entries, on_news}
 use Rattle.nq_client.specs.State.{client_of}
 use Rattle.nq_client.specs.Step.{IsBegun, request_message, step_of, vacated_message}
 use Rattle.nq_client.specs.Tied.{Tied}
 use Rattle.nq_client.specs.declared.heard.Heard.{Heard}
+use Rattle.nq_client.specs.declared.receiving.News.{News}
 use Rattle.nq_client.specs.declared.state.State.{State}
 use Rattle.nq_client.specs.declared.step.Step.{Step}
 use Rattle.nq_client.specs.declared.step.Vacated.{Vacated}
@@ -125,6 +128,7 @@ pub grows_from : (t : ClientStep) (out out1 outs : Datagrams) (log log1 logs : E
 grows_from t out out1 outs log log1 logs f d l g = record {
   first = g.first ∙ f;
   sends = g.sends ∙ ap (λ ds. ds ++ map to_server t.sends) d;
+  fit = g.fit;
   entries = subst (λ es. Tells t.entries es logs.entries) l g.entries;
 }
 
@@ -155,3 +159,32 @@ below n m le ne = grind arith
 -- not all was taken in
 pub not_all : (s : State) (taken : ℕ) → IsWithin s taken → (taken ≡ most_taken_by_client → ⊥) → taken < most_taken_by_client
 not_all s taken w ne = let few = w.taken_few in below taken most_taken_by_client few ne
+
+-- ---- datagrams
+
+-- the numbers after what counts
+pub news_within : (s0 s2 : State) (number : ℕ) (news : News) (taken : ℕ) → client_of s2 ≡ (on_news (client_of s0) number news).client → IsHeeded s0.asked news → IsWithin s0 taken → taken < most_taken_by_client → IsWithin s2 (taken + 1)
+news_within s0 s2 number news taken f h w lt =
+    within_after (most_entries (client_of s0)) s2 (client_of s0) (on_news (client_of s0) number news) taken f (news-within (client_of s0) number news h) lt w.time w.calls w.seq w.number w.xid w.tied
+
+-- the numbers after what was only counted
+pub counted_within : (s : State) (taken : ℕ) → IsWithin s taken → taken < most_taken_by_client → IsWithin s (taken + 1)
+counted_within s taken w lt =
+    let calls = w.calls in
+    let seq = w.seq in
+    let number = w.number in
+    let xid = w.xid in
+    within s (client_of s) (taken + 1) refl (omega arith) w.time (omega arith) (omega arith) (omega arith) (omega arith) w.tied
+
+-- a datagram that counts makes its step
+pub received_step : (a : Heard) (t : ClientStep) (o : Option ClientStep) (old new : Counted) (out outs : Datagrams) (log logs : EntryList) → Some t ≡ o → Heeded a t old new out outs log logs → Received a o old new out outs log logs
+received_step a t o old new out outs log logs e h = subst (λ x. Received a x old new out outs log logs) e h
+
+-- another one is counted
+pub received_none : (o : Option ClientStep) (old new : Counted) (out outs : Datagrams) (log logs : EntryList) → None ≡ o → Counts old new out outs log logs → Received Heard.Ignored o old new out outs log logs
+received_none o old new out outs log logs e h = subst (λ x. Received Heard.Ignored x old new out outs log logs) e h
+
+-- nothing comes of either where all was taken in
+pub received_spent : (o : Option ClientStep) (old new : Counted) (out outs : Datagrams) (log logs : EntryList) → Stays old new out outs log logs → Received Heard.Spent o old new out outs log logs
+received_spent None old new out outs log logs h = h
+received_spent (Some t) old new out outs log logs h = h

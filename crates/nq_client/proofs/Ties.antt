@@ -3,7 +3,7 @@ use Rattle.std.proofs.Common.{◌≡◌, ℕ, Bool, true, false, Option, Some, N
 use Rattle.nq_base.specs.declared.Push.{Push}
 use Rattle.nq_base.specs.declared.Request.{Request}
 use Rattle.nq_base.specs.declared.Request.TheVariants.{Write}
-use Rattle.nq_client.specs.Tied.{Tied, TiedFor, Stores}
+use Rattle.nq_client.specs.Tied.{Tied, TiedFor}
 use Rattle.nq_model.specs.Client.{Job, attaching, for_call, renewing, pushing, Ticket}
 use Rattle.nq_model.specs.Hear.{wants_of, cancelled}
 

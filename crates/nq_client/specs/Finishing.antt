@@ -1,10 +1,10 @@
 -- What a step gives to what it is lent.
-use Rattle.std.specs.Prelude.{◌≡◌, ◌≤◌, ◌++◌, ℕ, List, map}
+use Rattle.std.specs.Prelude.{◌≡◌, ◌≤◌, ◌++◌, ℕ, List, All, map}
 use Rattle.nq_base.specs.declared.Party.{Party}
 use Rattle.nq_client.specs.Entries.{Tells}
 use Rattle.nq_client.specs.declared.finishing.Letters.{Letters}
 use Rattle.nq_client.specs.declared.step.Step.{Step}
-use Rattle.nq_datagrams.specs.Messages.{bytes_of}
+use Rattle.nq_datagrams.specs.Messages.{FitsMessage, bytes_of}
 use Rattle.nq_journal.specs.Items.{EntryList}
 use Rattle.nq_model.specs.Client.{ClientStep}
 use Rattle.nq_model.specs.Message.{Message}
@@ -14,10 +14,11 @@ use Rattle.nq_wire.specs.Outbox.{Datagrams}
 abbrev pub to_server : Message → Party × List ℕ
 to_server m = (Party.Server, bytes_of m)
 
--- an outbox and a journal grew by what a step gave
+-- an outbox and a journal grew by what a step gave, and the numbers of what is sent are within their fields
 pub record Grows (t : ClientStep) (out outs : Datagrams) (log logs : EntryList) : Type 0 where
   pub first : outs.first ≡ out.first
   pub sends : outs.datagrams ≡ out.datagrams ++ map to_server t.sends
+  pub fit : All FitsMessage t.sends
   pub entries : Tells t.entries log.entries logs.entries
 
 -- the most bytes of a call

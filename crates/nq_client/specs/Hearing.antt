@@ -12,6 +12,9 @@ is_wanted file (Some t) = wants_of file t.request
 -- what stays where a lease is given up for a notice: it takes at most one number of a request
 pub record GivesUp (old new : Step) : Type 0 where
   pub asked : new.state.asked ≡ old.state.asked
+  pub leases : old.state.leases.spare ≤ new.state.leases.spare
+  pub cache : new.state.cache ≡ old.state.cache
+  pub losses : new.state.losses ≡ old.state.losses
   pub dirty : new.state.dirty ≡ old.state.dirty
   pub entries : new.entries ≡ old.entries
   pub time : new.state.time ≡ old.state.time

@@ -8,12 +8,16 @@ pub mod Finishing
 pub mod Granting
 pub mod Hearing
 pub mod Leases
+pub mod Losing
 pub mod Lost
 pub mod Notices
 pub mod Outcome
+pub mod Prepared
 pub mod Reading
+pub mod Receiving
 pub mod Settling
 pub mod State
 pub mod Step
+pub mod Taking
 pub mod Ticking
 pub mod Tied

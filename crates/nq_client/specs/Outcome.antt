@@ -46,3 +46,22 @@ Heeded Heard.Memory t old new out outs log logs = Stays old new out outs log log
 Heeded Heard.Spent t old new out outs log logs = Stays old new out outs log logs
 Heeded heard t old new out outs log logs =
     Gives t old new out outs log logs × IsHeard heard t.answer
+
+-- a client counted what it took in; the outbox and the journal are as before
+pub record Counts (old new : Counted) (out outs : Datagrams) (log logs : EntryList) : Type 0 where
+  pub client : new.client ≡ old.client
+  pub taken : new.taken ≡ old.taken + 1
+  pub first : outs.first ≡ out.first
+  pub datagrams : outs.datagrams ≡ out.datagrams
+  pub entries : logs.entries ≡ log.entries
+
+-- what comes of a datagram that makes no step: it is counted, unless all was taken in
+abbrev pub Ignores : Heard → (old new : Counted) (out outs : Datagrams) (log logs : EntryList) → Type 0
+Ignores Heard.Ignored old new out outs log logs = Counts old new out outs log logs
+Ignores Heard.Spent old new out outs log logs = Stays old new out outs log logs
+Ignores other old new out outs log logs = ⊥
+
+-- what comes of a datagram, by the step that it makes, if it makes one
+abbrev pub Received : Heard → Option ClientStep → (old new : Counted) (out outs : Datagrams) (log logs : EntryList) → Type 0
+Received heard None old new out outs log logs = Ignores heard old new out outs log logs
+Received heard (Some t) old new out outs log logs = Heeded heard t old new out outs log logs

@@ -1,5 +1,6 @@
 -- What a client knows, as the client of the model.
 use Rattle.std.specs.Option.{option_map}
+use Rattle.nq_base.specs.declared.Call.{Call}
 use Rattle.nq_client.specs.declared.state.State.{State}
 use Rattle.nq_client.specs.declared.state.UnderWay as calls
 use Rattle.nq_model.specs.Client.{Client, UnderWay}
@@ -7,6 +8,10 @@ use Rattle.nq_model.specs.Client.{Client, UnderWay}
 -- the call under way
 abbrev pub under_way : calls.UnderWay → UnderWay
 under_way u = record { q = u.q; call = u.call; through = u.through; written = u.written }
+
+-- what is called
+abbrev pub call_of : UnderWay → Call
+call_of u = u.call
 
 -- the client
 abbrev pub client_of : State → Client

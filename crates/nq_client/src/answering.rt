@@ -7,6 +7,7 @@ ghost use Rattle.nq_base.specs.declared.Answer.TheVariants.{Ok as ok};
 ghost use Rattle.nq_base.specs.declared.Value.{Value};
 ghost use Rattle.nq_model.specs.Hear.{answer_of, answers_call, attached, knows_revision, marks_through, pauses};
 ghost use Rattle.nq_client.specs.Answering.{answers_as};
+ghost use Rattle.nq_client.specs.Prepared.{Leaves};
 ghost use Rattle.nq_client.specs.Step.{step_of};
 
 use crate::step::Step;
@@ -20,7 +21,8 @@ impl Step {
     /// Answers the call under way, if there is one.
     fn answers_as(&mut self, answer: Answer, said: Said)
         requires { 1 ≤ self.old.entries.spare }
-        ensures { step_of self.new ≡ answers_as (step_of self.old) (plain_answer answer) (plain_said said) (step_of self.old).client.call }
+        ensures step { step_of self.new ≡ answers_as (step_of self.old) (plain_answer answer) (plain_said said) (step_of self.old).client.call }
+        ensures left { Leaves 1 self.old self.new }
     {
         match self.state.call.take() {
             Some(u) => self.ends_call(u.q, answer, said),
@@ -31,7 +33,8 @@ impl Step {
     /// Answers the call under way with what it is done with.
     pub(crate) fn answers_nothing(&mut self)
         requires { 1 ≤ self.old.entries.spare }
-        ensures { step_of self.new ≡ answers_call (step_of self.old) (ok Value.Nothing) None }
+        ensures step { step_of self.new ≡ answers_call (step_of self.old) (ok Value.Nothing) None }
+        ensures left { Leaves 1 self.old self.new }
     {
         self.answers_as(Answer::Ok(Value::Nothing), Said::Ok);
     }
@@ -39,7 +42,8 @@ impl Step {
     /// Answers the call under way with the id of a file.
     pub(crate) fn answers_file(&mut self, file: FileId)
         requires { 1 ≤ self.old.entries.spare }
-        ensures { step_of self.new ≡ answers_call (step_of self.old) (ok (Value.File file)) None }
+        ensures step { step_of self.new ≡ answers_call (step_of self.old) (ok (Value.File file)) None }
+        ensures left { Leaves 1 self.old self.new }
     {
         self.answers_as(Answer::Ok(Value::File(file)), Said::OkValue(file.0));
     }
@@ -47,7 +51,8 @@ impl Step {
     /// Answers the call under way with the length of a file.
     pub(crate) fn answers_blocks(&mut self, blocks: u32)
         requires { 1 ≤ self.old.entries.spare }
-        ensures { step_of self.new ≡ answers_call (step_of self.old) (ok (Value.Blocks blocks)) None }
+        ensures step { step_of self.new ≡ answers_call (step_of self.old) (ok (Value.Blocks blocks)) None }
+        ensures left { Leaves 1 self.old self.new }
     {
         self.answers_as(Answer::Ok(Value::Blocks(blocks)), Said::OkValue(blocks));
     }
@@ -55,7 +60,8 @@ impl Step {
     /// Answers the call under way with a block that the server sent in the packet of this number.
     pub(crate) fn answers_body(&mut self, body: Block, packet: u64)
         requires { 1 ≤ self.old.entries.spare }
-        ensures { step_of self.new ≡ answers_call (step_of self.old) (ok (Value.Body body)) (Some packet) }
+        ensures step { step_of self.new ≡ answers_call (step_of self.old) (ok (Value.Body body)) (Some packet) }
+        ensures left { Leaves 1 self.old self.new }
     {
         let value = body.value();
         self.answers_as(Answer::Ok(Value::Body(body)), Said::OkBy { value, packet });
@@ -64,7 +70,8 @@ impl Step {
     /// Answers the call under way with what a refusal means.
     pub(crate) fn answers_refusal(&mut self, status: Refusal)
         requires { 1 ≤ self.old.entries.spare }
-        ensures { step_of self.new ≡ answers_call (step_of self.old) (answer_of status) None }
+        ensures step { step_of self.new ≡ answers_call (step_of self.old) (answer_of status) None }
+        ensures left { Leaves 1 self.old self.new }
     {
         match status {
             Refusal::NoEnt => self.answers_as(Answer::NoEntry, Said::NoEntry),
@@ -80,7 +87,8 @@ impl Step {
 
     /// The write of the call under way is to go through, or not.
     pub(crate) fn marks_through(&mut self, on: bool)
-        ensures { step_of self.new ≡ marks_through on (step_of self.old) }
+        ensures step { step_of self.new ≡ marks_through on (step_of self.old) }
+        ensures left { Leaves 0 self.old self.new }
     {
         match &mut self.state.call {
             Some(u) => u.through = on,
@@ -91,7 +99,8 @@ impl Step {
     /// A request was put off: the client pauses, and a write is not to go through any more.
     pub(crate) fn pauses(&mut self)
         requires { self.old.state.time < 2 ^ 62 }
-        ensures { step_of self.new ≡ pauses (step_of self.old) }
+        ensures step { step_of self.new ≡ pauses (step_of self.old) }
+        ensures left { Leaves 0 self.old self.new }
     {
         self.state.pause = Ticks(self.state.time.0 + PATIENCE);
         self.marks_through(false);
@@ -99,7 +108,8 @@ impl Step {
 
     /// The server knows this incarnation.
     pub(crate) fn is_attached(&mut self)
-        ensures { step_of self.new ≡ attached (step_of self.old) }
+        ensures step { step_of self.new ≡ attached (step_of self.old) }
+        ensures left { Leaves 0 self.old self.new }
     {
         self.state.attached = true;
     }
@@ -107,7 +117,8 @@ impl Step {
     /// A file has this revision.
     pub(crate) fn knows_revision(&mut self, file: FileId, rev: Rev)
         requires { 1 ≤ self.old.state.cache.spare }
-        ensures { step_of self.new ≡ knows_revision (step_of self.old) file rev }
+        ensures step { step_of self.new ≡ knows_revision (step_of self.old) file rev }
+        ensures left { Leaves 0 self.old self.new }
     {
         self.state.cache.retag(file, rev).unwrap();
     }

@@ -5,6 +5,7 @@ ghost use Rattle.nq_model.specs.Client.{begun, losses_of, span_of};
 ghost use Rattle.nq_model.specs.ClientStep.{begins_call, call_freely, changed_file, client_call, is_called, losses_for, says_busy, tell_losses, told};
 ghost use Rattle.nq_model.specs.Settle.{names_losses};
 ghost use Rattle.nq_client.specs.Step.{HasNumbers, HasRoom, step_of};
+ghost use Rattle.nq_client.specs.Prepared.{Leaves};
 ghost use Rattle.nq_client.specs.Calling.{HasRoomToCall, IsNamedFor};
 ghost use Rattle.nq_client.specs.Tied.{Tied};
 
@@ -203,7 +204,10 @@ impl Step {
         requires room { 1 ≤ self.old.entries.spare }
         requires losses { named.losses.items ≡ losses_of file self.old.state.losses.items }
         requires spans { named.spans.items ≡ map span_of (losses_of file self.old.state.losses.items) }
-        ensures { step_of self.new ≡ names_losses (step_of self.old) q file }
+        ensures step { step_of self.new ≡ names_losses (step_of self.old) q file }
+        ensures left { Leaves 1 self.old self.new }
+        ensures leases { self.old.state.leases.spare ≤ self.new.state.leases.spare }
+        ensures cache { self.new.state.cache ≡ self.old.state.cache }
     {
         self.state.losses.forget(file);
         let Named { losses, spans } = named;

@@ -1,19 +1,25 @@
 //! The client of one host.
 
-ghost use Rattle.std.specs.Prelude.{◌≡◌, ◌≤◌, ◌<◌, ◌+◌, ◌^◌, ◌∷◌, ◌++◌, ◌↔◌, [], is_some, unwrap_or, IfOk, OnErr, if◌then◌else◌};
+ghost use Rattle.std.specs.Prelude.{◌≡◌, ◌≤◌, ◌<◌, ◌+◌, ◌^◌, ◌∷◌, ◌++◌, ◌↔◌, [], All, is_some, map, option_copied, option_map, unwrap_or, IfOk, OnErr, OnOk, if◌then◌else◌};
 ghost use Rattle.nq_base.specs.Plain.{plain_answer};
+ghost use Rattle.nq_datagrams.specs.Incoming.{hears_in};
+ghost use Rattle.nq_datagrams.specs.Messages.{FitsMessage};
 ghost use Rattle.nq_model.specs.CachedAtOnce.{has_cached};
-ghost use Rattle.nq_model.specs.ClientStep.{attached_client, client_call, client_tick};
+ghost use Rattle.nq_model.specs.ClientStep.{attached_client, client_call, client_tick, starts};
 ghost use Rattle.nq_model.specs.Profile.{most_taken_by_client};
 ghost use Rattle.nq_model.specs.Settle.{after_read};
-ghost use Rattle.nq_client.specs.Outcome.{Called, Heeded};
+ghost use Rattle.nq_client.specs.Finishing.{to_server};
+ghost use Rattle.nq_client.specs.Outcome.{Called, Heeded, Received};
+ghost use Rattle.nq_client.specs.State.{call_of};
 
 use crate::finishing::Letters;
 use crate::heard::Heard;
 use crate::reading::read_cached;
+use crate::receiving::read;
+use crate::starting::begin;
 use crate::state::State;
 use crate::step::Step;
-use crate::stepping::{make_call, make_tick, reserve, room_for_call};
+use crate::stepping::{hear, make_call, make_tick, reserve, room_for_call};
 use nq_base::{Answer, Block, BlockNo, Call, FileId, Host, Inc, NoMemory, Ticks, Who};
 use nq_dirty::Dirty;
 use nq_journal::Journal;
@@ -77,6 +83,38 @@ impl Client {
         }
     }
 
+    /// A client that begins this incarnation: it asks the server to attach it. `term` is the term, in ticks, that it wants.
+    ///
+    /// # Errors
+    ///
+    /// Only want of memory. Then nothing is sent.
+    pub fn start(
+        alloc: Global,
+        host: Host,
+        inc: Inc,
+        term: u32,
+        time: Ticks,
+        out: &mut Outbox,
+    ) -> Result<Client, StartClient>
+        requires { time < 2 ^ 62 }
+        ensures client { IfOk result (λ c. c.client ≡ (starts (record { host = host; inc = inc }) term time).client) }
+        ensures taken { IfOk result (λ c. c.taken ≡ 0) }
+        ensures first { out.new.first ≡ out.old.first }
+        ensures sent { OnOk result (out.new.datagrams ≡ out.old.datagrams ++ map to_server (starts (record { host = host; inc = inc }) term time).sends) }
+        ensures fit { OnOk result (All FitsMessage (starts (record { host = host; inc = inc }) term time).sends) }
+        ensures refused { OnErr result (out.new.datagrams ≡ out.old.datagrams) }
+    {
+        let mut letters = Letters::new(alloc);
+        match begin(alloc, Who { host, inc }, term, time, &mut letters, out) {
+            Ok(step) => Ok(Client {
+                step,
+                letters,
+                taken: 0,
+            }),
+            Err(NoMemory::Memory) => Err(StartClient::Memory),
+        }
+    }
+
     /// Takes in a call of a user. It is answered at once, or `Pending`: then a later datagram or tick brings the answer.
     ///
     /// # Errors
@@ -125,6 +163,40 @@ impl Client {
         }
     }
 
+    /// Takes in a datagram of the server, which is the packet of this number: the reply to the request under way, or a
+    /// notice of a lease. It is `Ignored` exactly where the protocol ignores it, and then it is counted and changes nothing
+    /// else. That takes no memory.
+    ///
+    /// # Errors
+    ///
+    /// `Spent` exactly where the client has taken in 2^30 calls, datagrams and ticks. After `Spent` and `Memory` the
+    /// client, the outbox and the journal are as before.
+    pub fn receive(
+        &mut self,
+        packet: u64,
+        datagram: &[u8],
+        out: &mut Outbox,
+        log: &mut Journal,
+    ) -> Heard
+        ensures spent { (result ≡ Heard.Spent) ↔ (self.old.taken ≡ most_taken_by_client) }
+        ensures received { Received result (hears_in self.old.client packet datagram.now) self.old self.new out.old out.new log.old log.new }
+    {
+        if self.taken == Client::MOST_TAKEN {
+            return Heard::Spent;
+        }
+        let Some(news) = read(&self.step.state, datagram) else {
+            self.taken += 1;
+            return Heard::Ignored;
+        };
+        match hear(&mut self.step, &mut self.letters, packet, &news, out, log) {
+            Ok(heard) => {
+                self.taken += 1;
+                heard
+            }
+            Err(NoMemory::Memory) => Heard::Memory,
+        }
+    }
+
     /// Reads a block from what the client has, without memory: a delayed one, else the one under way, else a clean one.
     /// It does so exactly where no call is under way, the client is attached, and a caching lease runs under which it has
     /// the block.
@@ -135,6 +207,37 @@ impl Client {
         ensures client { self.new ≡ (if result then record self.old { client = after_read self.old.client file block } else self.old) }
     {
         read_cached(&mut self.step.state, file, block, into)
+    }
+
+    /// The host and its incarnation.
+    pub fn who(&self) -> Who
+        ensures { result ≡ self.now.client.who }
+    {
+        self.step.state.who
+    }
+
+    /// The number of this incarnation.
+    pub fn inc(&self) -> Inc
+        ensures { result ≡ self.now.client.who.inc }
+    {
+        self.step.state.who.inc
+    }
+
+    /// The term that it wants, in ticks.
+    pub fn term(&self) -> u32
+        ensures { result ≡ self.now.client.term }
+    {
+        self.step.state.term
+    }
+
+    /// The call under way, if there is one.
+    pub fn call_under_way(&self) -> Option<&Call>
+        ensures { option_copied result ≡ option_map call_of self.now.client.call }
+    {
+        match &self.step.state.call {
+            Some(u) => Some(&u.call),
+            None => None,
+        }
     }
 
     /// Whether the server knows this incarnation.

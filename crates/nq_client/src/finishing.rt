@@ -1,7 +1,8 @@
 //! What a step gives: its datagrams, its entries and its answer.
 
-ghost use Rattle.std.specs.Prelude.{◌≡◌, ◌≤◌, ◌+◌, ◌∷◌, ◌++◌, [], length, map, option_map, OnOk};
+ghost use Rattle.std.specs.Prelude.{◌≡◌, ◌≤◌, ◌+◌, ◌∷◌, ◌++◌, [], All, length, map, option_map, OnOk};
 ghost use Rattle.nq_base.specs.Plain.{plain_answer};
+ghost use Rattle.nq_datagrams.specs.Messages.{FitsMessage};
 ghost use Rattle.nq_model.specs.Message.{call};
 ghost use Rattle.nq_wire.specs.Request.{HasSpelling};
 ghost use Rattle.nq_client.specs.Finishing.{Grows, HasLetters, HasRoomFor, longest_call, to_server};
@@ -47,6 +48,7 @@ fn post(letter: &mut Letter, alloc: Global, xid: u32, request: &Request, out: &m
     requires spelled { HasSpelling request.now }
     ensures first { out.new.first ≡ out.old.first }
     ensures sent { out.new.datagrams ≡ out.old.datagrams ++ to_server (call xid request.now) ∷ [] }
+    ensures fits { FitsMessage (call xid request.now) }
     ensures spare { out.old.spare ≤ out.new.spare + 1 }
 {
     let bytes = letter.spell(alloc, xid, request);
@@ -54,6 +56,7 @@ fn post(letter: &mut Letter, alloc: Global, xid: u32, request: &Request, out: &m
 }
 
 /// Sends a vacated message, if there is one.
+#[tactic(auto, using(crate::proofs::Fitting::fit_none, crate::proofs::Fitting::fit_one))]
 fn post_vacated(
     letter: &mut Letter,
     alloc: Global,
@@ -65,6 +68,7 @@ fn post_vacated(
     requires place { 1 ≤ out.old.spare }
     ensures first { out.new.first ≡ out.old.first }
     ensures sent { out.new.datagrams ≡ out.old.datagrams ++ map to_server (vacated_message who vacated) }
+    ensures fit { All FitsMessage (vacated_message who vacated) }
     ensures spare { out.old.spare ≤ out.new.spare + 1 }
 {
     match vacated {
@@ -81,6 +85,7 @@ fn post_vacated(
 }
 
 /// Sends the request under way, if the step sends it.
+#[tactic(auto, using(crate::proofs::Fitting::fit_none, crate::proofs::Fitting::fit_one))]
 fn post_request(
     letter: &mut Letter,
     alloc: Global,
@@ -92,6 +97,7 @@ fn post_request(
     requires place { 1 ≤ out.old.spare }
     ensures first { out.new.first ≡ out.old.first }
     ensures sent { out.new.datagrams ≡ out.old.datagrams ++ map to_server (request_message asks asked.now) }
+    ensures fit { All FitsMessage (request_message asks asked.now) }
 {
     match asked {
         Some(asked) if asks => post(letter, alloc, asked.xid(), asked.request(), out),
@@ -124,6 +130,7 @@ impl Step {
 
     /// Gives what the step gave: its datagrams and entries go to an outbox and a journal that have room for them, and its
     /// answer is returned.
+    #[tactic(auto, using(crate::proofs::Fitting::fit_both))]
     pub(crate) fn finish(
         &mut self,
         letters: &mut Letters,

@@ -19,7 +19,7 @@ fn has_revision(cache: &Cache, file: FileId, rev: Rev) -> bool
 }
 
 /// Whether a grant, if there is one, lets its holder cache.
-fn lets_cache(grant: &Option<Grant>) -> bool
+pub(crate) fn lets_cache(grant: &Option<Grant>) -> bool
     ensures { result ≡ grant_caches grant.now }
 {
     match grant {
@@ -60,7 +60,7 @@ fn caches_granted(
 
 /// What a reply to READ leaves in the cache: clean blocks of another revision than that of the grant go, and the block is
 /// cached under a caching grant.
-fn caches_read(
+pub(crate) fn caches_read(
     cache: &mut Cache,
     file: FileId,
     block: BlockNo,

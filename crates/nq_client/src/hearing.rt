@@ -1,17 +1,20 @@
 //! What a client makes of a notice.
 
-ghost use Rattle.std.specs.Prelude.{◌≡◌, ◌≤◌, Some, None, false, IsTrue, if◌then◌else◌};
-ghost use Rattle.nq_model.specs.Hear.{cancelled, cancels, goes_on, hear_notice, spends};
+ghost use Rattle.std.specs.Prelude.{◌≡◌, ◌≤◌, None, false, OnErr, OnOk};
+ghost use Rattle.nq_model.specs.Hear.{cancelled, cancels, goes_on, spends};
 ghost use Rattle.nq_model.specs.Table.{same_who};
 ghost use Rattle.nq_client.specs.Hearing.{is_wanted};
+ghost use Rattle.nq_client.specs.Prepared.{IsPrepared};
+ghost use Rattle.nq_client.specs.Receiving.{Counts, IsHeeded, at_stake, on_news, on_notice, on_reply};
 ghost use Rattle.nq_client.specs.State.{client_of};
 ghost use Rattle.nq_client.specs.Step.{HasNumbers, HasRoom, IsBegun, step_of};
 ghost use Rattle.nq_client.specs.Tied.{Tied};
 
 use crate::asked::Asked;
-use crate::counting::{holds_later, wants};
+use crate::counting::wants;
+use crate::receiving::News;
 use crate::step::Step;
-use nq_base::{FileId, Tag, Who};
+use nq_base::{FileId, NoMemory, Reply, Tag, Who};
 
 /// Whether a request that wants a lease on the file is under way.
 fn is_wanted(asked: &Option<Asked>, file: FileId) -> bool
@@ -24,7 +27,7 @@ fn is_wanted(asked: &Option<Asked>, file: FileId) -> bool
 }
 
 /// Whether two incarnations are one.
-fn is_same(who: &Who, other: &Who) -> bool
+pub(crate) fn is_same(who: &Who, other: &Who) -> bool
     ensures { result ≡ same_who who.now other.now }
 {
     who.host == other.host && who.inc == other.inc
@@ -66,22 +69,56 @@ impl Step {
         self.send_next(false);
     }
 
-    /// Takes a notice in, unless it is of another incarnation or a lease with a later tag is held.
-    pub(crate) fn hears_notice(&mut self, who: &Who, file: FileId, tag: Tag) -> bool
+    /// Takes a notice in that counts.
+    fn hears_notice(&mut self, file: FileId, tag: Tag)
         requires begun { IsBegun self.old }
         requires room { HasRoom self.old }
         requires notices { 1 ≤ self.old.state.notices.spare }
         requires tied { Tied self.old.state.asked self.old.state.dirty.push }
         requires numbers { HasNumbers 3 self.old.state }
-        ensures step { hear_notice (client_of self.old.state) who.now file tag ≡ (if result then Some (step_of self.new) else None) }
-        ensures ignored { result ≡ false → self.new ≡ self.old }
+        ensures { step_of self.new ≡ on_notice (client_of self.old.state) file tag }
     {
-        if !is_same(who, &self.state.who) || holds_later(tag, &self.state.leases.on(file)) {
-            return false;
-        }
         self.cancels(file);
         self.evicted(file, tag);
         self.goes_on();
-        true
+    }
+
+    /// Takes a reply in that counts, in the packet of this number.
+    fn hears_reply(&mut self, packet: u64, reply: &Reply) -> Result<(), NoMemory>
+        requires begun { IsBegun self.old }
+        requires prepared { IsPrepared (at_stake self.old.state.asked) self.old }
+        requires tied { Tied self.old.state.asked self.old.state.dirty.push }
+        requires numbers { HasNumbers 3 self.old.state }
+        requires counts { Counts self.old.state.asked reply.now }
+        ensures heard { OnOk result (step_of self.new ≡ on_reply (client_of self.old.state) packet reply.now self.old.state.asked) }
+        ensures refused { OnErr result (self.new ≡ self.old) }
+    {
+        self.replied(packet, reply)?;
+        self.goes_on();
+        Ok(())
+    }
+
+    /// Takes in what counts, in the packet of this number.
+    ///
+    /// # Errors
+    ///
+    /// Only want of memory, and then nothing changed.
+    pub(crate) fn hears(&mut self, packet: u64, news: &News) -> Result<(), NoMemory>
+        requires begun { IsBegun self.old }
+        requires prepared { IsPrepared (at_stake self.old.state.asked) self.old }
+        requires notices { 1 ≤ self.old.state.notices.spare }
+        requires tied { Tied self.old.state.asked self.old.state.dirty.push }
+        requires numbers { HasNumbers 3 self.old.state }
+        requires heeded { IsHeeded self.old.state.asked news.now }
+        ensures heard { OnOk result (step_of self.new ≡ on_news (client_of self.old.state) packet news.now) }
+        ensures refused { OnErr result (self.new ≡ self.old) }
+    {
+        match news {
+            News::Notice { file, tag } => {
+                self.hears_notice(*file, *tag);
+                Ok(())
+            }
+            News::Reply(reply) => self.hears_reply(packet, reply),
+        }
     }
 }

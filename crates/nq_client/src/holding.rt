@@ -4,6 +4,7 @@ ghost use Rattle.std.specs.Prelude.{◌≡◌, ◌≤◌, Some, OnOk, OnErr, IfS
 ghost use Rattle.nq_held.specs.Leases.{lease_of};
 ghost use Rattle.nq_model.specs.Client.{is_push_of, push_passes, put_lease};
 ghost use Rattle.nq_model.specs.Hear.{caches_block, ends_push, granted_lease, holds, purges};
+ghost use Rattle.nq_client.specs.Granting.{keeps};
 ghost use Rattle.nq_client.specs.Step.{step_of};
 
 use crate::granting::cleans;
@@ -32,9 +33,23 @@ impl Step {
         requires held { lease_of held ≡ Some (granted_lease file grant.now sent) }
         requires lease { 1 ≤ self.old.state.leases.spare }
         requires revision { 1 ≤ self.old.state.cache.spare }
-        ensures { step_of self.new ≡ holds (step_of self.old) file grant.now sent }
+        ensures step { step_of self.new ≡ holds (step_of self.old) file grant.now sent }
+        ensures entries { self.new.entries ≡ self.old.entries }
+        ensures dirty { self.new.state.dirty ≡ self.old.state.dirty }
     {
         cleans(&mut self.state.cache, file, grant.rev);
+        self.keeps(file, grant, sent, held);
+    }
+
+    /// Holds a lease whose request was first sent at `sent`, over the clean blocks that are there.
+    pub(crate) fn keeps(&mut self, file: FileId, grant: &Grant, sent: Ticks, held: Held)
+        requires held { lease_of held ≡ Some (granted_lease file grant.now sent) }
+        requires lease { 1 ≤ self.old.state.leases.spare }
+        requires revision { 1 ≤ self.old.state.cache.spare }
+        ensures step { step_of self.new ≡ keeps (step_of self.old) file grant.now sent }
+        ensures entries { self.new.entries ≡ self.old.entries }
+        ensures dirty { self.new.state.dirty ≡ self.old.state.dirty }
+    {
         self.state.cache.retag(file, grant.rev).unwrap();
         put_held(&mut self.state.leases, held);
     }

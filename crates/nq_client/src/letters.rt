@@ -1,7 +1,7 @@
 //! Memory for the bytes of what a step sends.
 
 ghost use Rattle.std.specs.Prelude.{◌≡◌, ◌≤◌, OnOk};
-ghost use Rattle.nq_datagrams.specs.Messages.{bytes_of};
+ghost use Rattle.nq_datagrams.specs.Messages.{FitsMessage, bytes_of};
 ghost use Rattle.nq_model.specs.Message.{call};
 ghost use Rattle.nq_wire.specs.Request.{HasSpelling};
 ghost use Rattle.nq_client.specs.Finishing.{longest_call};
@@ -48,7 +48,8 @@ impl Letter {
     pub(crate) fn spell(&mut self, alloc: Global, xid: u32, request: &Request) -> Vec<u8>
         requires room { longest_call ≤ self.old }
         requires spelled { HasSpelling request.now }
-        ensures { result.items ≡ bytes_of (call xid request.now) }
+        ensures spelled { result.items ≡ bytes_of (call xid request.now) }
+        ensures fits { FitsMessage (call xid request.now) }
     {
         let mut writer = mem::replace(&mut self.writer, Writer::new(alloc).unwrap());
         write_call(xid, request, &mut writer).unwrap();

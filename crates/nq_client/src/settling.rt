@@ -4,6 +4,7 @@ ghost use Rattle.std.specs.Prelude.{◌≡◌, ◌≤◌, ◌<◌, ◌+◌, ◌^
 ghost use Rattle.nq_base.specs.Plain.{plain_answer, plain_said};
 ghost use Rattle.nq_model.specs.Client.{lease_on};
 ghost use Rattle.nq_model.specs.Settle.{after_delay, body_in, delays, is_full_in, settle, settle_body, settle_call, settle_put, settle_read, settle_sync, settle_write, settle_write_in, ticket_is_for_call};
+ghost use Rattle.nq_client.specs.Prepared.{Leaves};
 ghost use Rattle.nq_client.specs.Settling.{ended, leave_to_read, leave_to_write, tells_read, within, writes};
 ghost use Rattle.nq_client.specs.State.{under_way};
 ghost use Rattle.nq_client.specs.Step.{HasNumbers, HasRoom, step_of, with_call};
@@ -77,7 +78,10 @@ impl Step {
     /// An answer, as a journal tells it, ends the call under way.
     pub(crate) fn ends_call(&mut self, q: u64, answer: Answer, said: Said)
         requires { 1 ≤ self.old.entries.spare }
-        ensures { step_of self.new ≡ ended (step_of self.old) q (plain_answer answer) (plain_said said) }
+        ensures step { step_of self.new ≡ ended (step_of self.old) q (plain_answer answer) (plain_said said) }
+        ensures left { Leaves 1 self.old self.new }
+        ensures leases { self.old.state.leases.spare ≤ self.new.state.leases.spare }
+        ensures cache { self.new.state.cache ≡ self.old.state.cache }
     {
         self.state.call = None;
         self.entries.note(Entry::A {

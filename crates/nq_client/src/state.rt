@@ -1,7 +1,7 @@
 //! What a client knows.
 
 ghost use Rattle.std.specs.Prelude.{◌≡◌, IfOk};
-ghost use Rattle.nq_model.specs.ClientStep.{attached_client};
+ghost use Rattle.nq_model.specs.ClientStep.{attached_client, fresh_client};
 ghost use Rattle.nq_client.specs.State.{client_of};
 
 use crate::asked::Asked;
@@ -55,15 +55,10 @@ pub(crate) struct State {
 }
 
 impl State {
-    /// A client that is attached from the start.
-    #[tactic(auto, unfolding(nq_model::specs::ClientStep::attached_client, nq_model::specs::ClientStep::fresh_client))]
-    pub(crate) fn attached(
-        alloc: Global,
-        who: Who,
-        term: u32,
-        time: Ticks,
-    ) -> Result<State, NoMemory>
-        ensures { IfOk result (λ s. client_of s ≡ attached_client who term time) }
+    /// A client that knows nothing.
+    #[tactic(auto, unfolding(nq_model::specs::ClientStep::fresh_client))]
+    pub(crate) fn fresh(alloc: Global, who: Who, term: u32, time: Ticks) -> Result<State, NoMemory>
+        ensures { IfOk result (λ s. client_of s ≡ fresh_client who term time) }
     {
         let cache = Cache::new(alloc)?;
         let dirty = Dirty::new(alloc)?;
@@ -71,7 +66,7 @@ impl State {
             who,
             term,
             time,
-            attached: true,
+            attached: false,
             calls: 0,
             call: None,
             asked: None,
@@ -86,6 +81,21 @@ impl State {
             cache,
             alloc,
         })
+    }
+
+    /// A client that is attached from the start.
+    #[tactic(auto, unfolding(nq_model::specs::ClientStep::attached_client, nq_model::specs::ClientStep::fresh_client))]
+    pub(crate) fn attached(
+        alloc: Global,
+        who: Who,
+        term: u32,
+        time: Ticks,
+    ) -> Result<State, NoMemory>
+        ensures { IfOk result (λ s. client_of s ≡ attached_client who term time) }
+    {
+        let mut state = State::fresh(alloc, who, term, time)?;
+        state.attached = true;
+        Ok(state)
     }
 
     /// Ends the client: what it has under way and what waits is forgotten.

@@ -1,11 +1,12 @@
 //! Whole steps of a client: memory is taken first, then the step is made, then its outcome is given.
 
-ghost use Rattle.std.specs.Prelude.{◌≡◌, ◌≤◌, ◌<◌, ◌+◌, ◌^◌, IfOk, OnOk};
+ghost use Rattle.std.specs.Prelude.{◌≡◌, ◌≤◌, ◌<◌, ◌+◌, ◌^◌, IfOk, OnErr, OnOk};
 ghost use Rattle.nq_base.specs.Plain.{plain_answer};
 ghost use Rattle.nq_model.specs.ClientStep.{client_call, client_tick};
 ghost use Rattle.nq_client.specs.Calling.{IsNamedFor};
 ghost use Rattle.nq_client.specs.Finishing.{Grows, HasLetters, HasRoomFor};
 ghost use Rattle.nq_client.specs.Outcome.{IsHeard, or_pending};
+ghost use Rattle.nq_client.specs.Receiving.{HasRoomForFiles, IsHeeded, most_entries, on_news};
 ghost use Rattle.nq_client.specs.State.{client_of};
 ghost use Rattle.nq_client.specs.Step.{HasNumbers, IsBegun, step_of};
 ghost use Rattle.nq_client.specs.Tied.{Tied};
@@ -13,6 +14,7 @@ ghost use Rattle.nq_client.specs.Tied.{Tied};
 use crate::calling::{Named, named_for};
 use crate::finishing::Letters;
 use crate::heard::Heard;
+use crate::receiving::{News, most_entries};
 use crate::step::Step;
 use nq_base::{Answer, Call, NoMemory, Ticks};
 use nq_journal::Journal;
@@ -113,4 +115,83 @@ pub(crate) fn make_tick(
         Some(answer) => Heard::Answered(answer),
         None => Heard::Nothing,
     }
+}
+
+/// Takes the memory that a datagram may want which counts.
+fn room_for_news(
+    step: &mut Step,
+    letters: &mut Letters,
+    out: &mut Outbox,
+    log: &mut Journal,
+) -> Result<(), NoMemory>
+    requires { IsBegun step.old }
+    ensures begun { IsBegun step.new }
+    ensures client { client_of step.new.state ≡ client_of step.old.state }
+    ensures first { out.new.first ≡ out.old.first }
+    ensures datagrams { out.new.datagrams ≡ out.old.datagrams }
+    ensures entries { log.new.entries ≡ log.old.entries }
+    ensures letters { OnOk result (HasLetters letters.new) }
+    ensures room { OnOk result (HasRoomFor (most_entries (client_of step.old.state)) step.new out.new log.new) }
+    ensures files { OnOk result (HasRoomForFiles step.new) }
+{
+    let entries = most_entries(&step.state);
+    reserve(step, letters, entries, out, log)?;
+    step.state.leases.reserve(1)?;
+    step.state.notices.reserve(1)?;
+    step.state.cache.reserve(1)
+}
+
+/// Takes in what counts, with the memory that it may want.
+fn make_news(
+    step: &mut Step,
+    letters: &mut Letters,
+    packet: u64,
+    news: &News,
+    out: &mut Outbox,
+    log: &mut Journal,
+) -> Result<Heard, NoMemory>
+    requires begun { IsBegun step.old }
+    requires letters { HasLetters letters.old }
+    requires room { HasRoomFor (most_entries (client_of step.old.state)) step.old out.old log.old }
+    requires files { HasRoomForFiles step.old }
+    requires numbers { HasNumbers 3 step.old.state }
+    requires tied { Tied step.old.state.asked step.old.state.dirty.push }
+    requires heeded { IsHeeded step.old.state.asked news.now }
+    ensures begun { IsBegun step.new }
+    ensures client { OnOk result (client_of step.new.state ≡ (on_news (client_of step.old.state) packet news.now).client) }
+    ensures grows { OnOk result (Grows (on_news (client_of step.old.state) packet news.now) out.old out.new log.old log.new) }
+    ensures heard { IfOk result (λ h. IsHeard h (on_news (client_of step.old.state) packet news.now).answer) }
+    ensures refused { OnErr result ((step.new ≡ step.old) × (out.new ≡ out.old) × (log.new ≡ log.old)) }
+{
+    step.hears(packet, news)?;
+    match step.finish(letters, out, log) {
+        Some(answer) => Ok(Heard::Answered(answer)),
+        None => Ok(Heard::Nothing),
+    }
+}
+
+/// Takes in what counts.
+pub(crate) fn hear(
+    step: &mut Step,
+    letters: &mut Letters,
+    packet: u64,
+    news: &News,
+    out: &mut Outbox,
+    log: &mut Journal,
+) -> Result<Heard, NoMemory>
+    requires begun { IsBegun step.old }
+    requires numbers { HasNumbers 3 step.old.state }
+    requires tied { Tied step.old.state.asked step.old.state.dirty.push }
+    requires heeded { IsHeeded step.old.state.asked news.now }
+    ensures begun { IsBegun step.new }
+    ensures client { OnOk result (client_of step.new.state ≡ (on_news (client_of step.old.state) packet news.now).client) }
+    ensures grows { OnOk result (Grows (on_news (client_of step.old.state) packet news.now) out.old out.new log.old log.new) }
+    ensures heard { IfOk result (λ h. IsHeard h (on_news (client_of step.old.state) packet news.now).answer) }
+    ensures same { OnErr result (client_of step.new.state ≡ client_of step.old.state) }
+    ensures first { OnErr result (out.new.first ≡ out.old.first) }
+    ensures datagrams { OnErr result (out.new.datagrams ≡ out.old.datagrams) }
+    ensures entries { OnErr result (log.new.entries ≡ log.old.entries) }
+{
+    room_for_news(step, letters, out, log)?;
+    make_news(step, letters, packet, news, out, log)
 }

@@ -4,6 +4,7 @@ ghost use Rattle.std.specs.Prelude.{◌≡◌, ◌==◌, ◌≤◌, ◌<◌, ◌
 ghost use Rattle.nq_held.specs.Leases.{lease_of};
 ghost use Rattle.nq_model.specs.Client.{dirty_at, is_push_of, is_revision_before, lease_on, purge, push_passes, put_clean, revision_of};
 ghost use Rattle.nq_model.specs.Hear.{answer_of, answers_call, holds_caching, is_put_off, pauses, push_done, write_done};
+ghost use Rattle.nq_client.specs.Prepared.{Leaves};
 ghost use Rattle.nq_client.specs.Step.{step_of};
 
 use crate::counting::is_put_off;
@@ -95,6 +96,7 @@ impl Step {
         requires entries { 1 ≤ self.old.entries.spare }
         requires revision { 1 ≤ self.old.state.cache.spare }
         ensures done { OnOk result (step_of self.new ≡ write_done (step_of self.old) file block body.now rev) }
+        ensures left { OnOk result (Leaves 1 self.old self.new) }
         ensures refused { OnErr result (self.new ≡ self.old) }
     {
         caches_written(
@@ -128,6 +130,7 @@ impl Step {
         requires first { self.old.vacated ≡ None }
         requires xid { self.old.state.xid + 1 < 2 ^ 32 }
         ensures done { OnOk result (step_of self.new ≡ push_done (step_of self.old) file block body.now rev) }
+        ensures left { OnOk result (Leaves 0 self.old self.new) }
         ensures refused { OnErr result (self.new ≡ self.old) }
     {
         caches_stored(&self.state.dirty, &mut self.state.cache, file, block, body)?;
@@ -141,7 +144,8 @@ impl Step {
     pub(crate) fn call_refused(&mut self, status: Refusal)
         requires entries { 1 ≤ self.old.entries.spare }
         requires time { self.old.state.time < 2 ^ 62 }
-        ensures { step_of self.new ≡ (if is_put_off status then pauses (step_of self.old) else answers_call (step_of self.old) (answer_of status) None) }
+        ensures step { step_of self.new ≡ (if is_put_off status then pauses (step_of self.old) else answers_call (step_of self.old) (answer_of status) None) }
+        ensures left { Leaves 1 self.old self.new }
     {
         if is_put_off(status) {
             self.pauses();
@@ -153,7 +157,8 @@ impl Step {
     /// A renewal was refused: it is put off, or nothing comes of it.
     pub(crate) fn renewal_refused(&mut self, status: Refusal)
         requires { self.old.state.time < 2 ^ 62 }
-        ensures { step_of self.new ≡ (if is_put_off status then pauses (step_of self.old) else step_of self.old) }
+        ensures step { step_of self.new ≡ (if is_put_off status then pauses (step_of self.old) else step_of self.old) }
+        ensures left { Leaves 0 self.old self.new }
     {
         if is_put_off(status) {
             self.pauses();

@@ -1,5 +1,5 @@
-use Rattle.std.proofs.Common.{◌≡◌, None, sym, ap, ◌∙◌, arith}
-use Rattle.nq_client.specs.Step.{step_of, HasNumbers}
+use Rattle.std.proofs.Common.{◌≡◌, sym, ap, ◌∙◌, arith}
+use Rattle.nq_client.specs.Step.{step_of}
 use Rattle.nq_client.proofs.Settled.{settled}
 use Rattle.nq_client.proofs.Ties.{tied-none}
 use Rattle.nq_model.specs.Client.{ClientStep}

@@ -1,0 +1,21 @@
+-- What is made ready before a datagram changes anything.
+use Rattle.std.specs.Prelude.{◌≡◌, ◌≤◌, ◌<◌, ◌+◌, ◌^◌, ℕ, false, None, length}
+use Rattle.nq_client.specs.declared.step.Step.{Step}
+use Rattle.nq_model.specs.Hear.{all_dirty_in}
+
+-- nothing is sent yet, numbers are left, and there is room: for the loss of all delayed writes of a file and four more
+-- entries, for a block that becomes dirty, for a lease and for a revision
+pub record IsPrepared (file : ℕ) (s : Step) : Type 0 where
+  pub silent : s.asks ≡ false
+  pub first : s.vacated ≡ None
+  pub xid : s.state.xid + 1 < 2 ^ 32
+  pub time : s.state.time < 2 ^ 62
+  pub entries : length (all_dirty_in file s.state.dirty.dirty s.state.dirty.push) + 4 ≤ s.entries.spare
+  pub block : 1 ≤ s.state.dirty.spare
+  pub lease : 1 ≤ s.state.leases.spare
+  pub revision : 1 ≤ s.state.cache.spare
+
+-- what a part of a step leaves of the room: it makes so many entries at most
+pub record Leaves (entries : ℕ) (old new : Step) : Type 0 where
+  pub spare : old.entries.spare ≤ new.entries.spare + entries
+  pub block : old.state.dirty.spare ≤ new.state.dirty.spare

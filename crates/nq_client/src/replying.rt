@@ -1,0 +1,201 @@
+//! Replies to the request under way.
+
+ghost use Rattle.std.specs.Prelude.{◌≡◌, ◌≤◌, ◌<◌, ◌+◌, ◌^◌, ℕ, List, Option, Some, None, IsTrue, OnOk, OnErr};
+ghost use Rattle.std.specs.Option.{ForSome};
+ghost use Rattle.nq_base.specs.declared.PushBase.{PushBase};
+ghost use Rattle.nq_base.specs.declared.Request.{Request};
+ghost use Rattle.nq_base.specs.declared.Want.{Want};
+ghost use Rattle.nq_base.specs.declared.Who.{Who};
+ghost use Rattle.nq_model.specs.Client.{is_push_of, push_passes, pushing};
+ghost use Rattle.nq_model.specs.Hear.{done, done_push, done_renewal, refused, refused_push, replied};
+ghost use Rattle.nq_client.specs.Asked.{job_of};
+ghost use Rattle.nq_client.specs.Prepared.{IsPrepared};
+ghost use Rattle.nq_client.specs.Receiving.{answered, at_stake, file_at_stake};
+ghost use Rattle.nq_client.specs.Step.{HasRoom, step_of};
+ghost use Rattle.nq_client.specs.Tied.{Tied, TiedFor};
+
+use crate::asked::{Asked, Job};
+use crate::step::Step;
+use nq_base::{Block, BlockNo, FileId, NoMemory, Refusal, Reply, Request, Ticks};
+
+impl Step {
+    /// A renewal was done. It was first sent at `sent`.
+    fn done_renewal(
+        &mut self,
+        request: &Request,
+        sent: Ticks,
+        reply: &Reply,
+    ) -> Result<(), NoMemory>
+        requires prepared { IsPrepared (file_at_stake request.now) self.old }
+        requires sent { sent < 2 ^ 62 }
+        ensures done { OnOk result (step_of self.new ≡ done_renewal (step_of self.old) sent request.now reply.now) }
+        ensures room { OnOk result (HasRoom self.new) }
+        ensures refused { OnErr result (self.new ≡ self.old) }
+    {
+        match request {
+            Request::GetLease { file, .. } => self.renewed(*file, sent, reply),
+            _ => Ok(()),
+        }
+    }
+
+    /// The lease on a file was asked for again.
+    fn renewed(&mut self, file: FileId, sent: Ticks, reply: &Reply) -> Result<(), NoMemory>
+        requires prepared { IsPrepared file self.old }
+        requires sent { sent < 2 ^ 62 }
+        ensures done { OnOk result ((who : Who) (want : Want) → step_of self.new ≡ done_renewal (step_of self.old) sent (Request.GetLease who file want) reply.now) }
+        ensures room { OnOk result (HasRoom self.new) }
+        ensures refused { OnErr result (self.new ≡ self.old) }
+    {
+        match reply {
+            Reply::GetLease { grant, .. } => self.takes_optional(file, grant, sent),
+            _ => Ok(()),
+        }
+    }
+
+    /// A push was done.
+    fn done_push(&mut self, request: &Request, reply: &Reply) -> Result<(), NoMemory>
+        requires prepared { IsPrepared (file_at_stake request.now) self.old }
+        requires tied { TiedFor pushing request.now self.old.state.dirty.push }
+        ensures done { OnOk result (step_of self.new ≡ done_push (step_of self.old) request.now reply.now) }
+        ensures room { OnOk result (HasRoom self.new) }
+        ensures refused { OnErr result (self.new ≡ self.old) }
+    {
+        match request {
+            Request::Write {
+                file,
+                block,
+                body,
+                ..
+            } => self.pushed(*file, *block, body, reply),
+            _ => Ok(()),
+        }
+    }
+
+    /// A block was pushed.
+    fn pushed(
+        &mut self,
+        file: FileId,
+        block: BlockNo,
+        body: &Block,
+        reply: &Reply,
+    ) -> Result<(), NoMemory>
+        requires prepared { IsPrepared file self.old }
+        requires push { IsTrue (push_passes (is_push_of file) self.old.state.dirty.push) }
+        ensures done { OnOk result ((who : Who) (seq first last : ℕ) (push : Option PushBase) → step_of self.new ≡ done_push (step_of self.old) (Request.Write who seq file block first last push body.now) reply.now) }
+        ensures room { OnOk result (HasRoom self.new) }
+        ensures refused { OnErr result (self.new ≡ self.old) }
+    {
+        match reply {
+            Reply::Write { rev, .. } => self.push_done(file, block, body, *rev),
+            _ => Ok(()),
+        }
+    }
+
+    /// A push was refused: the delayed writes of its file are lost.
+    fn refused_push(&mut self, request: &Request) -> Result<(), NoMemory>
+        requires { IsPrepared (file_at_stake request.now) self.old }
+        ensures done { OnOk result (step_of self.new ≡ refused_push (step_of self.old) request.now) }
+        ensures room { OnOk result (HasRoom self.new) }
+        ensures refused { OnErr result (self.new ≡ self.old) }
+    {
+        match request {
+            Request::Write { file, .. } => self.push_refused(*file),
+            _ => Ok(()),
+        }
+    }
+
+    /// A request was done, by what it was for.
+    fn done(&mut self, job: Job, asked: &Asked, packet: u64, reply: &Reply) -> Result<(), NoMemory>
+        requires prepared { IsPrepared (file_at_stake asked.now.request) self.old }
+        requires tied { TiedFor (job_of job) asked.now.request self.old.state.dirty.push }
+        ensures done { OnOk result (step_of self.new ≡ done (step_of self.old) packet asked.now (job_of job) reply.now) }
+        ensures room { OnOk result (HasRoom self.new) }
+        ensures refused { OnErr result (self.new ≡ self.old) }
+    {
+        match job {
+            Job::Attaching => {
+                self.is_attached();
+                Ok(())
+            }
+            Job::ForCall => self.done_for_call(asked.request(), asked.first(), packet, reply),
+            Job::Renewing => self.done_renewal(asked.request(), asked.first(), reply),
+            Job::Pushing => self.done_push(asked.request(), reply),
+        }
+    }
+
+    /// A request was refused, by what it was for.
+    fn refused(&mut self, status: Refusal, job: Job, asked: &Asked) -> Result<(), NoMemory>
+        requires prepared { IsPrepared (file_at_stake asked.now.request) self.old }
+        ensures done { OnOk result (step_of self.new ≡ refused (step_of self.old) status asked.now (job_of job)) }
+        ensures room { OnOk result (HasRoom self.new) }
+        ensures refused { OnErr result (self.new ≡ self.old) }
+    {
+        match job {
+            Job::Attaching => {}
+            Job::ForCall => self.call_refused(status),
+            Job::Renewing => self.renewal_refused(status),
+            Job::Pushing => return self.refused_push(asked.request()),
+        }
+        Ok(())
+    }
+
+    /// A request that is no more under way was answered in the packet of this number.
+    fn answered(&mut self, asked: &Asked, packet: u64, reply: &Reply) -> Result<(), NoMemory>
+        requires prepared { IsPrepared (file_at_stake asked.now.request) self.old }
+        requires tied { TiedFor asked.now.job asked.now.request self.old.state.dirty.push }
+        ensures done { OnOk result (step_of self.new ≡ answered (step_of self.old) packet asked.now reply.now) }
+        ensures room { OnOk result (HasRoom self.new) }
+        ensures refused { OnErr result (self.new ≡ self.old) }
+    {
+        match reply {
+            Reply::Refused { status, .. } => self.refused(*status, asked.job(), asked),
+            Reply::Null
+            | Reply::Attach { .. }
+            | Reply::Lookup { .. }
+            | Reply::Create { .. }
+            | Reply::GetAttr { .. }
+            | Reply::Read { .. }
+            | Reply::Write { .. }
+            | Reply::GetLease { .. }
+            | Reply::Resize { .. }
+            | Reply::Remove { .. } => self.done(asked.job(), asked, packet, reply),
+        }
+    }
+
+    /// A request is under way again that was taken out.
+    fn puts_back(&mut self, asked: Asked)
+        ensures { self.new ≡ record self.old { state = record self.old.state { asked = Some asked } } }
+    {
+        match self.state.asked.replace(asked) {
+            Some(old) => old.spent(),
+            None => {}
+        }
+    }
+
+    /// The request under way was answered in the packet of this number, and is spent.
+    ///
+    /// # Errors
+    ///
+    /// Only want of memory, and then nothing changed.
+    pub(crate) fn replied(&mut self, packet: u64, reply: &Reply) -> Result<(), NoMemory>
+        requires prepared { IsPrepared (at_stake self.old.state.asked) self.old }
+        requires tied { Tied self.old.state.asked self.old.state.dirty.push }
+        ensures done { OnOk result (ForSome self.old.state.asked (λ t. step_of self.new ≡ replied (step_of self.old) packet t reply.now)) }
+        ensures room { OnOk result (HasRoom self.new) }
+        ensures refused { OnErr result (self.new ≡ self.old) }
+    {
+        let Some(asked) = self.state.asked.take() else {
+            return Ok(());
+        };
+        match self.answered(&asked, packet, reply) {
+            Ok(()) => {
+                asked.spent();
+                Ok(())
+            }
+            Err(fault) => {
+                self.puts_back(asked);
+                Err(fault)
+            }
+        }
+    }
+}

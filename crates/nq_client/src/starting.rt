@@ -1,0 +1,70 @@
+//! The start of an incarnation.
+
+ghost use Rattle.std.specs.Prelude.{◌≡◌, ◌+◌, ◌<◌, ◌^◌, ◌++◌, None, All, map, IfOk, OnOk, OnErr};
+ghost use Rattle.nq_base.specs.declared.Request.{Request};
+ghost use Rattle.nq_datagrams.specs.Messages.{FitsMessage};
+ghost use Rattle.nq_model.specs.Client.{attaching};
+ghost use Rattle.nq_model.specs.ClientStep.{starts};
+ghost use Rattle.nq_model.specs.Send.{sends_request};
+ghost use Rattle.nq_client.specs.Finishing.{to_server};
+ghost use Rattle.nq_client.specs.State.{client_of};
+ghost use Rattle.nq_client.specs.Step.{IsBegun, step_of};
+
+use crate::asked::Job;
+use crate::finishing::Letters;
+use crate::state::State;
+use crate::step::Step;
+use nq_base::{NoMemory, Request, Ticks, Who};
+use nq_journal::Journal;
+use nq_wire::Outbox;
+use std::alloc::Global;
+
+impl Step {
+    /// Asks the server to attach this incarnation.
+    fn asks_to_attach(&mut self)
+        requires idle { self.old.state.asked ≡ None }
+        requires time { self.old.state.time < 2 ^ 62 }
+        requires xid { self.old.state.xid + 1 < 2 ^ 32 }
+        ensures { step_of self.new ≡ sends_request (step_of self.old) attaching (Request.Attach self.old.state.who) }
+    {
+        let who = self.state.who;
+        self.sends_request(Job::Attaching, Request::Attach { who });
+    }
+}
+
+/// The first step of an incarnation, which asks to be attached.
+#[tactic(auto, unfolding(nq_model::specs::ClientStep::starts, nq_model::specs::ClientStep::fresh_client, nq_model::specs::Send::sends_request))]
+fn first_step(alloc: Global, who: Who, term: u32, time: Ticks) -> Result<Step, NoMemory>
+    requires { time < 2 ^ 62 }
+    ensures { IfOk result (λ s. step_of s ≡ starts who term time) }
+{
+    let state = State::fresh(alloc, who, term, time)?;
+    let mut step = Step::begun(state);
+    step.asks_to_attach();
+    Ok(step)
+}
+
+/// Begins an incarnation: its client asks to be attached.
+pub(crate) fn begin(
+    alloc: Global,
+    who: Who,
+    term: u32,
+    time: Ticks,
+    letters: &mut Letters,
+    out: &mut Outbox,
+) -> Result<Step, NoMemory>
+    requires { time < 2 ^ 62 }
+    ensures begun { IfOk result IsBegun }
+    ensures client { IfOk result (λ s. client_of s.state ≡ (starts who term time).client) }
+    ensures first { out.new.first ≡ out.old.first }
+    ensures sent { OnOk result (out.new.datagrams ≡ out.old.datagrams ++ map to_server (starts who term time).sends) }
+    ensures fit { OnOk result (All FitsMessage (starts who term time).sends) }
+    ensures refused { OnErr result (out.new.datagrams ≡ out.old.datagrams) }
+{
+    letters.reserve()?;
+    out.reserve(2)?;
+    let mut log = Journal::new(alloc)?;
+    let mut step = first_step(alloc, who, term, time)?;
+    step.finish(letters, out, &mut log);
+    Ok(step)
+}

@@ -1,0 +1,142 @@
+//! Grants that are taken.
+
+ghost use Rattle.std.specs.Prelude.{◌≡◌, ◌≤◌, ◌<◌, ◌^◌, is_some, IfOk, OnErr, OnOk, if◌then◌else◌};
+ghost use Rattle.std.specs.Option.{ForSome};
+ghost use Rattle.nq_model.specs.Hear.{breaks_chain, takes_grant, takes_optional, then_caches};
+ghost use Rattle.nq_client.specs.Losing.{IsReadyFor, Keeps};
+ghost use Rattle.nq_client.specs.Prepared.{IsPrepared};
+ghost use Rattle.nq_client.specs.Step.{step_of};
+ghost use Rattle.nq_client.specs.Taking.{IsTaking};
+
+use crate::granting::caches_read;
+use crate::losing::{Ready, ready_to_lose};
+use crate::state::State;
+use crate::step::Step;
+use nq_base::{Block, BlockNo, FileId, Grant, NoMemory, Ticks};
+use nq_held::{Held, Taken};
+
+/// A grant that is to be taken, and what this needs, made before anything changes.
+#[derive(Drop)]
+pub(crate) struct Taking {
+    /// The lease as it is held then.
+    pub(crate) held: Held,
+    /// What a loss needs, where the grant brings one.
+    pub(crate) losing: Option<Ready>,
+}
+
+/// Makes what a grant needs whose request was first sent at `sent`.
+#[tactic(auto, using(crate::proofs::Grants::broken_as))]
+fn ready_to_take(
+    state: &State,
+    file: FileId,
+    grant: &Grant,
+    sent: Ticks,
+) -> Result<Taking, NoMemory>
+    requires { sent < 2 ^ 62 }
+    ensures { IfOk result (λ t. IsTaking t file grant.now sent state.now) }
+{
+    // Once it is read, the term is known to be within its field.
+    let _term = grant.term;
+    let Taken { held, how } = state.leases.on(file).take(file, grant, sent);
+    if how.is_broken() && !state.dirty.is_clean(file) {
+        let losing = ready_to_lose(state, file)?;
+        return Ok(Taking {
+            held,
+            losing: Some(losing),
+        });
+    }
+    Ok(Taking { held, losing: None })
+}
+
+impl Step {
+    /// The delayed writes of a file are lost where a grant broke the chain of its lease.
+    fn breaks_with(&mut self, file: FileId, losing: Option<Ready>)
+        requires prepared { IsPrepared file self.old }
+        requires ready { ForSome losing (λ r. IsReadyFor r file self.old.state) }
+        ensures step { step_of self.new ≡ (if is_some losing then breaks_chain (step_of self.old) file else step_of self.old) }
+        ensures spare { 3 ≤ self.new.entries.spare }
+        ensures block { 1 ≤ self.new.state.dirty.spare }
+        ensures kept { Keeps self.old self.new }
+    {
+        match losing {
+            Some(ready) => self.breaks_chain(file, ready),
+            None => {}
+        }
+    }
+
+    /// Takes a grant whose request was first sent at `sent`. Where it breaks the chain of a lease over delayed writes, these are
+    /// lost.
+    ///
+    /// # Errors
+    ///
+    /// Only want of memory, and then nothing changed.
+    fn takes_grant(&mut self, file: FileId, grant: &Grant, sent: Ticks) -> Result<(), NoMemory>
+        requires prepared { IsPrepared file self.old }
+        requires sent { sent < 2 ^ 62 }
+        ensures step { OnOk result (step_of self.new ≡ takes_grant (step_of self.old) file grant.now sent) }
+        ensures spare { OnOk result (3 ≤ self.new.entries.spare) }
+        ensures block { OnOk result (1 ≤ self.new.state.dirty.spare) }
+        ensures refused { OnErr result (self.new ≡ self.old) }
+    {
+        let Taking { held, losing } = ready_to_take(&self.state, file, grant, sent)?;
+        self.breaks_with(file, losing);
+        self.holds(file, grant, sent, held);
+        Ok(())
+    }
+
+    /// Takes a grant, if there is one.
+    ///
+    /// # Errors
+    ///
+    /// Only want of memory, and then nothing changed.
+    pub(crate) fn takes_optional(
+        &mut self,
+        file: FileId,
+        grant: &Option<Grant>,
+        sent: Ticks,
+    ) -> Result<(), NoMemory>
+        requires prepared { IsPrepared file self.old }
+        requires sent { sent < 2 ^ 62 }
+        ensures step { OnOk result (step_of self.new ≡ takes_optional (step_of self.old) file grant.now sent) }
+        ensures spare { OnOk result (3 ≤ self.new.entries.spare) }
+        ensures block { OnOk result (1 ≤ self.new.state.dirty.spare) }
+        ensures refused { OnErr result (self.new ≡ self.old) }
+    {
+        match grant {
+            Some(grant) => self.takes_grant(file, grant, sent),
+            None => Ok(()),
+        }
+    }
+
+    /// Takes the grant that came with a block, if there is one; then the block is cached under it.
+    ///
+    /// # Errors
+    ///
+    /// Only want of memory, and then nothing changed.
+    pub(crate) fn takes_read(
+        &mut self,
+        file: FileId,
+        block: BlockNo,
+        body: &Block,
+        grant: &Option<Grant>,
+        sent: Ticks,
+    ) -> Result<(), NoMemory>
+        requires prepared { IsPrepared file self.old }
+        requires sent { sent < 2 ^ 62 }
+        ensures step { OnOk result (step_of self.new ≡ then_caches (takes_optional (step_of self.old) file grant.now sent) file block body.now grant.now) }
+        ensures spare { OnOk result (3 ≤ self.new.entries.spare) }
+        ensures block { OnOk result (1 ≤ self.new.state.dirty.spare) }
+        ensures refused { OnErr result (self.new ≡ self.old) }
+    {
+        match grant {
+            Some(given) => {
+                let Taking { held, losing } = ready_to_take(&self.state, file, given, sent)?;
+                caches_read(&mut self.state.cache, file, block, body, grant)?;
+                self.breaks_with(file, losing);
+                self.keeps(file, given, sent, held);
+                Ok(())
+            }
+            None => Ok(()),
+        }
+    }
+}
