@@ -1,6 +1,14 @@
-pub mod Showing
-pub mod Going
 pub mod Texts
+pub mod Going
+pub mod Little
+pub mod Showing
 pub mod Outboxes
 pub mod Firsts
-pub mod Little
+pub mod Passing
+pub mod Acted
+pub mod Played
+pub mod Moved
+pub mod Served
+pub mod Taken
+pub mod Refused
+pub mod Begun

@@ -10,3 +10,9 @@ told no_packet = Stepped.NoPacket
 told (out_of_skew broken) = Stepped.SkewBroken broken
 told too_many_events = Stepped.Limit Limit.Events
 told too_many_packets = Stepped.Limit Limit.Packets
+
+-- an answer that the tests before an event may give: no keeper failed, and no memory was wanted
+abbrev pub IsOfTests : Stepped → Type 0
+IsOfTests Stepped.Fault = ⊥
+IsOfTests Stepped.Memory = ⊥
+IsOfTests other = Unit {0}

@@ -5,3 +5,5 @@ pub mod Stepping
 pub mod Running
 pub mod Sending
 pub mod Rooms
+pub mod Moving
+pub mod Playing

@@ -1,17 +1,28 @@
 //! The world: one server, its clients, all packets ever sent, and the journal.
 #![tactic(auto)]
 
+mod arriving;
+mod at_client;
+mod at_server;
+mod clients;
+mod clocks;
+mod ending;
 mod first;
 mod laws;
+mod lending;
 mod sending;
+mod starting;
 mod stepped;
 mod testing;
+mod world;
 
 pub use first::keep_head;
 pub use laws::{bytes_show_the_run, events_send_little, worlds_run};
 pub use sending::send;
+pub use starting::NewFault;
 pub use stepped::{Limit, Stepped};
 pub use testing::{MOST_EVENTS, MOST_SENT, test};
+pub use world::World;
 
 #[cfg(test)]
 mod tests;

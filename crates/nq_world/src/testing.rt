@@ -1,12 +1,13 @@
 //! The tests before an event is taken in.
 
-ghost use Rattle.std.specs.Prelude.{◌≡◌, List, length, nat_lt, if◌then◌else◌};
+ghost use Rattle.std.specs.Prelude.{◌≡◌, ◌<◌, List, length, nat_lt, if◌then◌else◌};
 ghost use Rattle.nq_base.specs.declared.Event.{Event};
 ghost use Rattle.nq_clock.specs.Tracks.{Follows};
 ghost use Rattle.nq_model.specs.SkewBroken.{skew_broken};
-ghost use Rattle.nq_model.specs.Stepped.{no_packet, tested_room, tested_skew};
-ghost use Rattle.nq_world.specs.Answering.{told};
+ghost use Rattle.nq_model.specs.Stepped.{most_events, no_packet, tested_room, tested_skew};
+ghost use Rattle.nq_world.specs.Answering.{IsOfTests, told};
 ghost use Rattle.nq_world.specs.Running.{stepped_seen};
+ghost use Rattle.nq_world.specs.declared.stepped.Stepped.{Stepped};
 
 use crate::stepped::{Limit, Stepped};
 use nq_base::{Event, SkewBroken};
@@ -21,8 +22,10 @@ pub const MOST_SENT: u64 = 999_936;
 /// Tests an event before it is taken in, after so many events and packets. The number of events is tested first, then
 /// whether the packet was sent, then the skew, then the number of packets. `Done` says that it may be taken in.
 pub fn test(events: u32, sent: u64, skew: &Skew, event: &Event) -> Stepped
-    ensures { (earlier : List Event) → Follows skew.now earlier
+    ensures tests { (earlier : List Event) → Follows skew.now earlier
         → result ≡ told (stepped_seen events sent (skew_broken (length skew.now.hosts) skew.now.window earlier) event.now) }
+    ensures few { result ≡ Stepped.Done → events < most_events }
+    ensures own { IsOfTests result }
 {
     if events >= MOST_EVENTS {
         return Stepped::Limit(Limit::Events);
@@ -39,7 +42,8 @@ pub fn test(events: u32, sent: u64, skew: &Skew, event: &Event) -> Stepped
 
 /// Tests whether a packet was sent, and then the number of packets.
 fn test_packet(number: u64, sent: u64) -> Stepped
-    ensures { result ≡ told (if nat_lt number sent then tested_room sent else no_packet) }
+    ensures tests { result ≡ told (if nat_lt number sent then tested_room sent else no_packet) }
+    ensures own { IsOfTests result }
 {
     if number < sent {
         test_room(sent)
@@ -50,7 +54,8 @@ fn test_packet(number: u64, sent: u64) -> Stepped
 
 /// Tests the skew, and then the number of packets.
 fn test_skew(broken: Option<SkewBroken>, sent: u64) -> Stepped
-    ensures { result ≡ told (tested_skew sent broken) }
+    ensures tests { result ≡ told (tested_skew sent broken) }
+    ensures own { IsOfTests result }
 {
     match broken {
         Some(broken) => Stepped::SkewBroken(broken),
@@ -60,7 +65,8 @@ fn test_skew(broken: Option<SkewBroken>, sent: u64) -> Stepped
 
 /// Tests the number of packets.
 fn test_room(sent: u64) -> Stepped
-    ensures { result ≡ told (tested_room sent) }
+    ensures tests { result ≡ told (tested_room sent) }
+    ensures own { IsOfTests result }
 {
     if sent > MOST_SENT {
         Stepped::Limit(Limit::Packets)

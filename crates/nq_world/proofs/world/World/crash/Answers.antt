@@ -1,0 +1,18 @@
+use Rattle.std.proofs.Common.{◌≤◌, refl, sym, subst, ap, ◌∙◌}
+use Rattle.nq_base.specs.declared.Event.{Event}
+use Rattle.nq_base.specs.declared.Party.{Party}
+use Rattle.nq_world.proofs.Taken.{crash-takes, world}
+use Rattle.nq_world.specs.Moving.{Ends}
+use Rattle.nq_world.specs.Playing.{TakesIn, WorldOver}
+use Rattle.nq_world.proofs.world.World.crash.Goals as goal
+
+pub returns-clause-takes : goal.returns-clause-takes
+returns-clause-takes g c =
+    let i = c.self.inside in
+    let content = g.K.Keeper.content in
+    let faults = g.K.Keeper.faults in
+    let taken = c.reboot-taken in
+    subst (λ (v : WorldOver g.row.K.Denot). c.args.longest ≤ v.skew.window → TakesIn content (Event.Crash c.args.longest) c.finish.result v (world taken.new.self i.clients.items c.finish.new.packets taken.new.log i.skew c.finish.new.events i.term)) c.self.view_is
+    (λ short. crash-takes content c.args.longest c.in-Some.time taken.result c.finish.result i.server taken.new.self i.clients.items i.packets c.outbox.new.packets c.finish.new.packets i.journal taken.new.log i.skew c.in-Ok.out (faults i.server.keeper) (faults taken.new.self.keeper) i.events c.finish.new.events i.term c.requires.long short (c.in-Some.ensures.same ∙ c.time.ensures) c.in-Ok.ensures.empty taken.ensures.reboots
+    (record { has_room = c.in-Ok.ensures.room; same = c.in-Ok.ensures.datagrams; ends = subst (λ m. Ends m c.finish.result Party.Server c.in-Ok.out.datagrams c.outbox.new.packets c.finish.new.packets i.events c.finish.new.events) c.made.ensures c.finish.ensures.ends }))
+    c.requires.short

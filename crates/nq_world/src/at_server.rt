@@ -1,0 +1,150 @@
+//! Events at the server of a world, and deliveries.
+
+ghost use Rattle.std.specs.Prelude.{◌≡◌, ◌≤◌, ◌<◌, Some, length, slice_get};
+ghost use Rattle.nq_base.specs.declared.Event.{Event};
+ghost use Rattle.nq_base.specs.declared.Party.{Party};
+ghost use Rattle.nq_model.specs.Profile.{shortest_term};
+ghost use Rattle.nq_model.specs.Stepped.{most_events};
+ghost use Rattle.nq_model.specs.World.{sending_host};
+ghost use Rattle.nq_world.specs.Moving.{received};
+ghost use Rattle.nq_world.specs.Playing.{GoesOn, TakesIn};
+
+use crate::arriving::{Arrival, Missing, read_packet};
+use crate::clocks::{shown, time_after};
+use crate::ending::{Halt, finish, outbox};
+use crate::stepped::Stepped;
+use crate::world::World;
+use nq_base::{Host, Party};
+use nq_keeper::Keeper;
+use nq_server::Received;
+
+/// The host that sent a packet. The server sends none to itself: it counts as a host that there cannot be.
+fn sending_host(sender: Party) -> Host
+    ensures { result ≡ sending_host sender }
+{
+    match sender {
+        Party::Server => Host(64),
+        Party::Client(host) => host,
+    }
+}
+
+/// How the server took an event in, for the event.
+fn made(taken: Received) -> Result<(), Halt>
+    ensures { result ≡ received taken }
+{
+    match taken {
+        Received::Done | Received::Dropped(_) => Ok(()),
+        Received::Fault => Err(Halt::Fault),
+        Received::Memory | Received::Spent => Err(Halt::Memory),
+    }
+}
+
+impl<K: Keeper> World<K> {
+    /// The receiver of a packet takes it in.
+    pub(crate) fn deliver(&mut self, number: u64) -> Stepped
+        requires { self.old.events < most_events }
+        ensures takes { TakesIn K.content (Event.Deliver number) result self.old self.new }
+        ensures goes { GoesOn K.faults K.follows result self.old self.new }
+    {
+        match read_packet(self.alloc, &self.packets, number) {
+            Ok(
+                Arrival {
+                    sender,
+                    to,
+                    datagram,
+                },
+            ) => match to {
+                Party::Server => self.deliver_to_server(number, sender, &datagram),
+                Party::Client(host) => self.deliver_to_client(number, sender, host, &datagram),
+            },
+            Err(Missing::NoPacket) => Stepped::NoPacket,
+            Err(Missing::Memory) => Stepped::Memory,
+        }
+    }
+
+    /// The server takes in a datagram, which is the packet of this number.
+    fn deliver_to_server(&mut self, number: u64, sender: Party, datagram: &[u8]) -> Stepped
+        requires few { self.old.events < most_events }
+        requires is { slice_get self.old.datagrams number ≡ Some (record { sender = sender; to = Party.Server; bytes = datagram.now }) }
+        ensures takes { TakesIn K.content (Event.Deliver number) result self.old self.new }
+        ensures goes { GoesOn K.faults K.follows result self.old self.new }
+    {
+        let alloc = self.alloc;
+        let Ok(mut out) = outbox(alloc, &mut self.packets) else {
+            return Stepped::Memory;
+        };
+        let taken = self.server.receive(
+            alloc,
+            sending_host(sender),
+            datagram,
+            &mut out,
+            &mut self.journal,
+        );
+        finish(
+            made(taken),
+            &mut self.packets,
+            &mut self.events,
+            Party::Server,
+            &out,
+        )
+    }
+
+    /// The server's clock ticks.
+    pub(crate) fn tick_server(&mut self) -> Stepped
+        requires { self.old.events < most_events }
+        ensures takes { TakesIn K.content Event.ServerTick result self.old self.new }
+        ensures goes { GoesOn K.faults K.follows result self.old self.new }
+    {
+        let Ok(mut out) = outbox(self.alloc, &mut self.packets) else {
+            return Stepped::Memory;
+        };
+        let Some(time) = time_after(self.server.time()) else {
+            return Stepped::Memory;
+        };
+        let taken = self.server.tick(time, &mut out, &mut self.journal);
+        match made(taken) {
+            Ok(()) => match self.skew.server_tick() {
+                Ok(()) => finish(
+                    Ok(()),
+                    &mut self.packets,
+                    &mut self.events,
+                    Party::Server,
+                    &out,
+                ),
+                Err(broken) => Stepped::SkewBroken(broken),
+            },
+            Err(halt) => finish(
+                Err(halt),
+                &mut self.packets,
+                &mut self.events,
+                Party::Server,
+                &out,
+            ),
+        }
+    }
+
+    /// The server stops and boots; its longest term is from then on this.
+    pub(crate) fn crash(&mut self, longest: u32) -> Stepped
+        requires few { self.old.events < most_events }
+        requires long { shortest_term ≤ longest }
+        requires short { longest ≤ self.old.skew.window }
+        ensures takes { TakesIn K.content (Event.Crash longest) result self.old self.new }
+        ensures goes { GoesOn K.faults K.follows result self.old self.new }
+    {
+        let alloc = self.alloc;
+        let Ok(out) = outbox(alloc, &mut self.packets) else {
+            return Stepped::Memory;
+        };
+        let Some(time) = shown(self.server.time()) else {
+            return Stepped::Memory;
+        };
+        let taken = self.server.reboot(alloc, longest, time, &mut self.journal);
+        finish(
+            made(taken),
+            &mut self.packets,
+            &mut self.events,
+            Party::Server,
+            &out,
+        )
+    }
+}

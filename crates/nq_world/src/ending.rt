@@ -1,0 +1,75 @@
+//! How an event ends: what it sent is added to the packets, and it is counted.
+
+ghost use Rattle.std.specs.Prelude.{◌≡◌, ◌<◌, ◌≤◌, ◌+◌, [], length, IfOk, OnOk, OnErr};
+ghost use Rattle.nq_model.specs.Stepped.{most_events};
+ghost use Rattle.nq_world.specs.Moving.{Ends, HasRoom};
+
+use crate::sending::send;
+use crate::stepped::Stepped;
+use nq_base::{NoMemory, Party};
+use nq_net::Packets;
+use nq_wire::Outbox;
+use std::alloc::Global;
+
+/// Why an event was not taken in.
+#[derive(Clone, Copy, PartialEq, Eq)]
+pub(crate) enum Halt {
+    /// The keeper failed.
+    Fault,
+    /// Memory was wanting.
+    Memory,
+}
+
+impl From<NoMemory> for Halt {
+    ghost use Rattle.std.specs.Prelude.{◌≡◌};
+    ghost use Rattle.nq_world.specs.declared.ending.Halt.TheVariants.{Memory};
+
+    ghost from_gives = { λ _ halt. halt ≡ Memory };
+
+    fn from(_: NoMemory) -> Halt {
+        Halt::Memory
+    }
+}
+
+/// The most datagrams that an event sends.
+const MOST_SENDS: usize = 64;
+
+/// The most bytes of a datagram that is sent.
+const LONGEST_SENT: usize = 4196;
+
+/// An empty outbox for an event, whose first datagram is the next packet. Before, room is made among the packets for all that
+/// an event sends.
+pub(crate) fn outbox(alloc: Global, packets: &mut Packets) -> Result<Outbox, NoMemory>
+    ensures datagrams { packets.new.datagrams ≡ packets.old.datagrams }
+    ensures room { OnOk result (HasRoom packets.new) }
+    ensures first { IfOk result (λ out. out.first ≡ length packets.old.datagrams) }
+    ensures empty { IfOk result (λ out. out.datagrams ≡ []) }
+{
+    packets.reserve(MOST_SENDS, MOST_SENDS * LONGEST_SENT)?;
+    Outbox::new(alloc, packets.len())
+}
+
+/// Ends an event: where it was made, its datagrams are sent, as by this party, and it is counted.
+pub(crate) fn finish(
+    made: Result<(), Halt>,
+    packets: &mut Packets,
+    events: &mut u32,
+    sender: Party,
+    out: &Outbox,
+) -> Stepped
+    requires { events.old < most_events }
+    ensures ends { Ends made result sender out.now.datagrams packets.old packets.new events.old events.new }
+    ensures few { events.new ≤ most_events }
+{
+    match made {
+        Ok(()) => {
+            *events += 1;
+            match send(packets, sender, out) {
+                Ok(()) => Stepped::Done,
+                Err(NoMemory::Memory) => Stepped::Memory,
+            }
+        }
+        Err(Halt::Fault) => Stepped::Fault,
+        Err(Halt::Memory) => Stepped::Memory,
+    }
+}
