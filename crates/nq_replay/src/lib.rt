@@ -13,6 +13,3 @@ pub use ending::Ending;
 pub use nq_base::NoMemory;
 pub use printing::Bound;
 pub use words::Words;
-
-#[cfg(test)]
-mod tests;

@@ -5,4 +5,3 @@ mod top;
 
 pub use nq_replay::{NoMemory, Words};
 pub use top::run;
-
