@@ -1,14 +1,1 @@
-pub mod Packet
-pub mod Datagrams
-pub mod Arrivals
-pub mod Unfolded
-pub mod Serving
-pub mod Calling
-pub mod Running
-pub mod Lengths
-pub mod Stepping
-pub mod Playing
-pub mod Replay
 pub mod Promised
-pub mod Ending
-pub mod Judging

@@ -1,0 +1,5 @@
+pub mod Lines
+pub mod Replay
+pub mod Schedules
+pub mod Ending
+pub mod Judging

@@ -1,0 +1,61 @@
+-- What a replay prints is lawful and sound.
+use Rattle.std.proofs.Common.{◌≡◌, ℕ, List, [], ◌++◌, Option, reverse, refl, subst, arith}
+use Rattle.std.proofs.lemmas.List.{reverse-reverse}
+use Rattle.nq_base.specs.declared.Event.{Event}
+use Rattle.nq_check.proofs.Sounds.{faultless_where_sound}
+use Rattle.nq_laws.proofs.HeadlineParts.{at-every-moment}
+use Rattle.nq_model.specs.Skew.{IsWithinSkew}
+use Rattle.nq_model.specs.Sound.{IsSound}
+use Rattle.nq_model.specs.World.{run}
+use Rattle.nq_play.specs.Lawful.{IsLawful}
+use Rattle.nq_play.specs.Playing.{beginning}
+use Rattle.nq_promises.specs.Bounds.{KeepsBounds}
+use Rattle.nq_promises.specs.Headline.{HeadlineHolds}
+use Rattle.nq_replay.specs.Ending.{status_of}
+use Rattle.nq_replay.specs.declared.Ending.{Ending}
+use Rattle.nq_replay.specs.Replay.{OfInput, PrintsWithin}
+use Rattle.nq_run.specs.Promised.{HoldsThroughout, PrintsLawfully, PrintsSound}
+use Rattle.nq_script.specs.declared.heads.Head.{Head}
+
+-- the headline holds throughout a lawful schedule
+holds_throughout : (head : Head) (events : List Event) → IsLawful (beginning head) events → HoldsThroughout head events
+holds_throughout head events lawful = λ later earlier split.
+    at-every-moment head.longest (beginning head) later earlier
+    (subst (KeepsBounds head.longest (beginning head)) split lawful.bounds)
+    (subst (IsWithinSkew head.hosts head.longest) split lawful.skew)
+
+prints_lawfully : (text : List ℕ) (held now : Option (List ℕ)) → PrintsWithin text held now → PrintsLawfully text held now
+prints_lawfully text held now p = record {
+  head = p.head;
+  events = p.events;
+  runs = p.runs;
+  printed = p.printed;
+  holds = holds_throughout p.head p.events p.lawful;
+}
+
+-- the headline at the end of a run is all that the judge asks
+prints_sound : (text : List ℕ) (held now : Option (List ℕ)) → PrintsLawfully text held now → PrintsSound held now
+prints_sound text held now p =
+    let world = run (beginning p.head) p.events in
+    let h : HeadlineHolds world = (p.holds [] p.events refl).holds in
+    let sound : IsSound world.journal = record { legal = h.legal; ordered = h.ordered; accounted = h.accounted; excused = h.excused; reported = h.reported; synchronized = h.synchronized } in
+    record { version = p.head.version; entries = reverse world.journal; printed = p.printed; judged = rw (reverse-reverse world.journal) (faultless_where_sound world.journal sound) }
+
+-- only one end has the status 0
+pub done_by : (end : Ending) (status : ℕ) → status ≡ status_of end → status ≡ status_of Ending.Done → end ≡ Ending.Done
+done_by Ending.Done status is done = refl
+done_by Ending.Usage status is done = absurd (omega arith)
+done_by Ending.Script status is done = absurd (omega arith)
+done_by Ending.Skew status is done = absurd (omega arith)
+done_by Ending.ReadFault status is done = absurd (omega arith)
+done_by Ending.WriteFault status is done = absurd (omega arith)
+done_by Ending.Memory status is done = absurd (omega arith)
+done_by Ending.Limit status is done = absurd (omega arith)
+done_by Ending.NotSound status is done = absurd (omega arith)
+
+-- of an input whose journal was printed
+pub input_lawful : (limit : ℕ) (left rest held now : Option (List ℕ)) → OfInput limit left rest (λ text. PrintsWithin text held now) → OfInput limit left rest (λ text. PrintsLawfully text held now)
+input_lawful limit left rest held now p = record { text = p.text; read = p.read; so = prints_lawfully p.text held now p.so }
+
+pub input_sound : (limit : ℕ) (left rest held now : Option (List ℕ)) → OfInput limit left rest (λ text. PrintsWithin text held now) → OfInput limit left rest (λ text. PrintsSound held now)
+input_sound limit left rest held now p = record { text = p.text; read = p.read; so = prints_sound p.text held now (prints_lawfully p.text held now p.so) }
