@@ -4,7 +4,7 @@
   tools/replay.py [--program FILE] [FOLDER..]
 
 Beside each `NAME.schedule` stands `NAME.journal`, to the byte what `replay` has to print. Without a folder, `examples/` is taken.
-A file `sums.txt` with lines `NAME SUM` gives the SHA-256 of the journal of `NAME.schedule.gz` in its folder. The program is
+A file `sums.txt` with lines `NAME SUM` gives the SHA-256 of the journal of `NAME.schedule` or `NAME.schedule.gz` in its folder. The program is
 built before, in `crates/nqnfs` by `rt run`. The status is 1 where a journal differs.
 """
 
@@ -28,21 +28,29 @@ def replayed(program, schedule):
 def examples(folder):
     """Each schedule below a folder, with a test of what is printed."""
     for schedule in sorted(folder.rglob("*.schedule")):
-        wanted = schedule.with_suffix(".journal").read_bytes()
-        yield schedule, schedule.read_bytes(), lambda text, wanted=wanted: text == wanted
+        journal = schedule.with_suffix(".journal")
+        if journal.exists():
+            wanted = journal.read_bytes()
+            yield schedule, schedule.read_bytes(), lambda text, wanted=wanted: text == wanted
     for sums in sorted(folder.rglob("sums.txt")):
         for line in sums.read_text().splitlines():
             words = line.split()
             if len(words) != 2:
                 continue
             name, wanted = words
-            schedule = sums.parent / (name + ".schedule.gz")
-            if schedule.exists():
-                yield (
-                    schedule,
-                    gzip.decompress(schedule.read_bytes()),
-                    lambda text, wanted=wanted: hashlib.sha256(text).hexdigest() == wanted,
-                )
+            plain = sums.parent / (name + ".schedule")
+            packed = sums.parent / (name + ".schedule.gz")
+            if plain.exists():
+                text = plain.read_bytes()
+            elif packed.exists():
+                text = gzip.decompress(packed.read_bytes())
+            else:
+                continue
+            yield (
+                sums.parent / name,
+                text,
+                lambda text, wanted=wanted: hashlib.sha256(text).hexdigest() == wanted,
+            )
 
 
 def main():
