@@ -17,6 +17,3 @@ pub use nq_base::{Entry, Said, Span, Spans, Told};
 pub use nq_memory::NoMemory;
 pub use parsing::{JournalFault, parse};
 pub use printing::{Printed, print};
-
-#[cfg(test)]
-mod tests;

@@ -22,6 +22,3 @@ pub use outbox::Outbox;
 pub use procedure::Procedure;
 pub use replies::{LONGEST_RESULTS, decode_reply, encode_reply, encode_reply_into};
 pub use requests::{LONGEST_ARGUMENTS, decode_request, encode_request, encode_request_into};
-
-#[cfg(test)]
-mod tests;

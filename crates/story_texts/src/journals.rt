@@ -2,9 +2,9 @@
 
 ghost use Rattle.nq_journal.specs.Text.{IsVersion};
 
-use super::*;
 use nq_base::{BlockNo, FileId, Host, Inc, Number, Who};
 use nq_io::MemSink;
+use nq_journal::{Entry, Journal, JournalFault, Printed, Told, parse, print};
 use std::alloc::Global;
 use std::test::Fail;
 

@@ -3,8 +3,11 @@
 ghost use Rattle.std.specs.Prelude.{◌<◌, ◌^◌, length};
 ghost use Rattle.nq_script.specs.Schedule.{SpellsSchedule};
 
-use super::*;
 use nq_base::{Block, BlockNo, Call, Event, FileId, Host, NoMemory};
+use nq_script::{
+    Head, Line, Schedule, Script, ScriptFault, each_text, lines_are_short, one_fault, one_reading,
+    parse, parse_call, parse_head, parse_line, print_event, print_head, print_line, printed_again,
+};
 use std::alloc::AllocError;
 
 /// One write and one read of it.

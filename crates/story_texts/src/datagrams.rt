@@ -2,9 +2,13 @@
 
 ghost use Rattle.nq_wire.specs.Request.{HasSpelling};
 
-use super::*;
 use nq_base::{
     Block, BlockNo, FileId, Grant, Host, Inc, Mode, Name, Number, Rev, Seq, Tag, Want, Who,
+};
+use nq_wire::{
+    LONGEST_ARGUMENTS, LONGEST_RESULTS, Outbox, Party, Procedure, PushBase, Refusal, Reply,
+    Request, WireFault, decode_reply, decode_request, encode_reply, encode_reply_into,
+    encode_request, encode_request_into,
 };
 use nq_xdr::Writer;
 use std::alloc::{AllocError, Global};
