@@ -37,6 +37,3 @@ mod vacating;
 
 pub use client::{Client, StartClient};
 pub use heard::Heard;
-
-#[cfg(test)]
-mod tests;
