@@ -1,7 +1,8 @@
 //! Calls, and what they ask.
 #![tactic(auto, using(crate::proofs::Backwards::last_first))]
 
-ghost use Rattle.std.specs.Prelude.{◌≡◌, reverse, Some, None};
+ghost use Rattle.std.specs.Prelude.{◌≡◌, ◌≤◌, length, reverse, Some, None};
+ghost use Rattle.std.specs.List.{list_any};
 ghost use Rattle.nq_model.specs.Journal.{call_of, told_by};
 ghost use Rattle.nq_model.specs.JournalTest.{exists, is_answer, is_call, is_open, speaks_of};
 ghost use Rattle.nq_model.specs.LegalTest.{is_reading};
@@ -47,6 +48,39 @@ pub(crate) fn is_busy(entries: &[Entry], by: &Who, n: u64) -> bool
     found
 }
 
+/// Whether an A of a call is one of the entries. The first that is ends the search.
+fn has_answer(entries: &[Entry], by: &Who, n: u64) -> bool
+    ensures { result ≡ list_any (is_answer by.now n) entries.now }
+{
+    entries.iter().any(|entry| is_answer(entry, by, n))
+}
+
+/// Whether a C of a call is one of the entries. The first that is ends the search.
+fn has_call(entries: &[Entry], by: &Who, n: u64) -> bool
+    ensures { result ≡ list_any (is_call by.now n) entries.now }
+{
+    entries.iter().any(|entry| is_call(entry, by, n))
+}
+
+/// Whether an A of a call whose C stands at a place stands among the entries: those from there on are looked at
+/// first, since its A is most often one of them.
+fn is_answered_near(entries: &[Entry], near: usize, by: &Who, n: u64) -> bool
+    requires { near ≤ length entries.now }
+    ensures { result ≡ exists (is_answer by.now n) (reverse entries.now) }
+{
+    let (earlier, later) = entries.split_at(near);
+    has_answer(later, by, n) || has_answer(earlier, by, n)
+}
+
+/// Whether a C of a call stands among the entries; those from a place on are looked at first.
+fn is_called_near(entries: &[Entry], near: usize, by: &Who, n: u64) -> bool
+    requires { near ≤ length entries.now }
+    ensures { result ≡ exists (is_call by.now n) (reverse entries.now) }
+{
+    let (earlier, later) = entries.split_at(near);
+    has_call(later, by, n) || has_call(earlier, by, n)
+}
+
 /// What a call asks, as its first C tells it.
 pub(crate) fn call_of(entries: &[Entry], by: &Who, n: u64) -> Option<Told>
     ensures { result ≡ call_of (reverse entries.now) by.now n }
@@ -67,12 +101,21 @@ pub(crate) fn is_open(before: &[Entry], by: &Who, n: u64) -> bool
     is_called(before, by, n) && !is_answered(before, by, n)
 }
 
-/// Whether an entry is a C of the incarnation whose call is open behind the entries.
-pub(crate) fn is_open_call(before: &[Entry], by: &Who, entry: &Entry) -> bool
+/// The same, for a call whose C stands at a place.
+fn is_open_near(before: &[Entry], near: usize, by: &Who, n: u64) -> bool
+    requires { near ≤ length before.now }
+    ensures { result ≡ is_open (reverse before.now) by.now n }
+{
+    is_called_near(before, near, by, n) && !is_answered_near(before, near, by, n)
+}
+
+/// Whether the entry at a place is a C of the incarnation whose call is open behind the entries.
+pub(crate) fn is_open_call(before: &[Entry], place: usize, by: &Who, entry: &Entry) -> bool
+    requires { place ≤ length before.now }
     ensures { result ≡ is_open_call (reverse before.now) by.now entry.now }
 {
     match entry {
-        Entry::C { who, q, .. } => *by == *who && is_open(before, by, *q),
+        Entry::C { who, q, .. } => *by == *who && is_open_near(before, place, by, *q),
         _ => false,
     }
 }
@@ -82,8 +125,8 @@ pub(crate) fn has_open(before: &[Entry], by: &Who) -> bool
     ensures { result ≡ has_open (reverse before.now) by.now }
 {
     let mut found = false;
-    for entry in before {
-        let here = is_open_call(before, by, entry);
+    for (place, entry) in before.iter().enumerate() {
+        let here = is_open_call(before, place, by, entry);
         found = here || found;
     }
     found
@@ -94,9 +137,9 @@ pub(crate) fn open_call(before: &[Entry], by: &Who) -> Option<u64>
     ensures { result ≡ open_call (reverse before.now) by.now (reverse before.now) }
 {
     let mut found = None;
-    for entry in before {
+    for (place, entry) in before.iter().enumerate() {
         if let Entry::C { q, .. } = entry {
-            if is_open_call(before, by, entry) {
+            if is_open_call(before, place, by, entry) {
                 found = Some(*q);
             }
         }

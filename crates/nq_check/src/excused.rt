@@ -181,17 +181,22 @@ fn ends(before: &[Entry], by: &Who, on: FileId, entry: &Entry) -> bool
     }
 }
 
-/// Whether a lease ended before an L, and after each write that it covers.
+/// Whether a lease ended before an L, and after each write that it covers. The latest entries are looked at first.
 fn ends_first(before: &[Entry], loss: &Entry, by: &Who, on: FileId) -> bool
     ensures { result ≡ ends_first loss.now by.now on (reverse before.now) }
 {
-    let mut found = false;
-    for (place, entry) in before.iter().enumerate() {
-        let here = ends(&before[..place], by, on, entry);
-        let goes_on = !loss_covers(loss, entry);
-        found = here || goes_on && found;
+    let mut left = before.len();
+    while left > 0 {
+        let entry = &before[left - 1];
+        if ends(&before[..left - 1], by, on, entry) {
+            return true;
+        }
+        if loss_covers(loss, entry) {
+            return false;
+        }
+        left -= 1;
     }
-    found
+    false
 }
 
 /// Whether an L covers a write among the entries.

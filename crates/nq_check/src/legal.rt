@@ -2,8 +2,9 @@
 #![tactic(auto, using(crate::proofs::Backwards::last_first))]
 
 ghost use Rattle.std.specs.Prelude.{◌≡◌, reverse};
+ghost use Rattle.std.specs.List.{list_any};
 ghost use Rattle.nq_model.specs.Journal.{last_value, since_cut};
-ghost use Rattle.nq_model.specs.JournalTest.{at_most_one, exists, is_answer_by, is_counted, is_lost, is_stored};
+ghost use Rattle.nq_model.specs.JournalTest.{at_most_one, exists, is_answer_by, is_counted, is_lost, is_stored, store_covers};
 ghost use Rattle.nq_model.specs.LegalTest.{is_answer_with, is_counted_by, is_counted_with, is_legal_answer, is_legal_at, is_legal_read};
 ghost use Rattle.nq_model.specs.StandsTest.{standing_value, stands};
 
@@ -93,16 +94,20 @@ fn has_one_counted(whole: &[Entry], by: &Who, n: u64) -> bool
     number <= 1
 }
 
-/// Whether an S among the entries covers a write.
-pub(crate) fn is_stored(entries: &[Entry], write: &Entry) -> bool
+/// Whether an S that covers a write is one of the entries. The first that is ends the search.
+fn has_store(entries: &[Entry], write: &Entry) -> bool
+    ensures { result ≡ list_any (λ entry. store_covers entry write.now) entries.now }
+{
+    entries.iter().any(|entry| store_covers(entry, write))
+}
+
+/// Whether an S among the entries covers a write. Those from a place on are looked at first: where the write stands there, its
+/// S is most often one of them.
+pub(crate) fn is_stored(entries: &[Entry], near: usize, write: &Entry) -> bool
     ensures { result ≡ is_stored (reverse entries.now) write.now }
 {
-    let mut found = false;
-    for entry in entries {
-        let here = store_covers(entry, write);
-        found = here || found;
-    }
-    found
+    let (earlier, later) = entries.split_at(near.min(entries.len()));
+    has_store(later, write) || has_store(earlier, write)
 }
 
 /// Whether an L among the entries covers a write.
@@ -127,28 +132,33 @@ struct Reading<'a> {
     value: u32,
 }
 
-/// Whether a write stands for a later read.
-fn stands(whole: &[Entry], before: &[Entry], read: &Reading, write: &Entry) -> bool
+/// Whether a write stands for a later read, looked for from the write's place on.
+fn stands(whole: &[Entry], before: &[Entry], read: &Reading, place: usize, write: &Entry) -> bool
     ensures { result ≡ stands (reverse whole.now) (reverse before.now) read.now.who.now read.now.file read.now.block write.now }
 {
     is_write_on(write, read.file, read.block)
         && (is_through(write)
-            || (is_stored(whole, write) || is_write_by(write, read.who) && !is_lost(before, write)))
+            || (is_stored(whole, place, write)
+                || is_write_by(write, read.who) && !is_lost(before, write)))
 }
 
-/// The value of the last write before a read that stands for it, or 0 where there is none.
+/// The value of the last write before a read that stands for it, or 0 where there is none. The latest entries are looked at
+/// first.
 fn standing_value(whole: &[Entry], before: &[Entry], read: &Reading) -> u32
     ensures { result ≡ standing_value (reverse whole.now) (reverse before.now) read.now.who.now read.now.file read.now.block }
 {
-    let mut value = 0;
-    for entry in before {
+    let mut left = before.len();
+    while left > 0 {
+        let entry = &before[left - 1];
         if cuts(entry, read.file, read.block) {
-            value = 0;
-        } else if stands(whole, before, read, entry) {
-            value = value_written(entry);
+            return 0;
         }
+        if stands(whole, before, read, left - 1, entry) {
+            return value_written(entry);
+        }
+        left -= 1;
     }
-    value
+    0
 }
 
 /// Whether a counted read is legal.

@@ -3,11 +3,13 @@
 
 mod accounted;
 mod calls;
+mod covering;
 mod entries;
 mod excused;
 mod judge;
 pub mod laws;
 mod legal;
+mod marks;
 mod named;
 mod ordered;
 mod rules;
@@ -15,6 +17,3 @@ mod synchronized;
 
 pub use judge::check;
 pub use rules::{Judged, Rule};
-
-#[cfg(test)]
-mod tests;

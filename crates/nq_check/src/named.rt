@@ -55,8 +55,8 @@ fn names(whole: &[Entry], by: &Who, loss: &Loss, entry: &Entry) -> bool
             said: Said::Lost(spans),
         } => {
             *by == *who
-                && speaks_of(loss.file, call_of(whole, who, *q))
                 && are_names_of(loss, spans)
+                && speaks_of(loss.file, call_of(whole, who, *q))
         }
         _ => false,
     }

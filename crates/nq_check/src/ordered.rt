@@ -1,15 +1,15 @@
 //! Which entries stand in the order of their client's calls.
 #![tactic(auto, using(crate::proofs::Backwards::last_first))]
 
-ghost use Rattle.std.specs.Prelude.{◌≡◌, reverse};
-ghost use Rattle.nq_model.specs.JournalTest.{each, exists, throughout};
+ghost use Rattle.std.specs.Prelude.{◌≡◌, ◌≤◌, length, reverse};
+ghost use Rattle.nq_model.specs.JournalTest.{each, exists, is_call, throughout};
 ghost use Rattle.nq_model.specs.LegalTest.{is_counted_by};
 ghost use Rattle.nq_model.specs.OrderedTest.{is_before_call, is_busy_next, is_call_below, is_call_in_order, is_in_order, is_no_other, is_numbered, is_read_in_order, is_resize_by, is_resize_in_order, is_write_in_order, is_write_of};
 
 use crate::calls::{
-    call_of, has_open, is_answered, is_called, is_open, is_open_call, open_call, resizes, writes,
+    call_of, has_open, is_answered, is_open, is_open_call, open_call, resizes, writes,
 };
-use crate::entries::{is_call_below, is_numbered, is_resize_by};
+use crate::entries::{is_call, is_call_below, is_numbered, is_resize_by};
 use crate::legal::{is_counted, is_counted_by};
 use nq_base::{BlockNo, Entry, FileId, Number, Said, Who};
 
@@ -54,12 +54,13 @@ fn is_call_in_order(before: &[Entry], after: &[Entry], by: &Who, n: u64) -> bool
 
 // ---- writes
 
-/// Whether an entry is no C of another open call of the incarnation.
-pub(crate) fn is_no_other(before: &[Entry], by: &Who, n: u64, entry: &Entry) -> bool
+/// Whether the entry at a place is no C of another open call of the incarnation.
+fn is_no_other(before: &[Entry], place: usize, by: &Who, n: u64, entry: &Entry) -> bool
+    requires { place ≤ length before.now }
     ensures { result ≡ is_no_other (reverse before.now) by.now n entry.now }
 {
     match entry {
-        Entry::C { q, .. } => !is_open_call(before, by, entry) || *q == n,
+        Entry::C { q, .. } => !is_open_call(before, place, by, entry) || *q == n,
         _ => true,
     }
 }
@@ -69,19 +70,20 @@ pub(crate) fn is_alone(before: &[Entry], by: &Who, n: u64) -> bool
     ensures { result ≡ each (is_no_other (reverse before.now) by.now n) (reverse before.now) }
 {
     let mut all = true;
-    for entry in before {
-        let here = is_no_other(before, by, n, entry);
+    for (place, entry) in before.iter().enumerate() {
+        let here = is_no_other(before, place, by, n, entry);
         all = here && all;
     }
     all
 }
 
-/// Whether an entry is no write of the incarnation after the C of a call.
-fn is_before_call(before: &[Entry], by: &Who, n: u64, entry: &Entry) -> bool
+/// Whether an entry is no write of the incarnation after the C of a call, where it is known whether that C is before it.
+fn is_before_call(before: &[Entry], called: bool, by: &Who, n: u64, entry: &Entry) -> bool
+    requires { called ≡ exists (is_call by.now n) (reverse before.now) }
     ensures { result ≡ is_before_call by.now n entry.now (reverse before.now) }
 {
     match entry {
-        Entry::W { who, .. } => *by != *who || !is_called(before, by, n),
+        Entry::W { who, .. } => *by != *who || !called,
         _ => true,
     }
 }
@@ -90,10 +92,13 @@ fn is_before_call(before: &[Entry], by: &Who, n: u64, entry: &Entry) -> bool
 fn are_before_call(before: &[Entry], by: &Who, n: u64) -> bool
     ensures { result ≡ throughout (is_before_call by.now n) (reverse before.now) }
 {
+    let mut called = false;
     let mut all = true;
     for (place, entry) in before.iter().enumerate() {
-        let here = is_before_call(&before[..place], by, n, entry);
+        let here = is_before_call(&before[..place], called, by, n, entry);
         all = here && all;
+        let calls = is_call(entry, by, n);
+        called = calls || called;
     }
     all
 }

@@ -3,11 +3,11 @@
 
 ghost use Rattle.std.specs.Prelude.{◌≡◌, reverse};
 ghost use Rattle.nq_check.specs.Kept.{is_kept, is_kept_at, is_put_kept, is_write_of_call};
-ghost use Rattle.nq_model.specs.JournalTest.{each, exists, somewhere};
+ghost use Rattle.nq_model.specs.JournalTest.{each, exists, is_open, somewhere};
 ghost use Rattle.nq_model.specs.SynchronizedTest.{are_stored_or_told, is_delayed_on, is_named_loss, is_settled_resize, is_stored_or_told};
 
-use crate::calls::{call_of, is_open, writes};
-use crate::entries::{is_delayed_on, is_through, loss_covers};
+use crate::calls::{call_of, writes};
+use crate::entries::{is_answer, is_call, is_delayed_on, is_through, loss_covers};
 use crate::legal::is_stored;
 use crate::named::is_named;
 use crate::ordered::is_alone;
@@ -15,8 +15,9 @@ use nq_base::{Entry, FileId, Loss, Said, Told, Who};
 
 // ---- a put
 
-/// Whether an entry is the write of a call.
-fn is_write_of_call(before: &[Entry], by: &Who, n: u64, entry: &Entry) -> bool
+/// Whether an entry is the write of a call, where it is known whether that call is open.
+fn is_write_of_call(before: &[Entry], opened: bool, by: &Who, n: u64, entry: &Entry) -> bool
+    requires { opened ≡ is_open (reverse before.now) by.now n }
     ensures { result ≡ is_write_of_call by.now n entry.now (reverse before.now) }
 {
     match entry {
@@ -28,7 +29,7 @@ fn is_write_of_call(before: &[Entry], by: &Who, n: u64, entry: &Entry) -> bool
             ..
         } => {
             *by == *who
-                && is_open(before, by, n)
+                && opened
                 && is_alone(before, by, n)
                 && writes(*file, *block, *value, call_of(before, by, n))
         }
@@ -40,11 +41,17 @@ fn is_write_of_call(before: &[Entry], by: &Who, n: u64, entry: &Entry) -> bool
 fn is_put_kept(before: &[Entry], by: &Who, n: u64) -> bool
     ensures { result ≡ somewhere (is_put_kept (reverse before.now) by.now n) (reverse before.now) }
 {
+    let mut called = false;
+    let mut answered = false;
     let mut found = false;
     for (place, entry) in before.iter().enumerate() {
-        let here = is_write_of_call(&before[..place], by, n, entry)
-            && (is_through(entry) || is_stored(before, entry));
+        let here = is_write_of_call(&before[..place], called && !answered, by, n, entry)
+            && (is_through(entry) || is_stored(before, place, entry));
         found = here || found;
+        let calls = is_call(entry, by, n);
+        called = calls || called;
+        let answers = is_answer(entry, by, n);
+        answered = answers || answered;
     }
     found
 }
@@ -87,11 +94,17 @@ fn is_told(whole: &[Entry], answered: &[Entry], write: &Entry) -> bool
     found
 }
 
-/// Whether an S among the `stores` covers a write, or an L that is told.
-fn is_stored_or_told(whole: &[Entry], stores: &[Entry], answered: &[Entry], write: &Entry) -> bool
+/// Whether an S among the `stores` covers a write, or an L that is told. The S is looked for from the write's place on.
+fn is_stored_or_told(
+    whole: &[Entry],
+    stores: &[Entry],
+    answered: &[Entry],
+    place: usize,
+    write: &Entry,
+) -> bool
     ensures { result ≡ is_stored_or_told (reverse whole.now) (reverse stores.now) (reverse answered.now) write.now }
 {
-    is_stored(stores, write) || is_told(whole, answered, write)
+    is_stored(stores, place, write) || is_told(whole, answered, write)
 }
 
 /// Whether it is so with each delayed write of an incarnation on a file before the answer.
@@ -105,9 +118,9 @@ fn are_stored_or_told(
     ensures { result ≡ are_stored_or_told (reverse whole.now) (reverse stores.now) (reverse answered.now) by.now on }
 {
     let mut all = true;
-    for write in answered {
+    for (place, write) in answered.iter().enumerate() {
         let here = !is_delayed_on(write, by, on)
-            || is_stored_or_told(whole, stores, answered, write);
+            || is_stored_or_told(whole, stores, answered, place, write);
         all = here && all;
     }
     all

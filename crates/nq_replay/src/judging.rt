@@ -45,7 +45,7 @@ fn judge_text<K: Sink>(alloc: Global, text: &[u8], out: &mut K) -> Ending
     ensures { JudgesText result text.now (K.held out.old) (K.held out.new) (K.faults out.old) (K.faults out.new) }
 {
     match parse(alloc, text) {
-        Ok(journal) => tell(alloc, check(&journal), out),
+        Ok(journal) => tell(alloc, check(alloc, &journal), out),
         Err(JournalFault::Line(line)) => match script_text(alloc, line as usize) {
             Ok(line) => {
                 put_line(out, line.as_bytes());

@@ -3,5 +3,5 @@ use Rattle.nq_model.specs.JournalTest.{exists}
 use Rattle.nq_model.specs.OrderedTest.{is_open_call}
 use Rattle.nq_check.proofs.calls.has_open.Given as goal
 
-abbrev pub invariant-loop-entry : goal.invariant-loop-entry
-invariant-loop-entry l = l.found ≡ exists (is_open_call (reverse l.before) l.by) (reverse (take l.entry-index l.before))
+abbrev pub invariant-loop-place : goal.invariant-loop-place
+invariant-loop-place l = l.found ≡ exists (is_open_call (reverse l.before) l.by) (reverse (take l.place l.before))

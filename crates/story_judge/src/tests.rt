@@ -1,6 +1,6 @@
 //! Tests of the judge, on worked journals.
 
-use super::*;
+use nq_check::{Judged, Rule, check};
 use nq_journal::parse;
 use std::alloc::Global;
 use std::test::Fail;
@@ -87,9 +87,80 @@ C 0 1 2 sync 1
 end
 ";
 
+// A busy call opens nothing.
+const BUSY_BESIDE_A_PUT: &[u8] = b"nqnfs-journal 1
+C 0 1 1 put 1 0 5
+C 0 1 2 sync 1
+A 0 1 2 busy
+W 0 1 1 0 1 5 through
+A 0 1 1 ok
+end
+";
+
+// A cached read that no answer tells.
+const READ_WITHOUT_AN_ANSWER: &[u8] = b"nqnfs-journal 1
+C 0 1 1 read 1 0
+R 0 1 1 1 0 0 cached
+end
+";
+
+// A put that is answered ok, and only another client's put was written.
+const PUT_WITHOUT_ITS_WRITE: &[u8] = b"nqnfs-journal 1
+C 1 1 1 put 1 0 7
+W 1 1 1 0 1 7 through
+A 1 1 1 ok
+C 0 1 1 put 1 0 7
+A 0 1 1 ok
+end
+";
+
+// An L that has the number of a write to another file.
+const LOSS_ON_ANOTHER_FILE: &[u8] = b"nqnfs-journal 1
+C 0 1 1 write 1 0 5
+W 0 1 1 0 1 5 delayed
+A 0 1 1 ok
+L 0 1 2 0 1 1
+end
+";
+
+// A write that was lost, and is stored afterwards.
+const STORED_AFTER_A_LOSS: &[u8] = b"nqnfs-journal 1
+C 0 1 1 write 1 0 5
+G 0 1 1 writing 1 1 5 0
+W 0 1 1 0 1 5 delayed
+A 0 1 1 ok
+F 0 1 1 8 0 13
+L 0 1 1 0 1 1
+S 0 1 1 0 1 1 14
+end
+";
+
+// A loss behind the end of a recovery, which came skew and slack after the longest term.
+const LOST_IN_A_RECOVERY: &[u8] = b"nqnfs-journal 1
+C 0 1 1 write 1 0 5
+G 0 1 1 writing 1 1 5 0
+W 0 1 1 0 1 5 delayed
+A 0 1 1 ok
+X 2 10
+O 2 78 0 78
+L 0 1 1 0 1 1
+end
+";
+
+// The same without the boot of which the O tells.
+const RECOVERED_WITHOUT_A_BOOT: &[u8] = b"nqnfs-journal 1
+C 0 1 1 write 1 0 5
+G 0 1 1 writing 1 1 5 0
+W 0 1 1 0 1 5 delayed
+A 0 1 1 ok
+O 2 78 0 78
+L 0 1 1 0 1 1
+end
+";
+
 fn judged(alloc: Global, text: &[u8]) -> Result<Judged, Fail> {
     let journal = parse(alloc, text)?;
-    Ok(check(&journal))
+    Ok(check(alloc, &journal))
 }
 
 fn no(place: usize, rule: Rule) -> Judged {
@@ -108,6 +179,28 @@ fn worked_journals_are_judged(rt: HostRuntime) -> Result<(), Fail> {
         no(6, Rule::Reported)
     );
     assert_eq!(rt; judged(alloc, ENDS_WITH_A_CALL)?, no(1, Rule::Ordered));
+    Ok(())
+}
+
+#[test]
+fn other_journals_are_judged(rt: HostRuntime) -> Result<(), Fail> {
+    let alloc = rt.alloc();
+    assert_eq!(rt; judged(alloc, BUSY_BESIDE_A_PUT)?, Judged::Yes);
+    assert_eq!(rt; judged(alloc, READ_WITHOUT_AN_ANSWER)?, no(1, Rule::Legal));
+    assert_eq!(rt;
+        judged(alloc, PUT_WITHOUT_ITS_WRITE)?,
+        no(4, Rule::Synchronized)
+    );
+    assert_eq!(rt;
+        judged(alloc, LOSS_ON_ANOTHER_FILE)?,
+        no(3, Rule::Accounted)
+    );
+    assert_eq!(rt; judged(alloc, STORED_AFTER_A_LOSS)?, no(6, Rule::Accounted));
+    assert_eq!(rt; judged(alloc, LOST_IN_A_RECOVERY)?, Judged::Yes);
+    assert_eq!(rt;
+        judged(alloc, RECOVERED_WITHOUT_A_BOOT)?,
+        no(5, Rule::Reported)
+    );
     Ok(())
 }
 

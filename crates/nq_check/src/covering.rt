@@ -1,0 +1,108 @@
+//! A fast test of journals that account for their delayed writes: it is true only where they do.
+#![tactic(auto, using(crate::proofs::Backwards::last_first, crate::proofs::Once::stored_once, crate::proofs::Once::lost_once, crate::proofs::Once::exists_there))]
+
+ghost use Rattle.std.specs.Prelude.{◌≡◌, true, reverse, slice_get, Some, IfOk, IfSome, IsTrue};
+ghost use Rattle.nq_check.specs.Covered.{Accounts, IsAnew};
+ghost use Rattle.nq_model.specs.FateTest.{is_accounted_at};
+ghost use Rattle.nq_model.specs.JournalTest.{covers, exists, throughout};
+
+use crate::entries::covers;
+use crate::marks::{Marks, Spot, mark_at, set_mark, spot};
+use nq_base::{BlockNo, Entry, FileId, NoMemory, Number, Who};
+use std::alloc::Global;
+use std::collections::HashMap;
+
+/// Where the place of a write is kept: at its incarnation and its number.
+fn write_spot(who: &Who, number: Number) -> Spot {
+    let high = (number.0 >> 32) as u32;
+    let low = (number.0 & 0xffff_ffff) as u32;
+    spot(who, FileId(high), BlockNo(low))
+}
+
+/// The places of the writes, each at its incarnation and its number.
+fn places_of_writes(alloc: Global, whole: &[Entry]) -> Result<Marks, NoMemory> {
+    let mut places = HashMap::new(alloc);
+    for (place, entry) in whole.iter().enumerate() {
+        if let Entry::W { who, number, .. } = entry {
+            set_mark(&mut places, write_spot(who, *number), place as u64)?;
+        }
+    }
+    Ok(places)
+}
+
+/// The entry at a place; None where the place is not below the length.
+fn entry_at(whole: &[Entry], place: usize) -> Option<&Entry>
+    ensures { IfSome result (λ entry. slice_get whole.now place ≡ Some entry.now) }
+{
+    whole.get(place)
+}
+
+/// Whether the write at a place is one that an entry covers.
+fn covers_at(whole: &[Entry], place: u64, entry: &Entry) -> bool
+    ensures { IsTrue result → exists (covers entry.now) (reverse whole.now) ≡ true }
+{
+    match entry_at(whole, place as usize) {
+        Some(write) => covers(entry, write),
+        None => false,
+    }
+}
+
+/// Whether numbers are above the mark of a block. Then the last of them is its mark.
+fn covers_anew(marks: &mut Marks, at: Spot, first: Number, last: Number) -> Result<bool, NoMemory>
+    ensures { IfOk result (λ anew. IsTrue anew → IsAnew at first last marks.old.entries marks.new.entries) }
+{
+    if first.0 <= mark_at(marks, at) || last < first {
+        return Ok(false);
+    }
+    set_mark(marks, at, last.0)?;
+    Ok(true)
+}
+
+/// Whether an entry covers only what is above its block's mark, and a write where it is an L. Then the marks tell of it.
+fn accounts(
+    whole: &[Entry],
+    places: &Marks,
+    marks: &mut Marks,
+    entry: &Entry,
+) -> Result<bool, NoMemory>
+    ensures { IfOk result (λ yes. IsTrue yes → Accounts (reverse whole.now) entry.now marks.old.entries marks.new.entries) }
+{
+    match entry {
+        Entry::S {
+            who,
+            file,
+            block,
+            first,
+            last,
+            ..
+        } => covers_anew(marks, spot(who, *file, *block), *first, *last),
+        Entry::L {
+            who,
+            file,
+            block,
+            first,
+            last,
+        } => {
+            let place = mark_at(places, write_spot(who, *last));
+            if !covers_at(whole, place, entry) {
+                return Ok(false);
+            }
+            covers_anew(marks, spot(who, *file, *block), *first, *last)
+        }
+        _ => Ok(true),
+    }
+}
+
+/// Whether each entry does so, one after another.
+pub(crate) fn account_for_all(alloc: Global, whole: &[Entry]) -> Result<bool, NoMemory>
+    ensures { IfOk result (λ yes. IsTrue yes → throughout (is_accounted_at (reverse whole.now)) (reverse whole.now) ≡ true) }
+{
+    let places = places_of_writes(alloc, whole)?;
+    let mut marks = HashMap::new(alloc);
+    for entry in whole {
+        if !accounts(whole, &places, &mut marks, entry)? {
+            return Ok(false);
+        }
+    }
+    Ok(true)
+}
