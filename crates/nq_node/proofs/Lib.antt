@@ -1,0 +1,3 @@
+pub mod ClientTurns
+pub mod Letters
+pub mod ServerTurns

@@ -1,0 +1,3 @@
+pub mod ClientTurn
+pub mod Links
+pub mod ServerTurn

@@ -1,0 +1,11 @@
+//! The turns of real hosts: a party reads its clock once, takes in what is due, receives once, and sends what came out.
+#![tactic(auto)]
+
+mod attending;
+mod sending;
+mod serving;
+mod turns;
+
+pub use attending::client_turn;
+pub use serving::serve_turn;
+pub use turns::{ClientTurn, Turn};
