@@ -1,3 +1,4 @@
 pub mod Menu
 pub mod Places
 pub mod Rules
+pub mod Stormy

@@ -3,6 +3,7 @@
 ghost use Rattle.std.specs.Prelude.{◌≡◌, ◌%◌, ℕ, Option, Some, IfSome, slice_get};
 ghost use Rattle.nq_fate.specs.Menu.{menu};
 ghost use Rattle.nq_fate.specs.Rules.{Rule, chosen};
+ghost use Rattle.nq_fate.specs.Stormy.{IsStormy};
 
 use crate::menus::event_at;
 use crate::offers::Offer;
@@ -24,7 +25,8 @@ pub trait Fate: Drop {
 
 /// The event that a fate chooses from the menu of a moment; what it writes, if it writes, is `number`.
 pub fn choose_event(fate: &mut dyn Fate, offer: &Offer, number: u32) -> Event
-    ensures { (answer : ℕ) × (slice_get (menu offer.now number) (answer % offer.now.size) ≡ Some result)
+    ensures stormy { IsStormy result }
+    ensures chosen { (answer : ℕ) × (slice_get (menu offer.now number) (answer % offer.now.size) ≡ Some result)
         × IfSome (told fate.old) (λ rule. (answer ≡ (chosen rule offer.now).0) × (told fate.new ≡ Some (chosen rule offer.now).1)) }
 {
     let answer = fate.choose(offer);

@@ -3,6 +3,7 @@
 ghost use Rattle.std.specs.Prelude.{◌≡◌, ◌<◌, ℕ, Some, length, slice_get};
 ghost use Rattle.nq_fate.specs.Menu.{all_ticks, call_at, host_call, menu};
 ghost use Rattle.nq_fate.specs.Places.{tick_count};
+ghost use Rattle.nq_fate.specs.Stormy.{IsStormy, WritesNumber};
 ghost use Rattle.nq_fate.specs.declared.offers.Offer.{Offer};
 
 use crate::offers::Offer;
@@ -17,7 +18,8 @@ const CALLS: u32 = 26;
 /// The event at a place of the menu; what it writes, if it writes, is `number`.
 pub fn event_at(offer: &Offer, place: u32, number: u32) -> Event
     requires { place < offer.now.size }
-    ensures { slice_get (menu offer.now number) place ≡ Some result }
+    ensures here { slice_get (menu offer.now number) place ≡ Some result }
+    ensures stormy { IsStormy result }
 {
     if place < offer.ticks_at {
         Event::Deliver(u64::from(place))
@@ -35,7 +37,8 @@ pub fn event_at(offer: &Offer, place: u32, number: u32) -> Event
 /// The tick at a place among the ticks.
 fn tick_at(server_tick: bool, place: u32) -> Event
     requires { place < tick_count server_tick }
-    ensures { slice_get (all_ticks server_tick) place ≡ Some result }
+    ensures here { slice_get (all_ticks server_tick) place ≡ Some result }
+    ensures stormy { IsStormy result }
 {
     if !server_tick {
         Event::ClientTick(Host(place))
@@ -49,7 +52,8 @@ fn tick_at(server_tick: bool, place: u32) -> Event
 /// The call at a place among those of all hosts.
 fn host_call(place: u32, number: u32) -> Event
     requires { place < 104 }
-    ensures { result ≡ host_call number place }
+    ensures here { result ≡ host_call number place }
+    ensures stormy { IsStormy result }
 {
     Event::Call {
         host: Host(place / CALLS),
@@ -60,7 +64,8 @@ fn host_call(place: u32, number: u32) -> Event
 /// The call at a place among those of a host.
 fn call_at(place: u32, number: u32) -> Call
     requires { place < 26 }
-    ensures { result ≡ call_at number place }
+    ensures here { result ≡ call_at number place }
+    ensures stormy { WritesNumber result }
 {
     let file = FileId(1 + place % 8 / 4);
     let block = BlockNo(place % 4);
