@@ -1,7 +1,11 @@
 use super::*;
-use nq_base::{Block, BlockNo, FileId, Host, Inc, Mode, Number, Row, Tag, Ticks, Who};
+use nq_base::{
+    Access, Block, BlockNo, FileId, Host, Inc, Mode, Number, Party, Row, Tag, Ticks, Who,
+};
 use nq_dirty::Dirty;
 use nq_lease::Table;
+use nq_wire::Outbox;
+use std::alloc::{AllocError, Global};
 use std::test::Fail;
 
 fn who(inc: u32) -> Who {
@@ -11,21 +15,97 @@ fn who(inc: u32) -> Who {
     }
 }
 
+/// A row of file 1 with this tag of boot 2.
+fn row(who: Who, mode: Mode, number: u64) -> Row {
+    Row {
+        file: FileId(1),
+        who,
+        mode,
+        tag: Tag { boot: 2, number },
+        since: Tag { boot: 2, number: 1 },
+        until: Ticks(30),
+        heard: Ticks(0),
+        evicting: true,
+    }
+}
+
+/// EVICTED, procedure 9 of program 20004e51: a host in incarnation 3 is to give up its lease on file 1 with this tag of
+/// boot 2.
+fn notice(alloc: Global, xid: u32, host: u32, tag: u32) -> Result<Vec<u8>, AllocError> {
+    let words = [
+        xid,
+        0,
+        2,
+        0x2000_4e51,
+        1,
+        9,
+        0,
+        0,
+        0,
+        0,
+        host,
+        3,
+        1,
+        2,
+        0,
+        tag,
+    ];
+    let mut bytes = Vec::new(alloc);
+    for word in &words {
+        bytes.extend_from_slice(&word.to_be_bytes())?;
+    }
+    Ok(bytes)
+}
+
+/// Whether the datagram at a place goes to this host and has these bytes.
+fn is_sent(out: &Outbox, place: usize, host: u32, bytes: &[u8]) -> bool {
+    match out.get(place) {
+        Some((to, sent)) => to == Party::Client(Host(host)) && sent == bytes,
+        None => false,
+    }
+}
+
+#[test]
+fn holders_are_told_to_give_their_leases_up(rt: HostRuntime) -> Result<(), Fail> {
+    let mut table = Table::new(rt.alloc(), 2).ok().ok_or("memory")?;
+    for (host, mode, tag) in [
+        (1, Mode::Reading, 4),
+        (2, Mode::NonCaching, 5),
+        (5, Mode::Reading, 6),
+    ] {
+        let holder = Who {
+            host: Host(host),
+            inc: Inc(3),
+        };
+        assert!(rt; table.put_row(row(holder, mode, tag)).is_ok());
+    }
+    let mut out = Outbox::new(rt.alloc(), 0).ok().ok_or("memory")?;
+    let mut xid = u32::MAX;
+    for to in [
+        NoticeTo::Others {
+            host: Host(2),
+            access: Access::Write,
+        },
+        NoticeTo::Own(Host(2)),
+        NoticeTo::Own(Host(3)),
+    ] {
+        let told = notices(rt.alloc(), &table, FileId(1), to, &mut xid, &mut out);
+        assert!(rt; told.is_ok());
+    }
+    assert_eq!(rt; xid, 2);
+    assert_eq!(rt; out.len(), 3);
+    for (place, xid, host, tag) in [(0, u32::MAX, 1, 4), (1, 0, 5, 6), (2, 1, 2, 5)] {
+        let bytes = notice(rt.alloc(), xid, host, tag)?;
+        assert!(rt; is_sent(&out, place, host, bytes.as_slice()));
+    }
+    Ok(())
+}
+
 #[test]
 fn a_lease_is_given_up_by_its_latest_tag(rt: HostRuntime) -> Result<(), Fail> {
     let tag = |boot, number| Tag { boot, number };
     let mut table = Table::new(rt.alloc(), 2).ok().ok_or("memory")?;
-    let row = Row {
-        file: FileId(1),
-        who: who(3),
-        mode: Mode::Reading,
-        tag: tag(2, 4),
-        since: tag(2, 1),
-        until: Ticks(30),
-        heard: Ticks(0),
-        evicting: true,
-    };
-    assert!(rt; table.put_row(row).is_ok());
+    assert!(rt; table.put_row(row(who(3), Mode::Reading, 4)).is_ok());
     for (who, file, tag) in [
         (who(3), FileId(1), tag(2, 1)),
         (who(3), FileId(1), tag(1, 4)),
