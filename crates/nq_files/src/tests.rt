@@ -176,6 +176,8 @@ fn what_comes_again_is_answered_again(rt: HostRuntime) {
     let mut s = begun(&rt, rt.alloc());
     s.seq = 0;
     assert!(rt; s.remove(&rt, 1, SERVING) == again(1));
+    s.seq = 0;
+    assert!(rt; s.remove(&rt, 1, RECOVERING) == again(1));
     s.seq = u64::MAX;
     assert!(rt; s.attach(&rt, WHO) == again(1));
     assert!(rt; s.remove(&rt, 1, SERVING) == fresh(Verdict::Done, 0));
@@ -206,6 +208,8 @@ fn a_write_is_tested_in_order(rt: HostRuntime) {
     assert!(rt; s.write(&rt, (1, 2), 5, None, HINDERED) == fresh(Verdict::Invalid, 0));
     assert!(rt; s.write(&rt, (1, 1), 5, None, HINDERED) == fresh(Verdict::TryLater, 0));
     assert!(rt; s.write(&rt, (1, 1), 5, None, SERVING) == fresh(Verdict::Done, 1));
+    assert!(rt; s.write(&rt, (2, 9), 6, base(2, 9), SERVING) == fresh(Verdict::Stale, 0));
+    assert!(rt; s.write(&rt, (1, 2), 6, base(2, 9), SERVING) == fresh(Verdict::Invalid, 0));
     assert!(rt; s.write(&rt, (1, 1), 6, base(1, 1), SERVING) == fresh(Verdict::Fenced, 0));
     assert!(rt; s.write(&rt, (1, 1), 6, base(2, 1), HOLDING) == fresh(Verdict::Fenced, 0));
     assert!(rt; s.write(&rt, (1, 1), 6, base(1, 0), HOLDING) == fresh(Verdict::Fenced, 0));
@@ -275,7 +279,9 @@ fn there_is_room_for_so_many_blocks(rt: HostRuntime) {
     assert!(rt; s.create(&rt, b"p", 1024, SERVING) == fresh(Verdict::Done, 16));
     assert!(rt; s.create(&rt, b"q", 1023, SERVING) == fresh(Verdict::NoSpace, 0));
     assert!(rt; s.create(&rt, b"q", 1022, SERVING) == fresh(Verdict::Done, 17));
-    assert!(rt; s.resize(&rt, 1, 3, SERVING) == fresh(Verdict::NoSpace, 0));
+    assert!(rt; s.create(&rt, b"q", 1, SERVING) == fresh(Verdict::Exist, 0));
+    assert!(rt; s.resize(&rt, 1, 1025, HINDERED) == fresh(Verdict::Invalid, 0));
+    assert!(rt; s.resize(&rt, 1, 3, HINDERED) == fresh(Verdict::NoSpace, 0));
     assert!(rt; s.resize(&rt, 16, 1023, SERVING) == fresh(Verdict::Done, 1));
     assert!(rt; s.resize(&rt, 1, 3, SERVING) == fresh(Verdict::Done, 1));
     assert!(rt; s.write(&rt, (1, 2), 5, None, SERVING) == fresh(Verdict::Done, 2));
