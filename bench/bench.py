@@ -15,6 +15,7 @@ import argparse
 import collections
 import itertools
 import os
+import resource
 import subprocess
 import sys
 import tempfile
@@ -90,13 +91,19 @@ DATAGRAMS = [
 ]
 
 
+def processor():
+    """Seconds of processor time of the programs that were run and have ended."""
+    used = resource.getrusage(resource.RUSAGE_CHILDREN)
+    return used.ru_utime + used.ru_stime
+
+
 def often(program, words, times):
-    """Seconds of the fastest of three runs of nq_bench, and what it prints."""
+    """Seconds of processor time of the fastest of three runs of nq_bench, and what it prints."""
     fastest = None
     for _ in range(3):
-        began = time.perf_counter()
+        began = processor()
         done = subprocess.run([program, *words, str(times)], stdin=subprocess.DEVNULL, capture_output=True, check=True)
-        took = time.perf_counter() - began
+        took = processor() - began
         fastest = took if fastest is None else min(took, fastest)
     return fastest, int(done.stdout)
 
@@ -149,6 +156,15 @@ DELAYS = [
     ("a new block, up to 512", "new-512"),
 ]
 
+# What a client does that holds 1 or 256 files, with 1, 32 or 512 blocks in turn.
+CLIENT_CALLS = 50_000
+CLIENTS = [
+    ("a cached read by a call", "client-read"),
+    ("a cached read without one", "client-read-cached"),
+    ("a delayed write by a call", "client-write"),
+]
+EXTENTS = ("1-1", "1-32", "1-512", "256-1", "256-32", "256-512")
+
 
 def parts(program):
     """Prints how fast the parts of server and client are."""
@@ -169,6 +185,10 @@ def parts(program):
     for name, way in DELAYS:
         each = (often(program, ["delays", way], CACHE_READS)[0] - often(program, ["delays", way], 0)[0]) / CACHE_READS
         print(f"{name:36} {each * 1e9:8,.1f} ns {1 / each:14,.0f} per second")
+    for name, what in CLIENTS:
+        for way in EXTENTS:
+            each = (often(program, [what, way], CLIENT_CALLS)[0] - often(program, [what, way], 0)[0]) / CLIENT_CALLS
+            print(f"{name + ', ' + way:36} {each * 1e9:8,.1f} ns {1 / each:14,.0f} per second")
     for name, way, times in LEASES:
         each = (often(program, ["leases", way], times)[0] - often(program, ["leases", way], 0)[0]) / times
         print(f"{name:36} {each * 1e9:8,.1f} ns {1 / each:14,.0f} per second")

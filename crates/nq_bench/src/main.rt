@@ -1,17 +1,20 @@
 //! The program `nq_bench`: does one thing many times, to be timed from outside, and prints a number that stands on
 //! all that came out. Its words are what, which way and how often: `lookup`, `lookup-reply` or `read-reply` with
 //! `encode` or `decode`, `journal` with `print` or `parse`, `skew` with `all` or `clients`, `cache` with 1, 32, 512 or
-//! 1-of-512, which says how many of its blocks are read, `leases` with `row`, `put`, `drop`, `ask`, `clash` or `tick`, or
-//! `delays` with `again-` and 1, 32, 512 or 1-of-512, or with `new-` and 1, 32 or 512.
+//! 1-of-512, which says how many of its blocks are read, `leases` with `row`, `put`, `drop`, `ask`, `clash` or `tick`,
+//! `delays` with `again-` and 1, 32, 512 or 1-of-512, or with `new-` and 1, 32 or 512, or `client-read`,
+//! `client-read-cached` or `client-write` with 1 or 256, the files held, and 1, 32 or 512, the blocks read or written.
 #![tactic(auto)]
 
 mod caches;
+mod clients;
 mod datagrams;
 mod delays;
 mod journals;
 mod leases;
 mod skews;
 
+use crate::clients::Act;
 use std::alloc::Global;
 use std::env;
 use std::process::ExitCode;
@@ -53,6 +56,9 @@ fn done(alloc: Global, what: &str, way: &str, times: u64) -> Option<u64> {
         ("cache", "1-of-512") => caches::read_often(alloc, 512, 1, times),
         ("delays", way) => delays::often(alloc, way, times),
         ("leases", way) => leases::often(alloc, way, times),
+        ("client-read", way) => clients::often(alloc, Act::Read, way, times),
+        ("client-read-cached", way) => clients::often(alloc, Act::ReadCached, way, times),
+        ("client-write", way) => clients::often(alloc, Act::Write, way, times),
         _ => None,
     }
 }
