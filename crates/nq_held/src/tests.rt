@@ -38,6 +38,16 @@ fn a_chain_is_broken_where_it_began_later(rt: HostRuntime) {
 }
 
 #[test]
+fn a_grant_of_an_equal_tag_is_of_the_same_chain(rt: HostRuntime) {
+    let Taken { held, how } = reading().take(FILE, &grant(Mode::Reading, 6, 4), Ticks(20));
+    match how {
+        Take::Same => {}
+        Take::First | Take::Broken => assert!(rt; false),
+    }
+    assert!(rt; held.mode() == Some(Mode::Reading));
+}
+
+#[test]
 fn a_first_lease_breaks_nothing(rt: HostRuntime) {
     let Taken { held, how } = Held::Nothing.take(FILE, &grant(Mode::Writing, 6, 5), Ticks(20));
     match how {
