@@ -1,0 +1,16 @@
+use Rattle.std.proofs.Common.{◌≡◌, ◌∙◌, ◌++◌, ◌∷◌, [], subst, sym}
+use Rattle.nq_fate.specs.Stormy.{IsStormy}
+use Rattle.nq_storm.proofs.Choosing.{found, is_chosen}
+use Rattle.nq_storm.proofs.moments.keep_next.Goals as goal
+
+pub returns-in-Some : goal.returns-in-Some
+returns-in-Some g c =
+    let same = found c.args.ran.now c.push.new.self c.choose_event.result c.in-Some.event c.args.earlier c.requires.many c.in_ok-push.ensures.ok (sym c.get.ensures ∙ c.in-Some.is) in
+    record {
+      kept = subst (λ e. c.push.new.self ≡ c.args.ran.now ++ e ∷ []) same c.in_ok-push.ensures.ok;
+      refused = tt;
+      stormy = subst IsStormy same c.choose_event.ensures.stormy;
+      same = c.offer_of-offer.ensures.same;
+      chosen = λ head start events word many at.
+          is_chosen head start events c.args.earlier c.args.word c.offer_of-offer.result _ _ c.choose_event.result c.in-Some.event same word many (c.offer_of-offer.ensures.offers head events at) c.choose_event.ensures.chosen;
+    }

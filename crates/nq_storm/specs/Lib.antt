@@ -1,0 +1,2 @@
+pub mod Storming
+pub mod Ending
