@@ -1,4 +1,0 @@
-pub mod Choosing
-pub mod Limits
-pub mod Passing
-pub mod Whole

@@ -1,2 +1,0 @@
-pub mod Storming
-pub mod Ending
