@@ -1,5 +1,0 @@
-//! Worked turns of serving, over a link in memory.
-#![tactic(auto)]
-
-#[cfg(test)]
-mod serving;
