@@ -1,6 +1,7 @@
 -- What the clauses of any keeper say of a keeper in memory, by what its calls do.
-use Rattle.std.proofs.Common.{◌≡◌, ◌⊎◌, ◌≤◌, ℕ, Bool, true, false, List, [], Option, Some, Result, Ok, Err, if◌then◌else◌, refl, sym, subst, ap, ◌∙◌, inl, inr, arith}
+use Rattle.std.proofs.Common.{◌≡◌, ◌⊎◌, ◌≤◌, ℕ, Bool, true, false, ◌==◌, List, [], Option, Some, Result, Ok, Err, if◌then◌else◌, refl, sym, subst, ap, ◌∙◌, inl, inr, arith}
 use Rattle.std.specs.Prelude.{IfOk, replicate}
+use Rattle.std.specs.List.{list_any}
 use Rattle.std.specs.Option.{ForSome}
 use Rattle.nq_base.specs.declared.Change.{Change}
 use Rattle.nq_base.specs.declared.HostRow.{HostRow}
@@ -56,17 +57,32 @@ module _ {X : Type 0} (old new : StoredKeeper) (o : IsOrderly old.kept) (result 
 
 -- ---- each call
 
-goes-by : (calls : CallCounts) (b : Bool) → (b ≡ true → Rose calls.faults (if b then after_fault calls else after_call calls).faults) → ((if b then after_fault calls else after_call calls).failing ≡ calls.failing) × (calls.faults ≤ (if b then after_fault calls else after_call calls).faults)
-goes-by calls true rose = (refl, risen (rose refl))
-  where
-    risen : {n : ℕ} → Rose calls.faults n → calls.faults ≤ n
-    risen (inl more) = omega arith
-    risen (inr end) = let a = end.0 in let b = end.1 in omega arith
-goes-by calls false rose = (refl, omega arith)
+-- the calls after one more go on from those before
+record Onward (calls now : CallCounts) : Type 0 where
+  stays : now.failing ≡ calls.failing
+  rises : calls.faults ≤ now.faults
+  never : calls.failing ≡ [] → now.faults ≡ calls.faults
+
+risen : {before now : ℕ} → Rose before now → before ≤ now
+risen (inl more) = omega arith
+risen (inr end) = let a = end.0 in let b = end.1 in omega arith
+
+-- no call is listed where none is to fail
+none-listed : (calls : CallCounts) → calls.failing ≡ [] → is_next_listed calls ≡ false
+none-listed calls none = ap (λ failing. list_any (λ number. number == calls.made) failing) none
+
+goes-by : (calls : CallCounts) (b : Bool) → is_next_listed calls ≡ b → (b ≡ true → Rose calls.faults (if b then after_fault calls else after_call calls).faults) → Onward calls (if b then after_fault calls else after_call calls)
+goes-by calls true listed rose = record {
+  stays = refl;
+  rises = risen (rose refl);
+  never = λ none. let bad : true ≡ false = sym listed ∙ none-listed calls none in absurd (cc);
+}
+goes-by calls false listed rose = record { stays = refl; rises = omega arith; never = λ none. refl }
 
 pub goes-on : (old new : StoredKeeper) → new.calls ≡ asked old.calls → Raises old.calls → GoesOn old new
 goes-on old new is raised =
-    subst (λ c. (c.failing ≡ old.calls.failing) × (old.calls.faults ≤ c.faults)) (sym is) (goes-by old.calls (is_next_listed old.calls) raised)
+    let on : Onward old.calls new.calls = subst (Onward old.calls) (sym is) (goes-by old.calls (is_next_listed old.calls) refl raised) in
+    record { stays = on.stays; rises = on.rises; never = on.never }
 
 -- where nothing changed a stop leaves what was kept
 pub leaves-one : (old new : StoredKeeper) → new.kept ≡ old.kept → LeavesOne (Some (told_of old.kept)) (LeavesEither old new)

@@ -9,10 +9,17 @@ pub told-is-orderly : (keeper : StoredKeeper) (kept : Kept) → Some (told_of ke
 told-is-orderly keeper kept e = let same : told_of keeper.kept ≡ kept = cc in subst IsOrderly same (told-shape keeper.kept)
 
 pub goes-on-itself : (keeper : StoredKeeper) → GoesOn keeper keeper
-goes-on-itself keeper = (refl, omega arith)
+goes-on-itself keeper = record { stays = refl; rises = omega arith; never = λ none. refl }
 
 pub goes-on-further : (first second third : StoredKeeper) → GoesOn first second → GoesOn second third → GoesOn first third
-goes-on-further first second third one two = (two.0 ∙ one.0, let a = one.1 in let b = two.1 in omega arith)
+goes-on-further first second third one two =
+    let a = one.rises in
+    let b = two.rises in
+    record {
+      stays = two.stays ∙ one.stays;
+      rises = omega arith;
+      never = λ none. two.never (one.stays ∙ none) ∙ one.never none;
+    }
 
 pub leaves-kept : (keeper : StoredKeeper) (kept : Kept) (found : Option Kept) → Some (told_of keeper.kept) ≡ Some kept → LeavesEither keeper keeper found → found ≡ Some kept
 leaves-kept keeper kept found e (inl left) = left ∙ e

@@ -67,9 +67,11 @@ abbrev pub after_commit : StoredKeeper → Change → Result Unit KeepFault → 
 after_commit keeper change (Ok done) = record { kept = applied keeper.kept change; calls = asked keeper.calls }
 after_commit keeper change (Err fault) = after_reading keeper
 
--- the calls that are to fail stay, and the count of faults never falls
-abbrev pub GoesOn : StoredKeeper → StoredKeeper → Type 0
-GoesOn first second = (second.calls.failing ≡ first.calls.failing) × (first.calls.faults ≤ second.calls.faults)
+-- the calls that are to fail stay, the count of faults never falls, and where no call is to fail it stands still
+pub record GoesOn (first second : StoredKeeper) : Type 0 where
+  pub stays : second.calls.failing ≡ first.calls.failing
+  pub rises : first.calls.faults ≤ second.calls.faults
+  pub never : first.calls.failing ≡ [] → second.calls.faults ≡ first.calls.faults
 
 -- what a stop leaves: what was kept at the first moment, or at the last
 abbrev pub LeavesEither : StoredKeeper → StoredKeeper → Option Kept → Type 0
