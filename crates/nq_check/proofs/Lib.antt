@@ -1,5 +1,6 @@
 pub mod Agreeing
 pub mod Backwards
+pub mod MovesOn
 pub mod NameLosses
 pub mod Once
 pub mod Places

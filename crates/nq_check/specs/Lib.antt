@@ -1,4 +1,5 @@
 pub mod Covered
+pub mod Fronts
 pub mod Grants
 pub mod Named
 pub mod Kept

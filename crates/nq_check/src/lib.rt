@@ -6,6 +6,7 @@ mod calls;
 mod covering;
 mod entries;
 mod excused;
+mod fronts;
 mod judge;
 pub mod laws;
 mod legal;
