@@ -1,5 +1,7 @@
 pub mod Agreeing
+pub mod Answering
 pub mod Backwards
+pub mod Lining
 pub mod MovesOn
 pub mod NameLosses
 pub mod Once

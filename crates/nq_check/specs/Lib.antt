@@ -2,8 +2,11 @@ pub mod Covered
 pub mod Fronts
 pub mod Grants
 pub mod Named
+pub mod InOrder
 pub mod Kept
+pub mod Lines
 pub mod Marks
+pub mod Replies
 pub mod Rules
 pub mod Verdict
 pub mod Words

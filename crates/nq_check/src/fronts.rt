@@ -4,6 +4,7 @@ ghost use Rattle.std.specs.Prelude.{IfOk};
 ghost use Rattle.nq_check.specs.Fronts.{AreFronts};
 
 use crate::covering::accounted_front;
+use crate::ordering::ordered_front;
 use nq_base::{Entry, NoMemory};
 use std::alloc::Global;
 
@@ -21,10 +22,11 @@ pub(crate) struct Fronts {
 pub(crate) fn find_fronts(alloc: Global, whole: &[Entry]) -> Result<Fronts, NoMemory>
     ensures { IfOk result (AreFronts whole.now) }
 {
+    let ordered = ordered_front(alloc, whole)?;
     let accounted = accounted_front(alloc, whole)?;
     Ok(Fronts {
         legal: 0,
-        ordered: 0,
+        ordered,
         accounted,
         reported: 0,
         synchronized: 0,

@@ -10,9 +10,12 @@ mod fronts;
 mod judge;
 pub mod laws;
 mod legal;
+mod lines;
 mod marks;
 mod named;
 mod ordered;
+mod ordering;
+mod replies;
 mod rules;
 mod synchronized;
 
