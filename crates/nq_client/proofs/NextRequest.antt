@@ -5,7 +5,7 @@ use Rattle.nq_base.specs.declared.Push.{Push}
 use Rattle.nq_base.specs.declared.Request.{Request}
 use Rattle.nq_client.specs.Step.{with_call}
 use Rattle.nq_model.specs.Client.{ClientStep, UnderWay, first_dirty, is_clean, for_call}
-use Rattle.nq_model.specs.Send.{sends_request, after_seq, after_number, takes_push, gives_up, pushes_these, pushes, asks, sends_write, next_put, next_change}
+use Rattle.nq_model.specs.Send.{sends_request, after_seq, after_number, takes_push, gives_up, pushes_these, pushes, sends_write, next_put, next_change}
 
 pushes_these-with_call : (t : ClientStep) (u : UnderWay) (o : Option Push) → with_call (pushes_these t o) u ≡ pushes_these (with_call t u) o
 unfolding sends_request after_seq takes_push
