@@ -3,7 +3,10 @@ pub mod Fronts
 pub mod Grants
 pub mod Named
 pub mod Kept
+pub mod Links
 pub mod Marks
 pub mod Rules
+pub mod Sought
+pub mod Tables
 pub mod Verdict
 pub mod Words

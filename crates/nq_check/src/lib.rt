@@ -10,10 +10,13 @@ mod fronts;
 mod judge;
 pub mod laws;
 mod legal;
+mod legal_front;
+mod links;
 mod marks;
 mod named;
 mod ordered;
 mod rules;
+mod sought;
 mod synchronized;
 
 pub use judge::check;
