@@ -4,6 +4,8 @@ ghost use Rattle.std.specs.Prelude.{IfOk};
 ghost use Rattle.nq_check.specs.Fronts.{AreFronts};
 
 use crate::covering::accounted_front;
+use crate::legal_front::legal_front;
+use crate::ordering::ordered_front;
 use nq_base::{Entry, NoMemory};
 use std::alloc::Global;
 
@@ -21,10 +23,12 @@ pub(crate) struct Fronts {
 pub(crate) fn find_fronts(alloc: Global, whole: &[Entry]) -> Result<Fronts, NoMemory>
     ensures { IfOk result (AreFronts whole.now) }
 {
+    let legal = legal_front(alloc, whole)?;
+    let ordered = ordered_front(alloc, whole)?;
     let accounted = accounted_front(alloc, whole)?;
     Ok(Fronts {
-        legal: 0,
-        ordered: 0,
+        legal,
+        ordered,
         accounted,
         reported: 0,
         synchronized: 0,

@@ -10,10 +10,16 @@ mod fronts;
 mod judge;
 pub mod laws;
 mod legal;
+mod legal_front;
+mod lines;
+mod links;
 mod marks;
 mod named;
 mod ordered;
+mod ordering;
+mod replies;
 mod rules;
+mod sought;
 mod synchronized;
 
 pub use judge::check;

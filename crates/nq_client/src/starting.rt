@@ -66,5 +66,6 @@ pub(crate) fn begin(
     let mut log = Journal::new(alloc)?;
     let mut step = first_step(alloc, who, term, time)?;
     step.finish(letters, out, &mut log);
+    step.answer = None;
     Ok(step)
 }
