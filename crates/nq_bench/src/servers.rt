@@ -161,12 +161,17 @@ impl Desk {
 
 /// How many bytes the one datagram that was sent has, where it says OK.
 fn answered(out: &Outbox) -> Option<u64> {
-    let (_, bytes) = out.get(0)?;
-    let status = bytes.get(28..32)?;
-    if status == [0; 4].as_slice() {
-        Some(bytes.len() as u64)
-    } else {
-        None
+    match out.get(0) {
+        Some((_, bytes)) if says_ok(bytes) => Some(bytes.len() as u64),
+        _ => None,
+    }
+}
+
+/// Whether the status of a reply is 0.
+fn says_ok(reply: &[u8]) -> bool {
+    match reply.get(28..32) {
+        Some(status) => status == [0; 4].as_slice(),
+        None => false,
     }
 }
 
