@@ -1,4 +1,6 @@
 mod Endings
+mod WordLists
+pub mod Apart
 pub mod Heads
 pub mod Journals
 pub mod Judgements

@@ -3,6 +3,5 @@
 
 mod top;
 
-pub use nq_command::{NoMemory, Words};
-pub use nq_fate::{CutFate, Fate, HostileFate, LossyFate, SteadyFate};
+pub use nq_replay::{NoMemory, Words};
 pub use top::run;
