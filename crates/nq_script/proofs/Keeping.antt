@@ -1,6 +1,6 @@
 -- Events that are kept stay the same while further names and bodies are kept.
-use Rattle.std.proofs.Common.{◌≡◌, ℕ, ◌+◌, ◌<◌, ◌≤◌, List, [], ◌∷◌, ◌++◌, length, get_or, map, refl, ap, sym, ◌∙◌, arith, subst, zero, suc, length-append, Result}
-use Rattle.std.proofs.lemmas.List.{append-nil, map-append}
+use Rattle.std.proofs.Common.{◌≡◌, ℕ, ◌+◌, ◌-◌, ◌<◌, ◌≤◌, List, [], ◌∷◌, ◌++◌, length, get_or, map, take, refl, ap, sym, ◌∙◌, arith, subst, zero, suc, length-append, Result}
+use Rattle.std.proofs.lemmas.List.{append-nil, length-map, map-append}
 use Rattle.std.specs.List.{AllByRecursion}
 use Rattle.std.specs.Prelude.{OnOk, OnErr, Ok, Err}
 use Rattle.nq_base.specs.declared.Call.{Call}
@@ -46,6 +46,23 @@ event-stays : (names names' bodies bodies' : List (List ℕ)) (kept : KeptEvent)
 event-stays names names' bodies bodies' (KeptEvent.Call host call) more others is =
     let same = call-stays names names' bodies bodies' call more others is in (rw same.0 refl, same.1)
 event-stays names names' bodies bodies' other more others is = (refl, tt)
+
+-- the first of them are there too
+pub all_of_front : {A : Type 0} (P : A → Type 0) (count : ℕ) (xs : List A) → AllByRecursion P xs → AllByRecursion P (take count xs)
+all_of_front P zero xs all = tt
+all_of_front P (suc count) [] all = tt
+all_of_front P (suc count) (x ∷ xs) all = (all.0, all_of_front P count xs all.1)
+
+front_of_all : {A B : Type 0} (f : A → B) (count : ℕ) (xs : List A) → map f (take count xs) ≡ take count (map f xs)
+front_of_all f zero xs = refl
+front_of_all f (suc count) [] = refl
+front_of_all f (suc count) (x ∷ xs) = ap (λ ys. f x ∷ ys) (front_of_all f count xs)
+
+pub front_left : {A B : Type 0} (f : A → B) (xs ys : List A) (now : List B) (left : ℕ) → now ≡ map f xs → left ≡ length xs - 1 → ys ≡ take left xs → map f ys ≡ take (length now - 1) now
+front_left f xs ys now left view many here =
+    let long : length now ≡ length xs = ap length view ∙ length-map xs f in
+    let same : left ≡ length now - 1 = omega arith in
+    ap (map f) here ∙ front_of_all f left xs ∙ ap (λ n. take n (map f xs)) same ∙ ap (take (length now - 1)) (sym view)
 
 pub events-stay : (names names' bodies bodies' : List (List ℕ)) (events : List KeptEvent) → Grows names names' → Grows bodies bodies'
     → AllByRecursion (IsEventIn names bodies) events

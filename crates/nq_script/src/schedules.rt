@@ -1,6 +1,6 @@
 //! Schedules: lists of events.
 
-ghost use Rattle.std.specs.Prelude.{◌≡◌, ◌↔◌, ◌++◌, ◌∷◌, [], length, slice_get, IsOk, IfOk, IsTrue, OnErr, OnOk};
+ghost use Rattle.std.specs.Prelude.{◌≡◌, ◌↔◌, ◌++◌, ◌∷◌, ◌-◌, [], length, slice_get, take, IsOk, IfOk, IsTrue, OnErr, OnOk};
 
 use crate::kept::{KeptEvent, event_of, push};
 use nq_base::{Block, Event, Name, NoMemory};
@@ -47,6 +47,15 @@ impl Schedule {
         ensures err { OnErr result (self.new ≡ self.old) }
     {
         push(&mut self.events, &mut self.names, &mut self.bodies, event)
+    }
+
+    /// Takes the last event away, if there is one.
+    #[tactic(auto, using(crate::proofs::Keeping::all_of_front))]
+    pub fn drop_last(&mut self)
+        ensures { self.new ≡ take (length self.old - 1) self.old }
+    {
+        let left = self.events.len().saturating_sub(1);
+        self.events.truncate(left);
     }
 
     /// How many there are.

@@ -21,7 +21,7 @@ pub(crate) fn cut(bytes: &[u8], at: u8) -> Option<(&[u8], &[u8])>
 /// The number up to `most` that a word writes in decimal, without a sign or a needless zero; None for every other
 /// word.
 #[tactic(auto, unfolding(crate::specs::Reading::number_of))]
-pub(crate) fn number(word: &[u8], most: u64) -> Option<u64>
+pub fn number(word: &[u8], most: u64) -> Option<u64>
     ensures value { result ≡ number_of most word.now }
     ensures bound { IfSome result (λ n. n ≤ most) }
 {
