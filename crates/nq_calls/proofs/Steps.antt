@@ -1,11 +1,13 @@
 -- Lines that are stepped over.
-use Rattle.std.proofs.Common.{◌≡◌, ℕ, ◌+◌, ◌<◌, ◌≤◌, List, [], ◌∷◌, ◌++◌, Option, Some, None, length, refl, ap, sym, subst, ◌∙◌, arith, append_assoc, append-nil, length-append}
-use Rattle.std.specs.List.{AllByRecursion}
+use Rattle.std.proofs.Common.{◌≡◌, ◌≢◌, ℕ, ◌+◌, ◌<◌, ◌≤◌, List, [], ◌∷◌, ◌++◌, Some, None, length, refl, ap, sym, subst, ◌∙◌, arith, append_assoc, append-nil, length-append}
 use Rattle.nq_base.specs.declared.Call.{Call}
 use Rattle.nq_calls.specs.Lines.{AreCalls, FirstFault, IsCall, SoFar, StepsOver}
 use Rattle.nq_script.specs.Calls.{SpellsCall}
+use Rattle.nq_script.specs.Faults.{Names}
 use Rattle.nq_script.specs.Reading.{cut_at}
-use Rattle.nq_script.specs.Text.{Lacks, text_of}
+use Rattle.nq_script.specs.Text.{text_of}
+use Rattle.nq_script.specs.declared.faults.ScriptFault.{ScriptFault}
+use Rattle.nq_script.specs.declared.faults.ScriptFault.TheVariants.{Bad, Memory}
 use Rattle.nq_script.proofs.Cuts.{cut-found}
 use Rattle.nq_script.proofs.FileLines.{no-line, one-line, text_of-append}
 use Rattle.nq_script.proofs.Fitting.{each-append}
@@ -71,11 +73,17 @@ done text rest number so none = (
 pub no-call : (text : List ℕ) → cut_at 10 text ≡ None → (line after : List ℕ) → text ≡ line ++ 10 ∷ after → IsCall line → ⊥
 no-call text none line after here call = no-line text line after none here call.0
 
+-- a fault that is no want of memory names a line
+faulted : (why : ScriptFault) → why ≢ Memory → Names why (λ line. ⊥) → ⊥
+faulted (Bad line) other named = named
+faulted Memory other named = other refl
+
 -- a line that spells no call is not one that does
-pub other-line : (text found rest : List ℕ) → cut_at 10 text ≡ Some (found, rest) → ((call : Call) → SpellsCall 1 call found → ⊥)
+pub other-line : (text found rest : List ℕ) (why : ScriptFault) → cut_at 10 text ≡ Some (found, rest) → why ≢ Memory
+    → ((call : Call) → SpellsCall 1 call found → Names why (λ line. ⊥))
     → (line after : List ℕ) → text ≡ line ++ 10 ∷ after → IsCall line → ⊥
-other-line text found rest cut none line after here call =
-    none call.1.0 (subst (SpellsCall 1 call.1.0) (sym (one-line text found rest line after cut here call.0).0) call.1.1)
+other-line text found rest why cut other none line after here call =
+    faulted why other (none call.1.0 (subst (SpellsCall 1 call.1.0) (sym (one-line text found rest line after cut here call.0).0) call.1.1))
 
 -- the line that was cut off spells a call
 pub over : (text found rest : List ℕ) (call : Call) → cut_at 10 text ≡ Some (found, rest) → SpellsCall 1 call found → StepsOver text (Some rest)

@@ -42,7 +42,9 @@ pub fn find_fault(alloc: Global, text: &[u8]) -> Option<u32>
 fn after_call(alloc: Global, text: &[u8]) -> Option<&[u8]>
     ensures { StepsOver text.now (option_map (λ after. after.now) result) }
 {
-    let (line, after) = cut_line(text)?;
+    let Some((line, after)) = cut_line(text) else {
+        return None;
+    };
     match parse_call(alloc, line, 1) {
         Ok(_) => Some(after),
         Err(_) => None,
