@@ -74,7 +74,7 @@ pub no-call : (text : List ℕ) → cut_at 10 text ≡ None → (line after : Li
 no-call text none line after here call = no-line text line after none here call.0
 
 -- a fault that is no want of memory names a line
-faulted : (why : ScriptFault) → why ≢ Memory → Names why (λ line. ⊥) → ⊥
+pub faulted : (why : ScriptFault) → why ≢ Memory → Names why (λ line. ⊥) → ⊥
 faulted (Bad line) other named = named
 faulted Memory other named = other refl
 
