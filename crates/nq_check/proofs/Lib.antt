@@ -4,8 +4,8 @@ pub mod Backwards
 pub mod Climbs
 pub mod Counts
 pub mod Followed
-pub mod Lining
 pub mod Linking
+pub mod Lining
 pub mod MovesOn
 pub mod NameLosses
 pub mod Once

@@ -1,12 +1,12 @@
 pub mod Covered
 pub mod Fronts
 pub mod Grants
+pub mod Named
 pub mod InOrder
 pub mod Kept
-pub mod Lines
 pub mod Links
+pub mod Lines
 pub mod Marks
-pub mod Named
 pub mod Replies
 pub mod Rules
 pub mod Sought

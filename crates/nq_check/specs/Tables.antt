@@ -2,7 +2,7 @@
 use Rattle.std.specs.Prelude.{◌≡◌, ◌<◌, ◌≤◌, ℕ, List, Some, Bool, true, false, length}
 use Rattle.std.specs.List.{slice_get}
 use Rattle.nq_base.specs.declared.Entry.{Entry}
-use Rattle.nq_check.specs.declared.legal_front.Tables.{Tables}
+use Rattle.nq_check.specs.declared.tables.Tables.{Tables}
 use Rattle.nq_check.specs.declared.links.Kind.TheVariants.{Calls, Writes, Covers, Cuts}
 use Rattle.nq_check.specs.Links.{IsLinked}
 

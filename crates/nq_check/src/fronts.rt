@@ -4,8 +4,10 @@ ghost use Rattle.std.specs.Prelude.{IfOk};
 ghost use Rattle.nq_check.specs.Fronts.{AreFronts};
 
 use crate::covering::accounted_front;
+use crate::kept_front::kept_front;
 use crate::legal_front::legal_front;
 use crate::ordering::ordered_front;
+use crate::tables::make_tables;
 use nq_base::{Entry, NoMemory};
 use std::alloc::Global;
 
@@ -23,14 +25,14 @@ pub(crate) struct Fronts {
 pub(crate) fn find_fronts(alloc: Global, whole: &[Entry]) -> Result<Fronts, NoMemory>
     ensures { IfOk result (AreFronts whole.now) }
 {
-    let legal = legal_front(alloc, whole)?;
+    let tables = make_tables(alloc, whole)?;
     let ordered = ordered_front(alloc, whole)?;
     let accounted = accounted_front(alloc, whole)?;
     Ok(Fronts {
-        legal,
+        legal: legal_front(&tables, whole),
         ordered,
         accounted,
         reported: 0,
-        synchronized: 0,
+        synchronized: kept_front(&tables, whole),
     })
 }

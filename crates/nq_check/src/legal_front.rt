@@ -1,6 +1,6 @@
 //! A fast pass over the reads, and the answers to them, that are legal.
 
-ghost use Rattle.std.specs.Prelude.{◌≡◌, ◌+◌, ◌-◌, ◌<◌, ◌≤◌, ◌||◌, IfOk, IsTrue, Some, if◌then◌else◌, length, not, reverse, take, true, false};
+ghost use Rattle.std.specs.Prelude.{◌≡◌, ◌+◌, ◌-◌, ◌<◌, ◌≤◌, ◌||◌, IsTrue, Some, if◌then◌else◌, length, not, reverse, take, true, false};
 ghost use Rattle.std.specs.List.{slice_get};
 ghost use Rattle.nq_check.specs.Fronts.{KeepsBelow};
 ghost use Rattle.nq_check.specs.Tables.{AreTables, HasBetween, NoneBetween};
@@ -13,35 +13,10 @@ ghost use Rattle.nq_model.specs.StandsTest.{standing_value, stands};
 use crate::calls::is_reading;
 use crate::entries::{cuts, is_read_by, is_through, is_write_by, is_write_on, value_written};
 use crate::legal::Reading;
-use crate::links::{Kind, Links, block_key, call_key, link};
+use crate::links::{Kind, block_key, call_key};
 use crate::sought::{Sought, back_from, call_along, is_before, is_somewhere, last_of};
-use nq_base::{BlockNo, Entry, NoMemory, Said, Who};
-use std::alloc::Global;
-
-/// The links of each kind.
-#[derive(Drop)]
-pub(crate) struct Tables {
-    pub(crate) calls: Links,
-    pub(crate) writes: Links,
-    pub(crate) covers: Links,
-    pub(crate) cuts: Links,
-}
-
-/// Links the entries of a journal in each kind.
-fn make_tables(alloc: Global, whole: &[Entry]) -> Result<Tables, NoMemory>
-    ensures { IfOk result (AreTables whole.now) }
-{
-    let calls = link(alloc, Kind::Calls, whole)?;
-    let writes = link(alloc, Kind::Writes, whole)?;
-    let covers = link(alloc, Kind::Covers, whole)?;
-    let cuts = link(alloc, Kind::Cuts, whole)?;
-    Ok(Tables {
-        calls,
-        writes,
-        covers,
-        cuts,
-    })
-}
+use crate::tables::Tables;
+use nq_base::{BlockNo, Entry, Said, Who};
 
 /// Whether an entry is a counted read.
 fn is_counted(tables: &Tables, whole: &[Entry], entry: &Entry) -> bool
@@ -262,14 +237,14 @@ fn is_legal(tables: &Tables, whole: &[Entry], place: usize, entry: &Entry) -> bo
 }
 
 /// How far the entries of a journal are legal, one after another.
-pub(crate) fn legal_front(alloc: Global, whole: &[Entry]) -> Result<usize, NoMemory>
-    ensures { IfOk result (KeepsBelow Rule.Legal whole.now) }
+pub(crate) fn legal_front(tables: &Tables, whole: &[Entry]) -> usize
+    requires tables { AreTables whole.now tables.now }
+    ensures { KeepsBelow Rule.Legal whole.now result }
 {
-    let tables = make_tables(alloc, whole)?;
     for (place, entry) in whole.iter().enumerate() {
-        if !is_legal(&tables, whole, place, entry) {
-            return Ok(place);
+        if !is_legal(tables, whole, place, entry) {
+            return place;
         }
     }
-    Ok(whole.len())
+    whole.len()
 }

@@ -8,6 +8,7 @@ mod entries;
 mod excused;
 mod fronts;
 mod judge;
+mod kept_front;
 pub mod laws;
 mod legal;
 mod legal_front;
@@ -21,6 +22,7 @@ mod replies;
 mod rules;
 mod sought;
 mod synchronized;
+mod tables;
 
 pub use judge::check;
 pub use rules::{Judged, Rule};

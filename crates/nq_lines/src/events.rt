@@ -14,7 +14,7 @@ use nq_play::Delivered;
 use nq_world::{Limit, Stepped, World};
 
 /// Notes an event that was taken, if it is the delivery of a packet with a flag.
-fn note(delivered: &mut Delivered, event: &Event)
+pub fn note(delivered: &mut Delivered, event: &Event)
     ensures { HasFlag (length delivered.old) event.now → (events : List Event) → Marks delivered.old events → Marks delivered.new (event.now ∷ events) }
 {
     match event {

@@ -5,5 +5,6 @@ mod events;
 mod lines;
 mod played;
 
+pub use events::note;
 pub use lines::play;
 pub use played::Played;

@@ -1,6 +1,6 @@
 //! Which packets were delivered.
 
-ghost use Rattle.std.specs.Prelude.{◌≡◌, ◌≤◌, ◌<◌, ℕ, List, [], ◌∷◌, length, OnOk, true, false, slice_index_or};
+ghost use Rattle.std.specs.Prelude.{◌≡◌, ◌≤◌, ◌<◌, ℕ, List, [], ◌∷◌, length, IfSome, OnOk, true, false, slice_index_or};
 ghost use Rattle.nq_base.specs.declared.Event.{Event};
 ghost use Rattle.nq_play.specs.Delivering.{Marks, least_undelivered};
 
@@ -65,6 +65,7 @@ impl Delivered {
     /// The least of so many packets that was never delivered. All calls together look at each packet once.
     pub fn next(&mut self, sent: usize) -> Option<usize>
         ensures same { self.new ≡ self.old }
+        ensures below { IfSome result (λ packet. packet < sent) }
         ensures next { (events : List Event) → Marks self.old events → result ≡ least_undelivered 0 sent events }
     {
         self.least = first_unflagged(&self.flags, self.least);

@@ -1,0 +1,4 @@
+pub mod Choosing
+pub mod Limits
+pub mod Passing
+pub mod Whole

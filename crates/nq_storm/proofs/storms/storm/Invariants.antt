@@ -1,0 +1,21 @@
+use Rattle.std.proofs.Common.{◌≡◌, [], length}
+use Rattle.std.specs.List.{AllByRecursion}
+use Rattle.std.specs.Prelude.{reverse}
+use Rattle.nq_fate.specs.Stormy.{IsStormy}
+use Rattle.nq_model.specs.World.{Head}
+use Rattle.nq_storm.specs.Ending.{IsInStorm}
+use Rattle.nq_storm_text.specs.Storming.{generator}
+use Rattle.nq_world.specs.Playing.{HasSettings, Plays}
+use Rattle.nq_storm.proofs.storms.storm.Given as goal
+
+abbrev pub invariant-loop-earlier : goal.invariant-loop-earlier
+invariant-loop-earlier g l = record {
+  words : l.words ≡ generator l.start l.earlier;
+  many : length l.ran ≡ l.earlier;
+  storm : (head : Head) → Plays head [] l.fn.world (g.K.Keeper.content l.fn.world.server.keeper)
+      → IsInStorm head l.start ((goal.Fate-dyn g (l.fn.fate.vtable, l.fn.fate.value)).told l.fn.fate.value) (reverse l.ran)
+      ((goal.Fate-dyn g (l.fate.vtable, l.fate.value)).told l.fate.value) l.world (g.K.Keeper.content l.world.server.keeper) l.delivered;
+  stormy : AllByRecursion IsStormy l.ran;
+  faults : g.K.Keeper.faults l.world.server.keeper ≡ g.K.Keeper.faults l.fn.world.server.keeper;
+  settings : HasSettings 4 60 30 l.world;
+}

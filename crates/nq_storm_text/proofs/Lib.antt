@@ -1,0 +1,4 @@
+mod Finding
+pub mod Counting
+pub mod Playing
+pub mod Spelling

@@ -1,0 +1,5 @@
+pub mod Kinds
+pub mod Lawful
+pub mod Printed
+pub mod Storming
+pub mod Whole
