@@ -1,5 +1,9 @@
 //! A server with so many files and lease rows, and the requests of one host that it answers again and again.
 
+ghost use Rattle.std.specs.Prelude.{IfSome};
+ghost use Rattle.nq_wire.specs.Parts.{IsWanted};
+ghost use Rattle.nq_wire.specs.Request.{HasSpelling};
+
 use nq_base::{
     Block, BlockNo, FileId, Host, Inc, Mode, Name, Number, PushBase, Request, Rev, Seq, Ticks,
     Want, Who,
@@ -103,12 +107,7 @@ impl Desk {
         for number in 1..=extent.files {
             self.ask_once(&create(number)?)?;
         }
-        let mode = if ask == Ask::Push {
-            Mode::Writing
-        } else {
-            Mode::Reading
-        };
-        self.ask_once(&lease(ASKER, 1, mode))?;
+        self.ask_once(&lease(ASKER, 1, mode_of(ask)))?;
         for place in 0..extent.shared {
             for host in 0..extent.holders {
                 self.lease_beside(host, extent.files.wrapping_sub(place))?;
@@ -125,7 +124,9 @@ impl Desk {
         Some(())
     }
 
-    fn ask_once(&mut self, request: &Request) -> Option<u64> {
+    fn ask_once(&mut self, request: &Request) -> Option<u64>
+        requires { HasSpelling request.now }
+    {
         let datagram = call_bytes(self.alloc, 1, request).ok()?;
         let mut out = Outbox::new(self.alloc, 0).ok()?;
         self.take_in(host_of(request), &datagram, &mut out)
@@ -135,12 +136,14 @@ impl Desk {
     fn ask_often(&mut self, ask: Ask, times: u64) -> Option<u64> {
         let mut datagram = call_bytes(self.alloc, 1, &request(ask)?).ok()?;
         let mut sum: u64 = 0;
+        let mut asked: u32 = 0;
         let mut out = Outbox::new(self.alloc, 0).ok()?;
         for time in 0..times {
             if time % REQUESTS == 0 {
                 self.log = Journal::new(self.alloc).ok()?;
             }
-            number(&mut datagram, ask, time as u32);
+            number(&mut datagram, ask, asked);
+            asked = asked.wrapping_add(1);
             out.cut(0);
             sum = sum.wrapping_add(self.take_in(ASKER, &datagram, &mut out)?);
         }
@@ -176,12 +179,12 @@ fn says_ok(reply: &[u8]) -> bool {
 }
 
 /// Numbers a request that is decided once, and a push by the revision that it rests on.
-fn number(datagram: &mut [u8], ask: Ask, time: u32) {
+fn number(datagram: &mut [u8], ask: Ask, asked: u32) {
     if ask == Ask::Write || ask == Ask::Push {
-        put_word(datagram, SEQUENCE, time.wrapping_add(1000));
+        put_word(datagram, SEQUENCE, asked.wrapping_add(1000));
     }
     if ask == Ask::Push {
-        put_word(datagram, BASE, time);
+        put_word(datagram, BASE, asked);
     }
 }
 
@@ -212,7 +215,9 @@ fn name_of(number: u32) -> Option<Name> {
     Name::new(&[high, low])
 }
 
-fn create(number: u32) -> Option<Request> {
+fn create(number: u32) -> Option<Request>
+    ensures { IfSome result HasSpelling }
+{
     Some(Request::Create {
         who: who(ASKER),
         seq: Seq(u64::from(number)),
@@ -221,14 +226,30 @@ fn create(number: u32) -> Option<Request> {
     })
 }
 
-fn wish(mode: Mode) -> Want {
+/// The lease that the asker has before it asks.
+fn mode_of(ask: Ask) -> Mode
+    ensures { IsWanted result }
+{
+    match ask {
+        Ask::Push => Mode::Writing,
+        _ => Mode::Reading,
+    }
+}
+
+fn wish(mode: Mode) -> Want
+    requires { IsWanted mode }
+    ensures { IsWanted result.mode }
+{
     Want {
         mode,
         term: LONGEST,
     }
 }
 
-fn lease(host: u32, file: u32, mode: Mode) -> Request {
+fn lease(host: u32, file: u32, mode: Mode) -> Request
+    requires { IsWanted mode }
+    ensures { HasSpelling result }
+{
     Request::GetLease {
         who: who(host),
         file: FileId(file),
@@ -236,7 +257,10 @@ fn lease(host: u32, file: u32, mode: Mode) -> Request {
     }
 }
 
-fn read(want: Option<Want>) -> Request {
+fn read(want: Option<Want>) -> Request
+    requires { IfSome want (λ w. IsWanted w.mode) }
+    ensures { HasSpelling result }
+{
     Request::Read {
         who: who(ASKER),
         call: 1,
@@ -246,7 +270,9 @@ fn read(want: Option<Want>) -> Request {
     }
 }
 
-fn write(push: Option<PushBase>) -> Request {
+fn write(push: Option<PushBase>) -> Request
+    ensures { HasSpelling result }
+{
     Request::Write {
         who: who(ASKER),
         seq: Seq(1000),
@@ -259,7 +285,9 @@ fn write(push: Option<PushBase>) -> Request {
     }
 }
 
-fn request(ask: Ask) -> Option<Request> {
+fn request(ask: Ask) -> Option<Request>
+    ensures { IfSome result HasSpelling }
+{
     Some(match ask {
         Ask::Lookup => Request::Lookup {
             who: who(ASKER),
