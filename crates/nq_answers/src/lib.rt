@@ -1,0 +1,12 @@
+//! The answers that a journal tells, a line each, and how calls ended, as the program `client` prints them.
+#![tactic(auto)]
+
+mod ending;
+mod lines;
+mod telling;
+mod words;
+
+pub use ending::{Halt, Stop, Used};
+pub use lines::answers_text;
+pub use nq_base::NoMemory;
+pub use telling::{tell_bytes, tell_end, tell_script};

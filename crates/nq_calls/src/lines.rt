@@ -1,0 +1,52 @@
+//! Lines of a text.
+
+ghost use Rattle.std.specs.Prelude.{◌≡◌, ◌<◌, ◌^◌, length};
+ghost use Rattle.std.specs.Option.{option_map};
+ghost use Rattle.nq_calls.specs.Lines.{StepsOver, Tells};
+ghost use Rattle.nq_script.specs.Reading.{cut_at};
+
+use nq_script::parse_call;
+use std::alloc::Global;
+
+/// The bytes before the first line feed, and those after it; None where there is none.
+pub fn cut_line(text: &[u8]) -> Option<(&[u8], &[u8])>
+    ensures { option_map (λ p. (p.0.now, p.1.now)) result ≡ cut_at 10 text.now }
+{
+    for (i, byte) in text.iter().enumerate() {
+        if *byte == b'\n' {
+            return Some((&text[..i], &text[i + 1..]));
+        }
+    }
+    None
+}
+
+/// The number, from 1, of the first line of a text that spells no call of version 1; None where each does. What follows the last
+/// line feed, if anything does, is no line. The text is shorter than 2^31 bytes. Takes no memory.
+pub fn find_fault(alloc: Global, text: &[u8]) -> Option<u32>
+    requires { length text.now < 2 ^ 31 }
+    ensures { Tells result text.now }
+{
+    let mut rest = text;
+    let mut number = 1;
+    while !rest.is_empty() {
+        match after_call(alloc, rest) {
+            Some(after) => rest = after,
+            None => return Some(number),
+        }
+        number += 1;
+    }
+    None
+}
+
+/// What follows the first line of a text; None where that line spells no call, or is not there.
+fn after_call(alloc: Global, text: &[u8]) -> Option<&[u8]>
+    ensures { StepsOver text.now (option_map (λ after. after.now) result) }
+{
+    let Some((line, after)) = cut_line(text) else {
+        return None;
+    };
+    match parse_call(alloc, line, 1) {
+        Ok(_) => Some(after),
+        Err(_) => None,
+    }
+}

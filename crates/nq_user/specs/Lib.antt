@@ -1,0 +1,4 @@
+pub mod Calling
+pub mod Running
+pub mod Turning
+pub mod Using

@@ -1,0 +1,10 @@
+//! What turns are taken for.
+
+/// What turns are taken for.
+#[derive(Clone, Copy, PartialEq, Eq)]
+pub(crate) enum Aim {
+    /// That the server attaches the client.
+    Attached,
+    /// That the call under way has its answer.
+    Answered,
+}

@@ -1,0 +1,100 @@
+//! The whole of the program `client`.
+
+ghost use Rattle.std.specs.Prelude.{◌≡◌, ◌<◌, ◌^◌, ℕ, List, Option, length};
+ghost use Rattle.nq_calls.specs.Lines.{AreCalls, Tells};
+ghost use Rattle.nq_user.specs.Using.{RunsAndTells, Uses, UsesText};
+
+use crate::running::run;
+use nq_answers::{Used, tell_bytes, tell_end, tell_script};
+use nq_base::{Host, Inc};
+use nq_calls::find_fault;
+use nq_clock::Clock;
+use nq_io::{Sink, Source, Whole, read_all};
+use nq_journal::Journal;
+use nq_link::Link;
+use std::alloc::Global;
+
+/// Reads calls, one a line, attaches a client of a host over a link, runs each call to its answer, and prints the answers, each on a
+/// line, after its last turn. Turns are counted anew for attaching and for each call. What the client's start and each call push
+/// is sent at once, before the next turn.
+///
+/// # Errors
+///
+/// - `Script`: a line of the input spells no call of version 1; prints `script line N`, before the client attaches.
+/// - `ReadFault` only where the source counted a fault; prints nothing.
+/// - `WriteFault` only where the sink counted a fault; a front of the answers is printed. Under another fault the end stays.
+/// - `Memory` where memory was wanting; prints nothing.
+/// - `LinkFault` only where the link counted a fault; prints nothing.
+/// - `Limit`: the input has more bytes than the limit, and it prints `limit line N bytes`; or the client has taken in all that it
+///   counts, and it prints the answers and `limit line N events` with the line of the call, 0 for attaching.
+/// - `NoAnswer` where all the turns were taken since a call began, and none ended it; prints the answers and `noanswer line N`.
+pub fn client<S: Source, K: Sink, L: Link, C: Clock>(
+    alloc: Global,
+    host: Host,
+    inc: Inc,
+    turns: u32,
+    limit: usize,
+    input: &mut S,
+    out: &mut K,
+    link: &mut L,
+    clock: &mut C,
+) -> Used
+    requires { limit < 2 ^ 31 }
+    ensures { Uses turns (record { host = host; inc = inc }) limit result (S.left input.old) (S.left input.new) (S.faults input.old) (S.faults input.new)
+        (K.held out.old) (K.held out.new) (K.faults out.old) (K.faults out.new) (C.readings clock.old) (C.readings clock.new)
+        (record { sent = L.sent link.old; waiting = L.waiting link.old; faults = L.faults link.old })
+        (record { sent = L.sent link.new; waiting = L.waiting link.new; faults = L.faults link.new }) }
+{
+    match read_all(alloc, input, limit) {
+        Whole::All(text) => use_text(alloc, host, inc, turns, &text, out, link, clock),
+        Whole::Over(front) => tell_bytes(alloc, &front, out),
+        Whole::Failed => Used::ReadFault,
+        Whole::Memory => Used::Memory,
+    }
+}
+
+/// Runs the calls of a text that was read, or tells which of its lines spells none.
+fn use_text<K: Sink, L: Link, C: Clock>(
+    alloc: Global,
+    host: Host,
+    inc: Inc,
+    turns: u32,
+    text: &[u8],
+    out: &mut K,
+    link: &mut L,
+    clock: &mut C,
+) -> Used
+    requires { length text.now < 2 ^ 31 }
+    ensures { (fault : Option ℕ) × Tells fault text.now × UsesText fault turns (record { host = host; inc = inc }) text.now result
+        (K.held out.old) (K.held out.new) (K.faults out.old) (K.faults out.new) (C.readings clock.old) (C.readings clock.new)
+        (record { sent = L.sent link.old; waiting = L.waiting link.old; faults = L.faults link.old })
+        (record { sent = L.sent link.new; waiting = L.waiting link.new; faults = L.faults link.new }) }
+{
+    match find_fault(alloc, text) {
+        Some(number) => tell_script(alloc, number, out),
+        None => run_and_tell(alloc, host, inc, turns, text, out, link, clock),
+    }
+}
+
+/// Runs the calls of a text, and tells what came of them.
+fn run_and_tell<K: Sink, L: Link, C: Clock>(
+    alloc: Global,
+    host: Host,
+    inc: Inc,
+    turns: u32,
+    text: &[u8],
+    out: &mut K,
+    link: &mut L,
+    clock: &mut C,
+) -> Used
+    requires short { length text.now < 2 ^ 31 }
+    requires calls { (lines : List (List ℕ)) × AreCalls lines text.now }
+    ensures { RunsAndTells turns (record { host = host; inc = inc }) text.now result
+        (K.held out.old) (K.held out.new) (K.faults out.old) (K.faults out.new) (C.readings clock.old) (C.readings clock.new)
+        (record { sent = L.sent link.old; waiting = L.waiting link.old; faults = L.faults link.old })
+        (record { sent = L.sent link.new; waiting = L.waiting link.new; faults = L.faults link.new }) }
+{
+    let mut log = Journal::new(alloc).unwrap();
+    let ended = run(alloc, host, inc, turns, text, link, clock, &mut log);
+    tell_end(alloc, ended, &log, out)
+}

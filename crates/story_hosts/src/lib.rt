@@ -1,0 +1,5 @@
+//! Worked turns of serving, over a link in memory.
+#![tactic(auto)]
+
+#[cfg(test)]
+mod serving;
