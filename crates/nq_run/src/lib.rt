@@ -3,5 +3,6 @@
 
 mod top;
 
-pub use nq_replay::{NoMemory, Words};
+pub use nq_command::{NoMemory, Words};
+pub use nq_fate::{CutFate, Fate, HostileFate, LossyFate, SteadyFate};
 pub use top::run;

@@ -1,6 +1,7 @@
 use Rattle.std.proofs.Common.{◌∙◌, sym, subst}
 use Rattle.nq_replay.specs.Replay.{BreaksSkew, FaultyLine, Passes, Runs}
 use Rattle.nq_replay.proofs.Endings.{told_text, still_unless}
+use Rattle.nq_replay.proofs.Within.{within_end}
 use Rattle.nq_replay.proofs.commands.replay.Goals as goal
 
 pub returns-in-All-clause-script : goal.returns-in-All-clause-script
@@ -26,3 +27,6 @@ returns-in-All-clause-done g c = λ text told within head events runs.
     let here = c.deref.ensures.value ∙ told_text _ _ _ _ text c.in-All.ensures.reads told in
     still_unless _ _ _ _ _ _ _ _ _ c.replay_text.ensures.ends
     (c.replay_text.ensures.done head events (subst (λ t. Runs t head events) (sym here) runs))
+
+pub returns-in-All-clause-lawful : goal.returns-in-All-clause-lawful
+returns-in-All-clause-lawful g c = λ done. within_end c.replay_text.result _ _ _ _ _ _ _ _ _ _ done
