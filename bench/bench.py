@@ -165,6 +165,17 @@ CLIENTS = [
 ]
 EXTENTS = ("1-1", "1-32", "1-512", "256-1", "256-32", "256-512")
 
+# What a server is asked that keeps 1 or 256 files, with 1 or 2,048 rows.
+SERVER_REQUESTS = 50_000
+SERVERS = [
+    ("LOOKUP", "server-lookup"),
+    ("READ", "server-read"),
+    ("READ that renews a lease", "server-read-wanted"),
+    ("WRITE that goes through", "server-write"),
+    ("a push", "server-push"),
+]
+KEPT = ("1-1", "256-1", "256-2048")
+
 
 def parts(program):
     """Prints how fast the parts of server and client are."""
@@ -188,6 +199,10 @@ def parts(program):
     for name, what in CLIENTS:
         for way in EXTENTS:
             each = (often(program, [what, way], CLIENT_CALLS)[0] - often(program, [what, way], 0)[0]) / CLIENT_CALLS
+            print(f"{name + ', ' + way:36} {each * 1e9:8,.1f} ns {1 / each:14,.0f} per second")
+    for name, what in SERVERS:
+        for way in KEPT:
+            each = (often(program, [what, way], SERVER_REQUESTS)[0] - often(program, [what, way], 0)[0]) / SERVER_REQUESTS
             print(f"{name + ', ' + way:36} {each * 1e9:8,.1f} ns {1 / each:14,.0f} per second")
     for name, way, times in LEASES:
         each = (often(program, ["leases", way], times)[0] - often(program, ["leases", way], 0)[0]) / times

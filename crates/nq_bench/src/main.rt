@@ -3,7 +3,9 @@
 //! `encode` or `decode`, `journal` with `print` or `parse`, `skew` with `all` or `clients`, `cache` with 1, 32, 512 or
 //! 1-of-512, which says how many of its blocks are read, `leases` with `row`, `put`, `drop`, `ask`, `clash` or `tick`,
 //! `delays` with `again-` and 1, 32, 512 or 1-of-512, or with `new-` and 1, 32 or 512, or `client-read`,
-//! `client-read-cached` or `client-write` with 1 or 256, the files held, and 1, 32 or 512, the blocks read or written.
+//! `client-read-cached` or `client-write` with 1 or 256, the files held, and 1, 32 or 512, the blocks read or written, or
+//! `server-lookup`, `server-read`, `server-read-wanted`, `server-write` or `server-push` with 1-1, 256-1 or 256-2048, the files and
+//! the rows of the server.
 #![tactic(auto)]
 
 mod caches;
@@ -12,9 +14,11 @@ mod datagrams;
 mod delays;
 mod journals;
 mod leases;
+mod servers;
 mod skews;
 
 use crate::clients::Act;
+use crate::servers::Ask;
 use std::alloc::Global;
 use std::env;
 use std::process::ExitCode;
@@ -59,6 +63,11 @@ fn done(alloc: Global, what: &str, way: &str, times: u64) -> Option<u64> {
         ("client-read", way) => clients::often(alloc, Act::Read, way, times),
         ("client-read-cached", way) => clients::often(alloc, Act::ReadCached, way, times),
         ("client-write", way) => clients::often(alloc, Act::Write, way, times),
+        ("server-lookup", way) => servers::often(alloc, Ask::Lookup, way, times),
+        ("server-read", way) => servers::often(alloc, Ask::Read, way, times),
+        ("server-read-wanted", way) => servers::often(alloc, Ask::ReadWanted, way, times),
+        ("server-write", way) => servers::often(alloc, Ask::Write, way, times),
+        ("server-push", way) => servers::often(alloc, Ask::Push, way, times),
         _ => None,
     }
 }

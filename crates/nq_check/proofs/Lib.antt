@@ -1,7 +1,15 @@
 pub mod Agreeing
+pub mod Answering
 pub mod Backwards
+pub mod Climbs
+pub mod Counts
+pub mod Followed
+pub mod Linking
+pub mod Lining
+pub mod MovesOn
 pub mod NameLosses
 pub mod Once
 pub mod Places
 pub mod Sounds
+pub mod Standing
 pub mod Verdicts

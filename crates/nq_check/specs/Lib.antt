@@ -1,8 +1,15 @@
 pub mod Covered
+pub mod Fronts
 pub mod Grants
 pub mod Named
+pub mod InOrder
 pub mod Kept
+pub mod Links
+pub mod Lines
 pub mod Marks
+pub mod Replies
 pub mod Rules
+pub mod Sought
+pub mod Tables
 pub mod Verdict
 pub mod Words

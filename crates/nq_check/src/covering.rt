@@ -1,10 +1,11 @@
-//! A fast test of journals that account for their delayed writes: it is true only where they do.
+//! A fast pass over the entries that account for the delayed writes which they cover.
 #![tactic(auto, using(crate::proofs::Backwards::last_first, crate::proofs::Once::stored_once, crate::proofs::Once::lost_once, crate::proofs::Once::exists_there))]
 
 ghost use Rattle.std.specs.Prelude.{◌≡◌, true, reverse, slice_get, Some, IfOk, IfSome, IsTrue};
 ghost use Rattle.nq_check.specs.Covered.{Accounts, IsAnew};
-ghost use Rattle.nq_model.specs.FateTest.{is_accounted_at};
-ghost use Rattle.nq_model.specs.JournalTest.{covers, exists, throughout};
+ghost use Rattle.nq_check.specs.Fronts.{KeepsBelow};
+ghost use Rattle.nq_check.specs.declared.rules.Rule.{Rule};
+ghost use Rattle.nq_model.specs.JournalTest.{covers, exists};
 
 use crate::entries::covers;
 use crate::marks::{Marks, Spot, mark_at, set_mark, spot};
@@ -93,16 +94,16 @@ fn accounts(
     }
 }
 
-/// Whether each entry does so, one after another.
-pub(crate) fn account_for_all(alloc: Global, whole: &[Entry]) -> Result<bool, NoMemory>
-    ensures { IfOk result (λ yes. IsTrue yes → throughout (is_accounted_at (reverse whole.now)) (reverse whole.now) ≡ true) }
+/// How far each entry does so, one after another.
+pub(crate) fn accounted_front(alloc: Global, whole: &[Entry]) -> Result<usize, NoMemory>
+    ensures { IfOk result (KeepsBelow Rule.Accounted whole.now) }
 {
     let places = places_of_writes(alloc, whole)?;
     let mut marks = HashMap::new(alloc);
-    for entry in whole {
+    for (place, entry) in whole.iter().enumerate() {
         if !accounts(whole, &places, &mut marks, entry)? {
-            return Ok(false);
+            return Ok(place);
         }
     }
-    Ok(true)
+    Ok(whole.len())
 }

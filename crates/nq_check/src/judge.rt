@@ -1,17 +1,15 @@
 //! The judge.
 #![tactic(auto, unfolding(crate::specs::Rules::first_rule))]
 
-ghost use Rattle.std.specs.Prelude.{◌≡◌, ◌+◌, ◌<◌, IsTrue, Some, true, length, reverse, take, drop};
+ghost use Rattle.std.specs.Prelude.{◌≡◌, ◌+◌, ◌<◌, Some, length, reverse, take, drop};
 ghost use Rattle.std.specs.List.{slice_get};
-ghost use Rattle.nq_model.specs.FateTest.{is_accounted_at};
-ghost use Rattle.nq_model.specs.JournalTest.{throughout};
-ghost use Rattle.nq_check.specs.Rules.{first_rule, keeps};
+ghost use Rattle.nq_check.specs.Fronts.{AreFronts, KeepsBelow, keeps_at};
+ghost use Rattle.nq_check.specs.Rules.{first_rule};
 ghost use Rattle.nq_check.specs.Verdict.{IsVerdict, verdict};
-ghost use Rattle.nq_check.specs.declared.rules.Rule.{Rule};
 
 use crate::accounted::is_accounted_at;
-use crate::covering::account_for_all;
 use crate::excused::is_cut_off;
+use crate::fronts::{Fronts, find_fronts};
 use crate::legal::is_legal_at;
 use crate::named::is_reported_at;
 use crate::ordered::is_in_order;
@@ -21,54 +19,47 @@ use nq_base::{Entry, NoMemory};
 use nq_journal::Journal;
 use std::alloc::Global;
 
-/// Whether the entry at a place is excused, and reported or named.
-fn is_told_at(whole: &[Entry], place: usize, entry: &Entry) -> bool
-    requires { (place < length whole.now) × (slice_get whole.now place ≡ Some entry.now) }
-    ensures { result ≡ keeps Rule.Reported (reverse whole.now) (drop (place + 1) whole.now) entry.now (reverse (take place whole.now)) }
-{
-    is_cut_off(&whole[..place], entry, &whole[place + 1..]) && is_reported_at(whole, place, entry)
-}
-
-/// What fast tests told of a whole journal. Where one is not true, each entry has to be looked at.
-#[derive(Clone, Copy)]
-struct Passed {
-    /// All its entries account for what they cover.
-    accounted: bool,
-}
-
-/// Whether the entry at a place accounts for what it covers.
-fn accounts_at(whole: &[Entry], place: usize, entry: &Entry, passed: Passed) -> bool
+/// Whether the entry at a place keeps a rule, which the entries before the front are known to keep.
+fn keeps(whole: &[Entry], place: usize, entry: &Entry, rule: Rule, front: usize) -> bool
     requires there { (place < length whole.now) × (slice_get whole.now place ≡ Some entry.now) }
-    requires passed { IsTrue passed.accounted → throughout (is_accounted_at (reverse whole.now)) (reverse whole.now) ≡ true }
-    ensures { result ≡ is_accounted_at (reverse whole.now) entry.now (reverse (take place whole.now)) }
+    requires front { KeepsBelow rule whole.now front }
+    ensures { result ≡ keeps_at rule whole.now place entry.now }
 {
-    if passed.accounted {
+    if place < front {
         return true;
     }
-    is_accounted_at(whole, &whole[..place], entry)
+    let before = &whole[..place];
+    let after = &whole[place + 1..];
+    match rule {
+        Rule::Legal => is_legal_at(whole, before, entry),
+        Rule::Ordered => is_in_order(whole, before, entry, after),
+        Rule::Accounted => is_accounted_at(whole, before, entry),
+        Rule::Reported => {
+            is_cut_off(before, entry, after) && is_reported_at(whole, place, entry)
+        }
+        Rule::Synchronized => is_kept_at(whole, before, entry),
+    }
 }
 
 /// The first rule under which the entry at a place is at fault.
-fn first_rule(whole: &[Entry], place: usize, entry: &Entry, passed: Passed) -> Option<Rule>
+fn first_rule(whole: &[Entry], place: usize, entry: &Entry, fronts: &Fronts) -> Option<Rule>
     requires there { (place < length whole.now) × (slice_get whole.now place ≡ Some entry.now) }
-    requires passed { IsTrue passed.accounted → throughout (is_accounted_at (reverse whole.now)) (reverse whole.now) ≡ true }
+    requires fronts { AreFronts whole.now fronts.now }
     ensures { result ≡ first_rule (reverse whole.now) (drop (place + 1) whole.now) entry.now (reverse (take place whole.now)) }
 {
-    let before = &whole[..place];
-    let after = &whole[place + 1..];
-    if !is_legal_at(whole, before, entry) {
+    if !keeps(whole, place, entry, Rule::Legal, fronts.legal) {
         return Some(Rule::Legal);
     }
-    if !is_in_order(whole, before, entry, after) {
+    if !keeps(whole, place, entry, Rule::Ordered, fronts.ordered) {
         return Some(Rule::Ordered);
     }
-    if !accounts_at(whole, place, entry, passed) {
+    if !keeps(whole, place, entry, Rule::Accounted, fronts.accounted) {
         return Some(Rule::Accounted);
     }
-    if !is_told_at(whole, place, entry) {
+    if !keeps(whole, place, entry, Rule::Reported, fronts.reported) {
         return Some(Rule::Reported);
     }
-    if !is_kept_at(whole, before, entry) {
+    if !keeps(whole, place, entry, Rule::Synchronized, fronts.synchronized) {
         return Some(Rule::Synchronized);
     }
     None
@@ -80,19 +71,19 @@ pub fn check(alloc: Global, journal: &Journal) -> Judged
     ensures { IsVerdict result (verdict (reverse journal.now.entries)) }
 {
     let whole = journal.entries();
-    match account_for_all(alloc, whole) {
-        Ok(accounted) => judge(whole, Passed { accounted }),
+    match find_fronts(alloc, whole) {
+        Ok(fronts) => judge(whole, &fronts),
         Err(NoMemory) => Judged::Memory,
     }
 }
 
 /// Judges entries, the oldest first.
-fn judge(whole: &[Entry], passed: Passed) -> Judged
-    requires { IsTrue passed.accounted → throughout (is_accounted_at (reverse whole.now)) (reverse whole.now) ≡ true }
+fn judge(whole: &[Entry], fronts: &Fronts) -> Judged
+    requires { AreFronts whole.now fronts.now }
     ensures { IsVerdict result (verdict (reverse whole.now)) }
 {
     for (place, entry) in whole.iter().enumerate() {
-        if let Some(rule) = first_rule(whole, place, entry, passed) {
+        if let Some(rule) = first_rule(whole, place, entry, fronts) {
             return Judged::No { place, rule };
         }
     }

@@ -124,12 +124,12 @@ fn is_lost(entries: &[Entry], write: &Entry) -> bool
 
 /// A read, as its R tells it.
 #[derive(Clone, Copy)]
-struct Reading<'a> {
-    who: &'a Who,
-    q: u64,
-    file: FileId,
-    block: BlockNo,
-    value: u32,
+pub(crate) struct Reading<'a> {
+    pub(crate) who: &'a Who,
+    pub(crate) q: u64,
+    pub(crate) file: FileId,
+    pub(crate) block: BlockNo,
+    pub(crate) value: u32,
 }
 
 /// Whether a write stands for a later read, looked for from the write's place on.

@@ -28,7 +28,7 @@ fn are_below(before: &[Entry], by: &Who, n: u64) -> bool
 }
 
 /// Whether the next entry answers a call `busy`.
-fn is_busy_next(after: &[Entry], by: &Who, n: u64) -> bool
+pub(crate) fn is_busy_next(after: &[Entry], by: &Who, n: u64) -> bool
     ensures { result ≡ is_busy_next by.now n after.now }
 {
     match after {

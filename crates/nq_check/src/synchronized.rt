@@ -161,7 +161,13 @@ fn is_resize_kept(whole: &[Entry], before: &[Entry], by: &Who, n: u64, on: FileI
 // ---- the law
 
 /// Whether what an ok says is kept.
-fn is_kept(whole: &[Entry], before: &[Entry], by: &Who, n: u64, call: &Option<Told>) -> bool
+pub(crate) fn is_kept(
+    whole: &[Entry],
+    before: &[Entry],
+    by: &Who,
+    n: u64,
+    call: &Option<Told>,
+) -> bool
     ensures { result ≡ is_kept (reverse whole.now) (reverse before.now) by.now n call.now }
 {
     let Some(told) = call else {

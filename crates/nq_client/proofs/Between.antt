@@ -1,22 +1,18 @@
 -- What is known after a step was settled, before its request is sent.
-use Rattle.std.proofs.Common.{◌≡◌, ◌≤◌, ◌<◌, ◌+◌, ◌^◌, Option, Some, None, refl, sym, ap, ◌∙◌, arith}
-use Rattle.nq_base.specs.declared.Push.{Push}
+use Rattle.std.proofs.Common.{◌≡◌, ◌≤◌, ◌<◌, ◌+◌, ◌^◌, None, refl, sym, ap, ◌∙◌, arith}
 use Rattle.nq_client.proofs.Settled.{settled, Settled}
+use Rattle.nq_client.proofs.Ties.{tied-none}
 use Rattle.nq_client.specs.Step.{HasNumbers, step_of}
 use Rattle.nq_client.specs.Tied.{Tied}
 use Rattle.nq_client.specs.declared.step.Step.{Step}
-use Rattle.nq_model.specs.Client.{ClientStep, Ticket}
+use Rattle.nq_model.specs.Client.{ClientStep}
 use Rattle.nq_model.specs.Settle.{settle}
-
-none-pushed : (o : Option Ticket) (p : Option Push) → o ≡ None → Tied o p → p ≡ None
-none-pushed None p e h = h
-none-pushed (Some t) p e h = absurd cc
 
 none-from : (a : Step) (t s : ClientStep) → step_of a ≡ s → Settled t s → Tied t.client.ticket t.client.push → a.state.asked ≡ None → a.state.dirty.push ≡ None
 none-from a t s e x tied idle =
     let asked : a.state.asked ≡ t.client.ticket = ap (λ (r : ClientStep). r.client.ticket) e ∙ x.ticket in
     let push : a.state.dirty.push ≡ t.client.push = ap (λ (r : ClientStep). r.client.push) e ∙ x.push in
-    push ∙ none-pushed t.client.ticket t.client.push (sym asked ∙ idle) tied
+    push ∙ tied-none t.client.ticket t.client.push (sym asked ∙ idle) tied
 
 -- no delayed writes are under way where no request is
 pub none : (a b : Step) → step_of a ≡ settle (step_of b) → Tied b.state.asked b.state.dirty.push → a.state.asked ≡ None → a.state.dirty.push ≡ None

@@ -2,7 +2,7 @@
 use Rattle.std.proofs.Common.{◌≡◌, ◌<◌, ◌≤◌, ℕ, Bool, true, false, List, [], ◌∷◌, ◌++◌, zero, suc, ◌+◌, length, map, reverse, take, filter, Option, Some, None, if◌then◌else◌, refl, sym, ap, ◌∙◌, add-one, arith}
 use Rattle.std.proofs.Math.Seq.{take-suc}
 use Rattle.std.proofs.lemmas.List.{map-append, reverse-append}
-use Rattle.std.proofs.lemmas.Option.{get_or_from_slice_get}
+use Rattle.std.proofs.lemmas.Option.{get_or_from_slice_get, slice_get_within}
 use Rattle.std.specs.List.{slice_get}
 use Rattle.nq_base.specs.declared.Loss.{Loss}
 use Rattle.nq_base.specs.declared.Push.{Push}
@@ -12,15 +12,10 @@ use Rattle.nq_model.specs.Client.{is_push_of}
 use Rattle.nq_model.specs.Hear.{loss_entry, loss_of, losses_in, push_of}
 use Rattle.nq_model.specs.Settle.{pending_in}
 
-within : (n : ℕ) (ks : List Loss) (k : Loss) → slice_get ks n ≡ Some k → n < length ks
-within n [] k h = absurd cc
-within zero (j ∷ ks) k h = omega arith
-within (suc n) (j ∷ ks) k h = let more = within n ks k h in omega (arith, more)
-
 -- one more loss was copied
 pub taken_more : (xs : List Loss) (i : ℕ) (x : Loss) → slice_get xs i ≡ Some x → take (i + 1) xs ≡ take i xs ++ x ∷ []
 taken_more xs i x h =
-    let below : i < length xs = within i xs x h in
+    let below : i < length xs = slice_get_within xs i x h in
     rw add-one (take-suc xs i x below ∙ ap (λ y. take i xs ++ y ∷ []) (get_or_from_slice_get xs i x x h))
 
 -- one more loss was noted

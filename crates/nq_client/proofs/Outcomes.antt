@@ -14,12 +14,11 @@ use Rattle.nq_client.proofs.Settled.{is_given}
 use Rattle.nq_client.specs.Counted.{Counted, IsWithin}
 use Rattle.nq_client.specs.Entries.{Tells}
 use Rattle.nq_client.specs.Finishing.{Grows, to_server}
-use Rattle.nq_client.specs.Outcome.{Called, Counts, Gives, Heeded, IsHeard, or_pending, Received, Stays}
+use Rattle.nq_client.specs.Outcome.{Called, Gives, or_pending}
 use Rattle.nq_client.specs.Receiving.{IsHeeded, most_entries, on_news}
 use Rattle.nq_client.specs.State.{client_of}
 use Rattle.nq_client.specs.Step.{IsBegun, request_message, step_of, vacated_message}
 use Rattle.nq_client.specs.Tied.{Tied}
-use Rattle.nq_client.specs.declared.heard.Heard.{Heard}
 use Rattle.nq_client.specs.declared.receiving.News.{News}
 use Rattle.nq_client.specs.declared.state.State.{State}
 use Rattle.nq_client.specs.declared.step.Step.{Step}
@@ -108,21 +107,6 @@ called_as Answer.DirtyFull t old new out outs log logs g h e = (g, e)
 pub not_spent : (a : Answer) (o : Option Answer) → is_given o ≡ true → plain_answer a ≡ or_pending o → a ≡ Answer.Spent → ⊥
 not_spent a o h e s = not-refused Answer.Spent o refl (sym (ap plain_answer s) ∙ e) h
 
--- a tick was taken in
-pub heeded_as : (a : Heard) (t : ClientStep) (old new : Counted) (out outs : Datagrams) (log logs : EntryList) → Gives t old new out outs log logs → IsHeard a t.answer → Heeded a t old new out outs log logs
-heeded_as Heard.Memory t old new out outs log logs g h = absurd h
-heeded_as Heard.Spent t old new out outs log logs g h = absurd h
-heeded_as Heard.Ignored t old new out outs log logs g h = absurd h
-heeded_as Heard.Nothing t old new out outs log logs g h = (g, h)
-heeded_as (Heard.Answered a) t old new out outs log logs g h = (g, h)
-
-pub not_heard_spent : (a : Heard) (o : Option Answer) → IsHeard a o → a ≡ Heard.Spent → ⊥
-not_heard_spent Heard.Spent o h e = h
-not_heard_spent Heard.Memory o h e = h
-not_heard_spent Heard.Ignored o h e = h
-not_heard_spent Heard.Nothing o h e = cc
-not_heard_spent (Heard.Answered a) o h e = cc
-
 -- an outbox and a journal grew, seen from before room was made in them
 pub grows_from : (t : ClientStep) (out out1 outs : Datagrams) (log log1 logs : EntryList) → out1.first ≡ out.first → out1.datagrams ≡ out.datagrams → log1.entries ≡ log.entries → Grows t out1 outs log1 logs → Grows t out outs log logs
 grows_from t out out1 outs log log1 logs f d l g = record {
@@ -166,25 +150,3 @@ not_all s taken w ne = let few = w.taken_few in below taken most_taken_by_client
 pub news_within : (s0 s2 : State) (number : ℕ) (news : News) (taken : ℕ) → client_of s2 ≡ (on_news (client_of s0) number news).client → IsHeeded s0.asked news → IsWithin s0 taken → taken < most_taken_by_client → IsWithin s2 (taken + 1)
 news_within s0 s2 number news taken f h w lt =
     within_after (most_entries (client_of s0)) s2 (client_of s0) (on_news (client_of s0) number news) taken f (news-within (client_of s0) number news h) lt w.time w.calls w.seq w.number w.xid w.tied
-
--- the numbers after what was only counted
-pub counted_within : (s : State) (taken : ℕ) → IsWithin s taken → taken < most_taken_by_client → IsWithin s (taken + 1)
-counted_within s taken w lt =
-    let calls = w.calls in
-    let seq = w.seq in
-    let number = w.number in
-    let xid = w.xid in
-    within s (client_of s) (taken + 1) refl (omega arith) w.time (omega arith) (omega arith) (omega arith) (omega arith) w.tied
-
--- a datagram that counts makes its step
-pub received_step : (a : Heard) (t : ClientStep) (o : Option ClientStep) (old new : Counted) (out outs : Datagrams) (log logs : EntryList) → Some t ≡ o → Heeded a t old new out outs log logs → Received a o old new out outs log logs
-received_step a t o old new out outs log logs e h = subst (λ x. Received a x old new out outs log logs) e h
-
--- another one is counted
-pub received_none : (o : Option ClientStep) (old new : Counted) (out outs : Datagrams) (log logs : EntryList) → None ≡ o → Counts old new out outs log logs → Received Heard.Ignored o old new out outs log logs
-received_none o old new out outs log logs e h = subst (λ x. Received Heard.Ignored x old new out outs log logs) e h
-
--- nothing comes of either where all was taken in
-pub received_spent : (o : Option ClientStep) (old new : Counted) (out outs : Datagrams) (log logs : EntryList) → Stays old new out outs log logs → Received Heard.Spent o old new out outs log logs
-received_spent None old new out outs log logs h = h
-received_spent (Some t) old new out outs log logs h = h

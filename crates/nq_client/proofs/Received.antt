@@ -1,5 +1,5 @@
 -- How much a datagram takes that counts, and what it keeps.
-use Rattle.std.proofs.Common.{◌≡◌, ◌≤◌, ◌<◌, ◌^◌, ◌+◌, ◌==◌, ◌&&◌, ℕ, Bool, true, false, length, Option, Some, None, IsTrue, refl, sym, ap, subst, ◌∙◌, arith}
+use Rattle.std.proofs.Common.{◌≡◌, ◌≤◌, ◌<◌, ◌^◌, ◌+◌, ℕ, true, false, length, Option, Some, None, IsTrue, refl, sym, ap, subst, ◌∙◌, arith}
 use Rattle.nq_base.specs.declared.Reply.{Reply}
 use Rattle.nq_base.specs.declared.Tag.{Tag}
 use Rattle.nq_client.proofs.Calls.{Within}
@@ -7,14 +7,14 @@ use Rattle.nq_client.proofs.Replied.{Kept, answered-kept, answered-none}
 use Rattle.nq_client.proofs.Requested.{sends, Sent}
 use Rattle.nq_client.proofs.Settled.{choice, settled, Settled, is_given}
 use Rattle.nq_client.proofs.Ties.{tied-cancelled}
-use Rattle.nq_client.specs.Receiving.{answered, after_reply, at_stake, counts, Counts, file_at_stake, IsHeeded, most_entries, on_news, on_notice, on_reply}
+use Rattle.nq_client.specs.Receiving.{answered, after_reply, at_stake, Counts, file_at_stake, IsHeeded, most_entries, on_news, on_notice, on_reply}
 use Rattle.nq_client.specs.State.{client_of}
 use Rattle.nq_client.specs.Step.{HasNumbers, step_of}
 use Rattle.nq_client.specs.Tied.{Tied, TiedFor}
 use Rattle.nq_client.specs.declared.receiving.News.{News}
 use Rattle.nq_client.specs.declared.step.Step.{Step}
 use Rattle.nq_model.specs.Client.{Client, ClientStep, Ticket, begun, is_clean}
-use Rattle.nq_model.specs.Hear.{all_dirty, cancelled, cancels, evicted, goes_on, hear_reply, inc_of, notes_notice, replied, reply_counts, spends, vacates_lease}
+use Rattle.nq_model.specs.Hear.{all_dirty, cancelled, cancels, evicted, goes_on, notes_notice, replied, reply_counts, spends, vacates_lease}
 use Rattle.nq_model.specs.Send.{send_next}
 use Rattle.nq_model.specs.Settle.{settle}
 
@@ -22,25 +22,6 @@ use Rattle.nq_model.specs.Settle.{settle}
 pub replied-answered : (t : ClientStep) (number : ℕ) (ticket : Ticket) (r : Reply) → replied t number ticket r ≡ answered (spends t) number ticket r
 replied-answered t number ticket (Reply.Refused inc status) = refl
 replied-answered t number ticket other = refl
-
--- what is heard is what counts
-pub reply-counts : (c : Client) (number xid : ℕ) (r : Reply) (o : Option Ticket) → counts c xid r o ≡ true → Some (on_reply c number r o) ≡ hear_reply c number xid r o
-reply-counts c number xid r None h = absurd cc
-reply-counts c number xid r (Some ticket) h = rw h refl
-
-pub reply-ignored : (c : Client) (number xid : ℕ) (r : Reply) (o : Option Ticket) → counts c xid r o ≡ false → None ≡ hear_reply c number xid r o
-reply-ignored c number xid r None h = refl
-reply-ignored c number xid r (Some ticket) h = rw h refl
-
-last : (a b c : Bool) → (a && b && c) ≡ true → IsTrue c
-last true true true h = refl
-last true true false h = absurd cc
-last true false c h = absurd cc
-last false b c h = absurd cc
-
-pub reply-heeded : (c : Client) (xid : ℕ) (r : Reply) (o : Option Ticket) → counts c xid r o ≡ true → Counts o r
-reply-heeded c xid r None h = absurd cc
-reply-heeded c xid r (Some ticket) h = last (xid == ticket.xid) (inc_of r == c.who.inc) (reply_counts r ticket) h
 
 -- a step from which the client goes on
 pub went-on : (entries : ℕ) (c : Client) (s : ClientStep) → s.client.now ≡ c.now → s.client.calls ≡ c.calls → s.client.seq ≡ c.seq → s.client.number ≡ c.number → s.client.xid ≤ c.xid + 1 → length s.entries + 2 ≤ entries → is_given s.answer ≡ true → (Tied c.ticket c.push → Tied s.client.ticket s.client.push) → Within entries c (goes_on s)
@@ -57,9 +38,6 @@ went-on entries c s now calls seq number xid few given tied =
       given = subst (λ a. is_given a ≡ true) (sym y.answer) (x.given given);
       tied = λ h. y.tied (subst (λ o. Tied o (settle s).client.push) (sym x.ticket) (subst (λ p. Tied s.client.ticket p) (sym x.push) (tied h)));
     }
-
-spent : (c : Client) → ClientStep
-spent c = spends (begun c)
 
 no-ticket : (o : Option Ticket) (s : ClientStep) → s.client.ticket ≡ None → s.client.push ≡ None → Tied s.client.ticket s.client.push
 no-ticket o s t p = subst (λ k. Tied k s.client.push) (sym t) p

@@ -279,10 +279,6 @@ stored t = record {
 
 -- ---- losses
 
--- how many delayed writes of a file a client has
-abbrev dirty-of : ClientStep → ℕ → ℕ
-dirty-of t file = length (all_dirty t.client file)
-
 pub chain-broken : (t : ClientStep) (file : ℕ) → Kept 1 (length (all_dirty t.client file) + 1) t (breaks_chain t file)
 chain-broken t file =
     let lost-step = loses t file in

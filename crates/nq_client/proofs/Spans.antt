@@ -1,21 +1,16 @@
 -- The spans of losses, and entries told in their order.
-use Rattle.std.proofs.Common.{◌≡◌, ◌<◌, ℕ, List, [], ◌∷◌, ◌++◌, zero, suc, ◌+◌, length, map, reverse, take, Some, refl, sym, ap, ◌∙◌, add-one, arith}
+use Rattle.std.proofs.Common.{◌≡◌, ◌<◌, ℕ, List, [], ◌∷◌, ◌++◌, ◌+◌, length, map, reverse, take, Some, refl, sym, ap, ◌∙◌, add-one}
 use Rattle.std.proofs.Math.Seq.{take-suc}
 use Rattle.std.proofs.lemmas.List.{map-append, reverse-append}
-use Rattle.std.proofs.lemmas.Option.{get_or_from_slice_get}
+use Rattle.std.proofs.lemmas.Option.{get_or_from_slice_get, slice_get_within}
 use Rattle.std.specs.List.{slice_get}
 use Rattle.nq_base.specs.declared.Loss.{Loss}
 use Rattle.nq_model.specs.Client.{span_of}
 
-within : (n : ℕ) (ks : List Loss) (k : Loss) → slice_get ks n ≡ Some k → n < length ks
-within n [] k h = absurd cc
-within zero (j ∷ ks) k h = omega arith
-within (suc n) (j ∷ ks) k h = let more = within n ks k h in omega (arith, more)
-
 -- the spans of one more loss
 pub spans_more : (xs : List Loss) (i : ℕ) (x : Loss) → slice_get xs i ≡ Some x → map span_of (take (i + 1) xs) ≡ map span_of (take i xs) ++ span_of x ∷ []
 spans_more xs i x h =
-    let below : i < length xs = within i xs x h in
+    let below : i < length xs = slice_get_within xs i x h in
     rw add-one
     (ap (map span_of) (take-suc xs i x below)
     ∙ map-append span_of (take i xs) _

@@ -269,6 +269,21 @@ impl Step {
         ensures sent { IsTrue result → is_some self.new.state.asked ≡ true }
         ensures quiet { result ≡ false → self.new ≡ self.old }
     {
+        match &self.state.call {
+            Some(_) => self.calls_under_way(),
+            None => false,
+        }
+    }
+
+    /// The same, apart: a call is large, and most steps find none under way.
+    fn calls_under_way(&mut self) -> bool
+        requires idle { self.old.state.asked ≡ None }
+        requires none { self.old.state.dirty.push ≡ None }
+        requires numbers { HasNumbers 1 self.old.state }
+        ensures step { step_of self.new ≡ then_calls (step_of self.old) }
+        ensures sent { IsTrue result → is_some self.new.state.asked ≡ true }
+        ensures quiet { result ≡ false → self.new ≡ self.old }
+    {
         let may_ask = self.state.pause <= self.state.time;
         match self.state.call.take() {
             Some(u) => {

@@ -21,7 +21,8 @@ fn is_to_push(row: &Row, now: Ticks, dirty: &Dirty) -> bool
 {
     match row.mode {
         Mode::Writing => {
-            !dirty.is_clean(row.lease.file) && row.lease.expiry.0 <= now.0 + RENEWAL
+            // Few leases are about to end, so the time is looked at first.
+            row.lease.expiry.0 <= now.0 + RENEWAL && !dirty.is_clean(row.lease.file)
         }
         Mode::NonCaching | Mode::Reading => false,
     }

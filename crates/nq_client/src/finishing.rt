@@ -1,14 +1,16 @@
 //! What a step gives: its datagrams, its entries and its answer.
 
-ghost use Rattle.std.specs.Prelude.{◌≡◌, ◌≤◌, ◌+◌, ◌∷◌, ◌++◌, [], All, length, map, option_map, OnOk};
+ghost use Rattle.std.specs.Prelude.{◌≡◌, ◌≤◌, ◌+◌, ◌∷◌, ◌++◌, [], None, All, length, map, option_map, OnOk};
 ghost use Rattle.nq_base.specs.Plain.{plain_answer};
 ghost use Rattle.nq_datagrams.specs.Messages.{FitsMessage};
 ghost use Rattle.nq_model.specs.Message.{call};
 ghost use Rattle.nq_wire.specs.Request.{HasSpelling};
 ghost use Rattle.nq_client.specs.Finishing.{Grows, HasLetters, HasRoomFor, longest_call, to_server};
+ghost use Rattle.nq_client.specs.Outcome.{IsHeard, or_pending};
 ghost use Rattle.nq_client.specs.Step.{IsBegun, request_message, step_of, vacated_message};
 
 use crate::asked::Asked;
+use crate::heard::Heard;
 use crate::letters::Letter;
 use crate::step::{Step, Vacated};
 use nq_base::{Answer, NoMemory, Party, Request, Who};
@@ -128,21 +130,16 @@ impl Step {
         log.reserve(entries)
     }
 
-    /// Gives what the step gave: its datagrams and entries go to an outbox and a journal that have room for them, and its
-    /// answer is returned.
+    /// Gives what the step gave but for its answer: its datagrams and entries go to an outbox and a journal that have room for
+    /// them.
     #[tactic(auto, using(crate::proofs::Fitting::fit_both))]
-    pub(crate) fn finish(
-        &mut self,
-        letters: &mut Letters,
-        out: &mut Outbox,
-        log: &mut Journal,
-    ) -> Option<Answer>
+    pub(crate) fn finish(&mut self, letters: &mut Letters, out: &mut Outbox, log: &mut Journal)
         requires letters { HasLetters letters.old }
         requires places { 2 ≤ out.old.spare }
         requires room { length self.old.entries.items ≤ log.old.spare }
-        ensures begun { IsBegun self.new }
+        ensures begun { IsBegun (record self.new { answer = None }) }
         ensures state { self.new.state ≡ self.old.state }
-        ensures answer { option_map plain_answer result ≡ option_map plain_answer self.old.answer }
+        ensures answer { self.new.answer ≡ self.old.answer }
         ensures grows { Grows (step_of self.old) out.old out.new log.old log.new }
     {
         let alloc = self.state.alloc;
@@ -158,6 +155,44 @@ impl Step {
         self.asks = false;
         self.cached = false;
         self.entries.tell(log);
-        self.answer.take()
+    }
+
+    /// Gives the answer of a call, with which the step ends.
+    pub(crate) fn gives_answer(&mut self) -> Answer
+        requires { IsBegun (record self.old { answer = None }) }
+        ensures begun { IsBegun self.new }
+        ensures state { self.new.state ≡ self.old.state }
+        ensures answer { plain_answer result ≡ or_pending (option_map plain_answer self.old.answer) }
+    {
+        match self.answer.take() {
+            Some(answer) => answer,
+            None => Answer::Pending,
+        }
+    }
+
+    /// Gives what is heard of the answer, with which the step ends.
+    pub(crate) fn gives_heard(&mut self) -> Heard
+        requires { IsBegun (record self.old { answer = None }) }
+        ensures begun { IsBegun self.new }
+        ensures state { self.new.state ≡ self.old.state }
+        ensures heard { IsHeard result (option_map plain_answer self.old.answer) }
+    {
+        match &self.answer {
+            Some(_) => self.gives_heard_answer(),
+            None => Heard::Nothing,
+        }
+    }
+
+    /// The same, apart: an answer is large, and most steps give none.
+    fn gives_heard_answer(&mut self) -> Heard
+        requires { IsBegun (record self.old { answer = None }) }
+        ensures begun { IsBegun self.new }
+        ensures state { self.new.state ≡ self.old.state }
+        ensures heard { IsHeard result (option_map plain_answer self.old.answer) }
+    {
+        match self.answer.take() {
+            Some(answer) => Heard::Answered(answer),
+            None => Heard::Nothing,
+        }
     }
 }

@@ -98,9 +98,19 @@ impl Step {
         requires numbers { HasNumbers 1 self.old.state }
         ensures { step_of self.new ≡ settle (step_of self.old) }
     {
-        if is_for_call(&self.state.asked) {
-            return;
+        if self.state.call.is_some() && !is_for_call(&self.state.asked) {
+            self.settle_under_way();
         }
+    }
+
+    /// What the call under way needs no packet for, where the request under way is not its own. It is apart, since a call is
+    /// large, and most steps find none under way.
+    fn settle_under_way(&mut self)
+        requires room { HasRoom self.old }
+        requires numbers { HasNumbers 1 self.old.state }
+        requires free { ticket_is_for_call self.old.state.asked ≡ false }
+        ensures { step_of self.new ≡ settle (step_of self.old) }
+    {
         match self.state.call.take() {
             Some(u) => self.settle_call(u),
             None => {}

@@ -66,5 +66,7 @@ pub(crate) fn begin(
     let mut log = Journal::new(alloc)?;
     let mut step = first_step(alloc, who, term, time)?;
     step.finish(letters, out, &mut log);
+    // No call is under way, so there is no answer to give.
+    step.answer = None;
     Ok(step)
 }

@@ -85,10 +85,8 @@ pub(crate) fn make_call(
     ensures answer { plain_answer result ≡ or_pending (client_call (client_of step.old.state) call.now).answer }
 {
     step.call(call, named);
-    match step.finish(letters, out, log) {
-        Some(answer) => answer,
-        None => Answer::Pending,
-    }
+    step.finish(letters, out, log);
+    step.gives_answer()
 }
 
 /// Makes a tick, with the memory that it may want.
@@ -111,10 +109,8 @@ pub(crate) fn make_tick(
     ensures heard { IsHeard result (client_tick (client_of step.old.state) now).answer }
 {
     step.tick(now);
-    match step.finish(letters, out, log) {
-        Some(answer) => Heard::Answered(answer),
-        None => Heard::Nothing,
-    }
+    step.finish(letters, out, log);
+    step.gives_heard()
 }
 
 /// Takes the memory that a datagram may want which counts.
@@ -164,10 +160,8 @@ fn make_news(
     ensures refused { OnErr result ((step.new ≡ step.old) × (out.new ≡ out.old) × (log.new ≡ log.old)) }
 {
     step.hears(packet, news)?;
-    match step.finish(letters, out, log) {
-        Some(answer) => Ok(Heard::Answered(answer)),
-        None => Ok(Heard::Nothing),
-    }
+    step.finish(letters, out, log);
+    Ok(step.gives_heard())
 }
 
 /// Takes in what counts.

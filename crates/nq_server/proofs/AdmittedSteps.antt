@@ -7,7 +7,7 @@ use Rattle.nq_base.specs.declared.Request.TheVariants.{Attach, Vacated}
 use Rattle.nq_base.specs.declared.Who.{Who}
 use Rattle.nq_model.specs.Decided.{is_decided_once}
 use Rattle.nq_model.specs.Message.{old_incarnation}
-use Rattle.nq_model.specs.Server.{Server, ServerStep, drops, quiet, says}
+use Rattle.nq_model.specs.Server.{Server, drops, quiet, says}
 use Rattle.nq_model.specs.ServerStep.{admit, attach, is_attach, not_attached, perform}
 
 not-attach : (r : Request) → is_decided_once r ≡ false → is_attach r ≡ false

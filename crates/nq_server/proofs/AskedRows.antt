@@ -1,8 +1,7 @@
 -- The rows of a table after a question.
-use Rattle.std.proofs.Common.{◌≡◌, ◌<◌, ◌≤◌, ◌^◌, ◌+◌, ℕ, Bool, true, false, List, [], ◌∷◌, Option, Some, None, not, ◌&&◌, ◌||◌, if◌then◌else◌, length, refl, sym, ◌∙◌, ap, subst, arith}
-use Rattle.std.specs.Prelude.{nat_lt, max, min}
-use Rattle.std.specs.List.{find, filter, list_any}
-use Rattle.std.proofs.lemmas.Bool.Decides.{nat_tests}
+use Rattle.std.proofs.Common.{◌≡◌, ◌<◌, ◌≤◌, ◌^◌, ◌+◌, ℕ, Bool, true, false, List, [], ◌∷◌, Option, Some, None, not, if◌then◌else◌, length, refl, sym, subst, arith}
+use Rattle.std.specs.Prelude.{nat_lt}
+use Rattle.std.specs.List.{find, list_any}
 use Rattle.nq_base.specs.declared.Access.{Access}
 use Rattle.nq_base.specs.declared.Mode.{Mode}
 use Rattle.nq_base.specs.declared.Mode.TheVariants.{NonCaching, Reading, Writing}
@@ -10,8 +9,8 @@ use Rattle.nq_base.specs.declared.Question.{Question}
 use Rattle.nq_base.specs.declared.Row.{Row}
 use Rattle.nq_base.specs.declared.Want.{Want}
 use Rattle.nq_model.specs.Ask.{ask, ask_past, ask_freely, ask_for, begin, renew, share_again, with_waiting, put_off, free, put_off_by_own, granted, no_lease, sharing_row, caching_row, shared_again, renewed_row, marked, conflicts, shares, term_of}
-use Rattle.nq_model.specs.Profile.{granted_term, most_rows, longest_term, skew}
-use Rattle.nq_model.specs.Table.{Table, caches, greater_mode, is_writing, is_row_of, find_row, drop_row, insert_row, put_row, row_before, with_rows, after_draw}
+use Rattle.nq_model.specs.Profile.{granted_term, most_rows, longest_term}
+use Rattle.nq_model.specs.Table.{Table, caches, greater_mode, is_row_of, find_row, drop_row, insert_row, put_row, row_before, with_rows, after_draw}
 use Rattle.nq_server.proofs.TickedRows.{some-run}
 use Rattle.nq_server.specs.Sound.{Runs, RowsRun}
 

@@ -1,5 +1,5 @@
 -- A request that was decided is answered.
-use Rattle.std.proofs.Common.{◌≡◌, ℕ, Bool, true, false, List, [], ◌∷◌, ◌++◌, Option, Some, None, length, map, refl, sym, ap, subst, ◌∙◌, append-nil}
+use Rattle.std.proofs.Common.{◌≡◌, ℕ, Bool, true, false, List, [], ◌∷◌, ◌++◌, Some, None, map, refl, sym, ap, subst, ◌∙◌, append-nil}
 use Rattle.std.proofs.lemmas.List.Elements.{All-nil, All-push}
 use Rattle.std.specs.Prelude.{All, reverse}
 use Rattle.nq_base.specs.declared.Decided.{Decided}
@@ -12,7 +12,6 @@ use Rattle.nq_datagrams.specs.Messages.{FitsMessage}
 use Rattle.nq_datagrams.specs.Sent.{FitsPacket, sent}
 use Rattle.nq_journal.specs.Items.{EntryList}
 use Rattle.nq_model.specs.Decided.{aside, decided_answer, decided_step, fresh_step}
-use Rattle.nq_model.specs.Kept.{Kept}
 use Rattle.nq_model.specs.Message.{Packet, reply}
 use Rattle.nq_model.specs.Server.{Phase, Server, says, drops, to_host}
 use Rattle.nq_model.specs.Table.{Table}

@@ -1,5 +1,5 @@
 -- What is kept after a request that is decided once.
-use Rattle.std.proofs.Common.{◌≡◌, ◌⊎◌, ℕ, Option, Some, Result, Ok, Err, inl, inr, refl, sym, ap, subst, ◌∙◌}
+use Rattle.std.proofs.Common.{◌≡◌, ◌⊎◌, ℕ, Option, Some, Ok, Err, inl, inr, refl, sym, ap, subst, ◌∙◌}
 use Rattle.nq_base.specs.declared.Change.{Change}
 use Rattle.nq_base.specs.declared.Decided.{Decided}
 use Rattle.nq_base.specs.declared.Decided.TheVariants.{Fresh, Again, Old, OldIncarnation, NotAttached}
@@ -18,7 +18,7 @@ use Rattle.nq_model.specs.Kept.{Kept}
 use Rattle.nq_model.specs.Server.{Server, ServerStep, drops, says}
 use Rattle.nq_server.specs.Deciding.{Concludes}
 use Rattle.nq_server.specs.State.{Beside, server_of}
-use Rattle.nq_server.specs.Stepping.{Makes, SaysNothing, Takes, outcome_of}
+use Rattle.nq_server.specs.Stepping.{SaysNothing, Takes}
 use Rattle.nq_server.specs.Ticking.{halt_of}
 use Rattle.nq_server.specs.declared.received.Taken.{Taken}
 use Rattle.nq_wire.specs.Outbox.{Datagrams}

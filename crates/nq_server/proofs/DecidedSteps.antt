@@ -1,12 +1,10 @@
 -- Requests that are decided once: what is done beside the kept state, and what is sent.
-use Rattle.std.proofs.Common.{◌≡◌, ◌≤◌, ◌+◌, ◌++◌, Result, Ok, Err, length, map, take, arith, ◌==◌, ℕ, Bool, true, false, List, [], ◌∷◌, Option, Some, None, not, refl, sym, ap, subst, ◌∙◌}
+use Rattle.std.proofs.Common.{◌≡◌, ◌≤◌, ◌+◌, Result, Ok, Err, length, map, take, arith, ◌==◌, ℕ, true, List, [], ◌∷◌, Option, Some, None, not, refl, sym, ap, subst, ◌∙◌}
 use Rattle.std.specs.Result.{is_ok, is_err}
 use Rattle.std.proofs.lemmas.List.{length-append, take_at}
 use Rattle.nq_datagrams.specs.Sent.{sent}
 use Rattle.nq_model.specs.Message.{Packet}
 use Rattle.nq_wire.specs.Outbox.{Datagrams}
-use Rattle.nq_base.specs.declared.Decided.{Decided}
-use Rattle.nq_base.specs.declared.Decided.TheVariants.{Fresh, Again, Old, OldIncarnation, NotAttached}
 use Rattle.nq_base.specs.declared.Entry.{Entry}
 use Rattle.nq_base.specs.declared.Request.{Request}
 use Rattle.nq_base.specs.declared.Request.TheVariants.{Null, Attach, Lookup, Create, GetAttr, Read, Write, GetLease, Vacated, Evicted, Resize, Remove}
@@ -15,13 +13,13 @@ use Rattle.nq_base.specs.declared.Verdict.{Verdict}
 use Rattle.nq_base.specs.declared.Verdict.TheVariants.{Done, Fenced, Exist, NoSpace, Invalid, Stale, TryLater}
 use Rattle.nq_base.specs.declared.Who.{Who}
 use Rattle.nq_boot.specs.Recovery.{Recovery, after_write}
-use Rattle.nq_model.specs.Decided.{Aside, aside, aside_in, done_aside, later_aside, nothing_aside, entry_aside, rows_aside, heard_aside, put_off_aside, stored_aside, written_aside, file_to_change}
+use Rattle.nq_model.specs.Decided.{Aside, aside, done_aside, nothing_aside, entry_aside, rows_aside, heard_aside, stored_aside}
 use Rattle.nq_model.specs.Server.{Phase, serving, recovering, Server}
-use Rattle.nq_model.specs.Table.{Table, is_row_of, find_row, with_rows, drop_host, drop_rows_of}
+use Rattle.nq_model.specs.Table.{Table, find_row, with_rows, drop_host, drop_rows_of}
 use Rattle.nq_server.proofs.AskedRows.{put-runs, found-runs}
 use Rattle.nq_server.proofs.TickedRows.{some-run}
 use Rattle.nq_server.specs.declared.state.Phase.{Phase as Held}
-use Rattle.nq_server.specs.declared.state.Phase.TheVariants.{Serving, Recovering}
+use Rattle.nq_server.specs.declared.state.Phase.TheVariants.{Recovering}
 use Rattle.nq_journal.specs.Items.{EntryList}
 use Rattle.nq_server.specs.State.{Beside}
 use Rattle.nq_server.specs.Stepping.{Enters, SaysNothing, Sends}

@@ -1,8 +1,7 @@
 -- Requests for a lease, by what the ask table tells.
-use Rattle.std.proofs.Common.{◌≡◌, ℕ, Bool, true, false, List, [], ◌∷◌, ◌++◌, Option, Some, None, if◌then◌else◌, length, map, Result, Ok, Err, refl, sym, ap, subst, ◌∙◌}
+use Rattle.std.proofs.Common.{◌≡◌, ℕ, Bool, true, false, List, [], ◌++◌, Option, Some, None, if◌then◌else◌, length, map, Result, Ok, Err, refl, sym, ap, subst, ◌∙◌}
 use Rattle.std.specs.Prelude.{is_some, nat_lt, min, reverse, ◌+◌}
 use Rattle.std.specs.List.{find, list_any}
-use Rattle.std.specs.Option.{ForSome}
 use Rattle.nq_base.specs.declared.Access.{Access}
 use Rattle.nq_base.specs.declared.Asked.{Asked}
 use Rattle.nq_base.specs.declared.Clash.{Clash}
@@ -15,11 +14,10 @@ use Rattle.nq_evict.specs.declared.NoticeTo.{NoticeTo}
 use Rattle.nq_evict.specs.declared.NoticeTo.TheVariants.{Others, Own}
 use Rattle.nq_evict.specs.Telling.{told_rows, own_rows}
 use Rattle.nq_journal.specs.Items.{EntryList}
-use Rattle.nq_model.specs.Ask.{Reply as Told, ask, ask_past, ask_freely, ask_for, begin, renew, share_again, put_off, put_off_by_own, granted, free, no_lease, caching_row, sharing_row, conflicts, shares, term_of}
-use Rattle.nq_model.specs.Change.{IsWithinBounds}
+use Rattle.nq_model.specs.Ask.{Reply as Told, ask, ask_past, ask_freely, ask_for, renew, share_again, put_off, put_off_by_own, granted, free, no_lease, caching_row, sharing_row, conflicts, shares, term_of}
 use Rattle.nq_model.specs.Kept.{File, Kept}
 use Rattle.nq_model.specs.Profile.{most_rows}
-use Rattle.nq_model.specs.Server.{Server, ServerStep, Phase, serving}
+use Rattle.nq_model.specs.Server.{Server, ServerStep, serving}
 use Rattle.nq_model.specs.ServerStep.{noticed, lease_asked, leases, read_asked, serves, tells_later}
 use Rattle.nq_model.specs.Table.{Table, caches, find_row}
 use Rattle.nq_server.specs.declared.received.Halt.{Halt}
@@ -27,9 +25,9 @@ use Rattle.nq_server.specs.declared.received.Halt.TheVariants.{Fault, Memory}
 use Rattle.nq_server.specs.declared.received.Taken.{Taken}
 use Rattle.nq_server.specs.declared.state.Phase.{Phase as Held}
 use Rattle.nq_server.specs.declared.state.Phase.TheVariants.{Serving, Recovering}
-use Rattle.nq_server.specs.Leasing.{Does, MakesBeside, own_to_tell, to_tell, granted_in, file_asked}
+use Rattle.nq_server.specs.Leasing.{Does, MakesBeside, own_to_tell, to_tell, granted_in}
 use Rattle.nq_server.specs.Sound.{IsOfBoot}
-use Rattle.nq_server.specs.State.{Beside, phase_of, server_of}
+use Rattle.nq_server.specs.State.{Beside, phase_of}
 use Rattle.nq_server.specs.Stepping.{Takes, Makes, SaysNothing, next_of, outcome_of}
 use Rattle.nq_wire.specs.Outbox.{Datagrams}
 

@@ -4,6 +4,7 @@ use Rattle.nq_base.specs.declared.Asked.{Asked}
 use Rattle.nq_base.specs.declared.FileRow.{FileRow}
 use Rattle.nq_base.specs.declared.Grant.{Grant}
 use Rattle.nq_base.specs.declared.Question.{Question}
+use Rattle.nq_base.specs.declared.Reply.{Reply as Answer}
 use Rattle.nq_base.specs.declared.Row.{Row}
 use Rattle.nq_base.specs.declared.Want.{Want}
 use Rattle.nq_base.specs.declared.Who.{Who}
@@ -103,3 +104,17 @@ abbrev pub HasBody : Found → List ℕ → Option (List ℕ) → Type 0
 HasBody (Found.Got row) buffer body = Some buffer ≡ body
 HasBody Found.Stale buffer body = Unit {0}
 HasBody Found.Invalid buffer body = Unit {0}
+
+-- a reply is one to a READ
+abbrev pub IsRead : Answer → Type 0
+IsRead (Answer.Read inc rev body grant) = Unit {0}
+IsRead other = ⊥
+
+-- the body of a reply to a READ
+abbrev pub body_in : Answer → List ℕ
+body_in (Answer.Read inc rev body grant) = body
+body_in other = []
+
+-- a reply to a READ of this incarnation has a body, but no revision and no grant yet
+abbrev pub IsBlank : (inc : ℕ) → Answer → Type 0
+IsBlank inc said = said ≡ Answer.Read inc 0 (body_in said) None

@@ -1,7 +1,17 @@
 //! Datagrams that are no request, or that are not in a procedure's grammar.
 
-use crate::story::Story;
+use crate::story::{Story, is_sent};
+use crate::words::bytes_of;
+use nq_rpc::RpcFault;
+use nq_server::{Reason, Received};
 use std::test::Fail;
+
+/// Host 1 in incarnation 1 asks LOOKUP for the name `a`, with number 1.
+const LOOKUP: &str = "1 0 2 20004e51 1 2 0 0 0 0 1 1 1 61000000";
+
+/// The zeros behind it that make 4400 bytes: a block's, and 62 words.
+const ZEROS: &str =
+    "*0 0 0 0 0 0 0 0 0 0 0 0 0 0 0 0 0 0 0 0 0 0 0 0 0 0 0 0 0 0 0 0 0 0 0 0 0 0 0 0 0 0 0 0 0 0 0 0 0 0 0 0 0 0 0 0 0 0 0 0 0 0 0";
 
 /// Calls that are answered by their words, and datagrams that are dropped.
 const CALLS: &str = "\
@@ -62,4 +72,39 @@ const CALLS: &str = "\
 fn calls_are_answered_by_their_words(rt: HostRuntime) -> Result<(), Fail> {
     let mut story = Story::begin(rt.alloc())?;
     story.play(&rt, CALLS)
+}
+
+#[test]
+fn a_datagram_has_4400_bytes_at_most(rt: HostRuntime) -> Result<(), Fail> {
+    let mut story = Story::begin(rt.alloc())?;
+    let mut call = bytes_of(rt.alloc(), LOOKUP)?;
+    call.extend_from_slice(&bytes_of(rt.alloc(), ZEROS)?)?;
+    let (received, out) = story.take_in(1, &call)?;
+    assert!(rt; received == Received::Done);
+    assert!(rt; is_sent(rt.alloc(), &out, 0, "1 1 1 0 0 0 4")?);
+    call.push(0)?;
+    let (received, out) = story.take_in(1, &call)?;
+    assert!(rt; received == Received::Dropped(Reason::TooLong));
+    assert!(rt; out.is_empty());
+    Ok(())
+}
+
+#[test]
+fn each_prefix_of_a_call_is_short_or_garbage(rt: HostRuntime) -> Result<(), Fail> {
+    let mut story = Story::begin(rt.alloc())?;
+    let call = bytes_of(rt.alloc(), LOOKUP)?;
+    for size in 0..call.len() {
+        let (received, out) = story.take_in(1, call.get(..size).unwrap_or(&[]))?;
+        if size < 40 {
+            assert!(rt;
+                received == Received::Dropped(Reason::Rpc(RpcFault::Short)),
+                "{size}"
+            );
+            assert!(rt; out.is_empty(), "{size}");
+        } else {
+            assert!(rt; received == Received::Done, "{size}");
+            assert!(rt; is_sent(rt.alloc(), &out, 0, "1 1 1 0 0 0 4")?, "{size}");
+        }
+    }
+    Ok(())
 }

@@ -7,6 +7,8 @@ mod attaching;
 #[cfg(test)]
 mod calls;
 #[cfg(test)]
+mod hostile;
+#[cfg(test)]
 mod leases;
 #[cfg(test)]
 mod recovering;

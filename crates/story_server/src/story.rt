@@ -39,7 +39,11 @@ impl Story {
     }
 
     /// Takes in what comes from a host. Answers how, with what the server sends.
-    fn take_in(&mut self, host: u32, datagram: &[u8]) -> Result<(Received, Outbox), Fail> {
+    pub(crate) fn take_in(
+        &mut self,
+        host: u32,
+        datagram: &[u8],
+    ) -> Result<(Received, Outbox), Fail> {
         let mut out = Outbox::new(self.alloc, self.next)?;
         let received = self
             .server
@@ -83,7 +87,7 @@ impl Story {
     }
 
     /// Takes in a tick, at which the server sends nothing.
-    fn tick(&mut self, rt: &impl Abort, now: u64) -> Result<(), Fail> {
+    pub(crate) fn tick(&mut self, rt: &impl Abort, now: u64) -> Result<(), Fail> {
         let now = Ticks(now);
         assert!(rt; self.server.time() <= now && now < Ticks(1 << 62));
         let mut out = Outbox::new(self.alloc, self.next)?;
@@ -93,7 +97,7 @@ impl Story {
     }
 
     /// Takes in a crash.
-    fn crash(&mut self, rt: &impl Abort, now: u64) {
+    pub(crate) fn crash(&mut self, rt: &impl Abort, now: u64) {
         let now = Ticks(now);
         assert!(rt; self.server.time() <= now && now < Ticks(1 << 62));
         let received = self.server.reboot(self.alloc, LONGEST, now, &mut self.log);
@@ -108,6 +112,11 @@ impl Story {
         assert!(rt; printed == Printed::All);
         assert_eq!(rt; sink.bytes(), text);
         Ok(())
+    }
+
+    /// The server.
+    pub(crate) fn server(&mut self) -> &mut Server<ListKeeper> {
+        &mut self.server
     }
 }
 
@@ -141,7 +150,7 @@ fn is_dropped(received: Received, reason: &str) -> bool {
 }
 
 /// Whether the datagram at a place goes to the host that the first word of the text names, and has the other words.
-fn is_sent(alloc: Global, out: &Outbox, place: usize, text: &str) -> Result<bool, Fail> {
+pub(crate) fn is_sent(alloc: Global, out: &Outbox, place: usize, text: &str) -> Result<bool, Fail> {
     let (host, words) = text.split_once(' ').ok_or("a host without a datagram")?;
     let host = Host(u32::from_str_radix(host, 16)?);
     let wanted = bytes_of(alloc, words)?;

@@ -1,15 +1,12 @@
-use Rattle.std.proofs.Common.{◌≡◌, ◌==◌, ℕ, Bool, true, false, List, [], ◌∷◌, map, Option, Some, None, is_some, length, if◌then◌else◌, refl, sym, ap, ◌∙◌}
+use Rattle.std.proofs.Common.{◌≡◌, ◌==◌, ℕ, Bool, true, false, List, map, Option, Some, None, is_some, length, if◌then◌else◌, refl, sym, ap, ◌∙◌}
 use Rattle.std.specs.List.{slice_get}
 use Rattle.std.proofs.lemmas.Option.{slice_get_read, slice_get_past}
 use Rattle.std.specs.Option.{option_map}
 use Rattle.nq_client.specs.ByFile.{of_file}
+use Rattle.nq_client.proofs.NoticeList.{same_list}
 use Rattle.nq_client.proofs.Places.{found-place}
 use Rattle.nq_model.specs.Client.{Notice, file_of_notice, notice_on}
 use Rattle.nq_client.proofs.notices.is_at.Goals as goal
-
-same_list : {X : Type 0} (xs : List X) → map (λ x. x) xs ≡ xs
-same_list [] = refl
-same_list (x ∷ xs) = ap (λ ys. x ∷ ys) (same_list xs)
 
 tested : (file : ℕ) (o : Option Notice) → Bool
 tested file None = false

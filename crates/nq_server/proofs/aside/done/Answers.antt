@@ -1,4 +1,4 @@
-use Rattle.std.proofs.Common.{◌≡◌, [], refl, sym, ap, subst, ◌∙◌}
+use Rattle.std.proofs.Common.{refl, sym, ap, subst, ◌∙◌}
 use Rattle.nq_model.specs.Table.{with_rows}
 use Rattle.nq_server.proofs.DecidedSteps.{serving-runs, does-serving, does-recovering, recovery-keeps, of-recovering}
 use Rattle.nq_server.proofs.LeasedSteps.{of-serving}

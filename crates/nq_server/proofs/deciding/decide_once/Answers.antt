@@ -1,4 +1,4 @@
-use Rattle.std.proofs.Common.{◌≡◌, refl, sym, ap, ◌∙◌}
+use Rattle.std.proofs.Common.{◌≡◌, refl, ap, ◌∙◌}
 use Rattle.nq_keeper.proofs.Leaving.{two-of}
 use Rattle.nq_model.specs.Change.{applied_if}
 use Rattle.nq_model.specs.Decided.{change_of, decided, decided_step, gate_in, gate_of}

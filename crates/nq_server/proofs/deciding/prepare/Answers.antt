@@ -1,4 +1,4 @@
-use Rattle.std.proofs.Common.{◌≡◌, ◌≤◌, length, sym, ap, subst, ◌∙◌, arith}
+use Rattle.std.proofs.Common.{◌≡◌, length, ap, subst, ◌∙◌, arith}
 use Rattle.nq_model.specs.Decided.{later_aside}
 use Rattle.nq_server.proofs.DecidedSteps.{sends-grow, sends-through, taken-back}
 use Rattle.nq_server.proofs.LeasedSteps.{some-kept}

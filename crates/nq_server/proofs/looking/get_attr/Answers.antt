@@ -1,4 +1,4 @@
-use Rattle.std.proofs.Common.{◌≡◌, sym, ap, ◌∙◌}
+use Rattle.std.proofs.Common.{sym, ap, ◌∙◌}
 use Rattle.nq_model.specs.Kept.{find_file}
 use Rattle.nq_model.specs.Message.{reply}
 use Rattle.nq_model.specs.Server.{says}

@@ -1,4 +1,4 @@
-use Rattle.std.proofs.Common.{◌≡◌, sym, ap, ◌∙◌}
+use Rattle.std.proofs.Common.{sym, ap, ◌∙◌}
 use Rattle.nq_keeper.proofs.Leaving.{one-of}
 use Rattle.nq_model.specs.Kept.{host_row}
 use Rattle.nq_model.specs.ServerStep.{admit, not_attached, perform}

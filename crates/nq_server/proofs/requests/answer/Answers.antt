@@ -1,4 +1,4 @@
-use Rattle.std.proofs.Common.{◌≡◌, refl, sym, ap, ◌∙◌}
+use Rattle.std.proofs.Common.{refl, sym, ap, ◌∙◌}
 use Rattle.nq_base.specs.declared.Reply.{Reply as Answer}
 use Rattle.nq_model.proofs.EachChange.{requests-are-decided}
 use Rattle.nq_model.specs.Decided.{decided, decided_step, gate_of}

@@ -1,0 +1,4 @@
+pub mod Tells
+pub mod ClientTells
+pub mod ServerTells
+pub mod FirstRuns

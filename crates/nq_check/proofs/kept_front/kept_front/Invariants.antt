@@ -1,0 +1,6 @@
+use Rattle.nq_check.specs.Fronts.{KeepsBelow}
+use Rattle.nq_check.specs.declared.rules.Rule.TheVariants.{Synchronized}
+use Rattle.nq_check.proofs.kept_front.kept_front.Given as goal
+
+abbrev pub invariant-loop-place : goal.invariant-loop-place
+invariant-loop-place l = KeepsBelow Synchronized l.whole l.place

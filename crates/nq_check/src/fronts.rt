@@ -1,0 +1,38 @@
+//! How far fast passes over a journal have seen that its entries keep the rules.
+
+ghost use Rattle.std.specs.Prelude.{IfOk};
+ghost use Rattle.nq_check.specs.Fronts.{AreFronts};
+
+use crate::covering::accounted_front;
+use crate::kept_front::kept_front;
+use crate::legal_front::legal_front;
+use crate::ordering::ordered_front;
+use crate::tables::make_tables;
+use nq_base::{Entry, NoMemory};
+use std::alloc::Global;
+
+/// A place for each rule: the entries before it keep that rule.
+#[derive(Clone, Copy)]
+pub(crate) struct Fronts {
+    pub(crate) legal: usize,
+    pub(crate) ordered: usize,
+    pub(crate) accounted: usize,
+    pub(crate) reported: usize,
+    pub(crate) synchronized: usize,
+}
+
+/// The fronts of a journal. One is 0 under a rule that has no fast pass.
+pub(crate) fn find_fronts(alloc: Global, whole: &[Entry]) -> Result<Fronts, NoMemory>
+    ensures { IfOk result (AreFronts whole.now) }
+{
+    let tables = make_tables(alloc, whole)?;
+    let ordered = ordered_front(alloc, whole)?;
+    let accounted = accounted_front(alloc, whole)?;
+    Ok(Fronts {
+        legal: legal_front(&tables, whole),
+        ordered,
+        accounted,
+        reported: 0,
+        synchronized: kept_front(&tables, whole),
+    })
+}

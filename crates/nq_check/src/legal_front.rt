@@ -1,0 +1,250 @@
+//! A fast pass over the reads, and the answers to them, that are legal.
+
+ghost use Rattle.std.specs.Prelude.{◌≡◌, ◌+◌, ◌-◌, ◌<◌, ◌≤◌, ◌||◌, IsTrue, Some, if◌then◌else◌, length, not, reverse, take, true, false};
+ghost use Rattle.std.specs.List.{slice_get};
+ghost use Rattle.nq_check.specs.Fronts.{KeepsBelow};
+ghost use Rattle.nq_check.specs.Tables.{AreTables, HasBetween, NoneBetween};
+ghost use Rattle.nq_check.specs.declared.rules.Rule.{Rule};
+ghost use Rattle.nq_model.specs.Journal.{call_of, cuts};
+ghost use Rattle.nq_model.specs.JournalTest.{is_counted};
+ghost use Rattle.nq_model.specs.LegalTest.{is_counted_by, is_counted_with, is_legal_answer, is_legal_at, is_legal_read, is_reading};
+ghost use Rattle.nq_model.specs.StandsTest.{standing_value, stands};
+
+use crate::calls::is_reading;
+use crate::entries::{cuts, is_read_by, is_through, is_write_by, is_write_on, value_written};
+use crate::legal::Reading;
+use crate::links::{Kind, block_key, call_key};
+use crate::sought::{Sought, back_from, call_along, is_before, is_somewhere, last_of};
+use crate::tables::Tables;
+use nq_base::{BlockNo, Entry, Said, Who};
+
+/// Whether an entry is a counted read.
+fn is_counted(tables: &Tables, whole: &[Entry], entry: &Entry) -> bool
+    requires tables { AreTables whole.now tables.now }
+    ensures { result ≡ is_counted (reverse whole.now) entry.now }
+{
+    match entry {
+        Entry::R { who, q, served, .. } => match served {
+            None => true,
+            Some(packet) => is_somewhere(
+                &tables.calls,
+                whole,
+                Sought::AnswerBy {
+                    who,
+                    q: *q,
+                    packet: *packet,
+                },
+            ),
+        },
+        _ => false,
+    }
+}
+
+/// Whether a write stands for the read at a place.
+fn stands(tables: &Tables, whole: &[Entry], place: usize, read: &Reading, write: &Entry) -> bool
+    requires tables { AreTables whole.now tables.now }
+    requires within { place < length whole.now }
+    ensures { result ≡ stands (reverse whole.now) (reverse (take place whole.now)) read.now.who.now read.now.file read.now.block write.now }
+{
+    is_write_on(write, read.file, read.block)
+        && (is_through(write)
+            || (is_somewhere(&tables.covers, whole, Sought::Store(write))
+                || is_write_by(write, read.who)
+                    && !is_before(&tables.covers, whole, place, Sought::Loss(write))))
+}
+
+/// The place of the last write before a read that stands for it, counted from 1, or 0 where there is none.
+fn last_standing(tables: &Tables, whole: &[Entry], place: usize, read: &Reading) -> usize
+    requires tables { AreTables whole.now tables.now }
+    requires within { place < length whole.now }
+    ensures low { result ≤ place }
+    ensures none { NoneBetween (stands (reverse whole.now) (reverse (take place whole.now)) read.now.who.now read.now.file read.now.block) whole.now result place }
+    ensures there { 0 < result → (write : Entry) → slice_get whole.now (result - 1) ≡ Some write → stands (reverse whole.now) (reverse (take place whole.now)) read.now.who.now read.now.file read.now.block write ≡ true }
+{
+    let key = block_key(read.file, read.block);
+    let mut at = back_from(&tables.writes, Kind::Writes, key, whole, place);
+    while at > 0 {
+        if stands(tables, whole, place, read, &whole[at - 1]) {
+            return at;
+        }
+        at = back_from(&tables.writes, Kind::Writes, key, whole, at - 1);
+    }
+    0
+}
+
+/// Whether a Z from a place on, and before another, cuts the block of a read.
+fn is_cut_since(tables: &Tables, whole: &[Entry], from: usize, place: usize, read: &Reading) -> bool
+    requires tables { AreTables whole.now tables.now }
+    requires within { place < length whole.now }
+    ensures yes { IsTrue result → HasBetween (λ entry. cuts entry read.now.file read.now.block) whole.now from place }
+    ensures no { result ≡ false → NoneBetween (λ entry. cuts entry read.now.file read.now.block) whole.now from place }
+{
+    let key = block_key(read.file, BlockNo(0));
+    let mut at = back_from(&tables.cuts, Kind::Cuts, key, whole, place);
+    while at > from {
+        if cuts(&whole[at - 1], read.file, read.block) {
+            return true;
+        }
+        at = back_from(&tables.cuts, Kind::Cuts, key, whole, at - 1);
+    }
+    false
+}
+
+/// The value of the last write before a read that stands for it, or 0 where there is none.
+fn standing_value(tables: &Tables, whole: &[Entry], place: usize, read: &Reading) -> u32
+    requires tables { AreTables whole.now tables.now }
+    requires within { place < length whole.now }
+    ensures { result ≡ standing_value (reverse whole.now) (reverse (take place whole.now)) read.now.who.now read.now.file read.now.block }
+{
+    let at = last_standing(tables, whole, place, read);
+    if is_cut_since(tables, whole, at, place, read) {
+        return 0;
+    }
+    if at == 0 {
+        return 0;
+    }
+    value_written(&whole[at - 1])
+}
+
+/// Whether a counted read is legal.
+fn is_legal_read(tables: &Tables, whole: &[Entry], place: usize, read: &Reading) -> bool
+    requires tables { AreTables whole.now tables.now }
+    requires within { place < length whole.now }
+    ensures { result ≡ is_legal_read (reverse whole.now) (reverse (take place whole.now)) read.now.who.now read.now.q read.now.file read.now.block read.now.value }
+{
+    read.value == standing_value(tables, whole, place, read)
+        && is_reading(call_along(&tables.calls, whole, read.who, read.q))
+        && is_somewhere(
+            &tables.calls,
+            whole,
+            Sought::AnswerWith {
+                who: read.who,
+                q: read.q,
+                value: read.value,
+            },
+        )
+}
+
+/// Whether an entry is a counted read by a call.
+fn is_counted_by(tables: &Tables, whole: &[Entry], by: &Who, n: u64, entry: &Entry) -> bool
+    requires tables { AreTables whole.now tables.now }
+    ensures { result ≡ is_counted_by (reverse whole.now) by.now n entry.now }
+{
+    is_read_by(entry, by, n) && is_counted(tables, whole, entry)
+}
+
+/// Whether an entry is a counted read by a call, of a value.
+fn is_counted_with(
+    tables: &Tables,
+    whole: &[Entry],
+    by: &Who,
+    n: u64,
+    v: u32,
+    entry: &Entry,
+) -> bool
+    requires tables { AreTables whole.now tables.now }
+    ensures { result ≡ is_counted_with (reverse whole.now) by.now n v entry.now }
+{
+    match entry {
+        Entry::R { value, .. } => *value == v && is_counted_by(tables, whole, by, n, entry),
+        _ => false,
+    }
+}
+
+/// Whether one of two is true.
+fn either(here: bool, found: bool) -> bool
+    ensures { result ≡ (here || found) }
+{
+    here || found
+}
+
+/// A number, or the next one where something is counted.
+fn counted(number: usize, here: bool) -> usize
+    requires { number < 18446744073709551615 }
+    ensures { result ≡ (if here then 1 + number else number) }
+{
+    if here { number + 1 } else { number }
+}
+
+/// Whether a call has one counted read, and that is of a value.
+fn is_legal_answer(tables: &Tables, whole: &[Entry], by: &Who, n: u64, v: u32) -> bool
+    requires tables { AreTables whole.now tables.now }
+    ensures { result ≡ is_legal_answer (reverse whole.now) by.now n v }
+{
+    let key = call_key(by, n);
+    let mut number: usize = 0;
+    let mut found = false;
+    let mut at = last_of(&tables.calls, Kind::Calls, key, whole);
+    while at > 0 {
+        let here = is_counted_with(tables, whole, by, n, v, &whole[at - 1]);
+        found = either(here, found);
+        let counts = is_counted_by(tables, whole, by, n, &whole[at - 1]);
+        number = counted(number, counts);
+        at = back_from(&tables.calls, Kind::Calls, key, whole, at - 1);
+    }
+    found && number <= 1
+}
+
+/// Whether an answer is legal.
+fn answers_legally(tables: &Tables, whole: &[Entry], by: &Who, n: u64, v: u32) -> bool
+    requires tables { AreTables whole.now tables.now }
+    ensures { result ≡ (not (is_reading (call_of (reverse whole.now) by.now n)) || is_legal_answer (reverse whole.now) by.now n v) }
+{
+    !is_reading(call_along(&tables.calls, whole, by, n)) || is_legal_answer(tables, whole, by, n, v)
+}
+
+/// Whether the entry at a place is legal, as the links show.
+fn is_legal(tables: &Tables, whole: &[Entry], place: usize, entry: &Entry) -> bool
+    requires tables { AreTables whole.now tables.now }
+    requires within { place < length whole.now }
+    ensures { result ≡ is_legal_at (reverse whole.now) entry.now (reverse (take place whole.now)) }
+{
+    match entry {
+        Entry::R {
+            who,
+            q,
+            file,
+            block,
+            value,
+            ..
+        } => {
+            !is_counted(tables, whole, entry)
+                || is_legal_read(
+                    tables,
+                    whole,
+                    place,
+                    &Reading {
+                        who,
+                        q: *q,
+                        file: *file,
+                        block: *block,
+                        value: *value,
+                    },
+                )
+        }
+        Entry::A {
+            who,
+            q,
+            said: Said::OkValue(value),
+        } => answers_legally(tables, whole, who, *q, *value),
+        Entry::A {
+            who,
+            q,
+            said: Said::OkBy { value, .. },
+        } => answers_legally(tables, whole, who, *q, *value),
+        _ => true,
+    }
+}
+
+/// How far the entries of a journal are legal, one after another.
+pub(crate) fn legal_front(tables: &Tables, whole: &[Entry]) -> usize
+    requires tables { AreTables whole.now tables.now }
+    ensures { KeepsBelow Rule.Legal whole.now result }
+{
+    for (place, entry) in whole.iter().enumerate() {
+        if !is_legal(tables, whole, place, entry) {
+            return place;
+        }
+    }
+    whole.len()
+}

@@ -1,0 +1,169 @@
+//! Links from each entry of a journal back to the last one before it that has the same key.
+#![tactic(auto, using(crate::proofs::Linking::member_marked, crate::proofs::Linking::other_marked))]
+
+ghost use Rattle.std.specs.Prelude.{◌≡◌, ◌<◌, IfOk, OnOk, length};
+ghost use Rattle.nq_check.specs.Links.{IsLinked, IsLinkedNext, is_member, spot_of};
+ghost use Rattle.nq_check.specs.Marks.{IsMarked, mark_at, same_spot};
+
+use nq_base::{BlockNo, Entry, FileId, NoMemory, Who};
+use std::alloc::Global;
+use std::collections::HashMap;
+
+/// A key: an incarnation, its host first, and two numbers.
+pub(crate) type Key = ((u32, u32), (u64, u64));
+
+/// For each key a place, counted from 1, and 0 where there is none.
+type Heads = HashMap<Key, usize>;
+
+/// What the links of a kind lead to, and by what key.
+#[derive(Clone, Copy)]
+pub(crate) enum Kind {
+    /// The entries of a call.
+    Calls,
+    /// The writes of a block.
+    Writes,
+    /// The S and L of an incarnation on a block.
+    Covers,
+    /// The Z of a file.
+    Cuts,
+}
+
+/// The links of a kind.
+#[derive(Drop)]
+pub(crate) struct Links {
+    /// The last entry of each key.
+    pub(crate) heads: Heads,
+    /// For each entry the last one before it that its key leads to. Both are places counted from 1.
+    pub(crate) earlier: Vec<usize>,
+}
+
+/// The key of a call.
+pub(crate) fn call_key(who: &Who, q: u64) -> Key
+    ensures { result ≡ ((who.now.host, who.now.inc), (q, 0)) }
+{
+    ((who.host.0, who.inc.0), (q, 0))
+}
+
+/// The key of a block.
+pub(crate) fn block_key(file: FileId, block: BlockNo) -> Key
+    ensures { result ≡ ((0, 0), (file, block)) }
+{
+    ((0, 0), (u64::from(file.0), u64::from(block.0)))
+}
+
+/// The key of a block as an incarnation's own.
+pub(crate) fn own_key(who: &Who, file: FileId, block: BlockNo) -> Key
+    ensures { result ≡ ((who.now.host, who.now.inc), (file, block)) }
+{
+    (
+        (who.host.0, who.inc.0),
+        (u64::from(file.0), u64::from(block.0)),
+    )
+}
+
+/// Whether two keys are one.
+pub(crate) fn same_key(a: Key, b: Key) -> bool
+    ensures { result ≡ same_spot a b }
+{
+    (a.0.0 == b.0.0 && a.0.1 == b.0.1) && (a.1.0 == b.1.0 && a.1.1 == b.1.1)
+}
+
+/// The key of an entry.
+pub(crate) fn key_of(kind: Kind, entry: &Entry) -> Key
+    ensures { result ≡ spot_of kind entry.now }
+{
+    match kind {
+        Kind::Calls => match entry {
+            Entry::C { who, q, .. } => call_key(who, *q),
+            Entry::R { who, q, .. } => call_key(who, *q),
+            Entry::A { who, q, .. } => call_key(who, *q),
+            _ => ((0, 0), (0, 0)),
+        },
+        Kind::Writes => match entry {
+            Entry::W { file, block, .. } => block_key(*file, *block),
+            Entry::R { file, block, .. } => block_key(*file, *block),
+            _ => ((0, 0), (0, 0)),
+        },
+        Kind::Covers => match entry {
+            Entry::S {
+                who,
+                file,
+                block,
+                ..
+            } => own_key(who, *file, *block),
+            Entry::L {
+                who,
+                file,
+                block,
+                ..
+            } => own_key(who, *file, *block),
+            Entry::R {
+                who,
+                file,
+                block,
+                ..
+            } => own_key(who, *file, *block),
+            _ => ((0, 0), (0, 0)),
+        },
+        Kind::Cuts => match entry {
+            Entry::Z { file, .. } => block_key(*file, BlockNo(0)),
+            Entry::R { file, .. } => block_key(*file, BlockNo(0)),
+            _ => ((0, 0), (0, 0)),
+        },
+    }
+}
+
+/// Whether links lead to an entry.
+pub(crate) fn is_member(kind: Kind, entry: &Entry) -> bool
+    ensures { result ≡ is_member kind entry.now }
+{
+    match kind {
+        Kind::Calls => matches!(entry, Entry::C { .. } | Entry::R { .. } | Entry::A { .. }),
+        Kind::Writes => matches!(entry, Entry::W { .. }),
+        Kind::Covers => matches!(entry, Entry::S { .. } | Entry::L { .. }),
+        Kind::Cuts => matches!(entry, Entry::Z { .. }),
+    }
+}
+
+/// The place of the last entry of a key, counted from 1.
+pub(crate) fn head_at(heads: &Heads, at: Key) -> usize
+    ensures { result ≡ mark_at heads.now.entries at }
+{
+    heads.get(&at).copied().unwrap_or(0)
+}
+
+/// Sets the place of the last entry of a key.
+fn set_head(heads: &mut Heads, at: Key, place: usize) -> Result<(), NoMemory>
+    ensures { OnOk result (IsMarked at place heads.old.entries heads.new.entries) }
+{
+    heads.insert(at, place)?;
+    Ok(())
+}
+
+/// Links one more entry.
+fn link_entry(links: &mut Links, kind: Kind, place: usize, entry: &Entry) -> Result<(), NoMemory>
+    requires { place < 18446744073709551615 }
+    ensures { OnOk result (IsLinkedNext kind place entry.now links.old.heads.entries links.new.heads.entries links.old.earlier.items links.new.earlier.items) }
+{
+    let at = key_of(kind, entry);
+    let earlier = head_at(&links.heads, at);
+    links.earlier.push(earlier)?;
+    if is_member(kind, entry) {
+        set_head(&mut links.heads, at, place + 1)?;
+    }
+    Ok(())
+}
+
+/// Links the entries of a journal, the oldest first.
+pub(crate) fn link(alloc: Global, kind: Kind, whole: &[Entry]) -> Result<Links, NoMemory>
+    ensures { IfOk result (λ links. IsLinked kind whole.now (length whole.now) links.heads.entries links.earlier.items) }
+{
+    let mut links = Links {
+        heads: HashMap::new(alloc),
+        earlier: Vec::new(alloc),
+    };
+    for (place, entry) in whole.iter().enumerate() {
+        link_entry(&mut links, kind, place, entry)?;
+    }
+    Ok(links)
+}
