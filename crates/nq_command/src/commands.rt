@@ -3,7 +3,6 @@
 ghost use Rattle.std.specs.Prelude.{◌≡◌, ◌≤◌, IfSome};
 ghost use Rattle.nq_command.specs.Commands.{IsRanged, IsTerm, alone_of, client_of, counted_of, kind_of, loop_of, numbered_of, paired_of, ranged_of, serve_of, storm_of};
 
-use nq_base::{Host, Inc};
 use nq_script::number;
 
 /// What to run.
@@ -31,10 +30,10 @@ pub enum Command {
     },
     /// Runs the calls of a real host.
     Client {
-        /// The host, below 64.
-        host: Host,
-        /// Its incarnation, at least 1.
-        inc: Inc,
+        /// The number of the host, below 64.
+        host: u32,
+        /// The number of its incarnation, at least 1.
+        inc: u32,
         /// After how many turns of one call it gives up, 1 to 1,000,000.
         turns: u32,
     },
@@ -159,11 +158,7 @@ fn client(host: &[u8], inc: &[u8], turns: &[u8]) -> Option<Command>
     let host = ranged(host, 0, 63)?;
     let inc = ranged(inc, 1, u32::MAX)?;
     let turns = ranged(turns, 1, MOST_TURNS)?;
-    Some(Command::Client {
-        host: Host(host),
-        inc: Inc(inc),
-        turns,
-    })
+    Some(Command::Client { host, inc, turns })
 }
 
 /// The kind of fate that a word names.

@@ -29,7 +29,33 @@ use std::alloc::Global;
 /// - `Limit`: the input has more bytes than the limit, the schedule more than 100,000 events, or an event comes after more than
 ///   999,936 packets; prints `limit line N bytes`, `events` or `packets` with the line of the first byte beyond them, or of the
 ///   event.
-pub fn replay<S: Source, K: Sink>(
+pub fn replay<S: Source, K: Sink>(alloc: Global, input: &mut S, out: &mut K, limit: usize) -> Ending
+    requires { limit < 2 ^ 31 }
+    ensures ends { Ends result limit (S.left input.old) (S.left input.new) (K.held out.old) (K.held out.new)
+        (S.faults input.old) (S.faults input.new) (K.faults out.old) (K.faults out.new) }
+    ensures usage { result ≡ Ending.Usage → ⊥ }
+    ensures limit { (text : List ℕ) → S.left input.old ≡ Some text → limit < length text
+        → IsUnlessFault result Ending.Limit (S.faults input.old) (S.faults input.new) (K.faults out.old) (K.faults out.new) }
+    ensures script { (text : List ℕ) → S.left input.old ≡ Some text → length text ≤ limit
+        → (number : ℕ) → FaultyLine text number
+        → IsUnlessFault result Ending.Script (S.faults input.old) (S.faults input.new) (K.faults out.old) (K.faults out.new) }
+    ensures skew { (text : List ℕ) → S.left input.old ≡ Some text → length text ≤ limit
+        → (number : ℕ) (broken : SkewBroken) → BreaksSkew text number broken
+        → IsUnlessFault result Ending.Skew (S.faults input.old) (S.faults input.new) (K.faults out.old) (K.faults out.new) }
+    ensures passes { (text : List ℕ) → S.left input.old ≡ Some text → length text ≤ limit
+        → (number : ℕ) (bound : Bound) → Passes text number bound
+        → IsUnlessFault result Ending.Limit (S.faults input.old) (S.faults input.new) (K.faults out.old) (K.faults out.new) }
+    ensures done { (text : List ℕ) → S.left input.old ≡ Some text → length text ≤ limit
+        → (head : Head) (events : List Event) → Runs text head events
+        → IsUnlessFault result Ending.Done (S.faults input.old) (S.faults input.new) (K.faults out.old) (K.faults out.new) }
+    ensures lawful { result ≡ Ending.Done
+        → OfInput limit (S.left input.old) (S.left input.new) (λ text. PrintsWithin text (K.held out.old) (K.held out.new)) }
+{
+    replay_whole(alloc, input, out, limit)
+}
+
+/// Reads a schedule, runs it and prints its journal.
+fn replay_whole<S: Source, K: Sink>(
     alloc: Global,
     input: &mut S,
     out: &mut K,
@@ -53,8 +79,6 @@ pub fn replay<S: Source, K: Sink>(
     ensures done { (text : List ℕ) → S.left input.old ≡ Some text → length text ≤ limit
         → (head : Head) (events : List Event) → Runs text head events
         → IsUnlessFault result Ending.Done (S.faults input.old) (S.faults input.new) (K.faults out.old) (K.faults out.new) }
-    ensures lawful { result ≡ Ending.Done
-        → OfInput limit (S.left input.old) (S.left input.new) (λ text. PrintsWithin text (K.held out.old) (K.held out.new)) }
 {
     match read_all(alloc, input, limit) {
         Whole::All(text) => replay_text(alloc, &text, out),

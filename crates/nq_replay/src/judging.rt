@@ -23,12 +23,7 @@ use std::alloc::Global;
 /// - `WriteFault`: the sink failed, which it has counted; a front of `yes` is printed.
 /// - `Memory`: memory was wanting; prints nothing.
 /// - `Limit`: the input has more bytes than the limit; prints `limit line N bytes`.
-pub fn judge<S: Source, K: Sink>(
-    alloc: Global,
-    input: &mut S,
-    out: &mut K,
-    limit: usize,
-) -> Ending
+pub fn judge<S: Source, K: Sink>(alloc: Global, input: &mut S, out: &mut K, limit: usize) -> Ending
     requires { limit < 2 ^ 31 }
     ensures judges { Judges result limit (S.left input.old) (S.left input.new) (K.held out.old) (K.held out.new)
         (S.faults input.old) (S.faults input.new) (K.faults out.old) (K.faults out.new) }

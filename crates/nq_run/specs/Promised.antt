@@ -32,10 +32,3 @@ pub record PrintsSound (held now : Option (List ℕ)) : Type 0 where
   pub entries : List Entry
   pub printed : now ≡ with_end held (journal_text version entries)
   pub judged : verdict (reverse entries) ≡ None
-
--- words that say none of the commands that are run
-abbrev pub RunsNothing : Option Command → Type 0
-RunsNothing (Some Command.Replay) = ⊥
-RunsNothing (Some Command.Check) = ⊥
-RunsNothing (Some (Command.Storm kind start events)) = ⊥
-RunsNothing other = Unit {0}

@@ -1,8 +1,7 @@
-//! The runs of the leased file sharing protocol behind one call.
+//! The top call of the program: it runs what the words say, and its contract has the headline.
 #![tactic(auto)]
 
 mod top;
 
-pub use nq_command::{NoMemory, Words};
-pub use nq_fate::{CutFate, Fate, HostileFate, LossyFate, SteadyFate};
+pub use nq_command::{Command, NoMemory, Words};
 pub use top::run;
