@@ -29,11 +29,8 @@ fn main(rt: HostRuntime) -> ExitCode {
 fn run_over(rt: &HostRuntime, words: &Words) -> Result<u8, NoMemory> {
     let alloc = rt.alloc();
     let keeper = ListKeeper::new(alloc, Vec::new(alloc))?;
-    let (Ok(of_link), Ok(of_clock)) = (rt.clone(), rt.clone()) else {
-        return Err(NoMemory::Memory);
-    };
-    let mut link = UdpLink::new(of_link, party_of(words));
-    let mut clock = StdClock::new(of_clock);
+    let mut link = UdpLink::new(rt.clone()?, party_of(words));
+    let mut clock = StdClock::new(rt.clone()?);
     let mut input = StdSource::new(rt.reader());
     let mut out = StdSink::new(io::writer(rt));
     Ok(run(
