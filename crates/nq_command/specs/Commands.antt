@@ -1,5 +1,5 @@
 -- What words say.
-use Rattle.std.specs.Prelude.{◌≡◌, ℕ, nat_lt, List, [], ◌∷◌, Option, Some, None, if◌then◌else◌, codes}
+use Rattle.std.specs.Prelude.{◌≡◌, ◌≤◌, ℕ, nat_lt, List, [], ◌∷◌, Option, Some, None, if◌then◌else◌, codes, ⊤}
 use Rattle.std.specs.Str.{bytes_eq}
 use Rattle.nq_base.specs.Steps.{◌>>=◌}
 use Rattle.nq_command.specs.declared.commands.Command.{Command}
@@ -90,3 +90,12 @@ command_of (name ∷ first ∷ []) = counted_of name first
 command_of (name ∷ first ∷ second ∷ []) = paired_of name first second
 command_of (name ∷ first ∷ second ∷ third ∷ []) = numbered_of name first second third
 command_of other = None
+
+-- a longest term that a server can have
+abbrev pub IsTerm : ℕ → Type 0
+IsTerm longest = (5 ≤ longest) × (longest ≤ 600)
+
+-- a command whose server, if it has one, has a longest term that a server can have
+abbrev pub IsRanged : Command → Type 0
+IsRanged (Command.Serve turns longest) = IsTerm longest
+IsRanged other = ⊤

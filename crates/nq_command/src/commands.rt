@@ -1,9 +1,8 @@
 //! What words say.
 
-ghost use Rattle.std.specs.Prelude.{◌≡◌};
-ghost use Rattle.nq_command.specs.Commands.{alone_of, client_of, counted_of, kind_of, loop_of, numbered_of, paired_of, ranged_of, serve_of, storm_of};
+ghost use Rattle.std.specs.Prelude.{◌≡◌, ◌≤◌, IfSome};
+ghost use Rattle.nq_command.specs.Commands.{IsRanged, IsTerm, alone_of, client_of, counted_of, kind_of, loop_of, numbered_of, paired_of, ranged_of, serve_of, storm_of};
 
-use nq_base::{Host, Inc};
 use nq_script::number;
 
 /// What to run.
@@ -31,10 +30,10 @@ pub enum Command {
     },
     /// Runs the calls of a real host.
     Client {
-        /// The host, below 64.
-        host: Host,
-        /// Its incarnation, at least 1.
-        inc: Inc,
+        /// The number of the host, below 64.
+        host: u32,
+        /// The number of its incarnation, at least 1.
+        inc: u32,
         /// After how many turns of one call it gives up, 1 to 1,000,000.
         turns: u32,
     },
@@ -56,7 +55,8 @@ const MOST_TURNS: u32 = 1_000_000;
 /// What a word alone says.
 #[tactic(auto, unfolding(crate::specs::Commands::alone_of))]
 pub(crate) fn alone(name: &[u8]) -> Option<Command>
-    ensures { result ≡ alone_of name.now }
+    ensures says { result ≡ alone_of name.now }
+    ensures ranged { IfSome result IsRanged }
 {
     if name == b"replay".as_slice() {
         Some(Command::Replay)
@@ -70,7 +70,8 @@ pub(crate) fn alone(name: &[u8]) -> Option<Command>
 /// What a name and a number say.
 #[tactic(auto, unfolding(crate::specs::Commands::counted_of))]
 pub(crate) fn counted(name: &[u8], turns: &[u8]) -> Option<Command>
-    ensures { result ≡ counted_of name.now turns.now }
+    ensures says { result ≡ counted_of name.now turns.now }
+    ensures ranged { IfSome result IsRanged }
 {
     if name == b"serve".as_slice() {
         serve(turns, Some(LONGEST))
@@ -82,7 +83,8 @@ pub(crate) fn counted(name: &[u8], turns: &[u8]) -> Option<Command>
 /// What a name and two numbers say.
 #[tactic(auto, unfolding(crate::specs::Commands::paired_of))]
 pub(crate) fn paired(name: &[u8], first: &[u8], second: &[u8]) -> Option<Command>
-    ensures { result ≡ paired_of name.now first.now second.now }
+    ensures says { result ≡ paired_of name.now first.now second.now }
+    ensures ranged { IfSome result IsRanged }
 {
     if name == b"serve".as_slice() {
         serve(first, ranged(second, 5, 600))
@@ -96,7 +98,9 @@ pub(crate) fn paired(name: &[u8], first: &[u8], second: &[u8]) -> Option<Command
 /// What the turns behind `serve` say, with a longest term.
 #[tactic(auto, unfolding(crate::specs::Commands::serve_of))]
 fn serve(turns: &[u8], longest: Option<u32>) -> Option<Command>
-    ensures { result ≡ serve_of turns.now longest }
+    requires { IfSome longest IsTerm }
+    ensures says { result ≡ serve_of turns.now longest }
+    ensures ranged { IfSome result IsRanged }
 {
     let turns = ranged(turns, 1, MOST_TURNS)?;
     let longest = longest?;
@@ -106,7 +110,8 @@ fn serve(turns: &[u8], longest: Option<u32>) -> Option<Command>
 /// What the words behind `loop` say.
 #[tactic(auto, unfolding(crate::specs::Commands::loop_of))]
 fn repeated(hosts: &[u8], turns: &[u8]) -> Option<Command>
-    ensures { result ≡ loop_of hosts.now turns.now }
+    ensures says { result ≡ loop_of hosts.now turns.now }
+    ensures ranged { IfSome result IsRanged }
 {
     let hosts = ranged(hosts, 1, 64)?;
     let turns = ranged(turns, 1, MOST_TURNS)?;
@@ -116,7 +121,8 @@ fn repeated(hosts: &[u8], turns: &[u8]) -> Option<Command>
 /// What a name and three words say.
 #[tactic(auto, unfolding(crate::specs::Commands::numbered_of))]
 pub(crate) fn numbered(name: &[u8], first: &[u8], second: &[u8], third: &[u8]) -> Option<Command>
-    ensures { result ≡ numbered_of name.now first.now second.now third.now }
+    ensures says { result ≡ numbered_of name.now first.now second.now third.now }
+    ensures ranged { IfSome result IsRanged }
 {
     if name == b"storm".as_slice() {
         storm(first, second, third)
@@ -130,7 +136,8 @@ pub(crate) fn numbered(name: &[u8], first: &[u8], second: &[u8], third: &[u8]) -
 /// What the words behind `storm` say.
 #[tactic(auto, unfolding(crate::specs::Commands::storm_of))]
 fn storm(kind: &[u8], start: &[u8], events: &[u8]) -> Option<Command>
-    ensures { result ≡ storm_of kind.now start.now events.now }
+    ensures says { result ≡ storm_of kind.now start.now events.now }
+    ensures ranged { IfSome result IsRanged }
 {
     let kind = kind_of(kind)?;
     let start = number(start, u64::MAX)?;
@@ -145,16 +152,13 @@ fn storm(kind: &[u8], start: &[u8], events: &[u8]) -> Option<Command>
 /// What the words behind `client` say.
 #[tactic(auto, unfolding(crate::specs::Commands::client_of))]
 fn client(host: &[u8], inc: &[u8], turns: &[u8]) -> Option<Command>
-    ensures { result ≡ client_of host.now inc.now turns.now }
+    ensures says { result ≡ client_of host.now inc.now turns.now }
+    ensures ranged { IfSome result IsRanged }
 {
     let host = ranged(host, 0, 63)?;
     let inc = ranged(inc, 1, u32::MAX)?;
     let turns = ranged(turns, 1, MOST_TURNS)?;
-    Some(Command::Client {
-        host: Host(host),
-        inc: Inc(inc),
-        turns,
-    })
+    Some(Command::Client { host, inc, turns })
 }
 
 /// The kind of fate that a word names.
@@ -178,7 +182,8 @@ fn kind_of(word: &[u8]) -> Option<u8>
 /// The number from `least` to `most` that a word writes.
 #[tactic(auto, unfolding(crate::specs::Commands::ranged_of))]
 fn ranged(word: &[u8], least: u32, most: u32) -> Option<u32>
-    ensures { result ≡ ranged_of least most word.now }
+    ensures says { result ≡ ranged_of least most word.now }
+    ensures within { IfSome result (λ n. (least ≤ n) × (n ≤ most)) }
 {
     let value = number(word, u64::from(most))? as u32;
     if value < least { None } else { Some(value) }

@@ -1,7 +1,7 @@
 //! The words that say what to run.
 
-ghost use Rattle.std.specs.Prelude.{◌≡◌, ◌++◌, ◌∷◌, [], IsOk, IfOk, OnOk, OnErr};
-ghost use Rattle.nq_command.specs.Commands.{command_of};
+ghost use Rattle.std.specs.Prelude.{◌≡◌, ◌++◌, ◌∷◌, [], IsOk, IfOk, IfSome, OnOk, OnErr};
+ghost use Rattle.nq_command.specs.Commands.{IsRanged, command_of};
 
 use crate::commands::{Command, alone, counted, numbered, paired};
 use nq_base::NoMemory;
@@ -55,7 +55,8 @@ impl Words {
 
     /// What they say, if they are the words of a command.
     pub fn command(&self) -> Option<Command>
-        ensures { result ≡ command_of self.now }
+        ensures says { result ≡ command_of self.now }
+        ensures ranged { IfSome result IsRanged }
     {
         match self.words.as_slice() {
             [name] => alone(name.as_slice()),

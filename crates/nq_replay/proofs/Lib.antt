@@ -1,6 +1,4 @@
 mod Endings
-mod WordLists
-pub mod Apart
 pub mod Heads
 pub mod Journals
 pub mod Judgements

@@ -16,10 +16,6 @@ use Rattle.nq_replay.specs.Lines.{PrintsLine, script_line}
 use Rattle.nq_replay.specs.Replay.{OfInput, PrintsLimit}
 use Rattle.nq_replay.specs.declared.ending.Ending.{Ending}
 
--- the one word of the form
-abbrev pub IsCheck : List (List ℕ) → Type 0
-IsCheck words = words ≡ codes "check" ∷ []
-
 -- the line of a sound journal
 unfoldable pub yes_line : List ℕ
 yes_line = codes "yes\n"

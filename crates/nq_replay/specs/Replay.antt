@@ -18,10 +18,6 @@ use Rattle.nq_script.specs.Schedule.{SpellsSchedule, FirstBadLine}
 use Rattle.nq_script.specs.declared.heads.Head.{Head}
 use Rattle.nq_script.specs.declared.lines.Line.{Line}
 
--- the one word of the form
-abbrev pub IsReplay : List (List ℕ) → Type 0
-IsReplay words = words ≡ codes "replay" ∷ []
-
 -- the text is a schedule of version 1 or 2 with this head, and playing all of its lines makes the run of these events, of which the
 -- newest is told first
 pub record Runs (text : List ℕ) (head : Head) (events : List Event) : Type 0 where

@@ -14,16 +14,20 @@ use nq_io::{Put, Sink, Source, Whole, read_all};
 use nq_journal::{JournalFault, parse};
 use std::alloc::Global;
 
-/// Reads a journal, judges it, and prints the verdict.
-pub(crate) fn judge<S: Source, K: Sink>(
-    alloc: Global,
-    input: &mut S,
-    out: &mut K,
-    limit: usize,
-) -> Ending
+/// Reads a journal to the end of the input, of at most so many bytes, and judges it, as `docs/check.md` tells. How it ends:
+///
+/// - `Done`: the journal is sound; prints `yes`.
+/// - `NotSound`: it is not; prints `no line N RULE` with the line of the first entry at fault.
+/// - `Script`: a line is outside the grammar; prints `script line N`.
+/// - `ReadFault`: the source failed, which it has counted; prints nothing.
+/// - `WriteFault`: the sink failed, which it has counted; a front of `yes` is printed.
+/// - `Memory`: memory was wanting; prints nothing.
+/// - `Limit`: the input has more bytes than the limit; prints `limit line N bytes`.
+pub fn judge<S: Source, K: Sink>(alloc: Global, input: &mut S, out: &mut K, limit: usize) -> Ending
     requires { limit < 2 ^ 31 }
-    ensures { Judges result limit (S.left input.old) (S.left input.new) (K.held out.old) (K.held out.new)
+    ensures judges { Judges result limit (S.left input.old) (S.left input.new) (K.held out.old) (K.held out.new)
         (S.faults input.old) (S.faults input.new) (K.faults out.old) (K.faults out.new) }
+    ensures usage { result ≡ Ending.Usage → ⊥ }
 {
     match read_all(alloc, input, limit) {
         Whole::All(text) => judge_text(alloc, &text, out),

@@ -1,4 +1,4 @@
-//! What the words `replay` and `check` do: reading, playing, judging and printing, each with its statuses.
+//! Reading and playing schedules, and judging journals: what is read, played and printed, and how it ends.
 #![tactic(auto)]
 
 mod commands;
@@ -6,10 +6,10 @@ mod ending;
 mod judging;
 mod printing;
 mod schedules;
-mod words;
 
-pub use commands::run_words;
+pub use commands::replay;
 pub use ending::Ending;
+pub use judging::judge;
 pub use nq_base::NoMemory;
-pub use printing::Bound;
-pub use words::Words;
+pub use printing::{Bound, put_line};
+pub use schedules::{begin, print_journal, tell_limit};

@@ -19,7 +19,7 @@ pub enum Bound {
 }
 
 /// Prints a line. A failing sink may print a front of it.
-pub(crate) fn put_line<K: Sink>(out: &mut K, line: &[u8])
+pub fn put_line<K: Sink>(out: &mut K, line: &[u8])
     ensures { PrintsLine line.now (K.held out.old) (K.held out.new) (K.faults out.old) (K.faults out.new) }
 {
     match out.put(line) {

@@ -100,7 +100,7 @@ fn play_over<L: Keeper>(alloc: Global, world: &mut World<L>, script: &Script) ->
 }
 
 /// The world before the first event of a schedule with this head, over a keeper that keeps nothing yet.
-fn begin<L: Keeper + Drop>(alloc: Global, head: &Head, keeper: L) -> Result<World<L>, NoMemory>
+pub fn begin<L: Keeper + Drop>(alloc: Global, head: &Head, keeper: L) -> Result<World<L>, NoMemory>
     requires fits { FitsHead head.now }
     requires empty { L.content keeper ≡ Some empty_kept }
     ensures plays { IfOk result (λ w. Plays (beginning head.now) [] w (L.content w.server.keeper)) }
@@ -138,7 +138,7 @@ fn tell<L: Keeper, K: Sink>(
 }
 
 /// Prints a journal in the version of its schedule.
-fn print_journal<K: Sink>(alloc: Global, journal: &Journal, version: u32, out: &mut K) -> Ending
+pub fn print_journal<K: Sink>(alloc: Global, journal: &Journal, version: u32, out: &mut K) -> Ending
     requires { IsVersion version }
     ensures { (entries : List Entry) → map plain journal.now.entries ≡ entries
         → PrintsEntries result version entries (K.held out.old) (K.held out.new) (K.faults out.old) (K.faults out.new) }
@@ -192,7 +192,7 @@ fn tell_skew<K: Sink>(alloc: Global, line: u32, broken: SkewBroken, out: &mut K)
 }
 
 /// Tells where there are too many events or packets.
-fn tell_limit<K: Sink>(alloc: Global, line: u32, limit: Limit, out: &mut K) -> Ending
+pub fn tell_limit<K: Sink>(alloc: Global, line: u32, limit: Limit, out: &mut K) -> Ending
     ensures { TellsStop result line (Stepped.Limit limit) (K.held out.old) (K.held out.new) (K.faults out.old) (K.faults out.new) }
 {
     match limit_text(alloc, line as usize, bound_of(limit)) {

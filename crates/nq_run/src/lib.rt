@@ -1,7 +1,7 @@
-//! The runs of the leased file sharing protocol behind one call.
+//! The top call of the program: it runs what the words say, and its contract has the headline.
 #![tactic(auto)]
 
 mod top;
 
-pub use nq_replay::{NoMemory, Words};
+pub use nq_command::{Command, NoMemory, Words};
 pub use top::run;

@@ -3,44 +3,72 @@
 ghost use Rattle.std.specs.Prelude.{◌≡◌, ◌↔◌, ◌<◌, ◌≤◌, ℕ, List, Some, length};
 ghost use Rattle.nq_base.specs.declared.Event.{Event};
 ghost use Rattle.nq_base.specs.declared.SkewBroken.{SkewBroken};
+ghost use Rattle.nq_command.specs.Commands.{IsCheck, IsReplay, command_of};
+ghost use Rattle.nq_command.specs.declared.Command.{Command};
 ghost use Rattle.nq_replay.specs.Ending.{Ends, IsUnlessFault, WithStatus, status_of};
-ghost use Rattle.nq_replay.specs.Judging.{IsCheck, Judges};
-ghost use Rattle.nq_replay.specs.Replay.{BreaksSkew, FaultyLine, IsReplay, OfInput, Passes, Runs};
+ghost use Rattle.nq_replay.specs.Judging.{Judges};
+ghost use Rattle.nq_replay.specs.Lines.{PrintsLine, usage_line};
+ghost use Rattle.nq_replay.specs.Replay.{BreaksSkew, FaultyLine, OfInput, Passes, Runs};
 ghost use Rattle.nq_replay.specs.declared.Ending.{Ending};
 ghost use Rattle.nq_replay.specs.declared.Bound.{Bound};
+ghost use Rattle.nq_run.specs.Hosting.{Attends, RunsNothing, ServesFor};
 ghost use Rattle.nq_run.specs.Promised.{PrintsLawfully, PrintsSound, most_bytes};
 ghost use Rattle.nq_script.specs.declared.heads.Head.{Head};
 
+use nq_base::{Host, Inc};
+use nq_clock::Clock;
+use nq_command::{Command, Words};
+use nq_hosts::serve;
 use nq_io::{Sink, Source};
-use nq_replay::{Words, run_words};
+use nq_keeper::Keeper;
+use nq_link::Link;
+use nq_replay::{Ending, judge, put_line, replay};
+use nq_user::client;
 use std::alloc::Global;
 
-// The most bytes of a schedule or a journal that are read.
+// The most bytes of a schedule, a journal or a list of calls that are read.
 const MOST_BYTES: usize = 16_777_216;
 
-/// Runs what the words say, as [`run_words`] tells, with input of at most 16,777,216 bytes. The headline of `nq_laws` holds at each
-/// moment of the run whose journal `replay` printed, and that journal is sound for `check`: leases, ticks, restarts and crashes
-/// included. That the schedule is within skew and keeps to the bounds is no premise, since the run itself tests it. The exit
-/// statuses:
+/// Runs what the words say, with input of at most 16,777,216 bytes: `replay` and `check`, as [`replay`] and [`judge`] tell, `serve` over
+/// the keeper, the link and the clock, as [`serve`] tells, and `client` over the link and the clock, as [`client`] tells. The headline
+/// of `nq_laws` holds at each moment of the run whose journal `replay` printed, and that journal is sound for `check`: leases, ticks,
+/// restarts and crashes included. That the schedule is within skew and keeps to the bounds is no premise, since the run itself
+/// tests it. The exit statuses:
 ///
-/// - 0: the journal of the run was printed, or `yes`, since the journal that was read is sound.
-/// - 1: the words are neither the one word `replay` nor the one word `check`; prints `usage`.
+/// - 0: the journal of the run was printed; or `yes`, since the journal that was read is sound; or the turns of the server, or the
+///   answers of the client.
+/// - 1: the words say none of these; prints `usage`.
 /// - 2: a line is outside the grammar, or delivers a packet that was not sent; prints `script line N`, with lines counted from 1.
 /// - 3: a tick of the server's clock breaks the rule on skew (Macklem 1994); prints `skew line N host H server S client C`.
 /// - 4: the source failed, which it has counted; prints nothing.
-/// - 5: the sink failed, which it has counted; a front of the journal, or of `yes`, is printed.
-/// - 7: memory was wanting; a front of the journal may be printed.
+/// - 5: the sink failed, which it has counted; a front of what is due is printed.
+/// - 6: the keeper failed, which it has counted; prints nothing.
+/// - 7: memory was wanting; a front of what is due may be printed.
+/// - 8: the link failed, which it has counted.
 /// - 9: the input has more than 16,777,216 bytes, the schedule more than 100,000 events, or an event comes after more than 999,936
-///   packets; prints `limit line N bytes`, `events` or `packets`.
+///   packets; prints `limit line N bytes`, `events` or `packets`. A client that can take in no more prints `events`.
+/// - 10: no number is left for a boot of the server, or for what it takes in; prints nothing.
+/// - 11: no turn of the client ended a call, or attaching, which is line 0; prints `noanswer line N`.
 /// - 12: the journal that was read is not sound; prints `no line N RULE` with the line of the first entry at fault.
-pub fn run<S: Source, K: Sink>(alloc: Global, words: &Words, input: &mut S, out: &mut K) -> u8
-    ensures ends { (IsCheck words.now → ⊥)
+#[tactic(auto, using(crate::proofs::Commands::says_replay, crate::proofs::Commands::says_check), unfolding(crate::specs::Promised::most_bytes))]
+pub fn run<S: Source, K: Sink, P: Keeper + Drop, L: Link, C: Clock>(
+    alloc: Global,
+    words: &Words,
+    input: &mut S,
+    out: &mut K,
+    keeper: P,
+    link: &mut L,
+    clock: &mut C,
+) -> u8
+    ensures ends { IsReplay words.now
         → WithStatus result (λ end. Ends end most_bytes (S.left input.old) (S.left input.new) (K.held out.old) (K.held out.new)
         (S.faults input.old) (S.faults input.new) (K.faults out.old) (K.faults out.new)) }
     ensures judges { IsCheck words.now
         → WithStatus result (λ end. Judges end most_bytes (S.left input.old) (S.left input.new) (K.held out.old) (K.held out.new)
         (S.faults input.old) (S.faults input.new) (K.faults out.old) (K.faults out.new)) }
-    ensures usage { (result ≡ status_of Ending.Usage) ↔ ((IsReplay words.now → ⊥) × (IsCheck words.now → ⊥)) }
+    ensures usage { (result ≡ status_of Ending.Usage) ↔ RunsNothing (command_of words.now) }
+    ensures nothing { RunsNothing (command_of words.now)
+        → (S.left input.new ≡ S.left input.old) × PrintsLine usage_line (K.held out.old) (K.held out.new) (K.faults out.old) (K.faults out.new) }
     ensures limit { IsReplay words.now → (text : List ℕ) → S.left input.old ≡ Some text → most_bytes < length text
         → WithStatus result (λ end. IsUnlessFault end Ending.Limit
         (S.faults input.old) (S.faults input.new) (K.faults out.old) (K.faults out.new)) }
@@ -64,6 +92,45 @@ pub fn run<S: Source, K: Sink>(alloc: Global, words: &Words, input: &mut S, out:
         → OfInput most_bytes (S.left input.old) (S.left input.new) (λ text. PrintsLawfully text (K.held out.old) (K.held out.new)) }
     ensures sound { IsReplay words.now → result ≡ status_of Ending.Done
         → OfInput most_bytes (S.left input.old) (S.left input.new) (λ text. PrintsSound (K.held out.old) (K.held out.new)) }
+    ensures serves { (turns longest : ℕ) → command_of words.now ≡ Some (Command.Serve turns longest)
+        → ServesFor P.content P.faults result longest turns keeper (C.readings clock.old) (C.readings clock.new)
+        (record { sent = L.sent link.old; waiting = L.waiting link.old; faults = L.faults link.old })
+        (record { sent = L.sent link.new; waiting = L.waiting link.new; faults = L.faults link.new })
+        (K.held out.old) (K.held out.new) (K.faults out.old) (K.faults out.new) }
+    ensures attends { (host inc turns : ℕ) → command_of words.now ≡ Some (Command.Client host inc turns)
+        → Attends turns (record { host = host; inc = inc }) most_bytes result (S.left input.old) (S.left input.new) (S.faults input.old) (S.faults input.new)
+        (K.held out.old) (K.held out.new) (K.faults out.old) (K.faults out.new) (C.readings clock.old) (C.readings clock.new)
+        (record { sent = L.sent link.old; waiting = L.waiting link.old; faults = L.faults link.old })
+        (record { sent = L.sent link.new; waiting = L.waiting link.new; faults = L.faults link.new }) }
 {
-    run_words(alloc, words, input, out, MOST_BYTES).status()
+    match words.command() {
+        Some(Command::Replay) => replay(alloc, input, out, MOST_BYTES).status(),
+        Some(Command::Check) => judge(alloc, input, out, MOST_BYTES).status(),
+        Some(Command::Serve { turns, longest }) => {
+            serve(alloc, keeper, turns, longest, link, clock, out).status()
+        }
+        Some(Command::Client { host, inc, turns }) => client(
+            alloc,
+            Host(host),
+            Inc(inc),
+            turns,
+            MOST_BYTES,
+            input,
+            out,
+            link,
+            clock,
+        )
+        .status(),
+        _ => usage(out),
+    }
+}
+
+/// Prints that nothing can be run; the status.
+#[tactic(auto, unfolding(nq_replay::specs::Lines::usage_line))]
+fn usage<K: Sink>(out: &mut K) -> u8
+    ensures usage { result ≡ status_of Ending.Usage }
+    ensures printed { PrintsLine usage_line (K.held out.old) (K.held out.new) (K.faults out.old) (K.faults out.new) }
+{
+    put_line(out, b"usage\n");
+    Ending::Usage.status()
 }

@@ -1,9 +1,13 @@
 //! The program `nqnfs`: runs what its words say, over the standard input and output, and ends with the status of the
-//! run. `nqnfs replay` reads a schedule and prints its journal.
+//! run. `nqnfs replay` reads a schedule and prints its journal. `nqnfs serve` and `nqnfs client` are real hosts, over UDP.
 #![tactic(auto)]
 
+use nq_base::{Host, Party};
+use nq_clock::StdClock;
 use nq_io::{StdSink, StdSource};
-use nq_run::{NoMemory, Words, run};
+use nq_keeper::ListKeeper;
+use nq_link::UdpLink;
+use nq_run::{Command, NoMemory, Words, run};
 use std::io::ErrorKind;
 use std::process::ExitCode;
 use std::{env, io};
@@ -15,9 +19,31 @@ fn main(rt: HostRuntime) -> ExitCode {
     let Ok(words) = words_of(&rt) else {
         return ExitCode::from(NO_MEMORY);
     };
+    match run_over(&rt, &words) {
+        Ok(status) => ExitCode::from(status),
+        Err(NoMemory::Memory) => ExitCode::from(NO_MEMORY),
+    }
+}
+
+/// Runs what the words say, over an empty keeper in memory, the link of the party that they name, and the clock of the machine.
+fn run_over(rt: &HostRuntime, words: &Words) -> Result<u8, NoMemory> {
+    let alloc = rt.alloc();
+    let keeper = ListKeeper::new(alloc, Vec::new(alloc))?;
+    let mut link = UdpLink::new(rt.clone()?, party_of(words));
+    let mut clock = StdClock::new(rt.clone()?);
     let mut input = StdSource::new(rt.reader());
-    let mut out = StdSink::new(io::writer(&rt));
-    ExitCode::from(run(rt.alloc(), &words, &mut input, &mut out))
+    let mut out = StdSink::new(io::writer(rt));
+    Ok(run(
+        alloc, words, &mut input, &mut out, keeper, &mut link, &mut clock,
+    ))
+}
+
+/// Whose link is used: a client's where the words name its host, else the server's.
+fn party_of(words: &Words) -> Party {
+    match words.command() {
+        Some(Command::Client { host, .. }) => Party::Client(Host(host)),
+        _ => Party::Server,
+    }
 }
 
 /// The words behind the program's name; none where one of them is not UTF-8.

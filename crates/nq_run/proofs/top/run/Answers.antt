@@ -2,38 +2,22 @@ use Rattle.nq_run.proofs.Promises.{done_by, input_lawful, input_sound}
 use Rattle.nq_run.specs.Promised.{most_bytes}
 use Rattle.nq_run.proofs.top.run.Goals as goal
 
-pub returns-clause-ends : goal.returns-clause-ends
+pub returns-in-Some-Replay-clause-script : goal.returns-in-Some-Replay-clause-script
 unfolding most_bytes
-returns-clause-ends g c = λ other. (c.run_words.result, c.status.ensures, c.run_words.ensures.ends other)
+returns-in-Some-Replay-clause-script g c = λ is text told within number faulty. (c.replay.result, c.status.ensures, c.replay.ensures.script text told within number faulty)
 
-pub returns-clause-judges : goal.returns-clause-judges
+pub returns-in-Some-Replay-clause-skew : goal.returns-in-Some-Replay-clause-skew
 unfolding most_bytes
-returns-clause-judges g c = λ is. (c.run_words.result, c.status.ensures, c.run_words.ensures.judges is)
+returns-in-Some-Replay-clause-skew g c = λ is text told within number broken breaks. (c.replay.result, c.status.ensures, c.replay.ensures.skew text told within number broken breaks)
 
-pub returns-clause-limit : goal.returns-clause-limit
+pub returns-in-Some-Replay-clause-done : goal.returns-in-Some-Replay-clause-done
 unfolding most_bytes
-returns-clause-limit g c = λ is text told over. (c.run_words.result, c.status.ensures, c.run_words.ensures.limit is text told over)
+returns-in-Some-Replay-clause-done g c = λ is text told within head events runs. (c.replay.result, c.status.ensures, c.replay.ensures.done text told within head events runs)
 
-pub returns-clause-script : goal.returns-clause-script
+pub returns-in-Some-Replay-clause-headline : goal.returns-in-Some-Replay-clause-headline
 unfolding most_bytes
-returns-clause-script g c = λ is text told within number faulty. (c.run_words.result, c.status.ensures, c.run_words.ensures.script is text told within number faulty)
+returns-in-Some-Replay-clause-headline g c = λ is done. input_lawful _ _ _ _ _ (c.replay.ensures.lawful (done_by c.replay.result c.status.result c.status.ensures done))
 
-pub returns-clause-skew : goal.returns-clause-skew
+pub returns-in-Some-Replay-clause-sound : goal.returns-in-Some-Replay-clause-sound
 unfolding most_bytes
-returns-clause-skew g c = λ is text told within number broken breaks. (c.run_words.result, c.status.ensures, c.run_words.ensures.skew is text told within number broken breaks)
-
-pub returns-clause-passes : goal.returns-clause-passes
-unfolding most_bytes
-returns-clause-passes g c = λ is text told within number bound passes. (c.run_words.result, c.status.ensures, c.run_words.ensures.passes is text told within number bound passes)
-
-pub returns-clause-done : goal.returns-clause-done
-unfolding most_bytes
-returns-clause-done g c = λ is text told within head events runs. (c.run_words.result, c.status.ensures, c.run_words.ensures.done is text told within head events runs)
-
-pub returns-clause-headline : goal.returns-clause-headline
-unfolding most_bytes
-returns-clause-headline g c = λ is done. input_lawful _ _ _ _ _ (c.run_words.ensures.lawful is (done_by c.run_words.result c.status.result c.status.ensures done))
-
-pub returns-clause-sound : goal.returns-clause-sound
-unfolding most_bytes
-returns-clause-sound g c = λ is done. input_sound _ _ _ _ _ (c.run_words.ensures.lawful is (done_by c.run_words.result c.status.result c.status.ensures done))
+returns-in-Some-Replay-clause-sound g c = λ is done. input_sound _ _ _ _ _ (c.replay.ensures.lawful (done_by c.replay.result c.status.result c.status.ensures done))

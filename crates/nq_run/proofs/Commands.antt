@@ -1,0 +1,12 @@
+-- The words of one command are not those of another.
+use Rattle.std.proofs.Common.{◌≡◌, ℕ, List, Some, refl}
+use Rattle.nq_command.specs.Commands.{IsCheck, IsReplay, alone_of, command_of}
+use Rattle.nq_command.specs.declared.Command.{Command}
+
+pub says_replay : (words : List (List ℕ)) → IsReplay words → command_of words ≡ Some Command.Replay
+unfolding alone_of
+says_replay words is = rw is refl
+
+pub says_check : (words : List (List ℕ)) → IsCheck words → command_of words ≡ Some Command.Check
+unfolding alone_of
+says_check words is = rw is refl
