@@ -103,10 +103,10 @@ static void blocks(CLIENT *client) {
     nq_grant *grant = granted ? granted->answer.nq_getlease_answer_u.leased.grant : NULL;
     check(grant && grant->term == 60 && grant->tag.number == 2 && grant->since.number == 1, "GETLEASE renews");
 
-    /* VACATED has no reply, so the call ends by the time that it is given. */
-    struct timeval at_once = {0, 0};
+    /* VACATED has no reply, so the call ends after the millisecond that it is given. */
+    struct timeval soon = {0, 1000};
     nq_row_args row = {head, 1, grant->tag};
-    clnt_call(client, NQ_VACATED, (xdrproc_t)xdr_nq_row_args, (char *)&row, (xdrproc_t)xdr_void, NULL, at_once);
+    clnt_call(client, NQ_VACATED, (xdrproc_t)xdr_nq_row_args, (char *)&row, (xdrproc_t)xdr_void, NULL, soon);
 }
 
 static void lengths(CLIENT *client) {

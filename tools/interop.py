@@ -60,7 +60,8 @@ SESSION = [
     "reply to NULL: PROG_MISMATCH",
     "procedure 12",
     "reply to 12: PROC_UNAVAIL",
-    "LOOKUP",
+    # a LOOKUP without arguments
+    "malformed message (The message ends too early, or too late)",
     "reply to LOOKUP: GARBAGE_ARGS",
 ]
 
