@@ -6,3 +6,5 @@ pub mod Journals
 pub mod Judgements
 pub mod Outcomes
 pub mod Within
+pub mod Never
+pub mod Versions
