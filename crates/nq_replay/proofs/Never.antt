@@ -1,5 +1,5 @@
 -- Over a keeper that never fails a schedule stops for no fault of it.
-use Rattle.std.proofs.Common.{◌≡◌, ◌⊎◌, inl, inr, ◌<◌, ℕ, refl, ap, ◌∙◌, arith}
+use Rattle.std.proofs.Common.{◌≡◌, ◌⊎◌, inl, inr, ◌<◌, ℕ, [], refl, ap, ◌∙◌, arith}
 use Rattle.nq_io.specs.Calls.{fresh}
 use Rattle.nq_io.specs.Faults.{Rose}
 use Rattle.nq_keeper.specs.StoredKeeper.{StoredKeeper, GoesOn, empty_kept}
