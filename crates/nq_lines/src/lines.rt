@@ -13,7 +13,8 @@ use crate::events::{flow, rounds, take_times};
 use crate::played::Played;
 use nq_keeper::Keeper;
 use nq_play::Delivered;
-use nq_script::{Line, Lines};
+use nq_base::{Event, Host, Told};
+use nq_script::{Line, Lines, ToldLine, call_of, line_of};
 use nq_world::{Stepped, World};
 use std::alloc::Global;
 
@@ -39,6 +40,75 @@ fn play_line<K: Keeper>(
     }
 }
 
+/// Plays a call of a user at a host.
+fn play_call<K: Keeper>(
+    world: &mut World<K>,
+    delivered: &mut Delivered,
+    host: Host,
+    told: &Told,
+) -> Stepped
+    requires can { CanCome (length world.old.clients) world.old.skew.window (Event.Call host (call_of told.now)) }
+    ensures goes { (head : Head) (events : List Event) → IsAt head events world.old (K.content world.old.server.keeper) delivered.old
+        → Goes result (repeated 1 (play_event head (Event.Call host (call_of told.now))) events) (λ es. IsAt head es world.new (K.content world.new.server.keeper) delivered.new) }
+    ensures settings { HasSettings (length world.old.clients) world.old.skew.window world.old.term world.new }
+{
+    let call = call_of(told);
+    take_times(world, delivered, &Event::Call { host, call }, 1)
+}
+
+/// Plays the delivery of a packet.
+fn play_delivery<K: Keeper>(
+    world: &mut World<K>,
+    delivered: &mut Delivered,
+    packet: u64,
+) -> Stepped
+    ensures goes { (head : Head) (events : List Event) → IsAt head events world.old (K.content world.old.server.keeper) delivered.old
+        → Goes result (repeated 1 (play_event head (Event.Deliver packet)) events) (λ es. IsAt head es world.new (K.content world.new.server.keeper) delivered.new) }
+    ensures settings { HasSettings (length world.old.clients) world.old.skew.window world.old.term world.new }
+{
+    take_times(world, delivered, &Event::Deliver(packet), 1)
+}
+
+/// Plays a line that is made of what is kept.
+fn play_made<K: Keeper>(
+    world: &mut World<K>,
+    delivered: &mut Delivered,
+    hosts: u32,
+    most: u32,
+    told: &ToldLine,
+) -> Stepped
+{
+    let line = line_of(told);
+    play_line(world, delivered, hosts, most, &line)
+}
+
+/// Plays a line as it is kept. A block is made for a call alone.
+fn play_told<K: Keeper>(
+    world: &mut World<K>,
+    delivered: &mut Delivered,
+    hosts: u32,
+    most: u32,
+    told: &ToldLine,
+) -> Stepped
+    requires hosts { hosts ≤ length world.old.clients }
+    requires can { IsForWorld (length world.old.clients) world.old.skew.window (line_of told.now) }
+    ensures goes { (head : Head) (events : List Event) → head.hosts ≡ hosts → IsAt head events world.old (K.content world.old.server.keeper) delivered.old
+        → Goes result (play_line head most (line_of told.now) events) (λ es. IsAt head es world.new (K.content world.new.server.keeper) delivered.new) }
+    ensures settings { HasSettings (length world.old.clients) world.old.skew.window world.old.term world.new }
+{
+    match told {
+        ToldLine::Call { host, told } => play_call(world, delivered, *host, told),
+        ToldLine::Deliver(packet) => play_delivery(world, delivered, *packet),
+        ToldLine::Round(times) => rounds(world, delivered, hosts, *times),
+        ToldLine::Flow => flow(world, delivered, most),
+        ToldLine::End => Stepped::Done,
+        ToldLine::ServerTicks(_) => play_made(world, delivered, hosts, most, told),
+        ToldLine::ClientTicks { .. } => play_made(world, delivered, hosts, most, told),
+        ToldLine::Restart(_) => play_made(world, delivered, hosts, most, told),
+        ToldLine::Crash { .. } => play_made(world, delivered, hosts, most, told),
+    }
+}
+
 /// Plays the line at a place.
 fn play_at<K: Keeper>(
     world: &mut World<K>,
@@ -55,8 +125,8 @@ fn play_at<K: Keeper>(
         → Goes result (play_line head most line events) (λ es. IsAt head es world.new (K.content world.new.server.keeper) delivered.new) }
     ensures settings { HasSettings (length world.old.clients) world.old.skew.window world.old.term world.new }
 {
-    match lines.get(place) {
-        Some(line) => play_line(world, delivered, hosts, most, &line),
+    match lines.told(place) {
+        Some(told) => play_told(world, delivered, hosts, most, told),
         None => unreachable!(),
     }
 }

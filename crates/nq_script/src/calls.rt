@@ -2,6 +2,7 @@
 
 ghost use Rattle.std.specs.Prelude.{◌≡◌, ◌≢◌};
 ghost use Rattle.nq_script.specs.Calls.{call_of, SpellsCall};
+ghost use Rattle.nq_base.specs.Block.{filled};
 ghost use Rattle.nq_base.specs.declared.Call.{Call};
 ghost use Rattle.nq_base.specs.declared.Told.{Told};
 ghost use Rattle.nq_script.specs.Faults.{Answers};
@@ -14,7 +15,7 @@ use nq_base::{Block, BlockNo, Call, FileId, Told};
 use std::alloc::Global;
 
 /// The call that is told, with its body.
-pub(crate) fn call_of(told: &Told) -> Call
+pub fn call_of(told: &Told) -> Call
     ensures { result ≡ call_of told.now }
 {
     match *told {
@@ -23,19 +24,33 @@ pub(crate) fn call_of(told: &Told) -> Call
         Told::Attr { file } => Call::Attr { file },
         Told::Read { file, block } => Call::Read { file, block },
         Told::Fetch { file, block } => Call::Fetch { file, block },
-        Told::Write { file, block, value } => Call::Write {
-            file,
-            block,
-            body: Block::fill(value),
-        },
-        Told::WriteSync { file, block, value } => Call::WriteSync {
-            file,
-            block,
-            body: Block::fill(value),
-        },
+        Told::Write { file, block, value } => write_of(file, block, value),
+        Told::WriteSync { file, block, value } => put_of(file, block, value),
         Told::Sync { file } => Call::Sync { file },
         Told::Resize { file, blocks } => Call::Resize { file, blocks },
         Told::Remove { file } => Call::Remove { file },
+    }
+}
+
+/// A `write`. The block is made here, so that a call without one makes none.
+fn write_of(file: FileId, block: BlockNo, value: u32) -> Call
+    ensures { result ≡ Call.Write file block (filled value) }
+{
+    Call::Write {
+        file,
+        block,
+        body: Block::fill(value),
+    }
+}
+
+/// A `put`.
+fn put_of(file: FileId, block: BlockNo, value: u32) -> Call
+    ensures { result ≡ Call.WriteSync file block (filled value) }
+{
+    Call::WriteSync {
+        file,
+        block,
+        body: Block::fill(value),
     }
 }
 

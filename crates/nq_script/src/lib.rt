@@ -17,11 +17,11 @@ mod schedules;
 mod scripts;
 mod words;
 
-pub use calls::parse_call;
+pub use calls::{call_of, parse_call};
 pub use faults::ScriptFault;
 pub use heads::{Head, HeadOut, parse_head};
 pub use laws::{each_text, lines_are_short, one_fault, one_reading, printed_again};
-pub use lines::{Line, parse_line};
+pub use lines::{Line, ToldLine, line_of, parse_line};
 pub use print::{print_event, print_head, print_line};
 pub use schedules::Schedule;
 pub use scripts::{Lines, Script, parse};

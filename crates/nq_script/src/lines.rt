@@ -29,15 +29,24 @@ pub enum Line {
 
 /// A line as it is kept: a body is told by its value.
 #[derive(Clone, Copy)]
-pub(crate) enum ToldLine {
+pub enum ToldLine {
+    /// A call of a user at a host.
     Call { host: Host, told: Told },
+    /// The packet of this number is delivered.
     Deliver(u64),
+    /// The server's clock ticks, so many times.
     ServerTicks(u32),
+    /// The clock of a host ticks, so many times.
     ClientTicks { host: Host, times: u32 },
+    /// A host starts again.
     Restart(Host),
+    /// The server stops and boots; its longest term is from then on this.
     Crash { longest: u32 },
+    /// So many rounds: the clock of each host ticks, then the server's.
     Round(u32),
+    /// The least packet that was never delivered is delivered, again and again, until each packet was.
     Flow,
+    /// The last line.
     End,
 }
 
@@ -54,7 +63,7 @@ impl ToldLine {
 }
 
 /// The line that is told, with its body.
-pub(crate) fn line_of(told: &ToldLine) -> Line
+pub fn line_of(told: &ToldLine) -> Line
     ensures { result ≡ line_of told.now }
 {
     match *told {

@@ -1,6 +1,7 @@
 //! The whole text of a schedule.
 
-ghost use Rattle.std.specs.Prelude.{◌≡◌, ◌↔◌, ◌+◌, ◌<◌, ◌^◌, ◌⊎◌, ◌++◌, ◌∷◌, ℕ, List, [], OnOk, length, map, slice_get, IsTrue};
+ghost use Rattle.std.specs.Prelude.{◌≡◌, ◌↔◌, ◌+◌, ◌<◌, ◌^◌, ◌⊎◌, ◌++◌, ◌∷◌, ℕ, List, [], OnOk, length, map, option_map, slice_get, IsTrue};
+ghost use Rattle.std.specs.Option.{option_copied};
 ghost use Rattle.nq_script.specs.Faults.{Answers};
 ghost use Rattle.nq_script.specs.Heads.{head_lines};
 ghost use Rattle.nq_script.specs.Lines.{line_of};
@@ -79,6 +80,13 @@ impl Lines {
             Some(told) => Some(line_of(told)),
             None => None,
         }
+    }
+
+    /// The one at a place as it is kept, whose body is told by its value; None where the place is not below the length.
+    pub fn told(&self, place: usize) -> Option<&ToldLine>
+        ensures { option_map line_of (option_copied result) ≡ slice_get self.now place }
+    {
+        self.told.get(place)
     }
 }
 
