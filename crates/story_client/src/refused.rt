@@ -11,7 +11,7 @@ const LATER: Lease = Lease {
     ..READING
 };
 
-pub(crate) const REFUSED: [Story; 7] = [
+pub(crate) const REFUSED: [Story; 9] = [
     Story {
         name: "each refusal has its answer",
         host: 0,
@@ -144,6 +144,58 @@ A 0 1 3 stale
 A 0 1 1 nospace
 C 0 1 2 remove 1
 A 0 1 2 stale
+",
+    },
+    Story {
+        name: "each refusal that puts a request off",
+        host: 0,
+        term: 30,
+        events: &[
+            (Event::Lookup(b"a"), 'p'),
+            (
+                Event::Reply(1, 1, Brings::Refused(Refusal::NotAttached)),
+                'n',
+            ),
+            (Event::Ticks(1), 'n'),
+            (Event::Ticks(1), 'n'),
+            (Event::Reply(3, 2, Brings::Refused(Refusal::Old)), 'n'),
+            (Event::Ticks(2), 'n'),
+            (Event::Reply(5, 3, Brings::Refused(Refusal::TryLater)), 'n'),
+            (Event::Ticks(2), 'n'),
+            (Event::Reply(7, 4, Brings::File(1, 1)), 'v'),
+        ],
+        sent: &[(1, 2), (2, 2), (3, 2), (4, 2)],
+        told: "C 0 1 1 lookup a
+A 0 1 1 ok 1
+",
+    },
+    Story {
+        name: "a renewal that is refused, and one that is put off",
+        host: 0,
+        term: 30,
+        events: &[
+            (Event::Read(1, 0), 'p'),
+            (Event::Reply(1, 1, Brings::Block(0, 0, Some(READING))), 'v'),
+            (Event::Read(1, 0), 'v'),
+            (Event::Ticks(27), 'n'),
+            (Event::Reply(3, 2, Brings::Refused(Refusal::Stale)), 'n'),
+            (Event::Ticks(1), 'n'),
+            (Event::Reply(5, 3, Brings::Refused(Refusal::TryLater)), 'n'),
+            (Event::Ticks(1), 'n'),
+            (Event::Read(1, 0), 'v'),
+            (Event::Ticks(1), 'n'),
+            (Event::Read(1, 0), 'p'),
+        ],
+        sent: &[(1, 5), (2, 7), (3, 7), (4, 5)],
+        told: "C 0 1 1 read 1 0
+A 0 1 1 ok 0 by 1
+C 0 1 2 read 1 0
+R 0 1 2 1 0 0 cached
+A 0 1 2 ok 0
+C 0 1 3 read 1 0
+R 0 1 3 1 0 0 cached
+A 0 1 3 ok 0
+C 0 1 4 read 1 0
 ",
     },
     Story {

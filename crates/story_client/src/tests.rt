@@ -1,11 +1,12 @@
 //! What the stories are tested for.
 
-use crate::desk::tell;
+use crate::desk::{Desk, tell};
+use crate::events::{Brings, Event};
 use crate::hostile::{TICKETS, is_steady};
 use crate::leases::LEASES;
 use crate::refused::REFUSED;
 use crate::writes::WRITES;
-use nq_base::{Block, BlockNo, FileId, Host, Inc, Ticks};
+use nq_base::{Block, BlockNo, FileId, Host, Inc, Refusal, Ticks};
 use nq_client::Client;
 use nq_wire::Outbox;
 use rand_core::SeedableRng;
@@ -85,6 +86,35 @@ fn a_client_that_holds_nothing_reads_nothing(rt: HostRuntime) -> Result<(), Fail
     assert!(rt; !client.read_cached(FileId(1), BlockNo(0), &mut into));
     assert_eq!(rt; into.value(), 3);
     client.stop();
+    Ok(())
+}
+
+/// What comes to a client that asks to be attached: no refusal counts, and it is busy until it is attached.
+const ATTACHING: [(Event, char); 12] = [
+    (Event::Lookup(b"a"), 'b'),
+    (Event::Reply(1, 1, Brings::Refused(Refusal::NoEnt)), 'i'),
+    (Event::Reply(1, 1, Brings::Refused(Refusal::Exist)), 'i'),
+    (Event::Reply(1, 1, Brings::Refused(Refusal::Inval)), 'i'),
+    (Event::Reply(1, 1, Brings::Refused(Refusal::NoSpc)), 'i'),
+    (Event::Reply(1, 1, Brings::Refused(Refusal::Stale)), 'i'),
+    (Event::Reply(1, 1, Brings::Refused(Refusal::TryLater)), 'i'),
+    (Event::Reply(1, 1, Brings::Refused(Refusal::Fenced)), 'i'),
+    (
+        Event::Reply(1, 1, Brings::Refused(Refusal::NotAttached)),
+        'i',
+    ),
+    (Event::Reply(1, 1, Brings::Refused(Refusal::Old)), 'i'),
+    (Event::Reply(1, 1, Brings::Attached), 'n'),
+    (Event::Lookup(b"a"), 'p'),
+];
+
+#[test]
+fn a_client_heeds_no_refusal_of_its_attaching(rt: HostRuntime) -> Result<(), Fail> {
+    let mut desk = Desk::new(rt.alloc())?;
+    let mut client = Client::start(rt.alloc(), Host(0), Inc(1), 30, Ticks(0), &mut desk.out)?;
+    let followed = desk.follow(&mut client, &ATTACHING);
+    client.stop();
+    assert_eq!(rt; followed?, ATTACHING.len());
     Ok(())
 }
 
