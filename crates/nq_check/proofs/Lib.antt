@@ -9,6 +9,7 @@ pub mod Lining
 pub mod MovesOn
 pub mod NameLosses
 pub mod Once
+pub mod OwnWrite
 pub mod Places
 pub mod Sounds
 pub mod Standing

@@ -28,11 +28,12 @@ pub(crate) fn find_fronts(alloc: Global, whole: &[Entry]) -> Result<Fronts, NoMe
     let tables = make_tables(alloc, whole)?;
     let ordered = ordered_front(alloc, whole)?;
     let accounted = accounted_front(alloc, whole)?;
+    let synchronized = kept_front(alloc, &tables, whole, ordered)?;
     Ok(Fronts {
         legal: legal_front(&tables, whole),
         ordered,
         accounted,
         reported: 0,
-        synchronized: kept_front(&tables, whole),
+        synchronized,
     })
 }

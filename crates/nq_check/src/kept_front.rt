@@ -1,70 +1,146 @@
 //! A fast pass over the answers that are kept.
 
-ghost use Rattle.std.specs.Prelude.{◌≡◌, ◌<◌, length, reverse, take};
+ghost use Rattle.std.specs.Prelude.{◌≡◌, ◌+◌, ◌<◌, IfOk, IsTrue, Some, length, reverse, take, true};
+ghost use Rattle.std.specs.List.{slice_get};
 ghost use Rattle.nq_check.specs.Fronts.{KeepsBelow};
-ghost use Rattle.nq_check.specs.Kept.{is_kept_at};
+ghost use Rattle.nq_check.specs.Kept.{is_kept, is_kept_at};
 ghost use Rattle.nq_check.specs.Tables.{AreTables};
 ghost use Rattle.nq_check.specs.declared.rules.Rule.{Rule};
+ghost use Rattle.nq_model.specs.Journal.{call_of};
+ghost use Rattle.nq_model.specs.JournalTest.{is_answer};
 
+use crate::latest::{Latest, Latests, latest_of, note};
+use crate::puts::is_put_kept;
 use crate::sought::call_along;
 use crate::synchronized::is_kept;
 use crate::tables::Tables;
-use nq_base::{Entry, Said};
+use nq_base::{Entry, NoMemory, Said, Told, Who};
+use std::alloc::Global;
+use std::collections::HashMap;
+
+/// Whether what an ok says is seen to be kept, with a look at few entries.
+fn is_seen_kept(
+    tables: &Tables,
+    whole: &[Entry],
+    latest: &Latest,
+    place: usize,
+    entry: &Entry,
+    by: &Who,
+    n: u64,
+    call: &Option<Told>,
+) -> bool
+    requires tables { AreTables whole.now tables.now }
+    requires there { (place < length whole.now) × (slice_get whole.now place ≡ Some entry.now) }
+    requires answer { is_answer by.now n entry.now ≡ true }
+    requires ordered { KeepsBelow Rule.Ordered whole.now (place + 1) }
+    ensures { IsTrue result → is_kept (reverse whole.now) (reverse (take place whole.now)) by.now n call.now ≡ true }
+{
+    let Some(told) = call else {
+        return false;
+    };
+    match told {
+        Told::WriteSync { .. } => is_put_kept(tables, whole, latest, place, entry, by, n),
+        _ => false,
+    }
+}
+
+/// Whether what the A at a place says, which says ok, is kept.
+fn is_ok_kept(
+    tables: &Tables,
+    whole: &[Entry],
+    latest: &Latest,
+    place: usize,
+    entry: &Entry,
+    by: &Who,
+    n: u64,
+) -> bool
+    requires tables { AreTables whole.now tables.now }
+    requires there { (place < length whole.now) × (slice_get whole.now place ≡ Some entry.now) }
+    requires answer { is_answer by.now n entry.now ≡ true }
+    requires ordered { KeepsBelow Rule.Ordered whole.now (place + 1) }
+    ensures { result ≡ is_kept (reverse whole.now) (reverse (take place whole.now)) by.now n (call_of (reverse whole.now) by.now n) }
+{
+    let call = call_along(&tables.calls, whole, by, n);
+    if is_seen_kept(tables, whole, latest, place, entry, by, n, &call) {
+        return true;
+    }
+    is_kept(whole, &whole[..place], by, n, &call)
+}
 
 /// Whether an A that says ok is kept, where links show what its call asks.
-fn is_kept_at(tables: &Tables, whole: &[Entry], place: usize, entry: &Entry) -> bool
+fn is_kept_at(
+    tables: &Tables,
+    whole: &[Entry],
+    latests: &Latests,
+    place: usize,
+    entry: &Entry,
+) -> bool
     requires tables { AreTables whole.now tables.now }
-    requires within { place < length whole.now }
+    requires there { (place < length whole.now) × (slice_get whole.now place ≡ Some entry.now) }
+    requires ordered { KeepsBelow Rule.Ordered whole.now (place + 1) }
     ensures { result ≡ is_kept_at (reverse whole.now) entry.now (reverse (take place whole.now)) }
 {
-    let before = &whole[..place];
     match entry {
         Entry::A {
             who,
             q,
             said: Said::Ok,
-        } => is_kept(
+        } => is_ok_kept(
+            tables,
             whole,
-            before,
+            &latest_of(latests, who),
+            place,
+            entry,
             who,
             *q,
-            &call_along(&tables.calls, whole, who, *q),
         ),
         Entry::A {
             who,
             q,
             said: Said::OkValue(_),
-        } => is_kept(
+        } => is_ok_kept(
+            tables,
             whole,
-            before,
+            &latest_of(latests, who),
+            place,
+            entry,
             who,
             *q,
-            &call_along(&tables.calls, whole, who, *q),
         ),
         Entry::A {
             who,
             q,
             said: Said::OkBy { .. },
-        } => is_kept(
+        } => is_ok_kept(
+            tables,
             whole,
-            before,
+            &latest_of(latests, who),
+            place,
+            entry,
             who,
             *q,
-            &call_along(&tables.calls, whole, who, *q),
         ),
         _ => true,
     }
 }
 
-/// How far the answers of a journal are kept, one after another.
-pub(crate) fn kept_front(tables: &Tables, whole: &[Entry]) -> usize
+/// How far the answers of a journal are kept, one after another, among its entries that stand in order.
+pub(crate) fn kept_front(
+    alloc: Global,
+    tables: &Tables,
+    whole: &[Entry],
+    ordered: usize,
+) -> Result<usize, NoMemory>
     requires tables { AreTables whole.now tables.now }
-    ensures { KeepsBelow Rule.Synchronized whole.now result }
+    requires ordered { KeepsBelow Rule.Ordered whole.now ordered }
+    ensures { IfOk result (KeepsBelow Rule.Synchronized whole.now) }
 {
+    let mut latests = HashMap::new(alloc);
     for (place, entry) in whole.iter().enumerate() {
-        if !is_kept_at(tables, whole, place, entry) {
-            return place;
+        if place >= ordered || !is_kept_at(tables, whole, &latests, place, entry) {
+            return Ok(place);
         }
+        note(&mut latests, place, entry)?;
     }
-    whole.len()
+    Ok(whole.len())
 }

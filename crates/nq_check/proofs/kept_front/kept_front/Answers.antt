@@ -1,8 +1,12 @@
-use Rattle.std.proofs.Common.{rules, ◌≡◌, true, length, refl, sym, ◌∙◌}
+use Rattle.std.proofs.Common.{rules, ◌≡◌, ◌+◌, true, length, refl, sym, ◌∙◌, arith}
 use Rattle.std.proofs.lemmas.Option.{slice_get_read}
-use Rattle.nq_check.specs.declared.rules.Rule.TheVariants.{Synchronized}
+use Rattle.nq_check.specs.declared.rules.Rule.TheVariants.{Ordered, Synchronized}
 use Rattle.nq_check.proofs.MovesOn.{one_more}
+use Rattle.nq_check.proofs.OwnWrite.{keeps_less}
 use Rattle.nq_check.proofs.kept_front.kept_front.Goals as goal
+
+pub is_kept_at-requires-clause-ordered : goal.is_kept_at-requires-clause-ordered
+is_kept_at-requires-clause-ordered c = keeps_less Ordered c.args.whole.now c.args.ordered (c.loop-place.place + 1) c.requires.ordered (omega arith)
 
 pub loop-place-preserved : goal.loop-place-preserved
 loop-place-preserved c =

@@ -1,0 +1,53 @@
+//! A fast test that an answered `put` is kept: it is true only where it is.
+#![tactic(auto, using(crate::proofs::Backwards::last_first))]
+
+ghost use Rattle.std.specs.Prelude.{◌≡◌, ◌||◌, ◌+◌, ◌<◌, IsTrue, Some, length, reverse, take, true};
+ghost use Rattle.std.specs.List.{slice_get};
+ghost use Rattle.nq_check.specs.Fronts.{KeepsBelow};
+ghost use Rattle.nq_check.specs.Kept.{is_put_kept};
+ghost use Rattle.nq_check.specs.Tables.{AreTables};
+ghost use Rattle.nq_check.specs.declared.rules.Rule.TheVariants.{Ordered};
+ghost use Rattle.nq_model.specs.JournalTest.{is_answer, is_stored, is_through, somewhere};
+
+use crate::entries::{is_call, is_through, is_write_by};
+use crate::latest::Latest;
+use crate::sought::{Sought, is_before};
+use crate::tables::Tables;
+use nq_base::{Entry, Who};
+
+/// Whether a write is through, or an S before a place covers it.
+fn is_through_or_stored(tables: &Tables, whole: &[Entry], place: usize, write: &Entry) -> bool
+    requires tables { AreTables whole.now tables.now }
+    requires within { place < length whole.now }
+    ensures { result ≡ (is_through write.now || is_stored (reverse (take place whole.now)) write.now) }
+{
+    is_through(write) || is_before(&tables.covers, whole, place, Sought::Store(write))
+}
+
+/// Whether the last write of an incarnation before the A of its `put` is the write of that call, and is through or stored
+/// before the A.
+pub(crate) fn is_put_kept(
+    tables: &Tables,
+    whole: &[Entry],
+    latest: &Latest,
+    place: usize,
+    entry: &Entry,
+    by: &Who,
+    n: u64,
+) -> bool
+    requires tables { AreTables whole.now tables.now }
+    requires there { (place < length whole.now) × (slice_get whole.now place ≡ Some entry.now) }
+    requires answer { is_answer by.now n entry.now ≡ true }
+    requires ordered { KeepsBelow Ordered whole.now (place + 1) }
+    ensures { IsTrue result → somewhere (is_put_kept (reverse (take place whole.now)) by.now n) (reverse (take place whole.now)) ≡ true }
+{
+    let (call, write) = (latest.call, latest.write);
+    if call >= write || write >= place {
+        return false;
+    }
+    let written = &whole[write];
+    if !is_call(&whole[call], by, n) || !is_write_by(written, by) {
+        return false;
+    }
+    is_through_or_stored(tables, whole, place, written)
+}
