@@ -9,6 +9,7 @@ use Rattle.nq_model.specs.Ask.{conflicts, marked}
 use Rattle.nq_model.specs.Table.{row_before}
 use Rattle.nq_lease.specs.Rows.{StandsBefore, AreInOrder, is_of, is_below, is_upto}
 use Rattle.nq_lease.specs.Ends.{end_of}
+use Rattle.nq_lease.specs.declared.ends.End.{End}
 use Rattle.nq_lease.specs.Kept.{IsKept}
 use Rattle.nq_lease.proofs.OfFile.{parts-of, take-before, drop-behind}
 use Rattle.nq_lease.proofs.Times.{sum-of-map}
@@ -103,12 +104,12 @@ counts-as file host access time rows =
     ∙ ap (count_by (λ t. t == time)) (ends-as file host access rows)
     ∙ sum-of-map (λ t. if t == time then 1 else 0) end_of rows
 
-pub kept-marked : (file host : ℕ) (access : Access) (rows : List Row) (room : ℕ) (ends : List ℕ) (ends_room room' : ℕ) → IsKept rows room ends ends_room → room ≤ room' → IsKept (marked file host access rows) room' ends ends_room
+pub kept-marked : (file host : ℕ) (access : Access) (rows : List Row) (room : ℕ) (ends : List End) (ends_room room' : ℕ) → IsKept rows room ends ends_room → room ≤ room' → IsKept (marked file host access rows) room' ends ends_room
 kept-marked file host access rows room ends ends_room room' kept bound = record {
   ordered = marked-in-order file host access rows kept.ordered;
   few = let few = kept.few in omega (arith, length-map rows (mark file host access));
   has_room = let h = kept.has_room in omega arith;
-  are_ends = record { rise = kept.are_ends.rise; same = λ time. kept.are_ends.same time ∙ sym (counts-as file host access time rows) };
+  are_ends = record { well = kept.are_ends.well; same = λ time. kept.are_ends.same time ∙ sym (counts-as file host access time rows) };
   as_many = let h = kept.as_many in omega (arith, length-map rows (mark file host access));
   has_room_of_ends = kept.has_room_of_ends;
 }

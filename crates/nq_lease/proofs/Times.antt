@@ -1,28 +1,32 @@
--- How often a time stands in a list, and the least of a list.
-use Rattle.std.proofs.Common.{◌≡◌, ◌≢◌, ◌⊎◌, ℕ, ◌+◌, ◌≤◌, ◌<◌, true, false, ◌==◌, List, [], ◌∷◌, Option, Some, None, if◌then◌else◌, suc, get_or, map, length, min, refl, sym, subst, ap, ◌∙◌, inl, inr, arith}
-use Rattle.std.specs.List.{count_by, sum_by, remove, insert, slice_get}
-use Rattle.std.specs.List.Sorted.{IsNonDecreasing, IsPermutation}
+-- Ends in order of time with how many rows end then, and the least of a list.
+use Rattle.std.proofs.Common.{◌≡◌, ◌≢◌, ◌⊎◌, ℕ, ◌+◌, ◌-◌, ◌≤◌, ◌<◌, Bool, true, false, ◌==◌, List, [], ◌∷◌, Option, Some, None, if◌then◌else◌, suc, get_or, set, map, length, min, refl, sym, subst, ap, ◌∙◌, inl, inr, arith}
+use Rattle.std.specs.List.{All, count_by, sum_by, remove, insert, slice_get}
+use Rattle.std.specs.List.Sorted.{IsNonDecreasingBy}
 use Rattle.std.specs.Prelude.{nat_lt}
-use Rattle.std.proofs.lemmas.List.Sorted.{sum_by-IsPermutation}
+use Rattle.std.proofs.lemmas.Bool.{cases_eq}
 use Rattle.std.proofs.lemmas.Bool.Decides.{nat_tests}
-use Rattle.std.proofs.lemmas.List.Sums.{sum_by-cons, sum_by-remove, sum_by-insert}
-use Rattle.std.proofs.lemmas.List.Edits.{get_or-remove_below, get_or-remove_above, length-remove}
+use Rattle.std.proofs.lemmas.List.{get_or_default}
+use Rattle.std.proofs.lemmas.List.Elements.{All-head, All-tail}
+use Rattle.std.proofs.lemmas.List.Sums.{sum_by-cons, sum_by-set, sum_by-remove}
+use Rattle.std.proofs.lemmas.List.Edits.{get_or-insert_below, get_or-insert_at, get_or-insert_above, length-insert}
+use Rattle.std.proofs.lemmas.List.Sorted.{IsNonDecreasingBy-insert}
 use Rattle.nq_base.specs.declared.Row.{Row}
+use Rattle.nq_lease.specs.declared.ends.End.{End}
 use Rattle.nq_lease.specs.Ends.{end_of, least, lesser, earliest}
-use Rattle.nq_lease.specs.Kept.{AreEndsOf}
+use Rattle.nq_lease.specs.Kept.{AreEnds, AreEndsOf, rows_ending, rows_ending_at}
 use Rattle.nq_lease.proofs.Splits.{decided}
 
--- how often a time stands in a list
-abbrev pub times_of : ℕ → List ℕ → ℕ
-times_of time xs = count_by (λ t. t == time) xs
+-- the time of an end
+abbrev pub time_of : End → ℕ
+time_of e = e.time
 
-pub sum-of-map : {X Y : Type 0} (g : Y → ℕ) (f : X → Y) (xs : List X) → sum_by g (map f xs) ≡ sum_by (λ x. g (f x)) xs
-sum-of-map g f [] = refl
-sum-of-map g f (x ∷ xs) =
-    sum_by-cons g (f x) (map f xs) ∙ ap (λ n. g (f x) + n) (sum-of-map g f xs) ∙ sym (sum_by-cons (λ y. g (f y)) x xs)
+-- how many rows end at an end
+abbrev pub rows_of_end : End → ℕ
+rows_of_end e = e.rows
 
-pub times-more : (time x : ℕ) (xs : List ℕ) → times_of time (x ∷ xs) ≡ (if x == time then 1 else 0) + times_of time xs
-times-more time x xs = sum_by-cons (λ t. if t == time then 1 else 0) x xs
+-- how many rows end at a time, by one end
+abbrev pub rows_then : (time : ℕ) → End → ℕ
+rows_then time e = if e.time == time then e.rows else 0
 
 compared : (a b : ℕ) → (a < b) ⊎ (b ≤ a)
 compared a b = elim (decided (nat_lt a b)) [
@@ -30,51 +34,154 @@ compared a b = elim (decided (nat_lt a b)) [
   | inr e ↦ inr (grind (arith, nat_tests))
 ]
 
-pub times-none : (time : ℕ) (xs : List ℕ) → ((k : ℕ) → k < length xs → get_or xs k 0 ≢ time) → times_of time xs ≡ 0
-times-none time [] h = refl
-times-none time (x ∷ xs) h =
-    let first : x ≢ time = h 0 (omega arith) in
-    let rest = times-none time xs (λ k lt. h (suc k) (omega arith)) in
-    let other : (x == time) ≡ false = grind (arith, nat_tests) in
-    times-more time x xs ∙ rw (other, rest) refl
+-- ---- what stands at a place
 
-apart : (ends : List ℕ) (time place : ℕ) → IsNonDecreasing ends → ((k d : ℕ) → k < place → get_or ends k d < time) → (place < length ends → time < get_or ends place 0) → times_of time ends ≡ 0
-apart ends time place rise before behind =
-    times-none time ends (λ k lt e. elim (compared k place) [
-      | inl below ↦ let less = before k 0 below in absurd (omega arith)
-      | inr from ↦ let more = behind (omega arith) in let up = rise place k 0 from lt in absurd (omega arith)
+-- there are no more ends than rows that end
+pub few-ends : (ends : List End) → All (λ e. 1 ≤ e.rows) ends → length ends ≤ rows_ending ends
+few-ends [] some = omega arith
+few-ends (e ∷ ends) some =
+    let first = All-head (λ e. 1 ≤ e.rows) e ends some in
+    let rest = few-ends ends (All-tail (λ e. 1 ≤ e.rows) e ends some) in
+    let more = sum_by-cons rows_of_end e ends in
+    omega arith
+
+none-at : (time : ℕ) (ends : List End) (d : End) → ((k : ℕ) → k < length ends → time_of (get_or ends k d) ≢ time) → rows_ending_at time ends ≡ 0
+none-at time [] d h = refl
+none-at time (e ∷ ends) d h =
+    let first : e.time ≢ time = h 0 (omega arith) in
+    let rest = none-at time ends d (λ k lt. h (suc k) (omega arith)) in
+    let other : (e.time == time) ≡ false = grind (arith, nat_tests) in
+    sum_by-cons (rows_then time) e ends ∙ rw (other, rest) refl
+
+apart : (ends : List End) (time place : ℕ) (d : End) → IsNonDecreasingBy time_of ends → ((k : ℕ) → k < place → time_of (get_or ends k d) < time) → (place < length ends → time < time_of (get_or ends place d)) → rows_ending_at time ends ≡ 0
+apart ends time place d rise before behind =
+    none-at time ends d (λ k lt e. elim (compared k place) [
+      | inl below ↦ let less = before k below in absurd (omega arith)
+      | inr from ↦ let more = behind (omega arith) in let up = rise place k d from lt in absurd (omega arith)
     ])
 
 -- a time that is there stands at the first place that is not below it
-pub stands-at : (ends : List ℕ) (time place : ℕ) → IsNonDecreasing ends → ((k d : ℕ) → k < place → get_or ends k d < time) → ((k d : ℕ) → place ≤ k → k < length ends → time ≤ get_or ends k d) → 1 ≤ times_of time ends → (place < length ends) × (get_or ends place 0 ≡ time)
-stands-at ends time place rise before behind there = elim (compared place (length ends)) [
-  | inl within ↦ elim (compared time (get_or ends place 0)) [
-    | inl above ↦ let none = apart ends time place rise before (λ lt. above) in absurd (omega arith)
-    | inr here ↦ let low = behind place 0 (omega arith) within in (within, omega arith)
+pub stands-at : (ends : List End) (time place : ℕ) → IsNonDecreasingBy time_of ends → ((k : ℕ) (d : End) → k < place → time_of (get_or ends k d) < time) → ((k : ℕ) (d : End) → place ≤ k → k < length ends → time ≤ time_of (get_or ends k d)) → 1 ≤ rows_ending_at time ends → (d : End) → (place < length ends) × (time_of (get_or ends place d) ≡ time)
+stands-at ends time place rise before behind there d = elim (compared place (length ends)) [
+  | inl within ↦ elim (compared time (time_of (get_or ends place d))) [
+    | inl above ↦ let none = apart ends time place d rise (λ k lt. before k d lt) (λ lt. above) in absurd (omega arith)
+    | inr here ↦ let low = behind place d (omega arith) within in (within, omega arith)
   ]
-  | inr past ↦ let none = apart ends time place rise before (λ lt. absurd (omega arith)) in absurd (omega arith)
+  | inr past ↦ let none = apart ends time place d rise (λ k lt. before k d lt) (λ lt. absurd (omega arith)) in absurd (omega arith)
 ]
 
--- a rising list without one of its times still rises
-pub rise-removed : (ends : List ℕ) (place : ℕ) → place < length ends → IsNonDecreasing ends → IsNonDecreasing (remove ends place)
-rise-removed ends place within rise i j d le lt = elim (compared i place) [
-  | inl a ↦ elim (compared j place) [
-    | inl b ↦ let x = get_or-remove_below ends place d i a within in let y = get_or-remove_below ends place d j b within in let up = rise i j d le (omega arith) in omega arith
-    | inr b ↦ let x = get_or-remove_below ends place d i a within in let y = get_or-remove_above ends place d j b within in let up = rise i (j + 1) d (omega arith) (omega (arith, length-remove ends place within)) in omega arith
+-- ---- a row less at an end
+
+-- an end of one time with one row more than another
+more-then : (time other : ℕ) (old new : End) → old.time ≡ time → new.time ≡ time → new.rows ≡ old.rows + 1 → rows_then other new ≡ rows_then other old + (if time == other then 1 else 0)
+more-then time other old new a b more = rw (a, b, more) (step (time == other))
+  where
+    step : (x : Bool) → (if x then old.rows + 1 else 0) ≡ (if x then old.rows else 0) + (if x then 1 else 0)
+    step true = omega arith
+    step false = omega arith
+
+-- an end that stands at a place
+pub record StandsThere (ends : List End) (place time : ℕ) (old : End) : Type 0 where
+  pub within : place < length ends
+  pub here : get_or ends place old ≡ old
+  pub at : old.time ≡ time
+
+-- the place of a time, told of the ends as they were lent, is that of an end of this time
+pub is-within : (ends seen : List End) (time place : ℕ) → seen ≡ ends → IsNonDecreasingBy time_of ends → ((k : ℕ) (d : End) → k < place → time_of (get_or seen k d) < time) → ((k : ℕ) (d : End) → place ≤ k → k < length seen → time ≤ time_of (get_or seen k d)) → 1 ≤ rows_ending_at time ends → place < length ends
+is-within ends seen time place same rise before behind there =
+    let at = stands-at ends time place rise
+    (λ k d lt. subst (λ l. time_of (get_or l k d) < time) same (before k d lt))
+    (λ k d le lt. subst (λ l. time ≤ time_of (get_or l k d)) same (behind k d le (rw same lt)))
+    there (record { time = 0; rows = 0 }) in
+    at.0
+
+pub stands-there : (ends seen : List End) (time place : ℕ) (old : End) → seen ≡ ends → IsNonDecreasingBy time_of ends → ((k : ℕ) (d : End) → k < place → time_of (get_or seen k d) < time) → ((k : ℕ) (d : End) → place ≤ k → k < length seen → time ≤ time_of (get_or seen k d)) → 1 ≤ rows_ending_at time ends → old ≡ get_or ends place old → StandsThere ends place time old
+stands-there ends seen time place old same rise before behind there is =
+    let at = stands-at ends time place rise
+    (λ k d lt. subst (λ l. time_of (get_or l k d) < time) same (before k d lt))
+    (λ k d le lt. subst (λ l. time ≤ time_of (get_or l k d)) same (behind k d le (rw same lt)))
+    there old in
+    record { within = at.0; here = sym is; at = ap time_of is ∙ at.1 }
+
+-- an end that was read twice is the same
+pub read-twice : (ends : List End) (place : ℕ) (a b : End) → place < length ends → a ≡ get_or ends place a → b ≡ get_or ends place b → a ≡ b
+read-twice ends place a b within first second = first ∙ get_or_default ends place a b within ∙ sym second
+
+-- at a time one row more ends by these ends than by others, and at all other times as many
+pub record IsMore (ends more : List End) (time : ℕ) : Type 0 where
+  pub counts : (other : ℕ) → rows_ending_at other more ≡ rows_ending_at other ends + (if time == other then 1 else 0)
+  pub all : rows_ending more ≡ rows_ending ends + 1
+
+set-sum : (f : End → ℕ) (ends : List End) (place time : ℕ) (old new : End) → StandsThere ends place time old → sum_by f (set ends place new) + f old ≡ sum_by f ends + f new
+set-sum f ends place time old new there =
+    subst (λ e. sum_by f (set ends place new) + f e ≡ sum_by f ends + f new) there.here (sum_by-set f ends place new old there.within)
+
+pub lowered : (ends : List End) (place time : ℕ) (old new : End) → StandsThere ends place time old → new.time ≡ time → old.rows ≡ new.rows + 1 → IsMore (set ends place new) ends time
+lowered ends place time old new there at rows = record {
+  counts = λ other.
+      let sum = set-sum (rows_then other) ends place time old new there in
+      let more = more-then time other new old at there.at rows in
+      omega arith;
+  all = let sum = set-sum rows_of_end ends place time old new there in omega arith;
+}
+
+-- ---- an end more
+
+some-inserted : (ends : List End) (place : ℕ) (e : End) → place ≤ length ends → 1 ≤ e.rows → All (λ e. 1 ≤ e.rows) ends → All (λ e. 1 ≤ e.rows) (insert ends place e)
+some-inserted ends place e within one some k d lt = elim (compared k place) [
+  | inl below ↦
+      let same = ap rows_of_end (get_or-insert_below ends place e d k below within) in
+      let was = some k d (omega arith) in
+      omega arith
+  | inr from ↦ elim (cases_eq k place) [
+    | inl here ↦ let same = ap rows_of_end (get_or-insert_at ends place e d within) in rw here (omega arith)
+    | inr other ↦
+        let back : (k - 1) + 1 ≡ k = omega arith in
+        let same = ap rows_of_end (get_or-insert_above ends place e d (k - 1) (omega arith) within) in
+        let was = some (k - 1) d (omega (arith, length-insert ends place e within)) in
+        rw (← back) (omega arith)
   ]
-  | inr a ↦ let x = get_or-remove_above ends place d i a within in let y = get_or-remove_above ends place d j (omega arith) within in let up = rise (i + 1) (j + 1) d (omega arith) (omega (arith, length-remove ends place within)) in omega arith
 ]
 
-pub times-removed : (ends : List ℕ) (place time end : ℕ) → place < length ends → get_or ends place 0 ≡ end → times_of time (remove ends place) + (if end == time then 1 else 0) ≡ times_of time ends
-times-removed ends place time end within at =
-    subst (λ e. times_of time (remove ends place) + (if e == time then 1 else 0) ≡ times_of time ends) at (sum_by-remove (λ t. if t == time then 1 else 0) ends place 0 within)
+-- the place of a time, told of the ends as they were lent, is one for a new end
+pub inserted : (ends seen : List End) (place time : ℕ) → seen ≡ ends → AreEnds ends → place ≤ length seen → ((k : ℕ) (d : End) → k < place → time_of (get_or seen k d) < time) → ((k : ℕ) (d : End) → place ≤ k → k < length seen → time ≤ time_of (get_or seen k d)) → AreEnds (insert ends place (record { time = time; rows = 1 }))
+inserted ends seen place time same are within before behind =
+    let inside : place ≤ length ends = subst (λ l. place ≤ length l) same within in
+    record {
+      rise = IsNonDecreasingBy-insert time_of ends place (record { time = time; rows = 1 }) are.rise inside
+          (λ k d lt. let low = subst (λ l. time_of (get_or l k d) < time) same (before k d lt) in omega arith)
+          (λ k d le lt. subst (λ l. time ≤ time_of (get_or l k d)) same (behind k d le (rw same lt)));
+      some = some-inserted ends place (record { time = time; rows = 1 }) inside (omega arith) are.some;
+    }
 
-pub times-added : (ends : List ℕ) (place time end : ℕ) → times_of time (insert ends place end) ≡ times_of time ends + (if end == time then 1 else 0)
-times-added ends place time end = sum_by-insert (λ t. if t == time then 1 else 0) ends place end
+-- ---- an end less
 
--- a sort leaves how often each time stands there
-pub times-moved : (time : ℕ) (xs ys : List ℕ) → IsPermutation xs ys → times_of time ys ≡ times_of time xs
-times-moved time xs ys h = sum_by-IsPermutation (λ t. if t == time then 1 else 0) xs ys h
+remove-sum : (f : End → ℕ) (ends : List End) (place time : ℕ) (old : End) → StandsThere ends place time old → sum_by f (remove ends place) + f old ≡ sum_by f ends
+remove-sum f ends place time old there =
+    subst (λ e. sum_by f (remove ends place) + f e ≡ sum_by f ends) there.here (sum_by-remove f ends place old there.within)
+
+pub removed : (ends : List End) (place time : ℕ) (old : End) → StandsThere ends place time old → old.rows ≡ 1 → IsMore (remove ends place) ends time
+removed ends place time old there one = record {
+  counts = λ other.
+      let sum = remove-sum (rows_then other) ends place time old there in
+      let was : rows_then other old ≡ (if time == other then 1 else 0) = rw (there.at, one) refl in
+      omega arith;
+  all = let sum = remove-sum rows_of_end ends place time old there in omega arith;
+}
+
+-- ---- times in a list
+
+-- how often a time stands in a list
+abbrev times_of : ℕ → List ℕ → ℕ
+times_of time xs = count_by (λ t. t == time) xs
+
+pub sum-of-map : {X Y : Type 0} (g : Y → ℕ) (f : X → Y) (xs : List X) → sum_by g (map f xs) ≡ sum_by (λ x. g (f x)) xs
+sum-of-map g f [] = refl
+sum-of-map g f (x ∷ xs) =
+    sum_by-cons g (f x) (map f xs) ∙ ap (λ n. g (f x) + n) (sum-of-map g f xs) ∙ sym (sum_by-cons (λ y. g (f y)) x xs)
+
+times-more : (time x : ℕ) (xs : List ℕ) → times_of time (x ∷ xs) ≡ (if x == time then 1 else 0) + times_of time xs
+times-more time x xs = sum_by-cons (λ t. if t == time then 1 else 0) x xs
 
 -- ---- the least
 
@@ -147,18 +254,28 @@ least-is xs n is = step (least xs) refl
 
 -- ---- the ends of rows
 
-pub times-of-rows : (time : ℕ) (rows : List Row) → times_of time (map end_of rows) ≡ count_by (λ r. end_of r == time) rows
+times-of-rows : (time : ℕ) (rows : List Row) → times_of time (map end_of rows) ≡ count_by (λ r. end_of r == time) rows
 times-of-rows time rows = sum-of-map (λ t. if t == time then 1 else 0) end_of rows
 
-in-list : (ends : List ℕ) (time : ℕ) → 1 ≤ times_of time ends → (k : ℕ) × (k < length ends) × (get_or ends k 0 ≡ time)
-in-list [] time h = absurd (omega arith)
-in-list (x ∷ xs) time h = elim (times-either time x xs h) [
-  | inl e ↦ (0, omega arith, e)
-  | inr rest ↦ let there = in-list xs time rest in (suc there.0, omega (arith, there.1), there.2)
+-- where rows end at a time, an end of that time stands
+in-ends : (ends : List End) (time : ℕ) → 1 ≤ rows_ending_at time ends → (d : End) → (k : ℕ) × (k < length ends) × (time_of (get_or ends k d) ≡ time)
+in-ends [] time h d = absurd (omega arith)
+in-ends (e ∷ ends) time h d = elim (decided (e.time == time)) [
+  | inl same ↦ (0, omega arith, grind (arith, nat_tests))
+  | inr other ↦
+      let more = sum_by-cons (rows_then time) e ends in
+      let none : rows_then time e ≡ 0 = rw other refl in
+      let there = in-ends ends time (omega arith) d in
+      (suc there.0, omega (arith, there.1), there.2)
 ]
 
--- the first of the ends is the least
-pub first-is-earliest : (rows : List Row) (ends : List ℕ) → AreEndsOf rows ends → slice_get ends 0 ≡ earliest rows
+-- the time of the first end
+abbrev pub first_time : Option End → Option ℕ
+first_time None = None
+first_time (Some e) = Some e.time
+
+-- the first of the ends is at the least time
+pub first-is-earliest : (rows : List Row) (ends : List End) → AreEndsOf rows ends → first_time (slice_get ends 0) ≡ earliest rows
 first-is-earliest rows [] are = nothing (least (map end_of rows)) refl
   where
     nothing : (o : Option ℕ) → least (map end_of rows) ≡ o → None ≡ o
@@ -169,13 +286,19 @@ first-is-earliest rows [] are = nothing (least (map end_of rows)) refl
         let none = are.same n in
         absurd (omega arith)
 first-is-earliest rows (first ∷ ends) are =
-    sym (least-is (map end_of rows) first (record {
-      among = let here = times-first first ends in let same = are.same first in let counted = times-of-rows first rows in omega arith;
+    sym (least-is (map end_of rows) first.time (record {
+      among =
+          let some = All-head (λ e. 1 ≤ e.rows) first ends are.well.some in
+          let yes : (first.time == first.time) ≡ true = grind (arith, nat_tests) in
+          let here : rows_ending_at first.time (first ∷ ends) ≡ first.rows + rows_ending_at first.time ends = sum_by-cons (rows_then first.time) first ends ∙ rw yes refl in
+          let same = are.same first.time in
+          let counted = times-of-rows first.time rows in
+          omega arith;
       lowest = λ time h.
           let same = are.same time in
           let counted = times-of-rows time rows in
-          let at = in-list (first ∷ ends) time (omega arith) in
-          let up = are.rise 0 at.0 0 (omega arith) at.1 in
+          let at = in-ends (first ∷ ends) time (omega arith) first in
+          let up = are.well.rise 0 at.0 first (omega arith) at.1 in
           let where_ = at.2 in
           omega arith;
     }))

@@ -9,6 +9,7 @@ ghost use Rattle.nq_model.specs.ServerStep.{end_reading, is_over as is_row_over}
 ghost use Rattle.nq_lease.specs.Rows.{AreInOrder, is_before};
 ghost use Rattle.nq_lease.specs.Kept.{IsKept};
 
+use crate::ends::End;
 use crate::{ends, rows};
 use nq_base::{Access, FileId, Host, Mode, Row, Ticks};
 
@@ -39,7 +40,7 @@ fn add(rows: &mut Vec<Row>, place: usize, row: &Row)
 }
 
 /// Puts a row in place of the old one of its file and host.
-fn replace(rows: &mut Vec<Row>, ends: &mut Vec<Ticks>, place: usize, old: &Row, row: &Row)
+fn replace(rows: &mut Vec<Row>, ends: &mut Vec<End>, place: usize, old: &Row, row: &Row)
     requires kept { IsKept rows.old.items (vec_capacity rows.old) ends.old.items (vec_capacity ends.old) }
     requires place { place ≡ prefix_len (is_before row.now.file row.now.who.host) rows.old.items }
     requires there { find_row row.now.file row.now.who.host rows.old.items ≡ Some old.now }
@@ -52,7 +53,7 @@ fn replace(rows: &mut Vec<Row>, ends: &mut Vec<Ticks>, place: usize, old: &Row, 
 }
 
 /// Puts a row in whose file and host have none.
-fn put_new(rows: &mut Vec<Row>, ends: &mut Vec<Ticks>, place: usize, row: &Row)
+fn put_new(rows: &mut Vec<Row>, ends: &mut Vec<End>, place: usize, row: &Row)
     requires kept { IsKept rows.old.items (vec_capacity rows.old) ends.old.items (vec_capacity ends.old) }
     requires place { place ≡ prefix_len (is_before row.now.file row.now.who.host) rows.old.items }
     requires none { find_row row.now.file row.now.who.host rows.old.items ≡ None }
@@ -65,7 +66,7 @@ fn put_new(rows: &mut Vec<Row>, ends: &mut Vec<Ticks>, place: usize, row: &Row)
 }
 
 /// Puts a row in, in place of the one of its file and host.
-pub(crate) fn put(rows: &mut Vec<Row>, ends: &mut Vec<Ticks>, row: &Row) -> Result<(), Full>
+pub(crate) fn put(rows: &mut Vec<Row>, ends: &mut Vec<End>, row: &Row) -> Result<(), Full>
     requires { IsKept rows.old.items (vec_capacity rows.old) ends.old.items (vec_capacity ends.old) }
     ensures ok { OnOk result (rows.new.items ≡ put_row row.now rows.old.items) }
     ensures err { OnErr result (rows.new.items ≡ rows.old.items) }
@@ -91,7 +92,7 @@ pub(crate) fn put(rows: &mut Vec<Row>, ends: &mut Vec<Ticks>, row: &Row) -> Resu
 /// Takes the row of a file and a host out, which stands at this place.
 fn take_at(
     rows: &mut Vec<Row>,
-    ends: &mut Vec<Ticks>,
+    ends: &mut Vec<End>,
     place: usize,
     old: &Row,
     file: FileId,
@@ -108,7 +109,7 @@ fn take_at(
 }
 
 /// Takes the row of a file and a host out, if there is one.
-pub(crate) fn take(rows: &mut Vec<Row>, ends: &mut Vec<Ticks>, file: FileId, host: Host)
+pub(crate) fn take(rows: &mut Vec<Row>, ends: &mut Vec<End>, file: FileId, host: Host)
     requires { IsKept rows.old.items (vec_capacity rows.old) ends.old.items (vec_capacity ends.old) }
     ensures rows { rows.new.items ≡ drop_row file host rows.old.items }
     ensures kept { IsKept rows.new.items (vec_capacity rows.new) ends.new.items (vec_capacity ends.new) }
@@ -121,7 +122,7 @@ pub(crate) fn take(rows: &mut Vec<Row>, ends: &mut Vec<Ticks>, file: FileId, hos
 }
 
 /// Takes out the rows of a host.
-pub(crate) fn take_of_host(rows: &mut Vec<Row>, ends: &mut Vec<Ticks>, host: Host)
+pub(crate) fn take_of_host(rows: &mut Vec<Row>, ends: &mut Vec<End>, host: Host)
     requires { IsKept rows.old.items (vec_capacity rows.old) ends.old.items (vec_capacity ends.old) }
     ensures rows { rows.new.items ≡ drop_host host rows.old.items }
     ensures kept { IsKept rows.new.items (vec_capacity rows.new) ends.new.items (vec_capacity ends.new) }
@@ -131,7 +132,7 @@ pub(crate) fn take_of_host(rows: &mut Vec<Row>, ends: &mut Vec<Ticks>, host: Hos
 }
 
 /// Takes out the rows of a file.
-pub(crate) fn take_of_file(rows: &mut Vec<Row>, ends: &mut Vec<Ticks>, file: FileId)
+pub(crate) fn take_of_file(rows: &mut Vec<Row>, ends: &mut Vec<End>, file: FileId)
     requires { IsKept rows.old.items (vec_capacity rows.old) ends.old.items (vec_capacity ends.old) }
     ensures rows { rows.new.items ≡ drop_rows_of file rows.old.items }
     ensures kept { IsKept rows.new.items (vec_capacity rows.new) ends.new.items (vec_capacity ends.new) }
@@ -148,7 +149,7 @@ fn is_over(row: &Row, now: Ticks) -> bool
 }
 
 /// Takes out the rows that are no writing ones and whose lease is over.
-pub(crate) fn take_over(rows: &mut Vec<Row>, ends: &mut Vec<Ticks>, now: Ticks)
+pub(crate) fn take_over(rows: &mut Vec<Row>, ends: &mut Vec<End>, now: Ticks)
     requires { IsKept rows.old.items (vec_capacity rows.old) ends.old.items (vec_capacity ends.old) }
     ensures rows { rows.new.items ≡ end_reading now rows.old.items }
     ensures kept { IsKept rows.new.items (vec_capacity rows.new) ends.new.items (vec_capacity ends.new) }

@@ -1,9 +1,11 @@
 //! The times at which rows end.
 
-ghost use Rattle.std.specs.Prelude.{◌≡◌, ℕ, ◌+◌, ◌<◌, ◌≤◌, ◌==◌, length, slice_index_or, count_by, map, vec_len, vec_capacity, if◌then◌else◌};
-ghost use Rattle.std.specs.List.Sorted.{IsNonDecreasing};
+ghost use Rattle.std.specs.Prelude.{◌≡◌, ℕ, ◌+◌, ◌<◌, ◌≤◌, ◌==◌, length, slice_index_or, vec_capacity, if◌then◌else◌};
+ghost use Rattle.std.specs.List.Sorted.{IsNonDecreasingBy};
+ghost use Rattle.nq_model.specs.Profile.{most_rows};
+ghost use Rattle.nq_lease.specs.declared.ends.End.{End};
 ghost use Rattle.nq_lease.specs.Ends.{end_of as end_of_row};
-ghost use Rattle.nq_lease.specs.Kept.{AreEndsOf};
+ghost use Rattle.nq_lease.specs.Kept.{AreEnds, AreEndsOf, rows_ending, rows_ending_at};
 
 use nq_base::{Mode, Row, Ticks};
 
@@ -22,61 +24,68 @@ pub(crate) fn end_of(row: &Row) -> Ticks
     }
 }
 
-/// The place of a time: the first at which no lesser one stands.
-fn place_of(ends: &[Ticks], end: Ticks) -> usize
-    requires { IsNonDecreasing ends.now }
-    ensures bound { result ≤ length ends.now }
-    ensures before { (k : ℕ) (d : ℕ) → k < result → slice_index_or ends.now k d < end }
-    ensures behind { (k : ℕ) (d : ℕ) → result ≤ k → k < length ends.now → end ≤ slice_index_or ends.now k d }
-{
-    ends.partition_point(|other| *other < end)
+/// A time at which rows end, and how many of them do: at least one.
+#[derive(Clone, Copy)]
+pub(crate) struct End {
+    pub(crate) time: Ticks,
+    pub(crate) rows: u32,
 }
 
-/// Adds a time, without memory.
-pub(crate) fn add(ends: &mut Vec<Ticks>, end: Ticks)
-    requires rise { IsNonDecreasing ends.old.items }
-    requires room { vec_len ends.old < vec_capacity ends.old }
-    ensures rise { IsNonDecreasing ends.new.items }
-    ensures counts { (time : ℕ) → count_by (λ t. t == time) ends.new.items ≡ count_by (λ t. t == time) ends.old.items + (if end == time then 1 else 0) }
-    ensures len { vec_len ends.new ≡ vec_len ends.old + 1 }
+/// The place of a time: the first at which no lesser one stands.
+fn place_of(ends: &[End], time: Ticks) -> usize
+    requires { IsNonDecreasingBy (λ e. e.time) ends.now }
+    ensures bound { result ≤ length ends.now }
+    ensures before { (k : ℕ) (d : End) → k < result → (slice_index_or ends.now k d).time < time }
+    ensures behind { (k : ℕ) (d : End) → result ≤ k → k < length ends.now → time ≤ (slice_index_or ends.now k d).time }
+{
+    ends.partition_point(|end| end.time < time)
+}
+
+/// Adds the end of one row, without memory.
+pub(crate) fn add(ends: &mut Vec<End>, time: Ticks)
+    requires ends { AreEnds ends.old.items }
+    requires few { rows_ending ends.old.items < most_rows }
+    requires room { most_rows ≤ vec_capacity ends.old }
+    ensures ends { AreEnds ends.new.items }
+    ensures counts { (other : ℕ) → rows_ending_at other ends.new.items ≡ rows_ending_at other ends.old.items + (if time == other then 1 else 0) }
+    ensures all { rows_ending ends.new.items ≡ rows_ending ends.old.items + 1 }
     ensures capacity { vec_capacity ends.old ≤ vec_capacity ends.new }
 {
-    let place = place_of(ends.as_slice(), end);
-    ends.insert(place, end).unwrap();
+    let place = place_of(ends.as_slice(), time);
+    if place < ends.len() && ends[place].time == time {
+        ends[place].rows += 1;
+    } else {
+        ends.insert(place, End { time, rows: 1 }).unwrap();
+    }
 }
 
-/// Takes a time out, which is there.
-pub(crate) fn take(ends: &mut Vec<Ticks>, end: Ticks)
-    requires rise { IsNonDecreasing ends.old.items }
-    requires there { 1 ≤ count_by (λ t. t == end) ends.old.items }
-    ensures rise { IsNonDecreasing ends.new.items }
-    ensures counts { (time : ℕ) → count_by (λ t. t == time) ends.new.items + (if end == time then 1 else 0) ≡ count_by (λ t. t == time) ends.old.items }
-    ensures len { vec_len ends.new + 1 ≡ vec_len ends.old }
+/// Takes the end of one row out, which is there.
+pub(crate) fn take(ends: &mut Vec<End>, time: Ticks)
+    requires ends { AreEnds ends.old.items }
+    requires there { 1 ≤ rows_ending_at time ends.old.items }
+    ensures ends { AreEnds ends.new.items }
+    ensures counts { (other : ℕ) → rows_ending_at other ends.new.items + (if time == other then 1 else 0) ≡ rows_ending_at other ends.old.items }
+    ensures all { rows_ending ends.new.items + 1 ≡ rows_ending ends.old.items }
     ensures capacity { vec_capacity ends.new ≡ vec_capacity ends.old }
 {
-    let place = place_of(ends.as_slice(), end);
-    ends.remove(place);
+    let place = place_of(ends.as_slice(), time);
+    if ends[place].rows > 1 {
+        ends[place].rows -= 1;
+    } else {
+        ends.remove(place);
+    }
 }
 
 /// Puts the ends of these rows in place of all that is there, without memory.
-pub(crate) fn fill(ends: &mut Vec<Ticks>, rows: &[Row])
-    requires room { length rows.now ≤ vec_capacity ends.old }
+pub(crate) fn fill(ends: &mut Vec<End>, rows: &[Row])
+    requires few { length rows.now ≤ most_rows }
+    requires room { most_rows ≤ vec_capacity ends.old }
     ensures ends { AreEndsOf rows.now ends.new.items }
-    ensures len { vec_len ends.new ≡ length rows.now }
-    ensures capacity { vec_capacity ends.old ≤ vec_capacity ends.new }
-{
-    list(ends, rows);
-    ends.sort_unstable();
-}
-
-/// Puts the ends of these rows, in their order, in place of all that is there, without memory.
-fn list(ends: &mut Vec<Ticks>, rows: &[Row])
-    requires room { length rows.now ≤ vec_capacity ends.old }
-    ensures ends { ends.new.items ≡ map end_of_row rows.now }
+    ensures all { rows_ending ends.new.items ≡ length rows.now }
     ensures capacity { vec_capacity ends.old ≤ vec_capacity ends.new }
 {
     ends.clear();
     for row in rows {
-        ends.push(end_of(row)).unwrap();
+        add(ends, end_of(row));
     }
 }

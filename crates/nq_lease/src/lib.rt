@@ -2,7 +2,8 @@
 //! hosts (Gray and Cheriton 1989).
 //!
 //! All memory is taken when a table is made. Rows are looked up by halving. Beside the rows stand the times at which
-//! they end, in order, so that the earliest end costs one look.
+//! they end, in order and each with how many rows end then. So the earliest end costs one look, and a row that is renewed
+//! moves no end of another row while several rows end at one time.
 #![tactic(auto)]
 
 mod changes;

@@ -9,6 +9,7 @@ ghost use Rattle.nq_lease.specs.Ends.{earliest};
 ghost use Rattle.nq_lease.specs.Rows.{AreInOrder, rows_of};
 
 use crate::changes::{self, Full, MOST_ROWS};
+use crate::ends::End;
 use crate::rows;
 use nq_base::{Access, FileId, Host, NoMemory, Row, RowKey, Tag, Ticks};
 use std::alloc::Global;
@@ -20,7 +21,7 @@ pub struct Table {
     boot: u32,
     drawn: u64,
     rows: Vec<Row>,
-    ends: Vec<Ticks>,
+    ends: Vec<End>,
 }
 
 impl Model for Table {
@@ -126,7 +127,8 @@ impl Table {
     pub fn earliest(&self) -> Option<Ticks>
         ensures { result ≡ earliest self.now.rows }
     {
-        self.ends.first().copied()
+        let first = self.ends.first().copied()?;
+        Some(first.time)
     }
 
     /// How many tags were drawn.

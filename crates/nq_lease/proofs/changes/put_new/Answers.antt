@@ -20,7 +20,7 @@ pub returns-clause-kept : goal.returns-clause-kept
 returns-clause-kept c =
     rw c.add-2.ensures.items (kept-added c.args.rows.now.items (vec_capacity c.args.rows.now) c.args.ends.now.items (vec_capacity c.args.ends.now) c.args.place c.args.row.now c.add.new.ends.items _ _ c.requires.kept c.requires.none c.requires.room c.requires.place
     (λ time. rw c.end_of.ensures at c.add.ensures.counts time)
-    c.add.ensures.rise
-    (omega (arith, c.add.ensures.len, c.add.new.ends.ok.0, c.args.ends.now.ok.0))
+    c.add.ensures.ends
+    c.add.ensures.all
     c.add-2.ensures.capacity
     c.add.ensures.capacity)

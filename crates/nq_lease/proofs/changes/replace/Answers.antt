@@ -25,7 +25,7 @@ returns-clause-kept c =
     rw c.write.ensures.items (kept-replaced c.args.rows.now.items (vec_capacity c.args.rows.now) c.args.ends.now.items (vec_capacity c.args.ends.now) c.args.place c.args.old.now c.args.row.now c.take.new.ends.items c.add.new.ends.items _ _ c.requires.kept c.requires.there c.requires.place
     (λ time. rw c.end_of.ensures at c.take.ensures.counts time)
     (λ time. rw c.end_of-2.ensures at c.add.ensures.counts time)
-    c.add.ensures.rise
-    (omega (arith, c.take.ensures.len, c.add.ensures.len, c.take.new.ends.ok.0, c.add.new.ends.ok.0, c.args.ends.now.ok.0))
+    c.add.ensures.ends
+    (omega (arith, c.take.ensures.all, c.add.ensures.all))
     c.write.ensures.capacity
     (omega (arith, c.take.ensures.capacity, c.add.ensures.capacity)))

@@ -24,7 +24,7 @@ returns-clause-kept c =
     let old = c.args.old.now in
     rw c.remove.ensures.items (kept-taken c.args.file c.args.host c.args.rows.now.items (vec_capacity c.args.rows.now) c.args.ends.now.items (vec_capacity c.args.ends.now) c.args.place old c.take.new.ends.items _ _ c.requires.kept c.requires.there c.requires.place
     (λ time. rw c.end_of.ensures at c.take.ensures.counts time)
-    c.take.ensures.rise
-    (omega (arith, c.take.ensures.len, c.take.new.ends.ok.0, c.args.ends.now.ok.0))
+    c.take.ensures.ends
+    c.take.ensures.all
     (omega (arith, c.remove.ensures.capacity))
     (omega (arith, c.take.ensures.capacity)))

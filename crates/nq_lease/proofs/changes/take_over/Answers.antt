@@ -1,4 +1,4 @@
-use Rattle.std.proofs.Common.{rules, arith}
+use Rattle.std.proofs.Common.{length, ap, ◌∙◌, rules, arith}
 use Rattle.std.specs.Prelude.{not}
 use Rattle.nq_model.specs.ServerStep.{is_over}
 use Rattle.std.proofs.lemmas.Fn.{filter_same}
@@ -11,4 +11,4 @@ returns-clause-rows c = filter_same _ (λ r. not (is_over c.args.now r)) _ (λ x
 pub returns-clause-kept : goal.returns-clause-kept
 returns-clause-kept c =
     let same = filter_same _ (λ r. not (is_over c.args.now r)) _ (λ x b q h. search rules) _ _ c.retain.ensures.filtered in
-    kept-filtered (λ r. not (is_over c.args.now r)) _ _ _ _ _ _ _ _ c.requires same (rw (← c.as_slice.ensures.value) c.fill.ensures.ends) (omega (arith, c.fill.ensures.len, c.as_slice.ensures.len, c.fill.new.ends.ok.0, c.retain.new.self.ok.0)) (omega (arith, c.retain.ensures.capacity)) c.fill.ensures.capacity
+    kept-filtered (λ r. not (is_over c.args.now r)) _ _ _ _ _ _ _ _ c.requires same (rw (← c.as_slice.ensures.value) c.fill.ensures.ends) (c.fill.ensures.all ∙ ap length c.as_slice.ensures.value) (omega (arith, c.retain.ensures.capacity)) c.fill.ensures.capacity

@@ -1,10 +1,13 @@
-use Rattle.std.proofs.Common.{ap, ◌∙◌}
-use Rattle.std.proofs.lemmas.List.Sorted.{IsNonDecreasingBy-from_sort}
-use Rattle.nq_lease.proofs.Times.{times_of, times-moved, times-of-rows}
+use Rattle.std.proofs.Common.{refl, arith}
+use Rattle.nq_lease.proofs.Keeping.{ends-begin, ends-more}
 use Rattle.nq_lease.proofs.ends.fill.Goals as goal
 
-pub returns-clause-ends : goal.returns-clause-ends
-returns-clause-ends c = record {
-  rise = IsNonDecreasingBy-from_sort (λ t. t) _ c.sort_unstable.ensures.sorted;
-  same = λ time. times-moved time _ _ c.sort_unstable.ensures.permutation ∙ ap (times_of time) c.list.ensures.ends ∙ times-of-rows time c.args.rows.now;
-}
+pub loop-row-init : goal.loop-row-init
+loop-row-init c = (ends-begin _ c.clear.ensures.items, rw c.clear.ensures.items refl, omega (arith, c.clear.ensures.capacity))
+
+pub loop-row-preserved : goal.loop-row-preserved
+loop-row-preserved c = (
+  ends-more c.args.rows.now c.loop-row.row-index c.row-item.result _ _ c.loop-row-test.true c.row-item.is c.loop-row.invariant.0 (λ time. rw c.end_of.ensures at c.add.ensures.counts time) c.add.ensures.ends,
+  omega (arith, c.add.ensures.all, c.loop-row.invariant.1),
+  omega (arith, c.add.ensures.capacity, c.loop-row.invariant.2),
+)
