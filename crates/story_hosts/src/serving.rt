@@ -14,13 +14,13 @@ const LOOKUP: [u8; 56] = [
     0, 0, 0, 0, 0, 0, 0, 0, 0, 0, 0, 0, 0, 0, 1, 0, 0, 0, 1, 0, 0, 0, 1, 0x61, 0, 0, 0,
 ];
 
-/// Serves for one turn over a keeper that keeps nothing. Answers how it ended, and what was printed.
-fn served(rt: &HostRuntime, link: &mut MemLink) -> Result<(Served, MemSink), Fail> {
+/// Serves for so many turns over a keeper that keeps nothing. Answers how it ended, and what was printed.
+fn served(rt: &HostRuntime, turns: u32, link: &mut MemLink) -> Result<(Served, MemSink), Fail> {
     let alloc = rt.alloc();
     let keeper = ListKeeper::new(alloc, Vec::new(alloc))?;
     let mut clock = MemClock::new(vec![in alloc; Ticks(0)]?);
     let mut out = MemSink::new(alloc, 100, Vec::new(alloc))?;
-    let ended = serve(alloc, keeper, 1, 60, link, &mut clock, &mut out);
+    let ended = serve(alloc, keeper, turns, 60, link, &mut clock, &mut out);
     Ok((ended, out))
 }
 
@@ -29,7 +29,7 @@ fn one_turn_is_served_and_told(rt: HostRuntime) -> Result<(), Fail> {
     let alloc = rt.alloc();
     let mut link = MemLink::new(alloc, Party::Server, 4, 400, Vec::new(alloc))?;
     link.bring(alloc, Party::Client(Host(1)), &LOOKUP)?;
-    let (ended, out) = served(&rt, &mut link)?;
+    let (ended, out) = served(&rt, 1, &mut link)?;
     assert!(rt; ended.status() == 0);
     assert_eq!(rt; out.bytes(), b"turns 1\n".as_slice());
     assert_eq!(rt; link.sent().len(), 1);
@@ -37,10 +37,25 @@ fn one_turn_is_served_and_told(rt: HostRuntime) -> Result<(), Fail> {
 }
 
 #[test]
+fn what_is_empty_or_too_long_has_no_reply(rt: HostRuntime) -> Result<(), Fail> {
+    let alloc = rt.alloc();
+    let mut link = MemLink::new(alloc, Party::Server, 4, 400, Vec::new(alloc))?;
+    let mut long = Vec::from_slice(alloc, &LOOKUP)?;
+    long.resize(4402, 0)?;
+    link.bring(alloc, Party::Client(Host(1)), b"")?;
+    link.bring(alloc, Party::Client(Host(1)), &long)?;
+    let (ended, out) = served(&rt, 2, &mut link)?;
+    assert!(rt; ended.status() == 0);
+    assert_eq!(rt; out.bytes(), b"turns 2\n".as_slice());
+    assert!(rt; link.sent().is_empty());
+    Ok(())
+}
+
+#[test]
 fn a_link_that_fails_ends_serving(rt: HostRuntime) -> Result<(), Fail> {
     let alloc = rt.alloc();
     let mut link = MemLink::new(alloc, Party::Server, 4, 400, vec![in alloc; 0]?)?;
-    let (ended, out) = served(&rt, &mut link)?;
+    let (ended, out) = served(&rt, 1, &mut link)?;
     assert!(rt; ended.status() == 8);
     assert!(rt; out.bytes().is_empty());
     Ok(())
