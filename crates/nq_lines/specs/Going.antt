@@ -66,3 +66,8 @@ Comes (Played.Stopped line Stepped.Done) due P = ⊥
 Comes (Played.Stopped line Stepped.Fault) due P = Unit {0}
 Comes (Played.Stopped line Stepped.Memory) due P = Unit {0}
 Comes (Played.Stopped line said) due P = StoppedAt due line said
+
+-- what the world said last
+abbrev pub said : Played → Stepped
+said Played.All = Stepped.Done
+said (Played.Stopped line answer) = answer

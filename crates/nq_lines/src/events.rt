@@ -37,6 +37,7 @@ pub(crate) fn take<K: Keeper>(
     ensures goes { (head : Head) (events : List Event) → IsAt head events world.old (K.content world.old.server.keeper) delivered.old
         → Goes result (play_event head event.now events) (λ es. IsAt head es world.new (K.content world.new.server.keeper) delivered.new) }
     ensures faults { CountsFaults result (K.faults world.old.server.keeper) (K.faults world.new.server.keeper) }
+    ensures follows { K.follows world.old.server.keeper world.new.server.keeper }
     ensures settings { HasSettings (length world.old.clients) world.old.skew.window world.old.term world.new }
 {
     let Ok(()) = delivered.reach(world.packets().len() as usize) else {
@@ -62,6 +63,7 @@ pub(crate) fn take_times<K: Keeper>(
     ensures goes { (head : Head) (events : List Event) → IsAt head events world.old (K.content world.old.server.keeper) delivered.old
         → Goes result (repeated times (play_event head event.now) events) (λ es. IsAt head es world.new (K.content world.new.server.keeper) delivered.new) }
     ensures faults { CountsFaults result (K.faults world.old.server.keeper) (K.faults world.new.server.keeper) }
+    ensures follows { K.follows world.old.server.keeper world.new.server.keeper }
     ensures settings { HasSettings (length world.old.clients) world.old.skew.window world.old.term world.new }
 {
     for turn in 0..times {
@@ -79,6 +81,7 @@ fn tick_hosts<K: Keeper>(world: &mut World<K>, delivered: &mut Delivered, hosts:
     ensures goes { (head : Head) (events : List Event) → IsAt head events world.old (K.content world.old.server.keeper) delivered.old
         → Goes result (play_ticks head 0 hosts events) (λ es. IsAt head es world.new (K.content world.new.server.keeper) delivered.new) }
     ensures faults { CountsFaults result (K.faults world.old.server.keeper) (K.faults world.new.server.keeper) }
+    ensures follows { K.follows world.old.server.keeper world.new.server.keeper }
     ensures settings { HasSettings (length world.old.clients) world.old.skew.window world.old.term world.new }
 {
     for host in 0..hosts {
@@ -96,6 +99,7 @@ fn round<K: Keeper>(world: &mut World<K>, delivered: &mut Delivered, hosts: u32)
     ensures goes { (head : Head) (events : List Event) → head.hosts ≡ hosts → IsAt head events world.old (K.content world.old.server.keeper) delivered.old
         → Goes result (play_round head events) (λ es. IsAt head es world.new (K.content world.new.server.keeper) delivered.new) }
     ensures faults { CountsFaults result (K.faults world.old.server.keeper) (K.faults world.new.server.keeper) }
+    ensures follows { K.follows world.old.server.keeper world.new.server.keeper }
     ensures settings { HasSettings (length world.old.clients) world.old.skew.window world.old.term world.new }
 {
     match tick_hosts(world, delivered, hosts) {
@@ -115,6 +119,7 @@ pub(crate) fn rounds<K: Keeper>(
     ensures goes { (head : Head) (events : List Event) → head.hosts ≡ hosts → IsAt head events world.old (K.content world.old.server.keeper) delivered.old
         → Goes result (repeated times (play_round head) events) (λ es. IsAt head es world.new (K.content world.new.server.keeper) delivered.new) }
     ensures faults { CountsFaults result (K.faults world.old.server.keeper) (K.faults world.new.server.keeper) }
+    ensures follows { K.follows world.old.server.keeper world.new.server.keeper }
     ensures settings { HasSettings (length world.old.clients) world.old.skew.window world.old.term world.new }
 {
     for turn in 0..times {
@@ -132,6 +137,7 @@ pub(crate) fn flow<K: Keeper>(world: &mut World<K>, delivered: &mut Delivered, m
     ensures goes { (head : Head) (events : List Event) → IsAt head events world.old (K.content world.old.server.keeper) delivered.old
         → Goes result (play_flow head most events) (λ es. IsAt head es world.new (K.content world.new.server.keeper) delivered.new) }
     ensures faults { CountsFaults result (K.faults world.old.server.keeper) (K.faults world.new.server.keeper) }
+    ensures follows { K.follows world.old.server.keeper world.new.server.keeper }
     ensures settings { HasSettings (length world.old.clients) world.old.skew.window world.old.term world.new }
 {
     for turn in 0..most {

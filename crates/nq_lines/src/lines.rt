@@ -5,9 +5,11 @@ ghost use Rattle.nq_base.specs.declared.Event.{Event};
 ghost use Rattle.nq_model.specs.World.{Head};
 ghost use Rattle.nq_play.specs.Delivering.{Marks};
 ghost use Rattle.nq_play.specs.Playing.{play_line, play_lines};
-ghost use Rattle.nq_lines.specs.Going.{AreForWorld, Comes, Goes, IsAt, IsForWorld};
+ghost use Rattle.nq_lines.specs.Going.{AreForWorld, Comes, Goes, IsAt, IsForWorld, said};
+ghost use Rattle.nq_lines.specs.declared.played.Played.{Played};
 ghost use Rattle.nq_script.specs.declared.lines.Line.{Line};
-ghost use Rattle.nq_world.specs.Playing.{HasSettings, Plays};
+ghost use Rattle.nq_world.specs.Playing.{CountsFaults, HasSettings, Plays};
+ghost use Rattle.nq_world.specs.declared.stepped.Stepped.{Stepped};
 
 use crate::events::{flow, rounds, take_times};
 use crate::played::Played;
@@ -29,6 +31,8 @@ fn play_line<K: Keeper>(
     requires can { IsForWorld (length world.old.clients) world.old.skew.window line.now }
     ensures goes { (head : Head) (events : List Event) → head.hosts ≡ hosts → IsAt head events world.old (K.content world.old.server.keeper) delivered.old
         → Goes result (play_line head most line.now events) (λ es. IsAt head es world.new (K.content world.new.server.keeper) delivered.new) }
+    ensures faults { CountsFaults result (K.faults world.old.server.keeper) (K.faults world.new.server.keeper) }
+    ensures follows { K.follows world.old.server.keeper world.new.server.keeper }
     ensures settings { HasSettings (length world.old.clients) world.old.skew.window world.old.term world.new }
 {
     match line {
@@ -53,6 +57,8 @@ fn play_at<K: Keeper>(
     requires below { place < length lines.now }
     ensures goes { (line : Line) → slice_get lines.now place ≡ Some line → (head : Head) (events : List Event) → head.hosts ≡ hosts → IsAt head events world.old (K.content world.old.server.keeper) delivered.old
         → Goes result (play_line head most line events) (λ es. IsAt head es world.new (K.content world.new.server.keeper) delivered.new) }
+    ensures faults { CountsFaults result (K.faults world.old.server.keeper) (K.faults world.new.server.keeper) }
+    ensures follows { K.follows world.old.server.keeper world.new.server.keeper }
     ensures settings { HasSettings (length world.old.clients) world.old.skew.window world.old.term world.new }
 {
     match lines.get(place) {
@@ -85,8 +91,11 @@ pub fn play<K: Keeper>(
     requires hosts { hosts ≤ length world.old.clients }
     requires can { AreForWorld (length world.old.clients) world.old.skew.window lines.now }
     requires few { first + length lines.now < 2 ^ 32 }
-    ensures { (head : Head) → head.hosts ≡ hosts → Plays head [] world.old (K.content world.old.server.keeper)
+    ensures comes { (head : Head) → head.hosts ≡ hosts → Plays head [] world.old (K.content world.old.server.keeper)
         → Comes result (play_lines head most first lines.now []) (λ events. Plays head events world.new (K.content world.new.server.keeper)) }
+    ensures stops { said result ≡ Stepped.Done → result ≡ Played.All }
+    ensures faults { CountsFaults (said result) (K.faults world.old.server.keeper) (K.faults world.new.server.keeper) }
+    ensures follows { K.follows world.old.server.keeper world.new.server.keeper }
 {
     let mut delivered = Delivered::new(alloc);
     for place in 0..lines.len() {

@@ -1,10 +1,10 @@
 -- A journal is printed as it is compared: the room in its entries does not show.
-use Rattle.std.proofs.Common.{◌≡◌, ℕ, List, [], ◌∷◌, ◌++◌, map, refl, sym, ap, ◌∙◌}
+use Rattle.std.proofs.Common.{◌≡◌, ℕ, List, [], ◌∷◌, map, refl, ap}
 use Rattle.std.specs.List.{flat_map}
 use Rattle.nq_base.specs.Plain.{plain, plain_said}
 use Rattle.nq_base.specs.declared.Entry.{Entry}
 use Rattle.nq_base.specs.declared.Said.{Said}
-use Rattle.nq_journal.specs.Text.{end_line, entry_line, head_line, journal_text, of_who, said_words}
+use Rattle.nq_journal.specs.Text.{entry_line, journal_text, of_who, said_words}
 use Rattle.nq_journal.specs.Words.{line}
 use Rattle.std.specs.Fmt.{decimal}
 use Rattle.std.specs.Prelude.{codes}

@@ -1,15 +1,14 @@
 -- What running a schedule that was read comes to.
-use Rattle.std.proofs.Common.{◌≡◌, ◌⊎◌, inl, inr, ℕ, List, Option, refl, sym, subst, ◌∙◌}
+use Rattle.std.proofs.Common.{◌≡◌, ◌⊎◌, inl, inr, ℕ, List, Option, refl, sym, subst}
 use Rattle.nq_base.specs.declared.Event.{Event}
 use Rattle.nq_base.specs.declared.SkewBroken.{SkewBroken}
-use Rattle.nq_lines.specs.Going.{Comes, RanTo, StoppedAt}
+use Rattle.nq_lines.specs.Going.{Comes, StoppedAt}
 use Rattle.nq_lines.specs.declared.played.Played.{Played}
 use Rattle.nq_model.specs.Stepped.{Stepped as Answer, done, no_packet, out_of_skew, too_many_events, too_many_packets}
 use Rattle.nq_play.specs.Playing.{Ended, play, ran, stopped}
 use Rattle.nq_replay.specs.Ending.{EndsText, IsUnlessFault}
-use Rattle.nq_replay.specs.Lines.{PrintsLine, script_line}
 use Rattle.nq_replay.specs.Replay.{FaultyLine, Passes, Runs, Stops}
-use Rattle.nq_replay.specs.Schedules.{EndsPlayed, PrintsEntries, TellsStop}
+use Rattle.nq_replay.specs.Schedules.{EndsPlayed, TellsStop}
 use Rattle.nq_replay.specs.declared.ending.Ending.{Ending}
 use Rattle.nq_replay.specs.declared.printing.Bound.{Bound}
 use Rattle.nq_script.specs.Faults.{Names}

@@ -1,6 +1,6 @@
 -- What `check` reads and prints. The names of what stands in the source and in the sink before and after, and of the counts
 -- of faults, are those of `Ending`.
-use Rattle.std.specs.Prelude.{◌≡◌, ℕ, ◌+◌, List, ◌∷◌, [], ◌++◌, Option, Some, None, reverse, codes}
+use Rattle.std.specs.Prelude.{◌≡◌, ℕ, ◌+◌, List, ◌++◌, Option, Some, None, reverse, codes}
 use Rattle.std.specs.Fmt.{decimal}
 use Rattle.nq_base.specs.declared.Entry.{Entry}
 use Rattle.nq_check.specs.Verdict.{Fault, verdict}
@@ -11,7 +11,7 @@ use Rattle.nq_io.specs.Faults.{Rose}
 use Rattle.nq_io.specs.Sink.{AppendsFront}
 use Rattle.nq_io.specs.Told.{with_end}
 use Rattle.nq_journal.specs.Fault.{IsFaultyAt}
-use Rattle.nq_journal.specs.Text.{IsText, journal_text}
+use Rattle.nq_journal.specs.Text.{IsText}
 use Rattle.nq_replay.specs.Lines.{PrintsLine, script_line}
 use Rattle.nq_replay.specs.Replay.{OfInput, PrintsLimit}
 use Rattle.nq_replay.specs.declared.ending.Ending.{Ending}

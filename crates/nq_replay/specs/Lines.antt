@@ -1,6 +1,6 @@
 -- The lines that tell faults, each with its line feed. Below, `held` is what the sink held before a line and `now` is what it holds
 -- after it, where the sink tells them; `w` and `w'` are the sink's counts of faults before and after.
-use Rattle.std.specs.Prelude.{◌≡◌, ◌⊎◌, ℕ, ◌+◌, ◌-◌, ◌==◌, List, [], ◌++◌, length, take, Option, codes}
+use Rattle.std.specs.Prelude.{◌≡◌, ◌⊎◌, ℕ, ◌+◌, ◌-◌, ◌==◌, List, ◌++◌, length, take, Option, codes}
 use Rattle.std.specs.Fmt.{decimal}
 use Rattle.std.specs.List.{count_by}
 use Rattle.nq_base.specs.declared.SkewBroken.{SkewBroken}

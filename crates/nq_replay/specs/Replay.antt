@@ -1,6 +1,6 @@
 -- What a replay reads and prints. Below, `left` is what was left in the source before it and `rest` is what is left
 -- after it, where the source tells them; the other names are those of `Lines`.
-use Rattle.std.specs.Prelude.{◌≡◌, ◌⊎◌, ℕ, List, [], ◌∷◌, Option, reverse, codes}
+use Rattle.std.specs.Prelude.{◌≡◌, ◌⊎◌, ℕ, List, Option, reverse}
 use Rattle.nq_base.specs.declared.Entry.{Entry}
 use Rattle.nq_base.specs.declared.Event.{Event}
 use Rattle.nq_base.specs.declared.SkewBroken.{SkewBroken}

@@ -1,10 +1,11 @@
 -- What running a schedule that was read prints. The names of what the sink holds and of its counts of faults are those of `Lines`.
-use Rattle.std.specs.Prelude.{◌≡◌, ◌⊎◌, ◌+◌, ◌<◌, ◌^◌, ℕ, List, Option, length}
+use Rattle.std.specs.Prelude.{◌≡◌, ◌⊎◌, ◌+◌, ◌<◌, ◌^◌, ℕ, List, Option, Result, Ok, Err, length}
 use Rattle.nq_base.specs.declared.Entry.{Entry}
 use Rattle.nq_io.specs.Faults.{Rose}
 use Rattle.nq_io.specs.Sink.{AppendsFront}
 use Rattle.nq_io.specs.Told.{with_end}
 use Rattle.nq_journal.specs.Text.{journal_text}
+use Rattle.nq_lines.specs.declared.played.Played.{Played}
 use Rattle.nq_play.specs.Playing.{Ended, ran, stopped}
 use Rattle.nq_replay.specs.Lines.{PrintsLine, limit_line, script_line, skew_line}
 use Rattle.nq_replay.specs.Replay.{journal_of}
@@ -15,6 +16,9 @@ use Rattle.nq_script.specs.Schedule.{SpellsSchedule}
 use Rattle.nq_script.specs.declared.heads.Head.{Head}
 use Rattle.nq_script.specs.declared.scripts.Script.{Script}
 use Rattle.nq_world.specs.Answering.{told as answer_of}
+use Rattle.nq_world.specs.Playing.{WorldOver}
+use Rattle.nq_world.specs.declared.starting.NewFault.{NewFault}
+use Rattle.nq_world.specs.declared.starting.NewFault.TheVariants as fault
 use Rattle.nq_world.specs.declared.stepped.Limit.{Limit}
 use Rattle.nq_world.specs.declared.stepped.Stepped.{Stepped}
 
@@ -49,3 +53,24 @@ TellsStop other line answer held now w w' = ⊥
 abbrev pub EndsPlayed : Ending → Head → Ended → (held now : Option (List ℕ)) → (w w' : ℕ) → Type 0
 EndsPlayed end head (ran events) held now w w' = PrintsEntries end head.version (journal_of head events) held now w w'
 EndsPlayed end head (stopped line answer) held now w w' = TellsStop end line (answer_of answer) held now w w'
+
+-- where no world begins for a keeper's fault, its count of faults rose, and else it stands still
+abbrev pub CountsBegin : {K : Type 0} → Result (WorldOver K) (NewFault K) → (before count : ℕ) → Type 0
+CountsBegin (Ok w) before count = count ≡ before
+CountsBegin (Err (fault.Failed keeper)) before count = Rose before count
+CountsBegin (Err (fault.Memory keeper)) before count = count ≡ before
+
+-- a keeper that never fails: its count of faults is 0, and is 0 after all of its calls
+abbrev pub NeverFails : {K : Type 0} → (faults : K → ℕ) → (follows : K → K → Type 0) → K → Type 0
+NeverFails faults follows keeper = (later : _) → follows keeper later → faults later ≡ 0
+
+-- an answer of a world over such a keeper to an event that it did not take
+abbrev pub IsReason : Stepped → Type 0
+IsReason Stepped.Done = ⊥
+IsReason Stepped.Fault = ⊥
+IsReason other = Unit {0}
+
+-- a schedule over such a keeper was played to its end, or stopped for a reason
+abbrev pub HasReason : Played → Type 0
+HasReason Played.All = Unit {0}
+HasReason (Played.Stopped line answer) = IsReason answer

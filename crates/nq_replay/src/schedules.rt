@@ -1,22 +1,23 @@
 //! Running a schedule.
 
-ghost use Rattle.std.specs.Prelude.{◌≡◌, ◌<◌, ◌^◌, ℕ, List, [], Some, map, length, IfOk};
+ghost use Rattle.std.specs.Prelude.{◌≡◌, ◌<◌, ◌^◌, ℕ, List, [], Some, All, map, length, IfOk};
 ghost use Rattle.nq_base.specs.Plain.{plain};
 ghost use Rattle.nq_base.specs.declared.Entry.{Entry};
 ghost use Rattle.nq_base.specs.declared.Event.{Event};
 ghost use Rattle.nq_base.specs.declared.SkewBroken.{SkewBroken};
-ghost use Rattle.nq_journal.specs.Text.{IsVersion};
+ghost use Rattle.nq_journal.specs.Text.{Has, IsVersion};
 ghost use Rattle.nq_keeper.specs.StoredKeeper.{empty_kept};
 ghost use Rattle.nq_lines.specs.Going.{Comes};
+ghost use Rattle.nq_lines.specs.declared.played.Played.{Played};
 ghost use Rattle.nq_play.specs.Playing.{Ended, beginning, play};
 ghost use Rattle.nq_replay.specs.Ending.{EndsText, IsUnlessFault};
 ghost use Rattle.nq_replay.specs.Replay.{BreaksSkew, FaultyLine, Passes, Runs};
-ghost use Rattle.nq_replay.specs.Schedules.{EndsPlayed, IsReady, PrintsEntries, TellsStop, bound_of};
+ghost use Rattle.nq_replay.specs.Schedules.{CountsBegin, EndsPlayed, HasReason, IsReady, IsReason, NeverFails, PrintsEntries, TellsStop, bound_of};
 ghost use Rattle.nq_replay.specs.declared.ending.Ending.{Ending};
 ghost use Rattle.nq_replay.specs.declared.printing.Bound.{Bound};
 ghost use Rattle.nq_script.specs.Heads.{FitsHead};
 ghost use Rattle.nq_script.specs.declared.heads.Head.{Head};
-ghost use Rattle.nq_world.specs.Playing.{HasSettings, Plays};
+ghost use Rattle.nq_world.specs.Playing.{HasSettings, Plays, keeper_in};
 ghost use Rattle.nq_world.specs.declared.stepped.Stepped.{Stepped};
 
 use crate::ending::Ending;
@@ -27,7 +28,7 @@ use nq_journal::{Journal, Printed, print};
 use nq_keeper::{Keeper, ListKeeper};
 use nq_lines::{Played, play};
 use nq_script::{Head, Script, ScriptFault, parse};
-use nq_world::{Limit, MOST_EVENTS, Stepped, World};
+use nq_world::{Limit, MOST_EVENTS, NewFault, Stepped, World};
 use std::alloc::Global;
 
 /// Runs a schedule that was read, and prints its journal or the line at which it stopped.
@@ -61,7 +62,7 @@ fn replay_in_memory<K: Sink>(alloc: Global, script: &Script, out: &mut K) -> End
     }
 }
 
-/// Runs a schedule over a keeper that keeps nothing yet, and prints its journal or the line at which it stopped.
+/// Runs a schedule over a keeper that keeps nothing yet and never fails, and prints its journal or the line at which it stopped.
 fn replay_script<L: Keeper + Drop, K: Sink>(
     alloc: Global,
     script: &Script,
@@ -70,9 +71,10 @@ fn replay_script<L: Keeper + Drop, K: Sink>(
 ) -> Ending
     requires ready { IsReady script.now }
     requires empty { L.content keeper ≡ Some empty_kept }
+    requires never { NeverFails L.faults L.follows keeper }
     ensures { EndsPlayed result script.now.head (play script.now.head script.now.lines) (K.held out.old) (K.held out.new) (K.faults out.old) (K.faults out.new) }
 {
-    let Ok(mut world) = begin(alloc, &script.head, keeper) else {
+    let Ok(mut world) = begin_surely(alloc, &script.head, keeper) else {
         return Ending::Memory;
     };
     let played = play_over(alloc, &mut world, script);
@@ -85,8 +87,10 @@ fn replay_script<L: Keeper + Drop, K: Sink>(
 fn play_over<L: Keeper>(alloc: Global, world: &mut World<L>, script: &Script) -> Played
     requires ready { IsReady script.now }
     requires settings { HasSettings script.now.head.hosts script.now.head.longest script.now.head.term world.old }
-    ensures { Plays (beginning script.now.head) [] world.old (L.content world.old.server.keeper)
+    requires never { NeverFails L.faults L.follows world.old.server.keeper }
+    ensures comes { Plays (beginning script.now.head) [] world.old (L.content world.old.server.keeper)
         → Comes result (play script.now.head script.now.lines) (λ events. Plays (beginning script.now.head) events world.new (L.content world.new.server.keeper)) }
+    ensures reason { HasReason result }
 {
     let most = MOST_EVENTS + 1;
     play(
@@ -99,23 +103,43 @@ fn play_over<L: Keeper>(alloc: Global, world: &mut World<L>, script: &Script) ->
     )
 }
 
-/// The world before the first event of a schedule with this head, over a keeper that keeps nothing yet.
-pub fn begin<L: Keeper + Drop>(alloc: Global, head: &Head, keeper: L) -> Result<World<L>, NoMemory>
+/// The world before the first event of a schedule with this head, over a keeper that keeps nothing yet. The keeper is handed back
+/// where it failed, which it has counted, and where memory was wanting.
+pub fn begin<L: Keeper>(alloc: Global, head: &Head, keeper: L) -> Result<World<L>, NewFault<L>>
     requires fits { FitsHead head.now }
     requires empty { L.content keeper ≡ Some empty_kept }
     ensures plays { IfOk result (λ w. Plays (beginning head.now) [] w (L.content w.server.keeper)) }
     ensures settings { IfOk result (λ w. HasSettings head.now.hosts head.now.longest head.now.term w) }
+    ensures faults { CountsBegin result (L.faults keeper) (L.faults (keeper_in result)) }
+    ensures follows { L.follows keeper (keeper_in result) }
 {
-    match World::new(
+    World::new(
         alloc,
         head.hosts,
         head.term,
         head.longest,
         &head.files,
         keeper,
-    ) {
+    )
+}
+
+/// The world before the first event of a schedule with this head, over a keeper that keeps nothing yet and never fails.
+fn begin_surely<L: Keeper + Drop>(
+    alloc: Global,
+    head: &Head,
+    keeper: L,
+) -> Result<World<L>, NoMemory>
+    requires fits { FitsHead head.now }
+    requires empty { L.content keeper ≡ Some empty_kept }
+    requires never { NeverFails L.faults L.follows keeper }
+    ensures plays { IfOk result (λ w. Plays (beginning head.now) [] w (L.content w.server.keeper)) }
+    ensures settings { IfOk result (λ w. HasSettings head.now.hosts head.now.longest head.now.term w) }
+    ensures never { IfOk result (λ w. NeverFails L.faults L.follows w.server.keeper) }
+{
+    match begin(alloc, head, keeper) {
         Ok(world) => Ok(world),
-        Err(_) => Err(NoMemory::Memory),
+        Err(NewFault::Memory(_keeper)) => Err(NoMemory::Memory),
+        Err(NewFault::Failed(_keeper)) => unreachable!(),
     }
 }
 
@@ -127,25 +151,25 @@ fn tell<L: Keeper, K: Sink>(
     played: Played,
     out: &mut K,
 ) -> Ending
-    requires { IsVersion version }
+    requires version { IsVersion version }
+    requires has { played ≡ Played.All → All (Has version) world.now.entries }
+    requires reason { HasReason played }
     ensures { (head : Head) (due : Ended) → head.version ≡ version → Comes played due (λ events. Plays (beginning head) events world.now (L.content world.now.server.keeper))
         → EndsPlayed result head due (K.held out.old) (K.held out.new) (K.faults out.old) (K.faults out.new) }
 {
     match played {
-        Played::All => print_journal(alloc, world.journal(), version, out),
+        Played::All => print_entries(alloc, world.journal(), version, out),
         Played::Stopped { line, answer } => tell_stop(alloc, line, answer, out),
     }
 }
 
-/// Prints a journal in the version of its schedule.
-pub fn print_journal<K: Sink>(alloc: Global, journal: &Journal, version: u32, out: &mut K) -> Ending
-    requires { IsVersion version }
+/// Prints a journal in a version that has all its entries.
+fn print_entries<K: Sink>(alloc: Global, journal: &Journal, version: u32, out: &mut K) -> Ending
+    requires version { IsVersion version }
+    requires has { All (Has version) journal.now.entries }
     ensures { (entries : List Entry) → map plain journal.now.entries ≡ entries
         → PrintsEntries result version entries (K.held out.old) (K.held out.new) (K.faults out.old) (K.faults out.new) }
 {
-    if !journal.is_in(version) {
-        return Ending::Memory;
-    }
     match print(alloc, journal, version, out) {
         Printed::All => Ending::Done,
         Printed::Failed => Ending::WriteFault,
@@ -153,15 +177,30 @@ pub fn print_journal<K: Sink>(alloc: Global, journal: &Journal, version: u32, ou
     }
 }
 
-/// Tells at which line a schedule stopped, and why. A keeper that is told to fail in no call has no fault.
+/// Prints a journal in a version. `Memory` is the answer too where the version has no spelling for one of its entries.
+pub fn print_journal<K: Sink>(alloc: Global, journal: &Journal, version: u32, out: &mut K) -> Ending
+    requires { IsVersion version }
+    ensures { (entries : List Entry) → map plain journal.now.entries ≡ entries
+        → PrintsEntries result version entries (K.held out.old) (K.held out.new) (K.faults out.old) (K.faults out.new) }
+{
+    if journal.is_in(version) {
+        print_entries(alloc, journal, version, out)
+    } else {
+        Ending::Memory
+    }
+}
+
+/// Tells at which line a schedule stopped, and why.
 fn tell_stop<K: Sink>(alloc: Global, line: u32, answer: Stepped, out: &mut K) -> Ending
+    requires { IsReason answer }
     ensures { TellsStop result line answer (K.held out.old) (K.held out.new) (K.faults out.old) (K.faults out.new) }
 {
     match answer {
         Stepped::NoPacket => tell_script(alloc, line, out),
         Stepped::SkewBroken(broken) => tell_skew(alloc, line, broken, out),
         Stepped::Limit(limit) => tell_limit(alloc, line, limit, out),
-        Stepped::Done | Stepped::Fault | Stepped::Memory => Ending::Memory,
+        Stepped::Memory => Ending::Memory,
+        Stepped::Done | Stepped::Fault => unreachable!(),
     }
 }
 

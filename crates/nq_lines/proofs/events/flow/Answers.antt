@@ -21,6 +21,7 @@ returns-in_default g c = record {
       stops-here (play_event head (Event.Deliver c.in-Some.packet) on.events) (λ es. play_flow head (c.args.most - (c.loop-turn.turn + 1)) es) c.take.result _ _ _ (c.take.ensures.goes head on.events (rw c.next.ensures.same on.here)) c.in_default.not-Done
       (flow-some head c.args.most c.loop-turn.turn c.in-Some.packet on.events _ c.next.result c.loop-turn-test.true on.same next c.in-Some.is);
   faults = faults-on c.take.result (g.K.Keeper.faults c.args.world.now.server.keeper) (g.K.Keeper.faults c.loop-turn.world.server.keeper) (g.K.Keeper.faults c.take.new.world.server.keeper) c.loop-turn.invariant.faults c.take.ensures.faults;
+  follows = g.met.K.Keeper.follows_on _ _ _ c.loop-turn.invariant.follows c.take.ensures.follows;
   settings = settings-on _ _ _ _ _ c.loop-turn.invariant.settings c.take.ensures.settings;
 }
 
@@ -32,5 +33,6 @@ loop-turn-preserved g c = record {
       goes-on (play_event head (Event.Deliver c.in-Some.packet) on.events) (λ es. play_flow head (c.args.most - (c.loop-turn.turn + 1)) es) _ _ (c.in-Done.ensures.goes head on.events (rw c.next.ensures.same on.here))
       (flow-some head c.args.most c.loop-turn.turn c.in-Some.packet on.events _ c.next.result c.loop-turn-test.true on.same next c.in-Some.is);
   faults = c.in-Done.ensures.faults ∙ c.loop-turn.invariant.faults;
+  follows = g.met.K.Keeper.follows_on _ _ _ c.loop-turn.invariant.follows c.take.ensures.follows;
   settings = settings-on _ _ _ _ _ c.loop-turn.invariant.settings c.take.ensures.settings;
 }

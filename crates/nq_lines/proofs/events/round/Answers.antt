@@ -18,5 +18,6 @@ returns-in_default g c = record {
       let same : and_then (play_ticks head 0 c.args.hosts events) (play_event head Event.ServerTick) ≡ play_round head events = rw (← hosts) refl in
       stops-here (play_ticks head 0 c.args.hosts events) (play_event head Event.ServerTick) c.tick_hosts.result _ _ (play_round head events) (c.tick_hosts.ensures.goes head events at) c.in_default.not-Done same;
   faults = c.tick_hosts.ensures.faults;
+  follows = c.tick_hosts.ensures.follows;
   settings = c.tick_hosts.ensures.settings;
 }

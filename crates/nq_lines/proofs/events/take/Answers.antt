@@ -15,5 +15,6 @@ pub returns-in_default-step : goal.returns-in_default-step
 returns-in_default-step g c = record {
   goes = λ head events at. not-taken head events c.args.event.now c.step.result _ _ _ _ _ (c.step.ensures.steps head events at.plays) c.in_default-step.not-Done;
   faults = c.step.ensures.faults;
+  follows = c.step.ensures.follows;
   settings = c.step.ensures.settings;
 }

@@ -11,6 +11,7 @@ returns-in_default g c = record {
       let on = c.loop-host.invariant.on head events at in
       stops-here (play_event head (Event.ClientTick c.loop-host.host) on.events) (play_ticks head (c.loop-host.host + 1) (c.args.hosts - (c.loop-host.host + 1))) c.take.result _ _ _ (c.take.ensures.goes head on.events on.here) c.in_default.not-Done (ticks-step head c.args.hosts c.loop-host.host on.events _ c.loop-host-test.true on.same);
   faults = faults-on c.take.result (g.K.Keeper.faults c.args.world.now.server.keeper) (g.K.Keeper.faults c.loop-host.world.server.keeper) (g.K.Keeper.faults c.take.new.world.server.keeper) c.loop-host.invariant.faults c.take.ensures.faults;
+  follows = g.met.K.Keeper.follows_on _ _ _ c.loop-host.invariant.follows c.take.ensures.follows;
   settings = settings-on _ _ _ _ _ c.loop-host.invariant.settings c.take.ensures.settings;
 }
 
@@ -20,5 +21,6 @@ loop-host-preserved g c = record {
       let on = c.loop-host.invariant.on head events at in
       goes-on (play_event head (Event.ClientTick c.loop-host.host) on.events) (play_ticks head (c.loop-host.host + 1) (c.args.hosts - (c.loop-host.host + 1))) _ _ (c.in-Done.ensures.goes head on.events on.here) (ticks-step head c.args.hosts c.loop-host.host on.events _ c.loop-host-test.true on.same);
   faults = c.in-Done.ensures.faults ∙ c.loop-host.invariant.faults;
+  follows = g.met.K.Keeper.follows_on _ _ _ c.loop-host.invariant.follows c.take.ensures.follows;
   settings = settings-on _ _ _ _ _ c.loop-host.invariant.settings c.take.ensures.settings;
 }

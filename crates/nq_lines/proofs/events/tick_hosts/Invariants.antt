@@ -12,5 +12,6 @@ invariant-loop-host g l = record {
   on : (head : Head) (events : List Event) → IsAt head events l.fn.world (g.K.Keeper.content l.fn.world.server.keeper) l.fn.delivered
       → IsOn (λ es. IsAt head es l.world (g.K.Keeper.content l.world.server.keeper) l.delivered) (play_ticks head l.host (l.hosts - l.host)) (play_ticks head 0 l.hosts events);
   faults : g.K.Keeper.faults l.world.server.keeper ≡ g.K.Keeper.faults l.fn.world.server.keeper;
+  follows : g.K.Keeper.follows l.fn.world.server.keeper l.world.server.keeper;
   settings : HasSettings (length l.fn.world.clients) l.fn.world.skew.window l.fn.world.term l.world;
 }

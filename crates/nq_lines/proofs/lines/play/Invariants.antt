@@ -11,5 +11,7 @@ abbrev pub invariant-loop-place : goal.invariant-loop-place
 invariant-loop-place g l = record {
   on : (head : Head) → head.hosts ≡ l.hosts → Plays head [] l.fn.world (g.K.Keeper.content l.fn.world.server.keeper)
       → IsOn (λ es. IsAt head es l.world (g.K.Keeper.content l.world.server.keeper) l.delivered) (play_lines head l.most (l.first + l.place) (drop l.place l.lines)) (play_lines head l.most l.first l.lines []);
+  faults : g.K.Keeper.faults l.world.server.keeper ≡ g.K.Keeper.faults l.fn.world.server.keeper;
+  follows : g.K.Keeper.follows l.fn.world.server.keeper l.world.server.keeper;
   settings : HasSettings (length l.fn.world.clients) l.fn.world.skew.window l.fn.world.term l.world;
 }

@@ -10,10 +10,10 @@ use Rattle.nq_replay.proofs.schedules.tell.Goals as goal
 pub returns-in-All : goal.returns-in-All
 returns-in-All g c = λ head due same comes.
     let P : List Event → Type 0 = λ events. Plays (beginning head) events c.args.world.now (g.L.Keeper.content c.args.world.now.server.keeper) in
-    run_ends c.print_journal.result head due P _ _ _ _ (rw c.in-All.is at comes) (λ events plays.
+    run_ends c.print_entries.result head due P _ _ _ _ (rw c.in-All.is at comes) (λ events plays.
     let shown = plays.shown.shows.entries in
     let entries : map plain c.journal.result.now.entries ≡ journal_of head events = rw c.journal.ensures shown in
-    rw same (c.print_journal.ensures (journal_of head events) entries))
+    rw same (c.print_entries.ensures (journal_of head events) entries))
 
 pub returns-in-Stopped : goal.returns-in-Stopped
 returns-in-Stopped g c = λ head due same comes.

@@ -1,6 +1,6 @@
-use Rattle.std.proofs.Common.{inl, inr, refl}
+use Rattle.std.proofs.Common.{inr}
 use Rattle.nq_replay.proofs.Journals.{plain_text}
-use Rattle.nq_replay.proofs.schedules.print_journal.Goals as goal
+use Rattle.nq_replay.proofs.schedules.print_entries.Goals as goal
 
 pub returns-in-All : goal.returns-in-All
 returns-in-All g c = λ entries is. rw (← plain_text c.args.version c.args.journal.now.entries entries is) c.in-All.ensures.puts
