@@ -1,0 +1,3 @@
+mod Appending
+mod Parts
+pub mod Whole
