@@ -3,6 +3,7 @@ pub mod Answering
 pub mod Backwards
 pub mod Climbs
 pub mod Counts
+pub mod Delayed
 pub mod Followed
 pub mod Linking
 pub mod Lining

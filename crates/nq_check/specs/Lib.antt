@@ -9,6 +9,7 @@ pub mod Lines
 pub mod Marks
 pub mod Replies
 pub mod Rules
+pub mod Settling
 pub mod Sought
 pub mod Tables
 pub mod Verdict

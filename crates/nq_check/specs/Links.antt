@@ -4,7 +4,7 @@ use Rattle.std.specs.List.{slice_get}
 use Rattle.nq_base.specs.declared.Entry.{Entry}
 use Rattle.nq_base.specs.declared.Entry.TheVariants.{C, W, R, S, L, Z, A}
 use Rattle.nq_check.specs.declared.links.Kind.{Kind}
-use Rattle.nq_check.specs.declared.links.Kind.TheVariants.{Calls, Writes, Covers, Cuts}
+use Rattle.nq_check.specs.declared.links.Kind.TheVariants.{Calls, Writes, Covers, Cuts, Delays}
 use Rattle.nq_check.specs.Marks.{Spot, mark_at, same_spot, spot}
 
 -- a block, whoever asks for it
@@ -23,6 +23,7 @@ spot_of Covers (L who file block first last) = spot who file block
 spot_of Covers (R who q file block value served) = spot who file block
 spot_of Cuts (Z who q file from to) = block_spot file 0
 spot_of Cuts (R who q file block value served) = block_spot file 0
+spot_of Delays (W who file block number value through) = spot who file 0
 spot_of kind other = block_spot 0 0
 
 -- whether links lead to an entry
@@ -34,6 +35,7 @@ is_member Writes (W who file block number value through) = true
 is_member Covers (S who file block first last now) = true
 is_member Covers (L who file block first last) = true
 is_member Cuts (Z who q file from to) = true
+is_member Delays (W who file block number value false) = true
 is_member kind other = false
 
 -- whether the links of a key lead to an entry

@@ -4,6 +4,7 @@ ghost use Rattle.std.specs.Prelude.{IfOk};
 ghost use Rattle.nq_check.specs.Fronts.{AreFronts};
 
 use crate::covering::accounted_front;
+use crate::fates::find_fates;
 use crate::kept_front::kept_front;
 use crate::legal_front::legal_front;
 use crate::ordering::ordered_front;
@@ -28,9 +29,10 @@ pub(crate) fn find_fronts(alloc: Global, whole: &[Entry]) -> Result<Fronts, NoMe
     let tables = make_tables(alloc, whole)?;
     let ordered = ordered_front(alloc, whole)?;
     let accounted = accounted_front(alloc, whole)?;
-    let synchronized = kept_front(alloc, &tables, whole, ordered)?;
+    let fates = find_fates(alloc, &tables, whole)?;
+    let synchronized = kept_front(alloc, &tables, &fates, whole, ordered)?;
     Ok(Fronts {
-        legal: legal_front(&tables, whole),
+        legal: legal_front(&tables, &fates, whole),
         ordered,
         accounted,
         reported: 0,

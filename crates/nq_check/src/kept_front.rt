@@ -4,25 +4,30 @@ ghost use Rattle.std.specs.Prelude.{◌≡◌, ◌+◌, ◌<◌, IfOk, IsTrue, S
 ghost use Rattle.std.specs.List.{slice_get};
 ghost use Rattle.nq_check.specs.Fronts.{KeepsBelow};
 ghost use Rattle.nq_check.specs.Kept.{is_kept, is_kept_at};
+ghost use Rattle.nq_check.specs.Links.{IsLinked};
 ghost use Rattle.nq_check.specs.Tables.{AreTables};
+ghost use Rattle.nq_check.specs.declared.links.Kind.TheVariants.{Delays};
 ghost use Rattle.nq_check.specs.declared.rules.Rule.{Rule};
 ghost use Rattle.nq_model.specs.Journal.{call_of};
 ghost use Rattle.nq_model.specs.JournalTest.{is_answer};
 
-use crate::latest::{Latest, Latests, latest_of, note};
+use crate::fates::Fates;
+use crate::latest::latest_of;
 use crate::puts::is_put_kept;
 use crate::sought::call_along;
 use crate::synchronized::is_kept;
+use crate::syncs::{is_resize_kept, is_sync_kept};
 use crate::tables::Tables;
+use crate::trail::{Trail, no_trail, take_in};
 use nq_base::{Entry, NoMemory, Said, Told, Who};
 use std::alloc::Global;
-use std::collections::HashMap;
 
 /// Whether what an ok says is seen to be kept, with a look at few entries.
 fn is_seen_kept(
     tables: &Tables,
+    fates: &Fates,
+    trail: &Trail,
     whole: &[Entry],
-    latest: &Latest,
     place: usize,
     entry: &Entry,
     by: &Who,
@@ -33,13 +38,25 @@ fn is_seen_kept(
     requires there { (place < length whole.now) × (slice_get whole.now place ≡ Some entry.now) }
     requires answer { is_answer by.now n entry.now ≡ true }
     requires ordered { KeepsBelow Rule.Ordered whole.now (place + 1) }
+    requires kept { KeepsBelow Rule.Synchronized whole.now place }
+    requires linked { IsLinked Delays whole.now place trail.now.delays.heads.entries trail.now.delays.earlier.items }
     ensures { IsTrue result → is_kept (reverse whole.now) (reverse (take place whole.now)) by.now n call.now ≡ true }
 {
     let Some(told) = call else {
         return false;
     };
     match told {
-        Told::WriteSync { .. } => is_put_kept(tables, whole, latest, place, entry, by, n),
+        Told::WriteSync { .. } => {
+            let latest = latest_of(&trail.latests, by);
+            is_put_kept(tables, whole, &latest, place, entry, by, n)
+        }
+        Told::Sync { file } => is_sync_kept(tables, fates, trail, whole, place, by, *file),
+        Told::Resize { file, .. } => {
+            is_resize_kept(tables, fates, trail, whole, place, by, n, *file)
+        }
+        Told::Remove { file } => {
+            is_resize_kept(tables, fates, trail, whole, place, by, n, *file)
+        }
         _ => false,
     }
 }
@@ -47,8 +64,9 @@ fn is_seen_kept(
 /// Whether what the A at a place says, which says ok, is kept.
 fn is_ok_kept(
     tables: &Tables,
+    fates: &Fates,
+    trail: &Trail,
     whole: &[Entry],
-    latest: &Latest,
     place: usize,
     entry: &Entry,
     by: &Who,
@@ -58,10 +76,12 @@ fn is_ok_kept(
     requires there { (place < length whole.now) × (slice_get whole.now place ≡ Some entry.now) }
     requires answer { is_answer by.now n entry.now ≡ true }
     requires ordered { KeepsBelow Rule.Ordered whole.now (place + 1) }
+    requires kept { KeepsBelow Rule.Synchronized whole.now place }
+    requires linked { IsLinked Delays whole.now place trail.now.delays.heads.entries trail.now.delays.earlier.items }
     ensures { result ≡ is_kept (reverse whole.now) (reverse (take place whole.now)) by.now n (call_of (reverse whole.now) by.now n) }
 {
     let call = call_along(&tables.calls, whole, by, n);
-    if is_seen_kept(tables, whole, latest, place, entry, by, n, &call) {
+    if is_seen_kept(tables, fates, trail, whole, place, entry, by, n, &call) {
         return true;
     }
     is_kept(whole, &whole[..place], by, n, &call)
@@ -70,14 +90,17 @@ fn is_ok_kept(
 /// Whether an A that says ok is kept, where links show what its call asks.
 fn is_kept_at(
     tables: &Tables,
+    fates: &Fates,
+    trail: &Trail,
     whole: &[Entry],
-    latests: &Latests,
     place: usize,
     entry: &Entry,
 ) -> bool
     requires tables { AreTables whole.now tables.now }
     requires there { (place < length whole.now) × (slice_get whole.now place ≡ Some entry.now) }
     requires ordered { KeepsBelow Rule.Ordered whole.now (place + 1) }
+    requires kept { KeepsBelow Rule.Synchronized whole.now place }
+    requires linked { IsLinked Delays whole.now place trail.now.delays.heads.entries trail.now.delays.earlier.items }
     ensures { result ≡ is_kept_at (reverse whole.now) entry.now (reverse (take place whole.now)) }
 {
     match entry {
@@ -85,41 +108,17 @@ fn is_kept_at(
             who,
             q,
             said: Said::Ok,
-        } => is_ok_kept(
-            tables,
-            whole,
-            &latest_of(latests, who),
-            place,
-            entry,
-            who,
-            *q,
-        ),
+        } => is_ok_kept(tables, fates, trail, whole, place, entry, who, *q),
         Entry::A {
             who,
             q,
             said: Said::OkValue(_),
-        } => is_ok_kept(
-            tables,
-            whole,
-            &latest_of(latests, who),
-            place,
-            entry,
-            who,
-            *q,
-        ),
+        } => is_ok_kept(tables, fates, trail, whole, place, entry, who, *q),
         Entry::A {
             who,
             q,
             said: Said::OkBy { .. },
-        } => is_ok_kept(
-            tables,
-            whole,
-            &latest_of(latests, who),
-            place,
-            entry,
-            who,
-            *q,
-        ),
+        } => is_ok_kept(tables, fates, trail, whole, place, entry, who, *q),
         _ => true,
     }
 }
@@ -128,6 +127,7 @@ fn is_kept_at(
 pub(crate) fn kept_front(
     alloc: Global,
     tables: &Tables,
+    fates: &Fates,
     whole: &[Entry],
     ordered: usize,
 ) -> Result<usize, NoMemory>
@@ -135,12 +135,12 @@ pub(crate) fn kept_front(
     requires ordered { KeepsBelow Rule.Ordered whole.now ordered }
     ensures { IfOk result (KeepsBelow Rule.Synchronized whole.now) }
 {
-    let mut latests = HashMap::new(alloc);
+    let mut trail = no_trail(alloc);
     for (place, entry) in whole.iter().enumerate() {
-        if place >= ordered || !is_kept_at(tables, whole, &latests, place, entry) {
+        if place >= ordered || !is_kept_at(tables, fates, &trail, whole, place, entry) {
             return Ok(place);
         }
-        note(&mut latests, place, entry)?;
+        take_in(&mut trail, tables, whole, place, entry)?;
     }
     Ok(whole.len())
 }

@@ -6,14 +6,16 @@ ghost use Rattle.nq_check.specs.Fronts.{KeepsBelow};
 ghost use Rattle.nq_check.specs.Tables.{AreTables, HasBetween, NoneBetween};
 ghost use Rattle.nq_check.specs.declared.rules.Rule.{Rule};
 ghost use Rattle.nq_model.specs.Journal.{call_of, cuts};
-ghost use Rattle.nq_model.specs.JournalTest.{is_counted};
+ghost use Rattle.nq_model.specs.JournalTest.{is_counted, is_stored};
 ghost use Rattle.nq_model.specs.LegalTest.{is_counted_by, is_counted_with, is_legal_answer, is_legal_at, is_legal_read, is_reading};
 ghost use Rattle.nq_model.specs.StandsTest.{standing_value, stands};
 
 use crate::calls::is_reading;
 use crate::entries::{cuts, is_read_by, is_through, is_write_by, is_write_on, value_written};
+use crate::fates::{Fates, fate_at};
 use crate::legal::Reading;
 use crate::links::{Kind, block_key, call_key};
+use crate::settled::is_stored_at;
 use crate::sought::{Sought, back_from, call_along, is_before, is_somewhere, last_of};
 use crate::tables::Tables;
 use nq_base::{BlockNo, Entry, Said, Who};
@@ -40,21 +42,46 @@ fn is_counted(tables: &Tables, whole: &[Entry], entry: &Entry) -> bool
     }
 }
 
-/// Whether a write stands for the read at a place.
-fn stands(tables: &Tables, whole: &[Entry], place: usize, read: &Reading, write: &Entry) -> bool
+/// Whether an S covers the write at a place. The entry that is its fate is looked at first.
+fn is_stored(tables: &Tables, fates: &Fates, whole: &[Entry], at: usize, write: &Entry) -> bool
+    requires tables { AreTables whole.now tables.now }
+    ensures { result ≡ is_stored (reverse whole.now) write.now }
+{
+    if is_stored_at(whole, fate_at(fates, at), write) {
+        return true;
+    }
+    is_somewhere(&tables.covers, whole, Sought::Store(write))
+}
+
+/// Whether the write at a place stands for the read at another.
+fn stands(
+    tables: &Tables,
+    fates: &Fates,
+    whole: &[Entry],
+    place: usize,
+    read: &Reading,
+    at: usize,
+    write: &Entry,
+) -> bool
     requires tables { AreTables whole.now tables.now }
     requires within { place < length whole.now }
     ensures { result ≡ stands (reverse whole.now) (reverse (take place whole.now)) read.now.who.now read.now.file read.now.block write.now }
 {
     is_write_on(write, read.file, read.block)
         && (is_through(write)
-            || (is_somewhere(&tables.covers, whole, Sought::Store(write))
+            || (is_stored(tables, fates, whole, at, write)
                 || is_write_by(write, read.who)
                     && !is_before(&tables.covers, whole, place, Sought::Loss(write))))
 }
 
 /// The place of the last write before a read that stands for it, counted from 1, or 0 where there is none.
-fn last_standing(tables: &Tables, whole: &[Entry], place: usize, read: &Reading) -> usize
+fn last_standing(
+    tables: &Tables,
+    fates: &Fates,
+    whole: &[Entry],
+    place: usize,
+    read: &Reading,
+) -> usize
     requires tables { AreTables whole.now tables.now }
     requires within { place < length whole.now }
     ensures low { result ≤ place }
@@ -64,7 +91,7 @@ fn last_standing(tables: &Tables, whole: &[Entry], place: usize, read: &Reading)
     let key = block_key(read.file, read.block);
     let mut at = back_from(&tables.writes, Kind::Writes, key, whole, place);
     while at > 0 {
-        if stands(tables, whole, place, read, &whole[at - 1]) {
+        if stands(tables, fates, whole, place, read, at - 1, &whole[at - 1]) {
             return at;
         }
         at = back_from(&tables.writes, Kind::Writes, key, whole, at - 1);
@@ -91,12 +118,18 @@ fn is_cut_since(tables: &Tables, whole: &[Entry], from: usize, place: usize, rea
 }
 
 /// The value of the last write before a read that stands for it, or 0 where there is none.
-fn standing_value(tables: &Tables, whole: &[Entry], place: usize, read: &Reading) -> u32
+fn standing_value(
+    tables: &Tables,
+    fates: &Fates,
+    whole: &[Entry],
+    place: usize,
+    read: &Reading,
+) -> u32
     requires tables { AreTables whole.now tables.now }
     requires within { place < length whole.now }
     ensures { result ≡ standing_value (reverse whole.now) (reverse (take place whole.now)) read.now.who.now read.now.file read.now.block }
 {
-    let at = last_standing(tables, whole, place, read);
+    let at = last_standing(tables, fates, whole, place, read);
     if is_cut_since(tables, whole, at, place, read) {
         return 0;
     }
@@ -107,12 +140,18 @@ fn standing_value(tables: &Tables, whole: &[Entry], place: usize, read: &Reading
 }
 
 /// Whether a counted read is legal.
-fn is_legal_read(tables: &Tables, whole: &[Entry], place: usize, read: &Reading) -> bool
+fn is_legal_read(
+    tables: &Tables,
+    fates: &Fates,
+    whole: &[Entry],
+    place: usize,
+    read: &Reading,
+) -> bool
     requires tables { AreTables whole.now tables.now }
     requires within { place < length whole.now }
     ensures { result ≡ is_legal_read (reverse whole.now) (reverse (take place whole.now)) read.now.who.now read.now.q read.now.file read.now.block read.now.value }
 {
-    read.value == standing_value(tables, whole, place, read)
+    read.value == standing_value(tables, fates, whole, place, read)
         && is_reading(call_along(&tables.calls, whole, read.who, read.q))
         && is_somewhere(
             &tables.calls,
@@ -194,7 +233,7 @@ fn answers_legally(tables: &Tables, whole: &[Entry], by: &Who, n: u64, v: u32) -
 }
 
 /// Whether the entry at a place is legal, as the links show.
-fn is_legal(tables: &Tables, whole: &[Entry], place: usize, entry: &Entry) -> bool
+fn is_legal(tables: &Tables, fates: &Fates, whole: &[Entry], place: usize, entry: &Entry) -> bool
     requires tables { AreTables whole.now tables.now }
     requires within { place < length whole.now }
     ensures { result ≡ is_legal_at (reverse whole.now) entry.now (reverse (take place whole.now)) }
@@ -211,6 +250,7 @@ fn is_legal(tables: &Tables, whole: &[Entry], place: usize, entry: &Entry) -> bo
             !is_counted(tables, whole, entry)
                 || is_legal_read(
                     tables,
+                    fates,
                     whole,
                     place,
                     &Reading {
@@ -237,12 +277,12 @@ fn is_legal(tables: &Tables, whole: &[Entry], place: usize, entry: &Entry) -> bo
 }
 
 /// How far the entries of a journal are legal, one after another.
-pub(crate) fn legal_front(tables: &Tables, whole: &[Entry]) -> usize
+pub(crate) fn legal_front(tables: &Tables, fates: &Fates, whole: &[Entry]) -> usize
     requires tables { AreTables whole.now tables.now }
     ensures { KeepsBelow Rule.Legal whole.now result }
 {
     for (place, entry) in whole.iter().enumerate() {
-        if !is_legal(tables, whole, place, entry) {
+        if !is_legal(tables, fates, whole, place, entry) {
             return place;
         }
     }

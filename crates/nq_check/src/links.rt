@@ -13,7 +13,7 @@ use std::collections::HashMap;
 pub(crate) type Key = ((u32, u32), (u64, u64));
 
 /// For each key a place, counted from 1, and 0 where there is none.
-type Heads = HashMap<Key, usize>;
+pub(crate) type Heads = HashMap<Key, usize>;
 
 /// What the links of a kind lead to, and by what key.
 #[derive(Clone, Copy)]
@@ -26,6 +26,8 @@ pub(crate) enum Kind {
     Covers,
     /// The Z of a file.
     Cuts,
+    /// The delayed writes of an incarnation on a file.
+    Delays,
 }
 
 /// The links of a kind.
@@ -110,6 +112,10 @@ pub(crate) fn key_of(kind: Kind, entry: &Entry) -> Key
             Entry::R { file, .. } => block_key(*file, BlockNo(0)),
             _ => ((0, 0), (0, 0)),
         },
+        Kind::Delays => match entry {
+            Entry::W { who, file, .. } => own_key(who, *file, BlockNo(0)),
+            _ => ((0, 0), (0, 0)),
+        },
     }
 }
 
@@ -122,6 +128,10 @@ pub(crate) fn is_member(kind: Kind, entry: &Entry) -> bool
         Kind::Writes => matches!(entry, Entry::W { .. }),
         Kind::Covers => matches!(entry, Entry::S { .. } | Entry::L { .. }),
         Kind::Cuts => matches!(entry, Entry::Z { .. }),
+        Kind::Delays => match entry {
+            Entry::W { through, .. } => !*through,
+            _ => false,
+        },
     }
 }
 
@@ -133,7 +143,7 @@ pub(crate) fn head_at(heads: &Heads, at: Key) -> usize
 }
 
 /// Sets the place of the last entry of a key.
-fn set_head(heads: &mut Heads, at: Key, place: usize) -> Result<(), NoMemory>
+pub(crate) fn set_head(heads: &mut Heads, at: Key, place: usize) -> Result<(), NoMemory>
     ensures { OnOk result (IsMarked at place heads.old.entries heads.new.entries) }
 {
     heads.insert(at, place)?;
@@ -141,7 +151,12 @@ fn set_head(heads: &mut Heads, at: Key, place: usize) -> Result<(), NoMemory>
 }
 
 /// Links one more entry.
-fn link_entry(links: &mut Links, kind: Kind, place: usize, entry: &Entry) -> Result<(), NoMemory>
+pub(crate) fn link_entry(
+    links: &mut Links,
+    kind: Kind,
+    place: usize,
+    entry: &Entry,
+) -> Result<(), NoMemory>
     requires { place < 18446744073709551615 }
     ensures { OnOk result (IsLinkedNext kind place entry.now links.old.heads.entries links.new.heads.entries links.old.earlier.items links.new.earlier.items) }
 {

@@ -32,7 +32,7 @@ fn span_at(spans: &Spans, place: usize) -> Span
 
 #[tactic(auto, using(crate::proofs::Backwards::last_first, crate::proofs::Places::drop_here))]
 /// Whether one of the spans names a loss.
-fn are_names_of(loss: &Loss, spans: &Spans) -> bool
+pub(crate) fn are_names_of(loss: &Loss, spans: &Spans) -> bool
     ensures { result ≡ exists (is_name_of loss.now) spans.now.items }
 {
     for place in 0..spans.len() {

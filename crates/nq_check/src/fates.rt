@@ -1,0 +1,169 @@
+//! Where to look first for what became of a delayed write: what is kept here is a hint, and whoever takes it looks at the
+//! entry.
+
+ghost use Rattle.std.specs.Prelude.{◌≡◌, ◌<◌, length};
+ghost use Rattle.nq_check.specs.Tables.{AreTables};
+
+use crate::entries::covers;
+use crate::links::{Heads, Key, head_at, own_key, set_head};
+use crate::sought::call_along;
+use crate::tables::Tables;
+use nq_base::{BlockNo, Entry, FileId, NoMemory, Said, Told, Who};
+use std::alloc::Global;
+use std::collections::HashMap;
+
+/// For each delayed write the place of an S or L that covers it, and for each L the place of an A that names it. Elsewhere
+/// there is a place that no entry has.
+pub(crate) type Fates = Vec<usize>;
+
+/// The place that stands for none.
+const NOWHERE: usize = usize::MAX;
+
+/// What one look over a journal keeps.
+#[derive(Drop)]
+struct Search {
+    fates: Fates,
+    /// For each write the one before it of its incarnation on its block, and for each L the one before it on its file.
+    /// Both are places counted from 1.
+    earlier: Vec<usize>,
+    /// The last write of each incarnation on a block.
+    writes: Heads,
+    /// The last L of each incarnation on a file.
+    losses: Heads,
+}
+
+/// The fate that is kept for an entry.
+pub(crate) fn fate_at(fates: &Fates, place: usize) -> usize {
+    fates.get(place).copied().unwrap_or(NOWHERE)
+}
+
+/// Keeps the fate of an entry.
+fn set_fate(fates: &mut Fates, place: usize, fate: usize) {
+    if place < fates.len() {
+        fates[place] = fate;
+    }
+}
+
+/// Whether an entry settles another: it covers that write, or names that L.
+fn settles(entry: &Entry, other: &Entry) -> bool {
+    matches!(other, Entry::L { .. }) || covers(entry, other)
+}
+
+/// Sets the fate of what an entry settles, back from a place, counted from 1, to the first that has one.
+fn settle(search: &mut Search, whole: &[Entry], from: usize, place: usize, entry: &Entry) {
+    let mut at = from;
+    while at > 0 {
+        if fate_at(&search.fates, at - 1) != NOWHERE {
+            return;
+        }
+        if let Some(other) = whole.get(at - 1) {
+            if settles(entry, other) {
+                set_fate(&mut search.fates, at - 1, place);
+            }
+        }
+        let earlier = search.earlier.get(at - 1).copied().unwrap_or(0);
+        if earlier >= at {
+            return;
+        }
+        at = earlier;
+    }
+}
+
+/// The key of a file, as an incarnation knows it.
+pub(crate) fn file_key(who: &Who, file: FileId) -> Key
+    ensures { result ≡ ((who.now.host, who.now.inc), (file, 0)) }
+{
+    own_key(who, file, BlockNo(0))
+}
+
+/// The file of a call that has to report losses.
+fn file_of(call: Option<Told>) -> FileId {
+    let Some(told) = call else {
+        return FileId(0);
+    };
+    match told {
+        Told::Write { file, .. } => file,
+        Told::WriteSync { file, .. } => file,
+        Told::Sync { file } => file,
+        Told::Resize { file, .. } => file,
+        Told::Remove { file } => file,
+        _ => FileId(0),
+    }
+}
+
+/// Takes in the entry at a place.
+fn take_in(
+    search: &mut Search,
+    tables: &Tables,
+    whole: &[Entry],
+    place: usize,
+    entry: &Entry,
+) -> Result<(), NoMemory>
+    requires tables { AreTables whole.now tables.now }
+    requires within { place < length whole.now }
+{
+    let mut earlier = 0;
+    match entry {
+        Entry::W {
+            who,
+            file,
+            block,
+            through,
+            ..
+        } if !*through => {
+            let key = own_key(who, *file, *block);
+            earlier = head_at(&search.writes, key);
+            set_head(&mut search.writes, key, place + 1)?;
+        }
+        Entry::S {
+            who,
+            file,
+            block,
+            ..
+        } => {
+            let from = head_at(&search.writes, own_key(who, *file, *block));
+            settle(search, whole, from, place, entry);
+        }
+        Entry::L {
+            who,
+            file,
+            block,
+            ..
+        } => {
+            let from = head_at(&search.writes, own_key(who, *file, *block));
+            settle(search, whole, from, place, entry);
+            let key = file_key(who, *file);
+            earlier = head_at(&search.losses, key);
+            set_head(&mut search.losses, key, place + 1)?;
+        }
+        Entry::A {
+            who,
+            q,
+            said: Said::Lost(_),
+        } => {
+            let file = file_of(call_along(&tables.calls, whole, who, *q));
+            let from = head_at(&search.losses, file_key(who, file));
+            settle(search, whole, from, place, entry);
+        }
+        _ => {}
+    }
+    search.fates.push(NOWHERE)?;
+    search.earlier.push(earlier)?;
+    Ok(())
+}
+
+/// The fates of the delayed writes of a journal, and of its losses.
+pub(crate) fn find_fates(alloc: Global, tables: &Tables, whole: &[Entry]) -> Result<Fates, NoMemory>
+    requires tables { AreTables whole.now tables.now }
+{
+    let mut search = Search {
+        fates: Vec::new(alloc),
+        earlier: Vec::new(alloc),
+        writes: HashMap::new(alloc),
+        losses: HashMap::new(alloc),
+    };
+    for (place, entry) in whole.iter().enumerate() {
+        take_in(&mut search, tables, whole, place, entry)?;
+    }
+    Ok(search.fates)
+}

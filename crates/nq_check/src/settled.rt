@@ -1,0 +1,207 @@
+//! A fast test that the delayed writes of an incarnation on a file are stored or told: it is true only where they are.
+#![tactic(auto, using(crate::proofs::Backwards::last_first))]
+
+ghost use Rattle.std.specs.Prelude.{◌≡◌, ◌<◌, ◌≤◌, IsTrue, length, reverse, take, true};
+ghost use Rattle.nq_check.specs.Links.{IsFree, IsLinked};
+ghost use Rattle.nq_check.specs.Tables.{AreTables};
+ghost use Rattle.nq_check.specs.declared.links.Kind.TheVariants.{Delays};
+ghost use Rattle.nq_model.specs.JournalTest.{exists, is_stored};
+ghost use Rattle.nq_model.specs.ReportedTest.{names};
+ghost use Rattle.nq_model.specs.SynchronizedTest.{are_stored_or_told, is_named_loss, is_stored_or_told};
+
+use crate::calls::speaks_of;
+use crate::covering::entry_at;
+use crate::entries::{loss_covers, store_covers};
+use crate::fates::{Fates, fate_at, file_key};
+use crate::links::{Key, Kind, Links, head_at, key_of, same_key};
+use crate::named::are_names_of;
+use crate::sought::call_along;
+use crate::tables::Tables;
+use nq_base::{Entry, FileId, Loss, Said, Who};
+
+/// Whether an entry is an A `lost` of an incarnation on the file of a loss, and names the loss.
+fn names(tables: &Tables, whole: &[Entry], by: &Who, loss: &Loss, entry: &Entry) -> bool
+    requires tables { AreTables whole.now tables.now }
+    ensures { result ≡ names (reverse whole.now) by.now loss.now entry.now }
+{
+    match entry {
+        Entry::A {
+            who,
+            q,
+            said: Said::Lost(spans),
+        } => {
+            *by == *who
+                && are_names_of(loss, spans)
+                && speaks_of(loss.file, call_along(&tables.calls, whole, who, *q))
+        }
+        _ => false,
+    }
+}
+
+/// Whether the entry at a place, among those before an answer, names a loss.
+fn is_named_at(
+    tables: &Tables,
+    whole: &[Entry],
+    answered: &[Entry],
+    at: usize,
+    by: &Who,
+    loss: &Loss,
+) -> bool
+    requires tables { AreTables whole.now tables.now }
+    ensures { IsTrue result → exists (names (reverse whole.now) by.now loss.now) (reverse answered.now) ≡ true }
+{
+    match entry_at(answered, at) {
+        Some(entry) => names(tables, whole, by, loss, entry),
+        None => false,
+    }
+}
+
+/// Whether an entry is an L that covers a write, and the entry at a place before the answer names it.
+fn is_named_loss(
+    tables: &Tables,
+    whole: &[Entry],
+    answered: &[Entry],
+    at: usize,
+    write: &Entry,
+    entry: &Entry,
+) -> bool
+    requires tables { AreTables whole.now tables.now }
+    ensures { IsTrue result → is_named_loss (reverse whole.now) (reverse answered.now) write.now entry.now ≡ true }
+{
+    match entry {
+        Entry::L {
+            who,
+            file,
+            block,
+            first,
+            last,
+        } => {
+            let loss = Loss {
+                file: *file,
+                block: *block,
+                first: *first,
+                last: *last,
+            };
+            if !loss_covers(entry, write) {
+                return false;
+            }
+            is_named_at(tables, whole, answered, at, who, &loss)
+        }
+        _ => false,
+    }
+}
+
+/// Whether the entry at a place is an L that covers a write, and an A before the answer names it.
+fn is_told_at(
+    tables: &Tables,
+    fates: &Fates,
+    whole: &[Entry],
+    answered: &[Entry],
+    at: usize,
+    write: &Entry,
+) -> bool
+    requires tables { AreTables whole.now tables.now }
+    ensures { IsTrue result → exists (is_named_loss (reverse whole.now) (reverse answered.now) write.now) (reverse whole.now) ≡ true }
+{
+    match entry_at(whole, at) {
+        Some(entry) => is_named_loss(tables, whole, answered, fate_at(fates, at), write, entry),
+        None => false,
+    }
+}
+
+/// Whether the entry at a place of the `stores` is an S that covers a write.
+pub(crate) fn is_stored_at(stores: &[Entry], at: usize, write: &Entry) -> bool
+    ensures { IsTrue result → is_stored (reverse stores.now) write.now ≡ true }
+{
+    match entry_at(stores, at) {
+        Some(entry) => store_covers(entry, write),
+        None => false,
+    }
+}
+
+/// Whether an S among the `stores` covers a write, or an L that is told.
+fn is_settled(
+    tables: &Tables,
+    fates: &Fates,
+    whole: &[Entry],
+    stores: &[Entry],
+    answered: &[Entry],
+    fate: usize,
+    write: &Entry,
+) -> bool
+    requires tables { AreTables whole.now tables.now }
+    ensures { IsTrue result → is_stored_or_told (reverse whole.now) (reverse stores.now) (reverse answered.now) write.now ≡ true }
+{
+    if is_stored_at(stores, fate, write) {
+        return true;
+    }
+    is_told_at(tables, fates, whole, answered, fate, write)
+}
+
+/// A place, counted from 1, from which on up to another place no delayed write has a key.
+fn last_delayed(delays: &Links, whole: &[Entry], key: Key, place: usize) -> usize
+    requires linked { IsLinked Delays whole.now place delays.now.heads.entries delays.now.earlier.items }
+    ensures low { result ≤ place }
+    ensures free { IsFree Delays key whole.now result place }
+{
+    let head = head_at(&delays.heads, key);
+    if head <= place {
+        return head;
+    }
+    place
+}
+
+/// The same before the entry at a place.
+fn delayed_before(delays: &Links, whole: &[Entry], key: Key, place: usize, at: usize) -> usize
+    requires linked { IsLinked Delays whole.now place delays.now.heads.entries delays.now.earlier.items }
+    requires within { at < place }
+    requires whole { place ≤ length whole.now }
+    ensures low { result ≤ at }
+    ensures free { IsFree Delays key whole.now result at }
+{
+    let earlier = delays.earlier[at];
+    if earlier <= at && same_key(key_of(Kind::Delays, &whole[at]), key) {
+        return earlier;
+    }
+    at
+}
+
+/// Whether each delayed write of an incarnation on a file before a place is stored, by an S among the `stores`, or told. Those
+/// before another place are known to be.
+pub(crate) fn are_settled(
+    tables: &Tables,
+    fates: &Fates,
+    delays: &Links,
+    whole: &[Entry],
+    stores: &[Entry],
+    place: usize,
+    known: usize,
+    by: &Who,
+    on: FileId,
+) -> bool
+    requires tables { AreTables whole.now tables.now }
+    requires linked { IsLinked Delays whole.now place delays.now.heads.entries delays.now.earlier.items }
+    requires within { place < length whole.now }
+    requires known { (known ≤ place) × (are_stored_or_told (reverse whole.now) (reverse stores.now) (reverse (take known whole.now)) by.now on ≡ true) }
+    ensures { IsTrue result → are_stored_or_told (reverse whole.now) (reverse stores.now) (reverse (take place whole.now)) by.now on ≡ true }
+{
+    let answered = &whole[..place];
+    let key = file_key(by, on);
+    let mut at = last_delayed(delays, whole, key, place);
+    while at > known {
+        let write = &whole[at - 1];
+        if !is_settled(
+            tables,
+            fates,
+            whole,
+            stores,
+            answered,
+            fate_at(fates, at - 1),
+            write,
+        ) {
+            return false;
+        }
+        at = delayed_before(delays, whole, key, place, at - 1);
+    }
+    true
+}

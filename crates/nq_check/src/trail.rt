@@ -1,0 +1,88 @@
+//! What a look over a journal keeps of the entries before a place.
+
+ghost use Rattle.std.specs.Prelude.{◌≡◌, ◌<◌, [], OnOk, length};
+ghost use Rattle.nq_check.specs.Links.{IsLinkedNext};
+ghost use Rattle.nq_check.specs.Tables.{AreTables};
+ghost use Rattle.nq_check.specs.declared.links.Kind.TheVariants.{Delays};
+
+use crate::fates::file_key;
+use crate::latest::{Latests, note};
+use crate::links::{Heads, Kind, Links, link_entry, set_head};
+use crate::sought::call_along;
+use crate::tables::Tables;
+use nq_base::{Entry, NoMemory, Said, Told};
+use std::alloc::Global;
+use std::collections::HashMap;
+
+/// The delayed writes before a place, and hints where to look first for other entries.
+#[derive(Drop)]
+pub(crate) struct Trail {
+    pub(crate) delays: Links,
+    pub(crate) latests: Latests,
+    /// The last ok to a `sync` of each incarnation on a file.
+    pub(crate) synced: Heads,
+    /// The last ok to a `resize` or `remove`.
+    pub(crate) resized: Heads,
+}
+
+/// Keeps the place of an ok.
+fn keep_ok(
+    trail: &mut Trail,
+    tables: &Tables,
+    whole: &[Entry],
+    place: usize,
+    entry: &Entry,
+) -> Result<(), NoMemory>
+    requires tables { AreTables whole.now tables.now }
+    ensures { trail.new.delays ≡ trail.old.delays }
+{
+    let Entry::A {
+        who,
+        q,
+        said: Said::Ok,
+    } = entry
+    else {
+        return Ok(());
+    };
+    let Some(told) = call_along(&tables.calls, whole, who, *q) else {
+        return Ok(());
+    };
+    match told {
+        Told::Sync { file } => set_head(&mut trail.synced, file_key(who, file), place),
+        Told::Resize { file, .. } => set_head(&mut trail.resized, file_key(who, file), place),
+        Told::Remove { file } => set_head(&mut trail.resized, file_key(who, file), place),
+        _ => Ok(()),
+    }
+}
+
+/// Takes in the entry at a place.
+pub(crate) fn take_in(
+    trail: &mut Trail,
+    tables: &Tables,
+    whole: &[Entry],
+    place: usize,
+    entry: &Entry,
+) -> Result<(), NoMemory>
+    requires tables { AreTables whole.now tables.now }
+    requires within { place < length whole.now }
+    ensures { OnOk result (IsLinkedNext Delays place entry.now trail.old.delays.heads.entries trail.new.delays.heads.entries trail.old.delays.earlier.items trail.new.delays.earlier.items) }
+{
+    link_entry(&mut trail.delays, Kind::Delays, place, entry)?;
+    note(&mut trail.latests, place, entry)?;
+    keep_ok(trail, tables, whole, place, entry)
+}
+
+/// What is kept before the first entry.
+pub(crate) fn no_trail(alloc: Global) -> Trail
+    ensures { (result.delays.heads.entries ≡ []) × (result.delays.earlier.items ≡ []) }
+{
+    Trail {
+        delays: Links {
+            heads: HashMap::new(alloc),
+            earlier: Vec::new(alloc),
+        },
+        latests: HashMap::new(alloc),
+        synced: HashMap::new(alloc),
+        resized: HashMap::new(alloc),
+    }
+}
