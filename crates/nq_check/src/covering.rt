@@ -32,7 +32,7 @@ fn places_of_writes(alloc: Global, whole: &[Entry]) -> Result<Marks, NoMemory> {
 }
 
 /// The entry at a place; None where the place is not below the length.
-fn entry_at(whole: &[Entry], place: usize) -> Option<&Entry>
+pub(crate) fn entry_at(whole: &[Entry], place: usize) -> Option<&Entry>
     ensures { IfSome result (λ entry. slice_get whole.now place ≡ Some entry.now) }
 {
     whole.get(place)

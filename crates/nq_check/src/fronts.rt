@@ -7,6 +7,7 @@ use crate::covering::accounted_front;
 use crate::kept_front::kept_front;
 use crate::legal_front::legal_front;
 use crate::ordering::ordered_front;
+use crate::reported_front::reported_front;
 use crate::tables::make_tables;
 use nq_base::{Entry, NoMemory};
 use std::alloc::Global;
@@ -28,11 +29,12 @@ pub(crate) fn find_fronts(alloc: Global, whole: &[Entry]) -> Result<Fronts, NoMe
     let tables = make_tables(alloc, whole)?;
     let ordered = ordered_front(alloc, whole)?;
     let accounted = accounted_front(alloc, whole)?;
+    let reported = reported_front(alloc, &tables, whole, ordered)?;
     Ok(Fronts {
         legal: legal_front(&tables, whole),
         ordered,
         accounted,
-        reported: 0,
+        reported,
         synchronized: kept_front(&tables, whole),
     })
 }
