@@ -45,3 +45,7 @@ pub told_last : (key : Spot) (who : Who) (q : ℕ) (whole : List Entry) (next k 
 told_last key who q whole next k x e up within low there free =
     ap (λ l. call_of l who q) (taken_last whole k x up there)
     ∙ ap (λ c. option_or c (told_by x who q)) (skip_told key who q whole next (k - 1) e low (omega arith) free)
+
+-- what is free up to a place is free up to an earlier one
+pub free_within : (kind : Kind) (key : Spot) (whole : List Entry) (from to upto : ℕ) → upto ≤ to → IsFree kind key whole from to → IsFree kind key whole from upto
+free_within kind key whole from to upto low free p x a b h = free p x a (omega arith) h

@@ -2,9 +2,9 @@
 use Rattle.std.specs.Prelude.{◌≡◌, ◌<◌, ◌≤◌, ◌+◌, ◌++◌, ℕ, List, [], ◌∷◌, Some, Bool, true, false, ◌&&◌, if◌then◌else◌, length}
 use Rattle.std.specs.List.{slice_get}
 use Rattle.nq_base.specs.declared.Entry.{Entry}
-use Rattle.nq_base.specs.declared.Entry.TheVariants.{C, W, R, S, L, Z, A}
+use Rattle.nq_base.specs.declared.Entry.TheVariants.{C, W, R, S, L, G, Z, A}
 use Rattle.nq_check.specs.declared.links.Kind.{Kind}
-use Rattle.nq_check.specs.declared.links.Kind.TheVariants.{Calls, Writes, Covers, Cuts, Delays}
+use Rattle.nq_check.specs.declared.links.Kind.TheVariants.{Grants, Stores, Own, Calls, Writes, Covers, Cuts, Delays}
 use Rattle.nq_check.specs.Marks.{Spot, mark_at, same_spot, spot}
 
 -- a block, whoever asks for it
@@ -13,6 +13,12 @@ block_spot file block = ((0, 0), (file, block))
 
 -- the key of an entry
 abbrev pub spot_of : Kind → Entry → Spot
+spot_of Grants (G who file mode tag term now) = spot who file 0
+spot_of Grants (L who file block first last) = spot who file 0
+spot_of Stores (S who file block first last now) = spot who file 0
+spot_of Stores (L who file block first last) = spot who file 0
+spot_of Own (W who file block number value through) = spot who file block
+spot_of Own (L who file block first last) = spot who file block
 spot_of Calls (C who q told) = spot who q 0
 spot_of Calls (R who q file block value served) = spot who q 0
 spot_of Calls (A who q said) = spot who q 0
@@ -28,6 +34,9 @@ spot_of kind other = block_spot 0 0
 
 -- whether links lead to an entry
 abbrev pub is_member : Kind → Entry → Bool
+is_member Grants (G who file mode tag term now) = true
+is_member Stores (S who file block first last now) = true
+is_member Own (W who file block number value through) = true
 is_member Calls (C who q told) = true
 is_member Calls (R who q file block value served) = true
 is_member Calls (A who q said) = true

@@ -24,7 +24,7 @@ pub(crate) struct Granted {
 }
 
 /// Whether so many ticks have passed since a time.
-fn has_passed(since: Ticks, wait: u64, now: Ticks) -> bool
+pub(crate) fn has_passed(since: Ticks, wait: u64, now: Ticks) -> bool
     ensures { result ≡ nat_le (since + wait) now }
 {
     since.0 <= now.0 && wait <= now.0 - since.0
@@ -87,7 +87,7 @@ fn are_stores_over(before: &[Entry], by: &Who, on: FileId, at: Ticks) -> bool
 }
 
 /// Whether skew and slack have passed since the end of a grant's term.
-fn is_grant_over(grant: Option<Granted>, at: Ticks) -> bool
+pub(crate) fn is_grant_over(grant: Option<Granted>, at: Ticks) -> bool
     ensures { result ≡ has_passed at (given grant) }
 {
     match grant {
@@ -116,7 +116,7 @@ fn is_late_end(before: &[Entry], by: &Who, on: FileId, end: Silence) -> bool
 
 /// Whether an entry is the X of a boot, tells no shorter longest term than a grant's, and that term, skew and slack have
 /// passed since.
-fn is_long_wait(entry: &Entry, on_boot: u32, at: Ticks, grant: &Option<Granted>) -> bool
+pub(crate) fn is_long_wait(entry: &Entry, on_boot: u32, at: Ticks, grant: &Option<Granted>) -> bool
     ensures { result ≡ is_long_wait on_boot at (given grant.now) entry.now }
 {
     let Some(granted) = grant else {

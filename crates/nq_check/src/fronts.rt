@@ -8,6 +8,7 @@ use crate::fates::find_fates;
 use crate::kept_front::kept_front;
 use crate::legal_front::legal_front;
 use crate::ordering::ordered_front;
+use crate::reported_front::reported_front;
 use crate::tables::make_tables;
 use nq_base::{Entry, NoMemory};
 use std::alloc::Global;
@@ -22,7 +23,7 @@ pub(crate) struct Fronts {
     pub(crate) synchronized: usize,
 }
 
-/// The fronts of a journal. One is 0 under a rule that has no fast pass.
+/// The fronts of a journal.
 pub(crate) fn find_fronts(alloc: Global, whole: &[Entry]) -> Result<Fronts, NoMemory>
     ensures { IfOk result (AreFronts whole.now) }
 {
@@ -30,12 +31,13 @@ pub(crate) fn find_fronts(alloc: Global, whole: &[Entry]) -> Result<Fronts, NoMe
     let ordered = ordered_front(alloc, whole)?;
     let accounted = accounted_front(alloc, whole)?;
     let fates = find_fates(alloc, &tables, whole)?;
+    let reported = reported_front(alloc, &tables, whole, ordered)?;
     let synchronized = kept_front(alloc, &tables, &fates, whole, ordered)?;
     Ok(Fronts {
         legal: legal_front(&tables, &fates, whole),
         ordered,
         accounted,
-        reported: 0,
+        reported,
         synchronized,
     })
 }

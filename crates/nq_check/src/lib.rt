@@ -2,8 +2,10 @@
 #![tactic(auto)]
 
 mod accounted;
+mod behind;
 mod calls;
 mod covering;
+mod endings;
 mod entries;
 mod excused;
 mod fates;
@@ -18,10 +20,14 @@ mod lines;
 mod links;
 mod marks;
 mod named;
+mod namings;
 mod ordered;
 mod ordering;
 mod puts;
 mod replies;
+mod reported_front;
+mod reports;
+mod rising;
 mod rules;
 mod settled;
 mod sought;

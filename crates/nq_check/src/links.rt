@@ -18,6 +18,12 @@ pub(crate) type Heads = HashMap<Key, usize>;
 /// What the links of a kind lead to, and by what key.
 #[derive(Clone, Copy)]
 pub(crate) enum Kind {
+    /// The grants to an incarnation on a file.
+    Grants,
+    /// The S of an incarnation on a file.
+    Stores,
+    /// The writes of an incarnation to a block.
+    Own,
     /// The entries of a call.
     Calls,
     /// The writes of a block.
@@ -75,6 +81,31 @@ pub(crate) fn key_of(kind: Kind, entry: &Entry) -> Key
     ensures { result ≡ spot_of kind entry.now }
 {
     match kind {
+        Kind::Grants => match entry {
+            Entry::G { who, file, .. } => own_key(who, *file, BlockNo(0)),
+            Entry::L { who, file, .. } => own_key(who, *file, BlockNo(0)),
+            _ => ((0, 0), (0, 0)),
+        },
+        Kind::Stores => match entry {
+            Entry::S { who, file, .. } => own_key(who, *file, BlockNo(0)),
+            Entry::L { who, file, .. } => own_key(who, *file, BlockNo(0)),
+            _ => ((0, 0), (0, 0)),
+        },
+        Kind::Own => match entry {
+            Entry::W {
+                who,
+                file,
+                block,
+                ..
+            } => own_key(who, *file, *block),
+            Entry::L {
+                who,
+                file,
+                block,
+                ..
+            } => own_key(who, *file, *block),
+            _ => ((0, 0), (0, 0)),
+        },
         Kind::Calls => match entry {
             Entry::C { who, q, .. } => call_key(who, *q),
             Entry::R { who, q, .. } => call_key(who, *q),
@@ -124,6 +155,9 @@ pub(crate) fn is_member(kind: Kind, entry: &Entry) -> bool
     ensures { result ≡ is_member kind entry.now }
 {
     match kind {
+        Kind::Grants => matches!(entry, Entry::G { .. }),
+        Kind::Stores => matches!(entry, Entry::S { .. }),
+        Kind::Own => matches!(entry, Entry::W { .. }),
         Kind::Calls => matches!(entry, Entry::C { .. } | Entry::R { .. } | Entry::A { .. }),
         Kind::Writes => matches!(entry, Entry::W { .. }),
         Kind::Covers => matches!(entry, Entry::S { .. } | Entry::L { .. }),

@@ -12,7 +12,7 @@ use crate::entries::is_answer;
 use nq_base::{Entry, Loss, Said, Span, Spans, Told, Who};
 
 /// Whether a span names a loss.
-fn is_name_of(loss: &Loss, span: &Span) -> bool
+pub(crate) fn is_name_of(loss: &Loss, span: &Span) -> bool
     ensures { result ≡ is_name_of loss.now span.now }
 {
     span.block == loss.block && span.first == loss.first && span.last == loss.last
@@ -20,7 +20,7 @@ fn is_name_of(loss: &Loss, span: &Span) -> bool
 
 #[tactic(auto, using(crate::proofs::Places::some_there))]
 /// The span at a place.
-fn span_at(spans: &Spans, place: usize) -> Span
+pub(crate) fn span_at(spans: &Spans, place: usize) -> Span
     requires { place < length spans.now.items }
     ensures { slice_get spans.now.items place ≡ Some result }
 {

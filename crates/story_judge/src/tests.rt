@@ -158,6 +158,43 @@ L 0 1 1 0 1 1
 end
 ";
 
+// Stores of another client whose times fall, so that it is not known at once that the lease ended late enough.
+const LOST_BEHIND_FALLING_TIMES: &[u8] = b"nqnfs-journal 1
+C 1 1 1 write 2 0 5
+G 1 1 2 writing 1 1 5 0
+W 1 1 2 0 1 5 delayed
+A 1 1 1 ok
+S 1 1 2 0 1 1 20
+C 1 1 2 write 2 0 6
+W 1 1 2 0 2 6 delayed
+A 1 1 2 ok
+S 1 1 2 0 2 2 9
+C 0 1 1 write 1 0 5
+G 0 1 1 writing 1 2 5 0
+W 0 1 1 0 1 5 delayed
+A 0 1 1 ok
+F 0 1 1 8 0 13
+L 0 1 1 0 1 1
+C 0 1 2 sync 1
+A 0 1 2 lost 0:1-1
+end
+";
+
+// A loss that a second call names again.
+const NAMED_AGAIN: &[u8] = b"nqnfs-journal 1
+C 0 1 1 write 1 0 5
+G 0 1 1 writing 1 1 5 0
+W 0 1 1 0 1 5 delayed
+A 0 1 1 ok
+F 0 1 1 8 0 13
+L 0 1 1 0 1 1
+C 0 1 2 sync 1
+A 0 1 2 lost 0:1-1
+C 0 1 3 sync 1
+A 0 1 3 lost 0:1-1
+end
+";
+
 fn judged(alloc: Global, text: &[u8]) -> Result<Judged, Fail> {
     let journal = parse(alloc, text)?;
     Ok(check(alloc, &journal))
@@ -201,6 +238,14 @@ fn other_journals_are_judged(rt: HostRuntime) -> Result<(), Fail> {
         judged(alloc, RECOVERED_WITHOUT_A_BOOT)?,
         no(5, Rule::Reported)
     );
+    Ok(())
+}
+
+#[test]
+fn journals_with_losses_are_judged(rt: HostRuntime) -> Result<(), Fail> {
+    let alloc = rt.alloc();
+    assert_eq!(rt; judged(alloc, LOST_BEHIND_FALLING_TIMES)?, Judged::Yes);
+    assert_eq!(rt; judged(alloc, NAMED_AGAIN)?, no(9, Rule::Reported));
     Ok(())
 }
 

@@ -1,0 +1,37 @@
+-- The parts of what is asked of losses and of their names, each at a place of a journal, the oldest entry first.
+use Rattle.std.specs.Prelude.{◌≡◌, ◌<◌, ◌≤◌, ◌+◌, ℕ, List, ◌∷◌, Some, Bool, true, not, take, drop, reverse}
+use Rattle.std.specs.List.{slice_get}
+use Rattle.nq_base.specs.declared.Entry.{Entry}
+use Rattle.nq_base.specs.declared.Entry.TheVariants.{L, A}
+use Rattle.nq_base.specs.declared.Said.TheVariants.{Lost}
+use Rattle.nq_check.specs.Named.{is_reported}
+use Rattle.nq_model.specs.CutOffTest.{ends_first}
+use Rattle.nq_model.specs.Journal.{call_of}
+use Rattle.nq_model.specs.JournalTest.{exists, loss_covers}
+use Rattle.nq_model.specs.Reported.{loss_told}
+use Rattle.nq_model.specs.ReportedTest.{name_losses}
+
+-- each entry from a place on and before another passes a test at its place
+abbrev pub PassBetween : (test : (place : ℕ) → Entry → Bool) (whole : List Entry) (from to : ℕ) → Type 0
+PassBetween test whole from to = (place : ℕ) (entry : Entry) → from ≤ place → place < to → slice_get whole place ≡ Some entry → test place entry ≡ true
+
+-- an A `lost` names earlier losses, each for the first time
+abbrev pub is_naming : (whole : List Entry) (place : ℕ) → Entry → Bool
+is_naming whole place (A who q (Lost spans)) = name_losses (reverse whole) (reverse (take place whole)) who (call_of (reverse whole) who q) spans.items
+is_naming whole place other = true
+
+-- an L is named by the first call that has to, or before it
+abbrev pub is_told : (whole : List Entry) (place : ℕ) → Entry → Bool
+is_told whole place (L who file block first last) =
+    is_reported (reverse whole) (L who file block first last ∷ reverse (take place whole)) who (loss_told file block first last) (drop (place + 1) whole)
+is_told whole place other = true
+
+-- the lease of an L ended before it, and behind each write before it that it covers
+abbrev pub is_ended : (whole : List Entry) (place : ℕ) → Entry → Bool
+is_ended whole place (L who file block first last) = ends_first (L who file block first last) who file (reverse (take place whole))
+is_ended whole place other = true
+
+-- an L covers no write behind it
+abbrev pub is_over : (whole : List Entry) (place : ℕ) → Entry → Bool
+is_over whole place (L who file block first last) = not (exists (loss_covers (L who file block first last)) (drop (place + 1) whole))
+is_over whole place other = true

@@ -1,0 +1,354 @@
+//! A fast pass over the losses before which a lease has ended, late enough.
+
+ghost use Rattle.std.specs.Prelude.{◌≡◌, ◌+◌, ◌<◌, ◌≤◌, [], ◌∷◌, ◌&&◌, nat_eq, nat_le, true, IsTrue, Some, IfOk, IfSome, length, reverse, take};
+ghost use Rattle.std.specs.List.{slice_get};
+ghost use Rattle.nq_check.specs.Grants.{given};
+ghost use Rattle.nq_check.specs.Leases.{AreLeases, HasEnd, HasEndBetween, IsStorePast};
+ghost use Rattle.nq_check.specs.Links.{IsFree, IsLinked};
+ghost use Rattle.nq_check.specs.Losses.{PassBetween, is_ended};
+ghost use Rattle.nq_check.specs.Rising.{Rises};
+ghost use Rattle.nq_model.specs.CutOff.{last_grant};
+ghost use Rattle.nq_model.specs.CutOffTest.{has_passed, is_store_over};
+ghost use Rattle.nq_model.specs.JournalTest.{each};
+ghost use Rattle.nq_model.specs.Table.{same_who};
+
+use crate::excused::{Granted, has_passed, is_grant_over, is_long_wait};
+use crate::links::{Heads, Key, Kind, Links, head_at, link, own_key, set_head};
+use crate::reports::file_key;
+use crate::sought::back_from;
+use nq_base::{Entry, FileId, NoMemory, Ticks, Who};
+use std::alloc::Global;
+use std::collections::HashMap;
+
+// Write slack in ticks.
+const WRITE_SLACK: u64 = 5;
+
+/// The links of what tells whether a lease has ended.
+#[derive(Drop)]
+pub(crate) struct Leases {
+    grants: Links,
+    stores: Links,
+    writes: Links,
+}
+
+/// Where leases may have ended. Places are counted from 1.
+#[derive(Drop)]
+struct Ends {
+    /// The last F of an incarnation on a file.
+    silent: Heads,
+    /// The last O.
+    opened: usize,
+    /// The last X before it.
+    boot: usize,
+    /// The last X.
+    booted: usize,
+}
+
+/// A lease of an incarnation on a file, as an entry sees it.
+#[derive(Clone, Copy)]
+struct Lease<'a> {
+    who: &'a Who,
+    file: FileId,
+    /// The place of the entry.
+    place: usize,
+}
+
+/// Links the entries of a journal.
+pub(crate) fn link_leases(alloc: Global, whole: &[Entry]) -> Result<Leases, NoMemory>
+    ensures { IfOk result (AreLeases whole.now) }
+{
+    let grants = link(alloc, Kind::Grants, whole)?;
+    let stores = link(alloc, Kind::Stores, whole)?;
+    let writes = link(alloc, Kind::Own, whole)?;
+    Ok(Leases {
+        grants,
+        stores,
+        writes,
+    })
+}
+
+/// The place of the last entry of a key before a place, as the links from a later place lead to it. Counted from 1.
+fn last_before(
+    links: &Links,
+    kind: Kind,
+    key: Key,
+    whole: &[Entry],
+    from: usize,
+    to: usize,
+) -> usize
+    requires linked { IsLinked kind whole.now (length whole.now) links.now.heads.entries links.now.earlier.items }
+    requires within { from < length whole.now }
+    requires upto { to ≤ from }
+    ensures low { result ≤ to }
+    ensures free { IsFree kind key whole.now result to }
+{
+    let mut at = back_from(links, kind, key, whole, from);
+    while at > to {
+        at = back_from(links, kind, key, whole, at - 1);
+    }
+    at
+}
+
+/// What an entry tells of a grant to an incarnation on a file, if it is one.
+fn grant_of(entry: &Entry, by: &Who, on: FileId) -> Option<Granted>
+    ensures { given result ≡ last_grant (entry.now ∷ []) by.now on }
+{
+    match entry {
+        Entry::G {
+            who,
+            file,
+            term,
+            now,
+            ..
+        } if *who == *by && *file == on => Some(Granted {
+            time: *now,
+            term: *term,
+        }),
+        _ => None,
+    }
+}
+
+/// The last grant of a lease before a place, if it is known.
+fn grant_before(leases: &Leases, whole: &[Entry], lease: &Lease, to: usize) -> Option<Granted>
+    requires leases { AreLeases whole.now leases.now }
+    requires within { lease.now.place < length whole.now }
+    requires upto { to ≤ lease.now.place }
+    ensures { IfSome result (λ grant. given (Some grant) ≡ last_grant (reverse (take to whole.now)) lease.now.who.now lease.now.file) }
+{
+    let key = file_key(lease.who, lease.file);
+    let at = last_before(&leases.grants, Kind::Grants, key, whole, lease.place, to);
+    if at == 0 {
+        return None;
+    }
+    grant_of(&whole[at - 1], lease.who, lease.file)
+}
+
+/// Whether an entry is an S since which write slack has passed.
+fn is_store_past(entry: &Entry, at: Ticks) -> bool
+    ensures { IsTrue result → IsStorePast at entry.now }
+{
+    match entry {
+        Entry::S { now, .. } => has_passed(*now, WRITE_SLACK, at),
+        _ => false,
+    }
+}
+
+/// Whether write slack has passed since each S of a lease before a place.
+fn are_stores_past(leases: &Leases, whole: &[Entry], lease: &Lease, to: usize, now: Ticks) -> bool
+    requires leases { AreLeases whole.now leases.now }
+    requires rises { Rises whole.now lease.now.place }
+    requires within { lease.now.place < length whole.now }
+    requires upto { to ≤ lease.now.place }
+    ensures { IsTrue result → each (is_store_over lease.now.who.now lease.now.file now) (reverse (take to whole.now)) ≡ true }
+{
+    let key = file_key(lease.who, lease.file);
+    let at = last_before(&leases.stores, Kind::Stores, key, whole, lease.place, to);
+    if at == 0 {
+        return true;
+    }
+    is_store_past(&whole[at - 1], now)
+}
+
+/// Whether a lease is that of an incarnation on a file.
+fn is_of(lease: &Lease, who: &Who, file: FileId) -> bool
+    ensures { result ≡ (same_who who.now lease.now.who.now && nat_eq file lease.now.file) }
+{
+    *who == *lease.who && file == lease.file
+}
+
+/// Whether a lease that was granted ended in silence late enough, as its F tells it.
+fn is_late(until: Ticks, heard: Ticks, now: Ticks, grant: Option<Granted>) -> bool
+    ensures { result ≡ ((nat_le (heard + 5) now && nat_le (until + 5) now) && has_passed now (given grant)) }
+{
+    (has_passed(heard, WRITE_SLACK, now) && has_passed(until, WRITE_SLACK, now))
+        && is_grant_over(grant, now)
+}
+
+/// Whether the F at a place ends a lease, late enough.
+fn ends_in_silence(leases: &Leases, whole: &[Entry], lease: &Lease, end: usize) -> bool
+    requires leases { AreLeases whole.now leases.now }
+    requires rises { Rises whole.now lease.now.place }
+    requires within { lease.now.place < length whole.now }
+    requires upto { end < lease.now.place }
+    ensures { IsTrue result → HasEnd whole.now end lease.now.who.now lease.now.file }
+{
+    match &whole[end] {
+        Entry::F {
+            who,
+            file,
+            until,
+            heard,
+            now,
+        } => {
+            if !is_of(lease, who, *file) {
+                return false;
+            }
+            let grant = grant_before(leases, whole, lease, end);
+            if !is_late(*until, *heard, *now, grant) {
+                return false;
+            }
+            are_stores_past(leases, whole, lease, end, *now)
+        }
+        _ => false,
+    }
+}
+
+/// Whether the O at a place ends a lease, late enough since the X at another place.
+fn ends_by_opening(
+    leases: &Leases,
+    whole: &[Entry],
+    lease: &Lease,
+    end: usize,
+    boot_at: usize,
+) -> bool
+    requires leases { AreLeases whole.now leases.now }
+    requires rises { Rises whole.now lease.now.place }
+    requires within { lease.now.place < length whole.now }
+    requires upto { end < lease.now.place }
+    requires booted { boot_at < end }
+    ensures { IsTrue result → HasEnd whole.now end lease.now.who.now lease.now.file }
+{
+    match &whole[end] {
+        Entry::O { boot, now, .. } => {
+            let grant = grant_before(leases, whole, lease, end);
+            if !is_long_wait(&whole[boot_at], *boot, *now, &grant) {
+                return false;
+            }
+            are_stores_past(leases, whole, lease, end, *now)
+        }
+        _ => false,
+    }
+}
+
+/// Whether the lease of an L ended behind a place and before the L, by the F at a place that is counted from 1.
+fn ends_silently(
+    leases: &Leases,
+    whole: &[Entry],
+    lease: &Lease,
+    last: usize,
+    silent: usize,
+) -> bool
+    requires leases { AreLeases whole.now leases.now }
+    requires rises { Rises whole.now lease.now.place }
+    requires within { lease.now.place < length whole.now }
+    ensures { IsTrue result → HasEndBetween whole.now last lease.now.place lease.now.who.now lease.now.file }
+{
+    if silent <= last {
+        return false;
+    }
+    if silent > lease.place {
+        return false;
+    }
+    ends_in_silence(leases, whole, lease, silent - 1)
+}
+
+/// Whether it ended so by the last O.
+fn ends_openly(leases: &Leases, whole: &[Entry], lease: &Lease, last: usize, ends: &Ends) -> bool
+    requires leases { AreLeases whole.now leases.now }
+    requires rises { Rises whole.now lease.now.place }
+    requires within { lease.now.place < length whole.now }
+    ensures { IsTrue result → HasEndBetween whole.now last lease.now.place lease.now.who.now lease.now.file }
+{
+    let opened = ends.opened;
+    let boot = ends.boot;
+    if opened <= last {
+        return false;
+    }
+    if opened > lease.place {
+        return false;
+    }
+    if boot == 0 {
+        return false;
+    }
+    if boot >= opened {
+        return false;
+    }
+    ends_by_opening(leases, whole, lease, opened - 1, boot - 1)
+}
+
+/// Whether the lease of an L ended behind a place and before the L.
+fn ends_behind(ends: &Ends, leases: &Leases, whole: &[Entry], lease: &Lease, last: usize) -> bool
+    requires leases { AreLeases whole.now leases.now }
+    requires rises { Rises whole.now lease.now.place }
+    requires within { lease.now.place < length whole.now }
+    ensures { IsTrue result → HasEndBetween whole.now last lease.now.place lease.now.who.now lease.now.file }
+{
+    let silent = head_at(&ends.silent, file_key(lease.who, lease.file));
+    if ends_silently(leases, whole, lease, last, silent) {
+        return true;
+    }
+    ends_openly(leases, whole, lease, last, ends)
+}
+
+/// Whether the entry at a place is no L, or a lease ended before it and behind each write that it covers.
+fn is_ended_at(ends: &Ends, leases: &Leases, whole: &[Entry], place: usize, entry: &Entry) -> bool
+    requires leases { AreLeases whole.now leases.now }
+    requires rises { Rises whole.now place }
+    requires there { (place < length whole.now) × (slice_get whole.now place ≡ Some entry.now) }
+    ensures { IsTrue result → is_ended whole.now place entry.now ≡ true }
+{
+    match entry {
+        Entry::L {
+            who,
+            file,
+            block,
+            ..
+        } => {
+            let key = own_key(who, *file, *block);
+            let last = back_from(&leases.writes, Kind::Own, key, whole, place);
+            let lease = Lease {
+                who,
+                file: *file,
+                place,
+            };
+            ends_behind(ends, leases, whole, &lease, last)
+        }
+        _ => true,
+    }
+}
+
+/// Takes in the entry at a place.
+fn take_end(ends: &mut Ends, place: usize, entry: &Entry) -> Result<(), NoMemory>
+    requires { place < 18446744073709551615 }
+{
+    match entry {
+        Entry::F { who, file, .. } => set_head(&mut ends.silent, file_key(who, *file), place + 1)?,
+        Entry::X { .. } => ends.booted = place + 1,
+        Entry::O { .. } => {
+            ends.opened = place + 1;
+            ends.boot = ends.booted;
+        }
+        _ => {}
+    }
+    Ok(())
+}
+
+/// A place below which a lease ended before each L and behind each write that it covers. `rising` is a place below which
+/// the times of stores rise.
+pub(crate) fn endings_front(
+    alloc: Global,
+    leases: &Leases,
+    whole: &[Entry],
+    rising: usize,
+) -> Result<usize, NoMemory>
+    requires leases { AreLeases whole.now leases.now }
+    requires rises { Rises whole.now rising }
+    ensures { IfOk result (λ front. PassBetween (is_ended whole.now) whole.now 0 front) }
+{
+    let mut ends = Ends {
+        silent: HashMap::new(alloc),
+        opened: 0,
+        boot: 0,
+        booted: 0,
+    };
+    for (place, entry) in whole.iter().enumerate() {
+        if place >= rising {
+            return Ok(place);
+        }
+        if !is_ended_at(&ends, leases, whole, place, entry) {
+            return Ok(place);
+        }
+        take_end(&mut ends, place, entry)?;
+    }
+    Ok(whole.len())
+}

@@ -1,0 +1,46 @@
+//! A fast pass over the losses that are excused and reported, and over their names.
+
+ghost use Rattle.std.specs.Prelude.{◌≤◌, IfOk};
+ghost use Rattle.nq_check.specs.Fronts.{KeepsBelow};
+ghost use Rattle.nq_check.specs.Tables.{AreTables};
+ghost use Rattle.nq_check.specs.declared.rules.Rule.{Rule};
+
+use crate::behind::behind_front;
+use crate::endings::{endings_front, link_leases};
+use crate::namings::find_names;
+use crate::reports::{Found, reports_front};
+use crate::rising::rising_front;
+use crate::tables::Tables;
+use nq_base::{Entry, NoMemory};
+use std::alloc::Global;
+
+/// The lower of two places.
+fn lower(a: usize, b: usize) -> usize
+    ensures { (result ≤ a) × (result ≤ b) }
+{
+    if a < b { a } else { b }
+}
+
+/// A place below which each L is excused and reported, and each A `lost` names losses anew.
+pub(crate) fn reported_front(
+    alloc: Global,
+    tables: &Tables,
+    whole: &[Entry],
+    ordered: usize,
+) -> Result<usize, NoMemory>
+    requires tables { AreTables whole.now tables.now }
+    requires ordered { KeepsBelow Rule.Ordered whole.now ordered }
+    ensures { IfOk result (KeepsBelow Rule.Reported whole.now) }
+{
+    let names = find_names(alloc, tables, whole)?;
+    let found = Found {
+        tables,
+        named: &names.named,
+        ordered,
+    };
+    let reported = reports_front(alloc, &found, whole)?;
+    let behind = behind_front(alloc, whole)?;
+    let leases = link_leases(alloc, whole)?;
+    let ended = endings_front(alloc, &leases, whole, rising_front(whole))?;
+    Ok(lower(lower(names.front, reported), lower(behind, ended)))
+}

@@ -1,0 +1,230 @@
+//! A fast pass over the losses that are reported by the first call that has to.
+
+ghost use Rattle.std.specs.Prelude.{◌≡◌, ◌+◌, ◌<◌, true, IsTrue, Some, IfOk, OnOk, length, reverse, take, drop};
+ghost use Rattle.std.specs.List.{slice_get};
+ghost use Rattle.nq_check.specs.Fronts.{KeepsBelow};
+ghost use Rattle.nq_check.specs.Losses.{PassBetween, is_told};
+ghost use Rattle.nq_check.specs.Marks.{spot};
+ghost use Rattle.nq_check.specs.Named.{is_reported};
+ghost use Rattle.nq_check.specs.Reports.{AreNext, IsReportKey, TakesReport, answers, reports_of};
+ghost use Rattle.nq_check.specs.Tables.{AreTables};
+ghost use Rattle.nq_check.specs.declared.rules.Rule.{Rule};
+ghost use Rattle.nq_model.specs.JournalTest.{exists};
+ghost use Rattle.nq_model.specs.ReportedTest.{is_busy_answer, names};
+
+use crate::behind::front_with;
+use crate::calls::speaks_of;
+use crate::covering::entry_at;
+use crate::entries::{is_answer, is_busy_answer};
+use crate::links::{Heads, Key, head_at, own_key, set_head};
+use crate::named::are_names_of;
+use crate::namings::loss_key;
+use crate::sought::call_along;
+use crate::tables::Tables;
+use nq_base::{BlockNo, Entry, FileId, Loss, NoMemory, Said, Told, Who};
+use std::alloc::Global;
+use std::collections::HashMap;
+
+/// The key of a file, as an incarnation's own.
+pub(crate) fn file_key(who: &Who, file: FileId) -> Key
+    ensures { result ≡ spot who.now file 0 }
+{
+    own_key(who, file, BlockNo(0))
+}
+
+/// The incarnation and file whose losses a call reports, if any.
+fn reports_of(who: &Who, told: &Told) -> Option<Key>
+    ensures { result ≡ reports_of who.now told.now }
+{
+    match told {
+        Told::Write { file, .. } => Some(file_key(who, *file)),
+        Told::WriteSync { file, .. } => Some(file_key(who, *file)),
+        Told::Sync { file } => Some(file_key(who, *file)),
+        Told::Resize { file, .. } => Some(file_key(who, *file)),
+        Told::Remove { file } => Some(file_key(who, *file)),
+        _ => None,
+    }
+}
+
+/// Whether the entry behind a place answers a call `busy`.
+fn is_busy_behind(whole: &[Entry], place: usize, who: &Who, q: u64) -> bool
+    requires { place < length whole.now }
+    ensures { IsTrue result → exists (is_busy_answer who.now q) (reverse whole.now) ≡ true }
+{
+    match entry_at(whole, place + 1) {
+        Some(next) => is_busy_answer(next, who, q),
+        None => false,
+    }
+}
+
+/// The incarnation and file whose losses the entry at a place may have to report.
+fn may_report(whole: &[Entry], place: usize, entry: &Entry) -> Option<Key>
+    requires { place < length whole.now }
+    ensures { IsReportKey (reverse whole.now) entry.now result }
+{
+    match entry {
+        Entry::C { who, q, told } => {
+            if is_busy_behind(whole, place, who, *q) {
+                return None;
+            }
+            reports_of(who, told)
+        }
+        _ => None,
+    }
+}
+
+/// Takes in the entry at a place, which stands before all that were taken in.
+fn take_report(
+    next: &mut Heads,
+    whole: &[Entry],
+    place: usize,
+    entry: &Entry,
+) -> Result<(), NoMemory>
+    requires there { (place < length whole.now) × (slice_get whole.now place ≡ Some entry.now) }
+    ensures { OnOk result (TakesReport whole.now place next.old.entries next.new.entries) }
+{
+    match may_report(whole, place, entry) {
+        Some(key) => set_head(next, key, whole.len() - place),
+        None => Ok(()),
+    }
+}
+
+/// Whether an entry is an A `lost` that names a loss.
+fn names(tables: &Tables, whole: &[Entry], by: &Who, loss: &Loss, entry: &Entry) -> bool
+    requires tables { AreTables whole.now tables.now }
+    ensures { result ≡ names (reverse whole.now) by.now loss.now entry.now }
+{
+    match entry {
+        Entry::A {
+            who,
+            q,
+            said: Said::Lost(spans),
+        } => {
+            *by == *who
+                && are_names_of(loss, spans)
+                && speaks_of(loss.file, call_along(&tables.calls, whole, who, *q))
+        }
+        _ => false,
+    }
+}
+
+/// Whether an entry is the A of a C.
+fn answers(call: &Entry, entry: &Entry) -> bool
+    ensures { result ≡ answers call.now entry.now }
+{
+    match call {
+        Entry::C { who, q, .. } => is_answer(entry, who, *q),
+        _ => false,
+    }
+}
+
+/// What passes over a journal have found of its losses.
+#[derive(Clone, Copy)]
+pub(crate) struct Found<'a> {
+    /// The links of the journal.
+    pub(crate) tables: &'a Tables,
+    /// Where losses are named.
+    pub(crate) named: &'a Heads,
+    /// A place below which each entry stands in order.
+    pub(crate) ordered: usize,
+}
+
+/// Whether the loss of the L at a place is named before a call has to report it, or by the A of that call.
+fn is_reported(
+    found: &Found,
+    next: &Heads,
+    whole: &[Entry],
+    place: usize,
+    by: &Who,
+    loss: &Loss,
+) -> bool
+    requires tables { AreTables whole.now found.now.tables.now }
+    requires ordered { KeepsBelow Rule.Ordered whole.now found.now.ordered }
+    requires next { AreNext whole.now (place + 1) next.now.entries }
+    requires within { place < length whole.now }
+    ensures { IsTrue result → is_reported (reverse whole.now) (reverse (take (place + 1) whole.now)) by.now loss.now (drop (place + 1) whole.now) ≡ true }
+{
+    let call = whole
+        .len()
+        .saturating_sub(head_at(next, file_key(by, loss.file)));
+    if call >= whole.len() {
+        return true;
+    }
+    let at = head_at(found.named, loss_key(by, loss.first, loss.last));
+    if at <= place + 1 {
+        return false;
+    }
+    if at > whole.len() {
+        return false;
+    }
+    let answered = at - 1;
+    let answer = &whole[answered];
+    if !names(found.tables, whole, by, loss, answer) {
+        return false;
+    }
+    if answered <= call {
+        return true;
+    }
+    if call <= place {
+        return false;
+    }
+    if answered > call + 1 {
+        return false;
+    }
+    if answered >= found.ordered {
+        return false;
+    }
+    answers(&whole[call], answer)
+}
+
+/// Whether the entry at a place is no L, or one that is reported.
+fn is_told(found: &Found, next: &Heads, whole: &[Entry], place: usize, entry: &Entry) -> bool
+    requires tables { AreTables whole.now found.now.tables.now }
+    requires ordered { KeepsBelow Rule.Ordered whole.now found.now.ordered }
+    requires next { AreNext whole.now (place + 1) next.now.entries }
+    requires there { (place < length whole.now) × (slice_get whole.now place ≡ Some entry.now) }
+    ensures { IsTrue result → is_told whole.now place entry.now ≡ true }
+{
+    match entry {
+        Entry::L {
+            who,
+            file,
+            block,
+            first,
+            last,
+        } => {
+            let loss = Loss {
+                file: *file,
+                block: *block,
+                first: *first,
+                last: *last,
+            };
+            is_reported(found, next, whole, place, who, &loss)
+        }
+        _ => true,
+    }
+}
+
+/// A place below which each L is reported.
+pub(crate) fn reports_front(
+    alloc: Global,
+    found: &Found,
+    whole: &[Entry],
+) -> Result<usize, NoMemory>
+    requires tables { AreTables whole.now found.now.tables.now }
+    requires ordered { KeepsBelow Rule.Ordered whole.now found.now.ordered }
+    ensures { IfOk result (λ front. PassBetween (is_told whole.now) whole.now 0 front) }
+{
+    let mut next = HashMap::new(alloc);
+    let mut front = whole.len();
+    let mut left = whole.len();
+    while left > 0 {
+        let place = left - 1;
+        let entry = &whole[place];
+        let told = is_told(found, &next, whole, place, entry);
+        front = front_with(told, place, front);
+        take_report(&mut next, whole, place, entry)?;
+        left = place;
+    }
+    Ok(front)
+}
