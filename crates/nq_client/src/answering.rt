@@ -24,8 +24,11 @@ impl Step {
         ensures step { step_of self.new ≡ answers_as (step_of self.old) (plain_answer answer) (plain_said said) (step_of self.old).client.call }
         ensures left { Leaves 1 self.old self.new }
     {
-        match self.state.call.take() {
-            Some(u) => self.ends_call(u.q, answer, said),
+        match &self.state.call {
+            Some(u) => {
+                let q = u.q;
+                self.ends_call(q, answer, said);
+            }
             None => {}
         }
     }

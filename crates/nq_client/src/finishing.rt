@@ -1,6 +1,6 @@
 //! What a step gives: its datagrams, its entries and its answer.
 
-ghost use Rattle.std.specs.Prelude.{◌≡◌, ◌≤◌, ◌+◌, ◌∷◌, ◌++◌, [], None, All, length, map, option_map, OnOk};
+ghost use Rattle.std.specs.Prelude.{◌≡◌, ◌≤◌, ◌+◌, ◌∷◌, ◌++◌, [], None, Some, All, length, map, option_map, OnOk};
 ghost use Rattle.nq_base.specs.Plain.{plain_answer};
 ghost use Rattle.nq_datagrams.specs.Messages.{FitsMessage};
 ghost use Rattle.nq_model.specs.Message.{call};
@@ -74,16 +74,26 @@ fn post_vacated(
     ensures spare { out.old.spare ≤ out.new.spare + 1 }
 {
     match vacated {
-        Some(Vacated { xid, vacancy }) => {
-            let request = Request::Vacated {
-                who,
-                file: vacancy.file(),
-                tag: vacancy.tag(),
-            };
-            post(letter, alloc, xid, &request, out);
-        }
+        Some(vacated) => post_vacancy(letter, alloc, who, &vacated, out),
         None => {}
     }
+}
+
+/// Sends this vacated message. It is apart, since a request is large, and most steps send none.
+fn post_vacancy(letter: &mut Letter, alloc: Global, who: Who, vacated: &Vacated, out: &mut Outbox)
+    requires bytes { longest_call ≤ letter.old }
+    requires place { 1 ≤ out.old.spare }
+    ensures first { out.new.first ≡ out.old.first }
+    ensures sent { out.new.datagrams ≡ out.old.datagrams ++ map to_server (vacated_message who (Some vacated.now)) }
+    ensures fit { All FitsMessage (vacated_message who (Some vacated.now)) }
+    ensures spare { out.old.spare ≤ out.new.spare + 1 }
+{
+    let request = Request::Vacated {
+        who,
+        file: vacated.vacancy.file(),
+        tag: vacated.vacancy.tag(),
+    };
+    post(letter, alloc, vacated.xid, &request, out);
 }
 
 /// Sends the request under way, if the step sends it.

@@ -3,7 +3,7 @@
 ghost use Rattle.std.specs.Prelude.{◌≡◌, ℕ, option_map, IfSome};
 ghost use Rattle.nq_datagrams.specs.Incoming.{awaited_of, hears_in};
 ghost use Rattle.nq_datagrams.specs.Told.{told_message};
-ghost use Rattle.nq_model.specs.Hear.{hear, hear_call, hear_reply};
+ghost use Rattle.nq_model.specs.Hear.{hear, hear_call};
 ghost use Rattle.nq_client.specs.Receiving.{IsHeeded, at_stake, counts, file_at_stake, most_entries, on_news};
 ghost use Rattle.nq_client.specs.State.{client_of};
 
@@ -49,18 +49,6 @@ fn counts(state: &State, xid: u32, reply: &Reply) -> bool
     }
 }
 
-/// The reply, if it counts.
-fn heeded_reply(state: &State, xid: u32, reply: Reply) -> Option<News>
-    ensures step { (number : ℕ) → option_map (on_news (client_of state.now) number) result ≡ hear_reply (client_of state.now) number xid reply state.now.asked }
-    ensures heeded { IfSome result (IsHeeded state.now.asked) }
-{
-    if counts(state, xid, &reply) {
-        Some(News::Reply(reply))
-    } else {
-        None
-    }
-}
-
 /// The notice, if it counts: it is of this incarnation, and no lease with a later tag is held.
 fn heeded_notice(state: &State, request: &Request) -> Option<News>
     ensures step { (number : ℕ) → option_map (on_news (client_of state.now) number) result ≡ hear_call (client_of state.now) request.now }
@@ -85,7 +73,12 @@ fn heeded(state: &State, heard: Heard) -> Option<News>
 {
     match heard {
         Heard::Notice { request, .. } => heeded_notice(state, &request),
-        Heard::Reply { xid, reply } => heeded_reply(state, xid, reply),
+        Heard::Reply { xid, reply } => {
+            if !counts(state, xid, &reply) {
+                return None;
+            }
+            Some(News::Reply(reply))
+        }
     }
 }
 
@@ -94,8 +87,10 @@ pub(crate) fn read(state: &State, datagram: &[u8]) -> Option<News>
     ensures step { (number : ℕ) → option_map (on_news (client_of state.now) number) result ≡ hears_in (client_of state.now) number datagram.now }
     ensures heeded { IfSome result (IsHeeded state.now.asked) }
 {
-    let heard = read_heard(state.alloc, awaited(&state.asked), datagram)?;
-    heeded(state, heard)
+    match read_heard(state.alloc, awaited(&state.asked), datagram) {
+        Some(heard) => heeded(state, heard),
+        None => None,
+    }
 }
 
 /// The file whose delayed writes the reply to a request may lose, or 0.

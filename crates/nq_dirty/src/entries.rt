@@ -11,6 +11,7 @@ ghost use Rattle.nq_dirty.specs.Entries.{delayed};
 
 use indexmap::IndexMap;
 use nq_base::{Block, BlockNo, FileId, Loss, Losses, NoMemory, Number, Push};
+use std::alloc::Global;
 
 /// What tells blocks apart.
 #[derive(Clone, Copy, PartialEq, Eq, Hash)]
@@ -46,9 +47,18 @@ pub(crate) fn reserve(
     entries.reserve(blocks)?;
     let alloc = *entries.allocator();
     while free.len() < blocks {
-        let fresh = Box::new(alloc, Block::fill(0))?;
-        free.push(fresh)?;
+        add_box(alloc, free)?;
     }
+    Ok(())
+}
+
+/// Makes one more box. It is apart, since a block is large, and mostly the boxes are there.
+fn add_box(alloc: Global, free: &mut Vec<Box<Block>>) -> Result<(), NoMemory>
+    ensures added { OnOk result (vec_len free.new ≡ vec_len free.old + 1) }
+    ensures kept { vec_len free.old ≤ vec_len free.new }
+{
+    let fresh = Box::new(alloc, Block::fill(0))?;
+    free.push(fresh)?;
     Ok(())
 }
 
