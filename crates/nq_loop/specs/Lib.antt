@@ -1,0 +1,6 @@
+pub mod Counting
+pub mod Holding
+pub mod Looping
+pub mod Matching
+pub mod Sending
+pub mod Steps

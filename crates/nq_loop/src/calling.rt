@@ -1,0 +1,123 @@
+//! The calls of the hosts.
+
+ghost use Rattle.std.specs.Prelude.{◌≡◌, ◌<◌, ◌≤◌, ◌∷◌, [], ℕ, List, length, slice_get, IfSome};
+ghost use Rattle.nq_base.specs.declared.Event.{Event};
+ghost use Rattle.nq_fate.specs.Stormy.{WritesNumber};
+ghost use Rattle.nq_loop.specs.Holding.{IsLooping, Keeps, Loops, loop_of};
+ghost use Rattle.nq_loop.specs.Looping.{Step, call_behind, call_steps, is_busy};
+ghost use Rattle.nq_model.specs.World.{Head, run};
+ghost use Rattle.nq_world.specs.Playing.{Plays};
+
+use crate::giving::give;
+use crate::rounds::either;
+use crate::state::LoopState;
+use crate::turns::Halt;
+use nq_base::{Block, BlockNo, Call, Event, FileId, Host};
+use nq_keeper::Keeper;
+use nq_link::Link;
+use nq_script::Schedule;
+use nq_world::World;
+use std::alloc::Global;
+
+/// Begins, in order of the hosts, the next call of each that has a call left and none under way; answers whether one began.
+pub(crate) fn begin_calls<K: Keeper, L: Link>(
+    alloc: Global,
+    world: &mut World<K>,
+    links: &mut [L],
+    state: &mut LoopState,
+    ran: &mut Schedule,
+) -> Result<bool, Halt>
+    requires hosts { length world.old.clients ≡ length state.old.begun }
+    requires few { length state.old.begun ≤ 64 }
+    ensures loops { (head : Head) → head.hosts ≡ length state.old.begun
+        → IsLooping head (loop_of K.content L.sent L.waiting L.faults world.old state.old ran.old links.old)
+        → Loops head (call_steps head.hosts) result (loop_of K.content L.sent L.waiting L.faults world.old state.old ran.old links.old)
+        (loop_of K.content L.sent L.waiting L.faults world.new state.new ran.new links.new) }
+    ensures keeps { Keeps result (K.faults world.old.server.keeper) (K.faults world.new.server.keeper)
+        (length world.old.clients) (length world.new.clients) (length state.old.begun) (length state.new.begun) }
+{
+    let mut any = false;
+    for host in 0..state.hosts() {
+        match begin_call(alloc, world, links, state, ran, host) {
+            Ok(more) => any = either(any, more),
+            Err(why) => return Err(why),
+        }
+    }
+    Ok(any)
+}
+
+/// Begins the next call of a host, if it has one left and none under way; answers whether it began.
+fn begin_call<K: Keeper, L: Link>(
+    alloc: Global,
+    world: &mut World<K>,
+    links: &mut [L],
+    state: &mut LoopState,
+    ran: &mut Schedule,
+    host: u32,
+) -> Result<bool, Halt>
+    requires hosts { length world.old.clients ≡ length state.old.begun }
+    requires there { host < length state.old.begun }
+    requires few { length state.old.begun ≤ 64 }
+    ensures loops { (head : Head) → head.hosts ≡ length state.old.begun
+        → IsLooping head (loop_of K.content L.sent L.waiting L.faults world.old state.old ran.old links.old)
+        → Loops head (Step.call host ∷ []) result (loop_of K.content L.sent L.waiting L.faults world.old state.old ran.old links.old)
+        (loop_of K.content L.sent L.waiting L.faults world.new state.new ran.new links.new) }
+    ensures keeps { Keeps result (K.faults world.old.server.keeper) (K.faults world.new.server.keeper)
+        (length world.old.clients) (length world.new.clients) (length state.old.begun) (length state.new.begun) }
+{
+    if is_busy(world, host) {
+        return Ok(false);
+    }
+    let hosts = state.hosts();
+    let begun = state.begun(Host(host));
+    match call_behind(hosts, host, begun) {
+        Some(call) => give(
+            alloc,
+            world,
+            links,
+            state,
+            ran,
+            Event::Call {
+                host: Host(host),
+                call,
+            },
+        ),
+        None => Ok(false),
+    }
+}
+
+/// Whether a call is under way at a host that is there.
+pub fn is_busy<K: Keeper>(world: &World<K>, host: u32) -> bool
+    requires { host < length world.now.clients }
+    ensures { (head : Head) (events : List Event) → Plays head events world.now (K.content world.now.server.keeper)
+        → result ≡ is_busy (slice_get (run head events).clients host) }
+{
+    match world.under_way(Host(host)) {
+        Some(_) => true,
+        None => false,
+    }
+}
+
+/// What a host calls behind so many of its calls.
+#[tactic(auto, using(crate::proofs::Calls::none_left))]
+fn call_behind(hosts: u32, host: u32, begun: u8) -> Option<Call>
+    requires there { host < hosts }
+    requires few { hosts ≤ 64 }
+    ensures call { result ≡ call_behind hosts host begun }
+    ensures writes { IfSome result WritesNumber }
+{
+    let file = FileId(1);
+    match begun {
+        0 => Some(Call::Write {
+            file,
+            block: BlockNo(host),
+            body: Block::fill(100 + host),
+        }),
+        1 => Some(Call::Sync { file }),
+        2 => Some(Call::Read {
+            file,
+            block: BlockNo((host + 1) % hosts),
+        }),
+        _ => None,
+    }
+}

@@ -1,0 +1,177 @@
+//! Receiving over the links.
+
+ghost use Rattle.std.specs.Prelude.{◌≡◌, ◌<◌, ◌+◌, ◌∷◌, [], ℕ, length, map};
+ghost use Rattle.nq_base.specs.declared.Party.{Party};
+ghost use Rattle.nq_loop.specs.Holding.{IsLooping, Keeps, Loops, TakesFrom, loop_of};
+ghost use Rattle.nq_loop.specs.Looping.{Brings, Step, came_to, receive_steps};
+ghost use Rattle.nq_loop.specs.Sending.{place_of, told_of};
+ghost use Rattle.nq_loop.specs.Steps.{each_below};
+ghost use Rattle.nq_model.specs.World.{Head};
+ghost use Rattle.nq_node.specs.Links.{most_bytes};
+
+use crate::giving::give;
+use crate::matching::{Letter, packet_of};
+use crate::rounds::{behind, either};
+use crate::sending::place_of;
+use crate::state::LoopState;
+use crate::turns::Halt;
+use nq_base::{Event, Host, Party};
+use nq_keeper::Keeper;
+use nq_link::{Came, Link};
+use nq_script::Schedule;
+use nq_world::World;
+use std::alloc::Global;
+
+/// The most bytes of a datagram that a turn looks at: one more than the longest of the protocol has.
+const MOST_BYTES: usize = 4401;
+
+/// Receives once on the server's link, and then once on each host's, in order of the hosts; answers whether a datagram came.
+pub(crate) fn receive_each<K: Keeper, L: Link>(
+    alloc: Global,
+    world: &mut World<K>,
+    links: &mut [L],
+    state: &mut LoopState,
+    ran: &mut Schedule,
+) -> Result<bool, Halt>
+    requires hosts { length world.old.clients ≡ length state.old.begun }
+    requires links { length links.old ≡ length state.old.begun + 1 }
+    ensures loops { (head : Head) → head.hosts ≡ length state.old.begun
+        → IsLooping head (loop_of K.content L.sent L.waiting L.faults world.old state.old ran.old links.old)
+        → Loops head (receive_steps head.hosts) result (loop_of K.content L.sent L.waiting L.faults world.old state.old ran.old links.old)
+        (loop_of K.content L.sent L.waiting L.faults world.new state.new ran.new links.new) }
+    ensures keeps { Keeps result (K.faults world.old.server.keeper) (K.faults world.new.server.keeper)
+        (length world.old.clients) (length world.new.clients) (length state.old.begun) (length state.new.begun) }
+{
+    match receive(alloc, world, links, state, ran, Party::Server) {
+        Ok(came) => behind(came, receive_hosts(alloc, world, links, state, ran)),
+        Err(why) => Err(why),
+    }
+}
+
+/// Receives once on each host's link, in order of the hosts; answers whether a datagram came.
+fn receive_hosts<K: Keeper, L: Link>(
+    alloc: Global,
+    world: &mut World<K>,
+    links: &mut [L],
+    state: &mut LoopState,
+    ran: &mut Schedule,
+) -> Result<bool, Halt>
+    requires hosts { length world.old.clients ≡ length state.old.begun }
+    requires links { length links.old ≡ length state.old.begun + 1 }
+    ensures loops { (head : Head) → head.hosts ≡ length state.old.begun
+        → IsLooping head (loop_of K.content L.sent L.waiting L.faults world.old state.old ran.old links.old)
+        → Loops head (each_below head.hosts (λ host. Step.receive (Party.Client host))) result (loop_of K.content L.sent L.waiting L.faults world.old state.old ran.old links.old)
+        (loop_of K.content L.sent L.waiting L.faults world.new state.new ran.new links.new) }
+    ensures keeps { Keeps result (K.faults world.old.server.keeper) (K.faults world.new.server.keeper)
+        (length world.old.clients) (length world.new.clients) (length state.old.begun) (length state.new.begun) }
+{
+    let mut any = false;
+    for host in 0..state.hosts() {
+        let party = Party::Client(Host(host));
+        match receive(alloc, world, links, state, ran, party) {
+            Ok(more) => any = either(any, more),
+            Err(why) => return Err(why),
+        }
+    }
+    Ok(any)
+}
+
+/// Receives once on a party's link, and takes in the datagram that came; answers whether one came.
+#[tactic(auto, unfolding(nq_node::specs::Links::most_bytes))]
+fn receive<K: Keeper, L: Link>(
+    alloc: Global,
+    world: &mut World<K>,
+    links: &mut [L],
+    state: &mut LoopState,
+    ran: &mut Schedule,
+    party: Party,
+) -> Result<bool, Halt>
+    requires hosts { length world.old.clients ≡ length state.old.begun }
+    requires there { place_of party < length links.old }
+    ensures loops { (head : Head) → head.hosts ≡ length state.old.begun
+        → IsLooping head (loop_of K.content L.sent L.waiting L.faults world.old state.old ran.old links.old)
+        → Loops head (Step.receive party ∷ []) result (loop_of K.content L.sent L.waiting L.faults world.old state.old ran.old links.old)
+        (loop_of K.content L.sent L.waiting L.faults world.new state.new ran.new links.new) }
+    ensures keeps { Keeps result (K.faults world.old.server.keeper) (K.faults world.new.server.keeper)
+        (length world.old.clients) (length world.new.clients) (length state.old.begun) (length state.new.begun) }
+{
+    let mut buffer = [0; MOST_BYTES];
+    receive_through(alloc, world, links, state, ran, &party, &mut buffer)
+}
+
+/// Receives once on a party's link into a buffer, and takes in the datagram that came; answers whether one came.
+fn receive_through<K: Keeper, L: Link>(
+    alloc: Global,
+    world: &mut World<K>,
+    links: &mut [L],
+    state: &mut LoopState,
+    ran: &mut Schedule,
+    party: &Party,
+    buffer: &mut [u8],
+) -> Result<bool, Halt>
+    requires hosts { length world.old.clients ≡ length state.old.begun }
+    requires there { place_of party.now < length links.old }
+    requires buffer { length buffer.old ≡ most_bytes }
+    ensures loops { (head : Head) → head.hosts ≡ length state.old.begun
+        → IsLooping head (loop_of K.content L.sent L.waiting L.faults world.old state.old ran.old links.old)
+        → Loops head (Step.receive party.now ∷ []) result (loop_of K.content L.sent L.waiting L.faults world.old state.old ran.old links.old)
+        (loop_of K.content L.sent L.waiting L.faults world.new state.new ran.new links.new) }
+    ensures keeps { Keeps result (K.faults world.old.server.keeper) (K.faults world.new.server.keeper)
+        (length world.old.clients) (length world.new.clients) (length state.old.begun) (length state.new.begun) }
+{
+    let place = place_of(party);
+    match bring(links, place, buffer) {
+        Came::Nothing => Ok(false),
+        Came::Failed => Err(Halt::Link),
+        Came::Datagram { length, sender } => take_in(
+            alloc,
+            world,
+            links,
+            state,
+            ran,
+            sender,
+            party,
+            &buffer[..length],
+        ),
+    }
+}
+
+/// Receives once on the link at a place.
+fn bring<L: Link>(links: &mut [L], place: usize, buffer: &mut [u8]) -> Came
+    requires there { place < length links.old }
+    requires buffer { length buffer.old ≡ most_bytes }
+    ensures { Brings result place (map (told_of L.sent L.waiting L.faults) links.old) (map (told_of L.sent L.waiting L.faults) links.new) buffer.new }
+{
+    links[place].receive(buffer)
+}
+
+/// Takes a datagram in as the delivery of the packet that it counts as, if it is one.
+fn take_in<K: Keeper, L: Link>(
+    alloc: Global,
+    world: &mut World<K>,
+    links: &mut [L],
+    state: &mut LoopState,
+    ran: &mut Schedule,
+    sender: Party,
+    to: &Party,
+    datagram: &[u8],
+) -> Result<bool, Halt>
+    requires hosts { length world.old.clients ≡ length state.old.begun }
+    ensures takes { (head : Head) → head.hosts ≡ length state.old.begun
+        → IsLooping head (loop_of K.content L.sent L.waiting L.faults world.old state.old ran.old links.old)
+        → TakesFrom head (came_to to.now (sender, datagram.now)) result (loop_of K.content L.sent L.waiting L.faults world.old state.old ran.old links.old)
+        (loop_of K.content L.sent L.waiting L.faults world.new state.new ran.new links.new) }
+    ensures keeps { Keeps result (K.faults world.old.server.keeper) (K.faults world.new.server.keeper)
+        (length world.old.clients) (length world.new.clients) (length state.old.begun) (length state.new.begun) }
+{
+    let letter = Letter {
+        sender,
+        to: *to,
+        bytes: datagram,
+    };
+    match packet_of(alloc, world.packets(), state, &letter) {
+        Ok(Some(number)) => give(alloc, world, links, state, ran, Event::Deliver(number)),
+        Ok(None) => Ok(true),
+        Err(_) => Err(Halt::Memory),
+    }
+}

@@ -1,0 +1,114 @@
+//! Rounds: the clock of each host ticks, then the server's.
+
+ghost use Rattle.std.specs.Prelude.{◌≡◌, ◌<◌, ◌||◌, ◌∷◌, [], ℕ, length};
+ghost use Rattle.nq_base.specs.declared.Event.{Event};
+ghost use Rattle.nq_loop.specs.Holding.{IsLooping, Keeps, Loops, loop_of};
+ghost use Rattle.nq_loop.specs.Looping.{Step, round_steps, rounds_steps};
+ghost use Rattle.nq_loop.specs.Steps.{behind, each_below};
+ghost use Rattle.nq_model.specs.World.{Head};
+
+use crate::giving::give;
+use crate::state::LoopState;
+use crate::turns::Halt;
+use nq_base::{Event, Host};
+use nq_keeper::Keeper;
+use nq_link::Link;
+use nq_script::Schedule;
+use nq_world::World;
+use std::alloc::Global;
+
+/// Gives so many rounds; answers whether it gave any.
+pub(crate) fn give_rounds<K: Keeper, L: Link>(
+    alloc: Global,
+    world: &mut World<K>,
+    links: &mut [L],
+    state: &mut LoopState,
+    ran: &mut Schedule,
+    rounds: u64,
+) -> Result<bool, Halt>
+    requires hosts { length world.old.clients ≡ length state.old.begun }
+    ensures loops { (head : Head) → head.hosts ≡ length state.old.begun
+        → IsLooping head (loop_of K.content L.sent L.waiting L.faults world.old state.old ran.old links.old)
+        → Loops head (rounds_steps head.hosts rounds) result (loop_of K.content L.sent L.waiting L.faults world.old state.old ran.old links.old)
+        (loop_of K.content L.sent L.waiting L.faults world.new state.new ran.new links.new) }
+    ensures keeps { Keeps result (K.faults world.old.server.keeper) (K.faults world.new.server.keeper)
+        (length world.old.clients) (length world.new.clients) (length state.old.begun) (length state.new.begun) }
+{
+    let mut any = false;
+    for round in 0..rounds {
+        match give_round(alloc, world, links, state, ran) {
+            Ok(more) => any = either(any, more),
+            Err(why) => return Err(why),
+        }
+    }
+    Ok(any)
+}
+
+/// Whether one of the two is so.
+pub(crate) fn either(one: bool, other: bool) -> bool
+    ensures { result ≡ (one || other) }
+{
+    one || other
+}
+
+/// Gives a round.
+fn give_round<K: Keeper, L: Link>(
+    alloc: Global,
+    world: &mut World<K>,
+    links: &mut [L],
+    state: &mut LoopState,
+    ran: &mut Schedule,
+) -> Result<bool, Halt>
+    requires hosts { length world.old.clients ≡ length state.old.begun }
+    ensures loops { (head : Head) → head.hosts ≡ length state.old.begun
+        → IsLooping head (loop_of K.content L.sent L.waiting L.faults world.old state.old ran.old links.old)
+        → Loops head (round_steps head.hosts) result (loop_of K.content L.sent L.waiting L.faults world.old state.old ran.old links.old)
+        (loop_of K.content L.sent L.waiting L.faults world.new state.new ran.new links.new) }
+    ensures keeps { Keeps result (K.faults world.old.server.keeper) (K.faults world.new.server.keeper)
+        (length world.old.clients) (length world.new.clients) (length state.old.begun) (length state.new.begun) }
+{
+    match tick_hosts(alloc, world, links, state, ran) {
+        Ok(ticked) => behind(
+            ticked,
+            give(alloc, world, links, state, ran, Event::ServerTick),
+        ),
+        Err(why) => Err(why),
+    }
+}
+
+/// How steps end that ended so behind others, which moved something or not.
+pub(crate) fn behind(moved: bool, ended: Result<bool, Halt>) -> Result<bool, Halt>
+    ensures { result ≡ behind moved ended }
+{
+    match ended {
+        Ok(more) => Ok(moved || more),
+        Err(why) => Err(why),
+    }
+}
+
+/// Gives a tick of each host's clock.
+fn tick_hosts<K: Keeper, L: Link>(
+    alloc: Global,
+    world: &mut World<K>,
+    links: &mut [L],
+    state: &mut LoopState,
+    ran: &mut Schedule,
+) -> Result<bool, Halt>
+    requires hosts { length world.old.clients ≡ length state.old.begun }
+    ensures loops { (head : Head) → head.hosts ≡ length state.old.begun
+        → IsLooping head (loop_of K.content L.sent L.waiting L.faults world.old state.old ran.old links.old)
+        → Loops head (each_below head.hosts (λ host. Step.given (Event.ClientTick host))) result (loop_of K.content L.sent L.waiting L.faults world.old state.old ran.old links.old)
+        (loop_of K.content L.sent L.waiting L.faults world.new state.new ran.new links.new) }
+    ensures keeps { Keeps result (K.faults world.old.server.keeper) (K.faults world.new.server.keeper)
+        (length world.old.clients) (length world.new.clients) (length state.old.begun) (length state.new.begun) }
+{
+    let mut any = false;
+    for host in 0..state.hosts() {
+        let tick = Event::ClientTick(Host(host));
+        match give(alloc, world, links, state, ran, tick) {
+            Ok(more) => any = either(any, more),
+            Err(why) => return Err(why),
+        }
+    }
+    Ok(any)
+}

@@ -1,0 +1,125 @@
+//! Turns of a loop.
+
+ghost use Rattle.std.specs.Prelude.{◌≡◌, ◌<◌, ◌≤◌, ◌+◌, ◌-◌, ◌++◌, ℕ, length, min};
+ghost use Rattle.nq_loop.specs.Holding.{IsLooping, Keeps, KeepsTurn, Loops, Turns, loop_of};
+ghost use Rattle.nq_loop.specs.Looping.{call_steps, receive_steps, rounds_due, turn_of, turn_steps};
+ghost use Rattle.nq_model.specs.World.{Head};
+
+use crate::calling::begin_calls;
+use crate::receiving::receive_each;
+use crate::rounds::{behind, give_rounds};
+use crate::state::LoopState;
+use crate::turns::{Halt, LoopTurn};
+use nq_base::Ticks;
+use nq_clock::Clock;
+use nq_keeper::Keeper;
+use nq_link::Link;
+use nq_script::Schedule;
+use nq_world::World;
+use std::alloc::Global;
+
+/// The most rounds of a turn.
+const MOST_ROUNDS: u64 = 60;
+
+/// A turn of a loop. It reads the clock once. It gives as many rounds as the reading is above the server's time, but at most 60. Then it
+/// begins, in order of the hosts, the next call of each host that has a call left and none under way. Then it receives once on the server's
+/// link and once on each host's, in order of the hosts; a datagram counts as the delivery of the least packet that equals it in bytes,
+/// sender and receiver and was never delivered, else of the least that equals it, and any other is dropped. Each packet that an event
+/// sends is sent at once, in order, on its sender's link. The events that were taken in are added to `ran`.
+///
+/// # Errors
+///
+/// `Link` only where a link counted a fault, `Keep` only where the keeper did, `Memory` where memory was refused, and `Limit` where 100,000
+/// events or more than 999,936 packets came before the next event. What was done before stays done, and `ran` shows it.
+pub fn loop_turn<K: Keeper, L: Link, C: Clock>(
+    alloc: Global,
+    world: &mut World<K>,
+    links: &mut [L],
+    clock: &mut C,
+    state: &mut LoopState,
+    ran: &mut Schedule,
+) -> LoopTurn
+    requires hosts { length world.old.clients ≡ length state.old.begun }
+    requires few { length state.old.begun ≤ 64 }
+    requires links { length links.old ≡ length state.old.begun + 1 }
+    ensures turn { (head : Head) → head.hosts ≡ length state.old.begun
+        → IsLooping head (loop_of K.content L.sent L.waiting L.faults world.old state.old ran.old links.old)
+        → Turns head result (C.readings clock.old) (C.readings clock.new) (loop_of K.content L.sent L.waiting L.faults world.old state.old ran.old links.old)
+        (loop_of K.content L.sent L.waiting L.faults world.new state.new ran.new links.new) }
+    ensures keeps { KeepsTurn result (K.faults world.old.server.keeper) (K.faults world.new.server.keeper)
+        (length world.old.clients) (length world.new.clients) (length state.old.begun) (length state.new.begun) }
+{
+    let reading = clock.now();
+    let rounds = rounds_due(world.server_time(), reading);
+    answered(take_turn(alloc, world, links, state, ran, rounds))
+}
+
+/// The rounds that are due where the server's clock shows this time.
+fn rounds_due(time: Ticks, reading: Ticks) -> u64
+    ensures { result ≡ rounds_due time reading }
+{
+    reading.0.saturating_sub(time.0).min(MOST_ROUNDS)
+}
+
+/// Makes the steps of a turn; answers whether one of them moved anything.
+fn take_turn<K: Keeper, L: Link>(
+    alloc: Global,
+    world: &mut World<K>,
+    links: &mut [L],
+    state: &mut LoopState,
+    ran: &mut Schedule,
+    rounds: u64,
+) -> Result<bool, Halt>
+    requires hosts { length world.old.clients ≡ length state.old.begun }
+    requires few { length state.old.begun ≤ 64 }
+    requires links { length links.old ≡ length state.old.begun + 1 }
+    ensures loops { (head : Head) → head.hosts ≡ length state.old.begun
+        → IsLooping head (loop_of K.content L.sent L.waiting L.faults world.old state.old ran.old links.old)
+        → Loops head (turn_steps head.hosts rounds) result (loop_of K.content L.sent L.waiting L.faults world.old state.old ran.old links.old)
+        (loop_of K.content L.sent L.waiting L.faults world.new state.new ran.new links.new) }
+    ensures keeps { Keeps result (K.faults world.old.server.keeper) (K.faults world.new.server.keeper)
+        (length world.old.clients) (length world.new.clients) (length state.old.begun) (length state.new.begun) }
+{
+    match give_rounds(alloc, world, links, state, ran, rounds) {
+        Ok(ticked) => behind(ticked, call_and_receive(alloc, world, links, state, ran)),
+        Err(why) => Err(why),
+    }
+}
+
+/// Begins calls, and receives.
+fn call_and_receive<K: Keeper, L: Link>(
+    alloc: Global,
+    world: &mut World<K>,
+    links: &mut [L],
+    state: &mut LoopState,
+    ran: &mut Schedule,
+) -> Result<bool, Halt>
+    requires hosts { length world.old.clients ≡ length state.old.begun }
+    requires few { length state.old.begun ≤ 64 }
+    requires links { length links.old ≡ length state.old.begun + 1 }
+    ensures loops { (head : Head) → head.hosts ≡ length state.old.begun
+        → IsLooping head (loop_of K.content L.sent L.waiting L.faults world.old state.old ran.old links.old)
+        → Loops head (call_steps head.hosts ++ receive_steps head.hosts) result (loop_of K.content L.sent L.waiting L.faults world.old state.old ran.old links.old)
+        (loop_of K.content L.sent L.waiting L.faults world.new state.new ran.new links.new) }
+    ensures keeps { Keeps result (K.faults world.old.server.keeper) (K.faults world.new.server.keeper)
+        (length world.old.clients) (length world.new.clients) (length state.old.begun) (length state.new.begun) }
+{
+    match begin_calls(alloc, world, links, state, ran) {
+        Ok(called) => behind(called, receive_each(alloc, world, links, state, ran)),
+        Err(why) => Err(why),
+    }
+}
+
+/// The answer of a turn that ended so.
+fn answered(ended: Result<bool, Halt>) -> LoopTurn
+    ensures { result ≡ turn_of ended }
+{
+    match ended {
+        Ok(true) => LoopTurn::Took,
+        Ok(false) => LoopTurn::Quiet,
+        Err(Halt::Link) => LoopTurn::Link,
+        Err(Halt::Keep) => LoopTurn::Keep,
+        Err(Halt::Memory) => LoopTurn::Memory,
+        Err(Halt::Limit(limit)) => LoopTurn::Limit(limit),
+    }
+}

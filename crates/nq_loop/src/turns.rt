@@ -1,0 +1,45 @@
+//! What turns of a loop answer.
+
+use nq_base::NoMemory;
+use nq_world::Limit;
+
+/// What came of a turn of a loop.
+#[derive(Clone, Copy)]
+pub enum LoopTurn {
+    /// A round was given, a call began, or a datagram came.
+    Took,
+    /// None of these.
+    Quiet,
+    /// A link failed, which it has counted.
+    Link,
+    /// The keeper failed, which it has counted.
+    Keep,
+    /// Memory was wanting.
+    Memory,
+    /// There were too many events, or too many packets, before the next event.
+    Limit(Limit),
+}
+
+/// Why a turn of a loop stops.
+#[derive(Clone, Copy)]
+pub(crate) enum Halt {
+    /// A link failed.
+    Link,
+    /// The keeper failed.
+    Keep,
+    /// Memory was wanting.
+    Memory,
+    /// There were too many events, or too many packets, before the next event.
+    Limit(Limit),
+}
+
+impl From<NoMemory> for Halt {
+    ghost use Rattle.std.specs.Prelude.{◌≡◌};
+    ghost use Rattle.nq_loop.specs.declared.turns.Halt.TheVariants.{Memory};
+
+    ghost from_gives = { λ _ halt. halt ≡ Memory };
+
+    fn from(_: NoMemory) -> Halt {
+        Halt::Memory
+    }
+}
