@@ -1,6 +1,6 @@
 //! A fast pass over the losses before which a lease has ended, late enough.
 
-ghost use Rattle.std.specs.Prelude.{◌≡◌, ◌+◌, ◌<◌, ◌≤◌, [], ◌∷◌, ◌&&◌, nat_eq, nat_le, true, IsTrue, Some, IfOk, IfSome, length, reverse, take};
+ghost use Rattle.std.specs.Prelude.{◌≡◌, ◌+◌, ◌<◌, ◌≤◌, ◌&&◌, nat_eq, nat_le, true, IsTrue, Some, IfOk, IfSome, length, reverse, take};
 ghost use Rattle.std.specs.List.{slice_get};
 ghost use Rattle.nq_check.specs.Grants.{given};
 ghost use Rattle.nq_check.specs.Leases.{AreLeases, HasEnd, HasEndBetween, IsStorePast};
@@ -12,16 +12,13 @@ ghost use Rattle.nq_model.specs.CutOffTest.{has_passed, is_store_over};
 ghost use Rattle.nq_model.specs.JournalTest.{each};
 ghost use Rattle.nq_model.specs.Table.{same_who};
 
-use crate::excused::{Granted, has_passed, is_grant_over, is_long_wait};
+use crate::excused::{Granted, WRITE_SLACK, grant_by, has_passed, is_grant_over, is_long_wait};
 use crate::links::{Heads, Key, Kind, Links, head_at, link, own_key, set_head};
 use crate::reports::file_key;
 use crate::sought::back_from;
 use nq_base::{Entry, FileId, NoMemory, Ticks, Who};
 use std::alloc::Global;
 use std::collections::HashMap;
-
-// Write slack in ticks.
-const WRITE_SLACK: u64 = 5;
 
 /// The links of what tells whether a lease has ended.
 #[derive(Drop)]
@@ -89,25 +86,6 @@ fn last_before(
     at
 }
 
-/// What an entry tells of a grant to an incarnation on a file, if it is one.
-fn grant_of(entry: &Entry, by: &Who, on: FileId) -> Option<Granted>
-    ensures { given result ≡ last_grant (entry.now ∷ []) by.now on }
-{
-    match entry {
-        Entry::G {
-            who,
-            file,
-            term,
-            now,
-            ..
-        } if *who == *by && *file == on => Some(Granted {
-            time: *now,
-            term: *term,
-        }),
-        _ => None,
-    }
-}
-
 /// The last grant of a lease before a place, if it is known.
 fn grant_before(leases: &Leases, whole: &[Entry], lease: &Lease, to: usize) -> Option<Granted>
     requires leases { AreLeases whole.now leases.now }
@@ -120,7 +98,7 @@ fn grant_before(leases: &Leases, whole: &[Entry], lease: &Lease, to: usize) -> O
     if at == 0 {
         return None;
     }
-    grant_of(&whole[at - 1], lease.who, lease.file)
+    grant_by(&whole[at - 1], lease.who, lease.file)
 }
 
 /// Whether an entry is an S since which write slack has passed.

@@ -12,7 +12,7 @@ use crate::entries::loss_covers;
 use nq_base::{Entry, FileId, Ticks, Who};
 
 // Write slack, and skew with write slack, in ticks.
-const WRITE_SLACK: u64 = 5;
+pub(crate) const WRITE_SLACK: u64 = 5;
 
 const SKEW_AND_SLACK: u64 = 8;
 
@@ -44,7 +44,7 @@ fn last_grant(before: &[Entry], by: &Who, on: FileId) -> Option<Granted>
 }
 
 /// What an entry tells of a grant to an incarnation on a file, if it is one.
-fn grant_by(entry: &Entry, by: &Who, on: FileId) -> Option<Granted>
+pub(crate) fn grant_by(entry: &Entry, by: &Who, on: FileId) -> Option<Granted>
     ensures { given result ≡ last_grant (entry.now ∷ []) by.now on }
 {
     match entry {

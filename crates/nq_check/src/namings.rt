@@ -1,10 +1,9 @@
 //! A fast pass over the names of losses in the answers that tell of them.
 
-ghost use Rattle.std.specs.Prelude.{◌≡◌, ◌+◌, ◌<◌, ◌≤◌, true, IsTrue, Some, IfOk, length, reverse, slice_get, take};
+ghost use Rattle.std.specs.Prelude.{◌≡◌, ◌+◌, ◌<◌, ◌≤◌, true, IsTrue, IfOk, length, reverse, take};
 ghost use Rattle.nq_check.specs.Losses.{PassBetween, is_naming};
 ghost use Rattle.nq_check.specs.Namings.{NamesAll, NamesAnew, NamesLost, NamesOn, is_lost_as, loss_spot};
 ghost use Rattle.nq_check.specs.Tables.{AreTables};
-ghost use Rattle.nq_model.specs.Journal.{call_of};
 ghost use Rattle.nq_model.specs.JournalTest.{exists};
 
 use crate::calls::speaks_of;
