@@ -4,6 +4,7 @@ pub mod Backwards
 pub mod Climbs
 pub mod Counts
 pub mod Delayed
+pub mod Fated
 pub mod Followed
 pub mod Linking
 pub mod Lining

@@ -32,7 +32,7 @@ pub(crate) fn find_fronts(alloc: Global, whole: &[Entry]) -> Result<Fronts, NoMe
     let fates = find_fates(alloc, &tables, whole)?;
     let synchronized = kept_front(alloc, &tables, &fates, whole, ordered)?;
     Ok(Fronts {
-        legal: legal_front(&tables, &fates, whole),
+        legal: legal_front(&tables, &fates, accounted, whole),
         ordered,
         accounted,
         reported: 0,
