@@ -40,7 +40,7 @@ and_more : (a b c : Bool) → (b ≡ true → c ≡ true) → (a && b) ≡ true 
 and_more true b c f h = f h
 and_more false b c f h = h
 
-exists_more : {X : Type 0} (s t : X → Bool) → ((x : X) → s x ≡ true → t x ≡ true) → (xs : List X) → exists s xs ≡ true → exists t xs ≡ true
+pub exists_more : {X : Type 0} (s t : X → Bool) → ((x : X) → s x ≡ true → t x ≡ true) → (xs : List X) → exists s xs ≡ true → exists t xs ≡ true
 exists_more s t f [] h = h
 exists_more s t f (x ∷ xs) h = or_more (s x) (exists s xs) (t x) (exists t xs) (f x) (exists_more s t f xs) h
 

@@ -5,6 +5,7 @@ pub mod Climbs
 pub mod Counts
 pub mod Cutoffs
 pub mod Delayed
+pub mod Fated
 pub mod Followed
 pub mod Linking
 pub mod Lining

@@ -34,7 +34,7 @@ pub(crate) fn find_fronts(alloc: Global, whole: &[Entry]) -> Result<Fronts, NoMe
     let reported = reported_front(alloc, &tables, whole, ordered)?;
     let synchronized = kept_front(alloc, &tables, &fates, whole, ordered)?;
     Ok(Fronts {
-        legal: legal_front(&tables, &fates, whole),
+        legal: legal_front(&tables, &fates, accounted, whole),
         ordered,
         accounted,
         reported,

@@ -6,7 +6,7 @@ ghost use Rattle.nq_check.specs.Fronts.{KeepsBelow};
 ghost use Rattle.nq_check.specs.Tables.{AreTables, HasBetween, NoneBetween};
 ghost use Rattle.nq_check.specs.declared.rules.Rule.{Rule};
 ghost use Rattle.nq_model.specs.Journal.{call_of, cuts};
-ghost use Rattle.nq_model.specs.JournalTest.{is_counted, is_stored};
+ghost use Rattle.nq_model.specs.JournalTest.{is_counted, is_lost, is_stored};
 ghost use Rattle.nq_model.specs.LegalTest.{is_counted_by, is_counted_with, is_legal_answer, is_legal_at, is_legal_read, is_reading};
 ghost use Rattle.nq_model.specs.StandsTest.{standing_value, stands};
 
@@ -15,7 +15,7 @@ use crate::entries::{cuts, is_read_by, is_through, is_write_by, is_write_on, val
 use crate::fates::{Fates, fate_at};
 use crate::legal::Reading;
 use crate::links::{Kind, block_key, call_key};
-use crate::settled::is_stored_at;
+use crate::settled::{is_lost_at, is_stored_at};
 use crate::sought::{Sought, back_from, call_along, is_before, is_somewhere, last_of};
 use crate::tables::Tables;
 use nq_base::{BlockNo, Entry, Said, Who};
@@ -42,21 +42,55 @@ fn is_counted(tables: &Tables, whole: &[Entry], entry: &Entry) -> bool
     }
 }
 
-/// Whether an S covers the write at a place. The entry that is its fate is looked at first.
-fn is_stored(tables: &Tables, fates: &Fates, whole: &[Entry], at: usize, write: &Entry) -> bool
+/// Whether an S covers the write at a place. The entry that is its fate is looked at first: where all entries are known to
+/// account for what they cover, no S covers a write that was lost.
+fn is_stored(
+    tables: &Tables,
+    fates: &Fates,
+    accounted: usize,
+    whole: &[Entry],
+    at: usize,
+    write: &Entry,
+) -> bool
     requires tables { AreTables whole.now tables.now }
+    requires accounted { KeepsBelow Rule.Accounted whole.now accounted }
+    requires there { slice_get whole.now at ≡ Some write.now }
     ensures { result ≡ is_stored (reverse whole.now) write.now }
 {
-    if is_stored_at(whole, fate_at(fates, at), write) {
+    let fate = fate_at(fates, at);
+    if is_stored_at(whole, fate, write) {
         return true;
     }
+    if accounted >= whole.len() && is_lost_at(whole, fate, write) {
+        return false;
+    }
     is_somewhere(&tables.covers, whole, Sought::Store(write))
+}
+
+/// Whether an L before a place covers the write at another.
+fn is_lost(
+    tables: &Tables,
+    fates: &Fates,
+    whole: &[Entry],
+    place: usize,
+    at: usize,
+    write: &Entry,
+) -> bool
+    requires tables { AreTables whole.now tables.now }
+    requires within { place < length whole.now }
+    ensures { result ≡ is_lost (reverse (take place whole.now)) write.now }
+{
+    if is_lost_at(&whole[..place], fate_at(fates, at), write) {
+        return true;
+    }
+    is_before(&tables.covers, whole, place, Sought::Loss(write))
 }
 
 /// Whether the write at a place stands for the read at another.
 fn stands(
     tables: &Tables,
     fates: &Fates,
+    accounted: usize,
     whole: &[Entry],
     place: usize,
     read: &Reading,
@@ -64,25 +98,29 @@ fn stands(
     write: &Entry,
 ) -> bool
     requires tables { AreTables whole.now tables.now }
+    requires accounted { KeepsBelow Rule.Accounted whole.now accounted }
+    requires there { slice_get whole.now at ≡ Some write.now }
     requires within { place < length whole.now }
     ensures { result ≡ stands (reverse whole.now) (reverse (take place whole.now)) read.now.who.now read.now.file read.now.block write.now }
 {
     is_write_on(write, read.file, read.block)
         && (is_through(write)
-            || (is_stored(tables, fates, whole, at, write)
+            || (is_stored(tables, fates, accounted, whole, at, write)
                 || is_write_by(write, read.who)
-                    && !is_before(&tables.covers, whole, place, Sought::Loss(write))))
+                    && !is_lost(tables, fates, whole, place, at, write)))
 }
 
 /// The place of the last write before a read that stands for it, counted from 1, or 0 where there is none.
 fn last_standing(
     tables: &Tables,
     fates: &Fates,
+    accounted: usize,
     whole: &[Entry],
     place: usize,
     read: &Reading,
 ) -> usize
     requires tables { AreTables whole.now tables.now }
+    requires accounted { KeepsBelow Rule.Accounted whole.now accounted }
     requires within { place < length whole.now }
     ensures low { result ≤ place }
     ensures none { NoneBetween (stands (reverse whole.now) (reverse (take place whole.now)) read.now.who.now read.now.file read.now.block) whole.now result place }
@@ -91,7 +129,16 @@ fn last_standing(
     let key = block_key(read.file, read.block);
     let mut at = back_from(&tables.writes, Kind::Writes, key, whole, place);
     while at > 0 {
-        if stands(tables, fates, whole, place, read, at - 1, &whole[at - 1]) {
+        if stands(
+            tables,
+            fates,
+            accounted,
+            whole,
+            place,
+            read,
+            at - 1,
+            &whole[at - 1],
+        ) {
             return at;
         }
         at = back_from(&tables.writes, Kind::Writes, key, whole, at - 1);
@@ -121,15 +168,17 @@ fn is_cut_since(tables: &Tables, whole: &[Entry], from: usize, place: usize, rea
 fn standing_value(
     tables: &Tables,
     fates: &Fates,
+    accounted: usize,
     whole: &[Entry],
     place: usize,
     read: &Reading,
 ) -> u32
     requires tables { AreTables whole.now tables.now }
+    requires accounted { KeepsBelow Rule.Accounted whole.now accounted }
     requires within { place < length whole.now }
     ensures { result ≡ standing_value (reverse whole.now) (reverse (take place whole.now)) read.now.who.now read.now.file read.now.block }
 {
-    let at = last_standing(tables, fates, whole, place, read);
+    let at = last_standing(tables, fates, accounted, whole, place, read);
     if is_cut_since(tables, whole, at, place, read) {
         return 0;
     }
@@ -143,15 +192,17 @@ fn standing_value(
 fn is_legal_read(
     tables: &Tables,
     fates: &Fates,
+    accounted: usize,
     whole: &[Entry],
     place: usize,
     read: &Reading,
 ) -> bool
     requires tables { AreTables whole.now tables.now }
+    requires accounted { KeepsBelow Rule.Accounted whole.now accounted }
     requires within { place < length whole.now }
     ensures { result ≡ is_legal_read (reverse whole.now) (reverse (take place whole.now)) read.now.who.now read.now.q read.now.file read.now.block read.now.value }
 {
-    read.value == standing_value(tables, fates, whole, place, read)
+    read.value == standing_value(tables, fates, accounted, whole, place, read)
         && is_reading(call_along(&tables.calls, whole, read.who, read.q))
         && is_somewhere(
             &tables.calls,
@@ -233,8 +284,16 @@ fn answers_legally(tables: &Tables, whole: &[Entry], by: &Who, n: u64, v: u32) -
 }
 
 /// Whether the entry at a place is legal, as the links show.
-fn is_legal(tables: &Tables, fates: &Fates, whole: &[Entry], place: usize, entry: &Entry) -> bool
+fn is_legal(
+    tables: &Tables,
+    fates: &Fates,
+    accounted: usize,
+    whole: &[Entry],
+    place: usize,
+    entry: &Entry,
+) -> bool
     requires tables { AreTables whole.now tables.now }
+    requires accounted { KeepsBelow Rule.Accounted whole.now accounted }
     requires within { place < length whole.now }
     ensures { result ≡ is_legal_at (reverse whole.now) entry.now (reverse (take place whole.now)) }
 {
@@ -251,6 +310,7 @@ fn is_legal(tables: &Tables, fates: &Fates, whole: &[Entry], place: usize, entry
                 || is_legal_read(
                     tables,
                     fates,
+                    accounted,
                     whole,
                     place,
                     &Reading {
@@ -277,12 +337,18 @@ fn is_legal(tables: &Tables, fates: &Fates, whole: &[Entry], place: usize, entry
 }
 
 /// How far the entries of a journal are legal, one after another.
-pub(crate) fn legal_front(tables: &Tables, fates: &Fates, whole: &[Entry]) -> usize
+pub(crate) fn legal_front(
+    tables: &Tables,
+    fates: &Fates,
+    accounted: usize,
+    whole: &[Entry],
+) -> usize
     requires tables { AreTables whole.now tables.now }
+    requires accounted { KeepsBelow Rule.Accounted whole.now accounted }
     ensures { KeepsBelow Rule.Legal whole.now result }
 {
     for (place, entry) in whole.iter().enumerate() {
-        if !is_legal(tables, fates, whole, place, entry) {
+        if !is_legal(tables, fates, accounted, whole, place, entry) {
             return place;
         }
     }

@@ -5,7 +5,7 @@ ghost use Rattle.std.specs.Prelude.{◌≡◌, ◌<◌, ◌≤◌, IsTrue, lengt
 ghost use Rattle.nq_check.specs.Links.{IsFree, IsLinked};
 ghost use Rattle.nq_check.specs.Tables.{AreTables};
 ghost use Rattle.nq_check.specs.declared.links.Kind.TheVariants.{Delays};
-ghost use Rattle.nq_model.specs.JournalTest.{exists, is_stored};
+ghost use Rattle.nq_model.specs.JournalTest.{exists, is_lost, is_stored};
 ghost use Rattle.nq_model.specs.ReportedTest.{names};
 ghost use Rattle.nq_model.specs.SynchronizedTest.{are_stored_or_told, is_named_loss, is_stored_or_told};
 
@@ -115,6 +115,16 @@ pub(crate) fn is_stored_at(stores: &[Entry], at: usize, write: &Entry) -> bool
 {
     match entry_at(stores, at) {
         Some(entry) => store_covers(entry, write),
+        None => false,
+    }
+}
+
+/// Whether the entry at a place is an L that covers a write.
+pub(crate) fn is_lost_at(entries: &[Entry], at: usize, write: &Entry) -> bool
+    ensures { IsTrue result → is_lost (reverse entries.now) write.now ≡ true }
+{
+    match entry_at(entries, at) {
+        Some(entry) => loss_covers(entry, write),
         None => false,
     }
 }

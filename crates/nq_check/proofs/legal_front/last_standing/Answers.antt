@@ -5,6 +5,15 @@ use Rattle.nq_check.proofs.Standing.{none_more, stands_linked}
 use Rattle.nq_model.specs.StandsTest.{stands}
 use Rattle.nq_check.proofs.legal_front.last_standing.Goals as goal
 
+pub stands-requires-clause-there : goal.stands-requires-clause-there
+stands-requires-clause-there c =
+    let whole = c.args.whole.now in
+    let at = c.loop-at.at in
+    let up : 0 < at = c.loop-at-test.true in
+    let within : c.args.place < length whole = c.requires.within in
+    let below : at ≤ c.args.place = c.loop-at.invariant.0 in
+    slice_get_read whole (length whole) (at - 1) c.index-whole-at.result refl (omega arith) c.index-whole-at.is
+
 pub loop-at-preserved : goal.loop-at-preserved
 loop-at-preserved c =
     let whole = c.args.whole.now in
