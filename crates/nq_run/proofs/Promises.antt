@@ -1,8 +1,9 @@
 -- What a replay prints is lawful and sound.
-use Rattle.std.proofs.Common.{◌≡◌, ℕ, List, [], ◌++◌, Option, reverse, refl, subst, arith}
+use Rattle.std.proofs.Common.{◌≡◌, ℕ, List, [], ◌++◌, Option, None, reverse, refl, subst, arith}
 use Rattle.std.proofs.lemmas.List.{reverse-reverse}
 use Rattle.nq_base.specs.declared.Event.{Event}
 use Rattle.nq_check.proofs.Sounds.{faultless_where_sound}
+use Rattle.nq_check.specs.Verdict.{verdict}
 use Rattle.nq_laws.proofs.HeadlineParts.{at-every-moment}
 use Rattle.nq_model.specs.Skew.{IsWithinSkew}
 use Rattle.nq_model.specs.Sound.{IsSound}
@@ -18,7 +19,7 @@ use Rattle.nq_run.specs.Promised.{HoldsThroughout, PrintsLawfully, PrintsSound}
 use Rattle.nq_script.specs.declared.heads.Head.{Head}
 
 -- the headline holds throughout a lawful schedule
-holds_throughout : (head : Head) (events : List Event) → IsLawful (beginning head) events → HoldsThroughout head events
+pub holds_throughout : (head : Head) (events : List Event) → IsLawful (beginning head) events → HoldsThroughout head events
 holds_throughout head events lawful = λ later earlier split.
     at-every-moment head.longest (beginning head) later earlier
     (subst (KeepsBounds head.longest (beginning head)) split lawful.bounds)
@@ -34,12 +35,17 @@ prints_lawfully text held now p = record {
 }
 
 -- the headline at the end of a run is all that the judge asks
+pub faultless : (head : Head) (events : List Event) → HoldsThroughout head events → verdict (run (beginning head) events).journal ≡ None
+faultless head events holds =
+    let world = run (beginning head) events in
+    let h : HeadlineHolds world = (holds [] events refl).holds in
+    let sound : IsSound world.journal = record { legal = h.legal; ordered = h.ordered; accounted = h.accounted; excused = h.excused; reported = h.reported; synchronized = h.synchronized } in
+    faultless_where_sound world.journal sound
+
 prints_sound : (text : List ℕ) (held now : Option (List ℕ)) → PrintsLawfully text held now → PrintsSound held now
 prints_sound text held now p =
-    let world = run (beginning p.head) p.events in
-    let h : HeadlineHolds world = (p.holds [] p.events refl).holds in
-    let sound : IsSound world.journal = record { legal = h.legal; ordered = h.ordered; accounted = h.accounted; excused = h.excused; reported = h.reported; synchronized = h.synchronized } in
-    record { version = p.head.version; entries = reverse world.journal; printed = p.printed; judged = rw (reverse-reverse world.journal) (faultless_where_sound world.journal sound) }
+    let journal = (run (beginning p.head) p.events).journal in
+    record { version = p.head.version; entries = reverse journal; printed = p.printed; judged = rw (reverse-reverse journal) (faultless p.head p.events p.holds) }
 
 -- only one end has the status 0
 pub done_by : (end : Ending) (status : ℕ) → status ≡ status_of end → status ≡ status_of Ending.Done → end ≡ Ending.Done

@@ -1,23 +1,14 @@
 -- What the commands of real hosts do. Below, `held` is what the sink held before and `now` is what it holds after, where the sink
 -- tells them; `w` and `w'` are its counts of faults before and after, and `s` and `s'` are the source's.
-use Rattle.std.specs.Prelude.{◌≡◌, ℕ, List, Option, Some}
+use Rattle.std.specs.Prelude.{◌≡◌, ℕ, List, Option}
 use Rattle.nq_answers.specs.Telling.{status_of as status_of_use}
 use Rattle.nq_answers.specs.declared.Used.{Used}
 use Rattle.nq_base.specs.declared.Who.{Who}
-use Rattle.nq_command.specs.declared.Command.{Command}
 use Rattle.nq_hosts.specs.Serving.{Serves, Tells, status_of as status_of_serving}
 use Rattle.nq_hosts.specs.declared.Served.{Served}
 use Rattle.nq_model.specs.Kept.{Kept}
 use Rattle.nq_node.specs.Links.{LinkTold}
 use Rattle.nq_user.specs.Using.{Uses}
-
--- words that say none of the commands that are run
-abbrev pub RunsNothing : Option Command → Type 0
-RunsNothing (Some Command.Replay) = ⊥
-RunsNothing (Some Command.Check) = ⊥
-RunsNothing (Some (Command.Serve turns longest)) = ⊥
-RunsNothing (Some (Command.Client host inc turns)) = ⊥
-RunsNothing other = Unit {0}
 
 -- a server over this keeper took its turns, or ended before, and the status is that of its end
 pub record ServesFor {P : Type 0} (content : P → Option Kept) (faults : P → ℕ) (code longest turns : ℕ) (keeper : P) (clock clock' : Option (List ℕ)) (link link' : LinkTold) (held now : Option (List ℕ)) (w w' : ℕ) : Type 0 where

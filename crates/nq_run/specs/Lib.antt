@@ -1,2 +1,3 @@
 pub mod Promised
 pub mod Hosting
+pub mod Storming

@@ -1,6 +1,6 @@
 //! Running what the words say.
 
-ghost use Rattle.std.specs.Prelude.{◌≡◌, ◌↔◌, ◌<◌, ◌≤◌, ℕ, List, Some, length};
+ghost use Rattle.std.specs.Prelude.{◌≡◌, ◌<◌, ◌≤◌, ℕ, List, Some, length, map};
 ghost use Rattle.nq_base.specs.declared.Event.{Event};
 ghost use Rattle.nq_base.specs.declared.SkewBroken.{SkewBroken};
 ghost use Rattle.nq_command.specs.Commands.{IsCheck, IsReplay, command_of};
@@ -11,18 +11,22 @@ ghost use Rattle.nq_replay.specs.Lines.{PrintsLine, usage_line};
 ghost use Rattle.nq_replay.specs.Replay.{BreaksSkew, FaultyLine, OfInput, Passes, Runs};
 ghost use Rattle.nq_replay.specs.declared.Ending.{Ending};
 ghost use Rattle.nq_replay.specs.declared.Bound.{Bound};
-ghost use Rattle.nq_run.specs.Hosting.{Attends, RunsNothing, ServesFor};
+ghost use Rattle.nq_run.specs.Hosting.{Attends, ServesFor};
 ghost use Rattle.nq_run.specs.Promised.{PrintsLawfully, PrintsSound, most_bytes};
+ghost use Rattle.nq_run.specs.Storming.{DoesStorm, NeverRuns, RunsNothing, StormsLawfully};
 ghost use Rattle.nq_script.specs.declared.heads.Head.{Head};
 
 use nq_base::{Host, Inc};
 use nq_clock::Clock;
 use nq_command::{Command, Words};
+use nq_fate::Fate;
 use nq_hosts::serve;
 use nq_io::{Sink, Source};
 use nq_keeper::Keeper;
 use nq_link::Link;
 use nq_replay::{Ending, judge, put_line, replay};
+use nq_storm_text::first_of;
+use nq_storming::run_storm;
 use nq_user::client;
 use std::alloc::Global;
 
@@ -30,14 +34,14 @@ use std::alloc::Global;
 const MOST_BYTES: usize = 16_777_216;
 
 /// Runs what the words say, with input of at most 16,777,216 bytes: `replay` and `check`, as [`replay`] and [`judge`] tell, `serve` over
-/// the keeper, the link and the clock, as [`serve`] tells, and `client` over the link and the clock, as [`client`] tells. The headline
-/// of `nq_laws` holds at each moment of the run whose journal `replay` printed, and that journal is sound for `check`: leases, ticks,
-/// restarts and crashes included. That the schedule is within skew and keeps to the bounds is no premise, since the run itself
-/// tests it. The exit statuses:
+/// the keeper, the link and the clock, as [`serve`] tells, `client` over the link and the clock, as [`client`] tells, and `storm` by the
+/// first fate of the kind, as [`run_storm`] tells. The headline of `nq_laws` holds at each moment of the run whose journal `replay` or
+/// `storm` printed, and that journal is sound for `check`: leases, ticks, restarts and crashes included. That the schedule is within
+/// skew and keeps to the bounds is no premise, since the run itself tests it. The exit statuses:
 ///
-/// - 0: the journal of the run was printed; or `yes`, since the journal that was read is sound; or the turns of the server, or the
-///   answers of the client.
-/// - 1: the words say none of these; prints `usage`.
+/// - 0: the journal of the run was printed, and of a storm its schedule before it and its counts behind it; or `yes`, since the journal
+///   that was read is sound; or the turns of the server, or the answers of the client.
+/// - 1: the words say none of these, or no fate is of the kind; prints `usage`.
 /// - 2: a line is outside the grammar, or delivers a packet that was not sent; prints `script line N`, with lines counted from 1.
 /// - 3: a tick of the server's clock breaks the rule on skew (Macklem 1994); prints `skew line N host H server S client C`.
 /// - 4: the source failed, which it has counted; prints nothing.
@@ -46,7 +50,8 @@ const MOST_BYTES: usize = 16_777_216;
 /// - 7: memory was wanting; a front of what is due may be printed.
 /// - 8: the link failed, which it has counted.
 /// - 9: the input has more than 16,777,216 bytes, the schedule more than 100,000 events, or an event comes after more than 999,936
-///   packets; prints `limit line N bytes`, `events` or `packets`. A client that can take in no more prints `events`.
+///   packets; prints `limit line N bytes`, `events` or `packets`, with line 0 for a storm. A client that can take in no more prints
+///   `events`.
 /// - 10: no number is left for a boot of the server, or for what it takes in; prints nothing.
 /// - 11: no turn of the client ended a call, or attaching, which is line 0; prints `noanswer line N`.
 /// - 12: the journal that was read is not sound; prints `no line N RULE` with the line of the first entry at fault.
@@ -59,6 +64,7 @@ pub fn run<S: Source, K: Sink, P: Keeper + Drop, L: Link, C: Clock>(
     keeper: P,
     link: &mut L,
     clock: &mut C,
+    fates: Vec<Box<dyn Fate>>,
 ) -> u8
     ensures ends { IsReplay words.now
         → WithStatus result (λ end. Ends end most_bytes (S.left input.old) (S.left input.new) (K.held out.old) (K.held out.new)
@@ -66,8 +72,9 @@ pub fn run<S: Source, K: Sink, P: Keeper + Drop, L: Link, C: Clock>(
     ensures judges { IsCheck words.now
         → WithStatus result (λ end. Judges end most_bytes (S.left input.old) (S.left input.new) (K.held out.old) (K.held out.new)
         (S.faults input.old) (S.faults input.new) (K.faults out.old) (K.faults out.new)) }
-    ensures usage { (result ≡ status_of Ending.Usage) ↔ RunsNothing (command_of words.now) }
-    ensures nothing { RunsNothing (command_of words.now)
+    ensures usage { result ≡ status_of Ending.Usage → RunsNothing (command_of words.now) (map (λ fate. told fate) fates.items) }
+    ensures never { NeverRuns (command_of words.now) (map (λ fate. told fate) fates.items) → result ≡ status_of Ending.Usage }
+    ensures nothing { result ≡ status_of Ending.Usage
         → (S.left input.new ≡ S.left input.old) × PrintsLine usage_line (K.held out.old) (K.held out.new) (K.faults out.old) (K.faults out.new) }
     ensures limit { IsReplay words.now → (text : List ℕ) → S.left input.old ≡ Some text → most_bytes < length text
         → WithStatus result (λ end. IsUnlessFault end Ending.Limit
@@ -102,6 +109,11 @@ pub fn run<S: Source, K: Sink, P: Keeper + Drop, L: Link, C: Clock>(
         (K.held out.old) (K.held out.new) (K.faults out.old) (K.faults out.new) (C.readings clock.old) (C.readings clock.new)
         (record { sent = L.sent link.old; waiting = L.waiting link.old; faults = L.faults link.old })
         (record { sent = L.sent link.new; waiting = L.waiting link.new; faults = L.faults link.new }) }
+    ensures storms { (kind start events : ℕ) → command_of words.now ≡ Some (Command.Storm kind start events)
+        → WithStatus result (λ end. DoesStorm end kind start events (map (λ fate. told fate) fates.items)
+        (K.held out.old) (K.held out.new) (K.faults out.old) (K.faults out.new)) }
+    ensures lawful { (kind start events : ℕ) → command_of words.now ≡ Some (Command.Storm kind start events) → result ≡ status_of Ending.Done
+        → StormsLawfully kind start events (map (λ fate. told fate) fates.items) (K.held out.old) (K.held out.new) }
 {
     match words.command() {
         Some(Command::Replay) => replay(alloc, input, out, MOST_BYTES).status(),
@@ -121,7 +133,32 @@ pub fn run<S: Source, K: Sink, P: Keeper + Drop, L: Link, C: Clock>(
             clock,
         )
         .status(),
+        Some(
+            Command::Storm {
+                kind,
+                start,
+                events,
+            },
+        ) => storm(alloc, fates, kind, start, events, out),
         _ => usage(out),
+    }
+}
+
+/// Runs a storm of the first fate of a kind, if there is one; the status.
+fn storm<K: Sink>(
+    alloc: Global,
+    fates: Vec<Box<dyn Fate>>,
+    kind: u8,
+    start: u64,
+    events: u32,
+    out: &mut K,
+) -> u8
+    ensures { WithStatus result (λ end. DoesStorm end kind start events (map (λ fate. told fate) fates.items)
+        (K.held out.old) (K.held out.new) (K.faults out.old) (K.faults out.new)) }
+{
+    match first_of(fates, kind) {
+        Some(fate) => run_storm(alloc, fate, start, events, out).status(),
+        None => usage(out),
     }
 }
 

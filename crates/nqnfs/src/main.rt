@@ -1,5 +1,6 @@
 //! The program `nqnfs`: runs what its words say, over the standard input and output, and ends with the status of the
-//! run. `nqnfs replay` reads a schedule and prints its journal. `nqnfs serve` and `nqnfs client` are real hosts, over UDP.
+//! run. `nqnfs replay` reads a schedule and prints its journal. `nqnfs storm` makes a schedule up and runs it. `nqnfs serve` and
+//! `nqnfs client` are real hosts, over UDP.
 #![tactic(auto)]
 
 use nq_base::{Host, Party};
@@ -7,7 +8,7 @@ use nq_clock::StdClock;
 use nq_io::{StdSink, StdSource};
 use nq_keeper::ListKeeper;
 use nq_link::UdpLink;
-use nq_run::{Command, NoMemory, Words, run};
+use nq_run::{Command, CutFate, Fate, HostileFate, LossyFate, NoMemory, SteadyFate, Words, run};
 use std::io::ErrorKind;
 use std::process::ExitCode;
 use std::{env, io};
@@ -25,7 +26,8 @@ fn main(rt: HostRuntime) -> ExitCode {
     }
 }
 
-/// Runs what the words say, over an empty keeper in memory, the link of the party that they name, and the clock of the machine.
+/// Runs what the words say, over an empty keeper in memory, the link of the party that they name, the clock of the machine, and the
+/// four fates.
 fn run_over(rt: &HostRuntime, words: &Words) -> Result<u8, NoMemory> {
     let alloc = rt.alloc();
     let keeper = ListKeeper::new(alloc, Vec::new(alloc))?;
@@ -33,8 +35,13 @@ fn run_over(rt: &HostRuntime, words: &Words) -> Result<u8, NoMemory> {
     let mut clock = StdClock::new(rt.clone()?);
     let mut input = StdSource::new(rt.reader());
     let mut out = StdSink::new(io::writer(rt));
+    let mut fates: Vec<Box<dyn Fate>> = Vec::new(alloc);
+    fates.push(Box::new(alloc, SteadyFate::new())?)?;
+    fates.push(Box::new(alloc, LossyFate::new())?)?;
+    fates.push(Box::new(alloc, CutFate::new())?)?;
+    fates.push(Box::new(alloc, HostileFate::new())?)?;
     Ok(run(
-        alloc, words, &mut input, &mut out, keeper, &mut link, &mut clock,
+        alloc, words, &mut input, &mut out, keeper, &mut link, &mut clock, fates,
     ))
 }
 

@@ -1,4 +1,7 @@
+use Rattle.std.proofs.Common.{◌∙◌, Some, ap, refl, sym}
+use Rattle.nq_command.specs.Commands.{command_of}
 use Rattle.nq_run.proofs.Promises.{done_by, input_lawful, input_sound}
+use Rattle.nq_run.proofs.StormPromises.{storm_does, storm_lawful, storm_never, storm_prints, storm_usage}
 use Rattle.nq_run.specs.Promised.{most_bytes}
 use Rattle.nq_run.proofs.top.run.Goals as goal
 
@@ -21,3 +24,24 @@ returns-in-Some-Replay-clause-headline g c = λ is done. input_lawful _ _ _ _ _ 
 pub returns-in-Some-Replay-clause-sound : goal.returns-in-Some-Replay-clause-sound
 unfolding most_bytes
 returns-in-Some-Replay-clause-sound g c = λ is done. input_sound _ _ _ _ _ (c.replay.ensures.lawful (done_by c.replay.result c.status.result c.status.ensures done))
+
+pub returns-in-Some-Storm-clause-usage : goal.returns-in-Some-Storm-clause-usage
+returns-in-Some-Storm-clause-usage g c = λ none.
+    storm_usage (command_of c.args.words.now) c.storm.result c.in-Some-Storm.kind c.in-Some-Storm.start c.in-Some-Storm.events _ _ _ _ _ (sym c.command.ensures.says ∙ c.in-Some-Storm.is ∙ ap Some c.in-Some-Storm.field-0-is) c.storm.ensures none
+
+pub returns-in-Some-Storm-clause-never : goal.returns-in-Some-Storm-clause-never
+returns-in-Some-Storm-clause-never g c = λ never.
+    storm_never (command_of c.args.words.now) c.storm.result c.in-Some-Storm.kind c.in-Some-Storm.start c.in-Some-Storm.events _ _ _ _ _ (sym c.command.ensures.says ∙ c.in-Some-Storm.is ∙ ap Some c.in-Some-Storm.field-0-is) c.storm.ensures never
+
+pub returns-in-Some-Storm-clause-nothing : goal.returns-in-Some-Storm-clause-nothing
+returns-in-Some-Storm-clause-nothing g c = λ none.
+    (refl, storm_prints c.storm.result c.in-Some-Storm.kind c.in-Some-Storm.start c.in-Some-Storm.events _ _ _ _ _ c.storm.ensures none)
+
+pub returns-in-Some-Storm-clause-storms : goal.returns-in-Some-Storm-clause-storms
+returns-in-Some-Storm-clause-storms g c = λ kind start events is.
+    storm_does (command_of c.args.words.now) c.storm.result c.in-Some-Storm.kind c.in-Some-Storm.start c.in-Some-Storm.events kind start events _ _ _ _ _ (sym c.command.ensures.says ∙ c.in-Some-Storm.is ∙ ap Some c.in-Some-Storm.field-0-is) is c.storm.ensures
+
+pub returns-in-Some-Storm-clause-lawful : goal.returns-in-Some-Storm-clause-lawful
+returns-in-Some-Storm-clause-lawful g c = λ kind start events is done.
+    storm_lawful c.storm.result kind start events _ _ _ _ _
+    (storm_does (command_of c.args.words.now) c.storm.result c.in-Some-Storm.kind c.in-Some-Storm.start c.in-Some-Storm.events kind start events _ _ _ _ _ (sym c.command.ensures.says ∙ c.in-Some-Storm.is ∙ ap Some c.in-Some-Storm.field-0-is) is c.storm.ensures) done
