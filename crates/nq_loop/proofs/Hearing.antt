@@ -1,15 +1,14 @@
 -- Receiving over the links of a loop.
-use Rattle.std.proofs.Common.{◌≡◌, ℕ, ◌≤◌, Bool, true, false, List, [], ◌∷◌, length, map, take, Ok, Err, Option, Some, None, inl, inr, refl, sym, ap, subst, ◌∙◌, arith}
+use Rattle.std.proofs.Common.{◌≡◌, ℕ, ◌≤◌, Bool, true, false, List, [], ◌∷◌, length, map, Ok, Err, Option, Some, None, inl, inr, refl, ap, subst, ◌∙◌, arith}
 use Rattle.std.specs.Prelude.{Result, reverse, slice_get, slice_set}
 use Rattle.nq_base.specs.declared.Event.{Event}
 use Rattle.nq_base.specs.declared.Party.{Party}
-use Rattle.nq_io.specs.Faults.{Rose}
 use Rattle.nq_link.specs.Link.{Comes, CountsReceive, Letters}
 use Rattle.nq_link.specs.declared.Came.{Came}
 use Rattle.nq_loop.proofs.Posts.{get-map, map-set-slice, told-failed}
 use Rattle.nq_loop.proofs.Whole.{one-step}
-use Rattle.nq_loop.specs.Holding.{GivesTo, IsLooping, Loop, Loops, TakesFrom, moment_of}
-use Rattle.nq_loop.specs.Looping.{Brings, Counted, HearsAt, Step, came_to, datagrams_of}
+use Rattle.nq_loop.specs.Holding.{GivesTo, IsLooping, Loop, Loops, TakesFrom}
+use Rattle.nq_loop.specs.Looping.{Brings, HearsAt, Step, came_to, datagrams_of}
 use Rattle.nq_loop.specs.Matching.{CountsAs}
 use Rattle.nq_loop.specs.Sending.{FailsAt, place_of, told_of}
 use Rattle.nq_loop.specs.declared.turns.Halt.{Halt}

@@ -1,9 +1,9 @@
 -- Steps that are made behind others.
-use Rattle.std.proofs.Common.{◌≡◌, ℕ, ◌+◌, ◌<◌, ◌≤◌, Bool, true, false, List, [], ◌∷◌, ◌++◌, Ok, Err, zero, suc, inl, inr, refl, sym, ap, subst, ◌∙◌, arith, append_assoc}
+use Rattle.std.proofs.Common.{◌≡◌, ℕ, ◌≤◌, Bool, true, false, List, [], ◌∷◌, ◌++◌, Ok, Err, zero, suc, inl, inr, refl, sym, ap, subst, ◌∙◌, arith, append_assoc}
 use Rattle.std.proofs.lemmas.Bool.{cases_lt}
 use Rattle.std.proofs.lemmas.List.{append-nil}
 use Rattle.std.specs.Prelude.{Result, ◌||◌}
-use Rattle.nq_loop.specs.Steps.{MakesAll, MakesSteps, StopsAmong, behind, each_below}
+use Rattle.nq_loop.specs.Steps.{MakesAll, MakesSteps, StopsAmong, behind}
 use Rattle.nq_loop.specs.declared.turns.Halt.{Halt}
 
 or-assoc : (a b c : Bool) → (a || (b || c)) ≡ ((a || b) || c)

@@ -1,5 +1,5 @@
 -- A turn, by how its steps ended.
-use Rattle.std.proofs.Common.{◌≡◌, ℕ, Bool, true, false, List, Ok, Err, Option, refl, sym, ap, subst, ◌∙◌}
+use Rattle.std.proofs.Common.{◌≡◌, ℕ, Bool, true, false, List, Ok, Err, Option, sym, ap, subst, ◌∙◌}
 use Rattle.std.specs.Prelude.{Result, reverse}
 use Rattle.nq_clock.specs.Clock.{Reads}
 use Rattle.nq_loop.specs.Holding.{CountsKeep, CountsTurn, IsLooping, Keeps, KeepsTurn, Loop, Loops, Stands, StandsBehind, Turns, moment_of}

@@ -1,5 +1,5 @@
 -- Steps of a loop, and how it stands behind them.
-use Rattle.std.proofs.Common.{◌≡◌, ℕ, ◌+◌, ◌≤◌, Bool, false, List, [], ◌∷◌, ◌++◌, Ok, Err, Option, zero, suc, refl, sym, ap, subst, ◌∙◌, add-one}
+use Rattle.std.proofs.Common.{◌≡◌, ℕ, ◌+◌, ◌≤◌, Bool, false, List, [], ◌∷◌, ◌++◌, Ok, Err, suc, refl, subst, ◌∙◌, add-one}
 use Rattle.std.specs.Prelude.{Result, ◌||◌}
 use Rattle.nq_base.specs.declared.Event.{Event}
 use Rattle.nq_loop.proofs.Joining.{IsFront, grows, join, one-ends, stops-within}

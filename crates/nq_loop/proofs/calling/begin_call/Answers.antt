@@ -1,10 +1,9 @@
-use Rattle.std.proofs.Common.{◌≡◌, ◌∙◌, Some, None, refl, sym, ap, true, false}
-use Rattle.std.specs.Prelude.{reverse, option_map, slice_get, min}
+use Rattle.std.proofs.Common.{◌≡◌, ◌∙◌, refl, sym, ap, true, false}
+use Rattle.std.specs.Prelude.{reverse, option_map, slice_get}
 use Rattle.nq_base.specs.declared.Event.{Event}
 use Rattle.nq_loop.proofs.Calls.{begins-none, begins-one, due-is, none-due}
-use Rattle.nq_loop.specs.Counting.{begun_in}
 use Rattle.nq_loop.specs.Holding.{loop_of}
-use Rattle.nq_loop.specs.Looping.{call_due, is_busy}
+use Rattle.nq_loop.specs.Looping.{is_busy}
 use Rattle.nq_model.specs.World.{run}
 use Rattle.nq_loop.proofs.calling.begin_call.Goals as goal
 

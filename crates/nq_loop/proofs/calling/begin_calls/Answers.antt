@@ -1,5 +1,5 @@
-use Rattle.std.proofs.Common.{◌≡◌, ◌≤◌, ◌∙◌, Err, Ok, false, length, suc, refl, sym, subst, arith}
-use Rattle.nq_loop.proofs.Whole.{given-step, keeps-any, keeps-then, no-steps, each-more, each-stops}
+use Rattle.std.proofs.Common.{◌≡◌, ◌≤◌, ◌∙◌, Err, Ok, false, suc, refl, sym, subst, arith}
+use Rattle.nq_loop.proofs.Whole.{keeps-any, keeps-then, no-steps, each-more, each-stops}
 use Rattle.nq_loop.specs.Holding.{Loops, loop_of}
 use Rattle.nq_loop.specs.Looping.{Step}
 use Rattle.nq_loop.specs.Steps.{each_below}

@@ -1,10 +1,9 @@
-use Rattle.std.proofs.Common.{◌≡◌, ◌∙◌, ◌∷◌, [], ◌++◌, List, Err, Ok, inl, length, map, refl, sym, ap, subst}
+use Rattle.std.proofs.Common.{◌≡◌, ◌∙◌, ◌∷◌, [], ◌++◌, inl, length, map, refl, sym, ap, subst}
 use Rattle.std.specs.Prelude.{reverse}
 use Rattle.nq_loop.specs.Counting.{Counts}
-use Rattle.nq_loop.specs.Holding.{GivesTo, IsLooping, Loop, loop_of, moment_of}
-use Rattle.nq_loop.specs.Looping.{Gives, Moment}
+use Rattle.nq_loop.specs.Holding.{IsLooping, loop_of, moment_of}
+use Rattle.nq_loop.specs.Looping.{Gives}
 use Rattle.nq_loop.specs.Sending.{told_of}
-use Rattle.nq_loop.specs.declared.turns.Halt.{Halt}
 use Rattle.nq_loop.proofs.giving.give.Goals as goal
 
 pub returns-in-Ok : goal.returns-in-Ok

@@ -1,8 +1,8 @@
-use Rattle.std.proofs.Common.{◌≡◌, ◌≤◌, ◌∙◌, ◌∷◌, ◌++◌, List, Err, length, drop, map, refl, sym, ap, subst, arith}
+use Rattle.std.proofs.Common.{◌≤◌, Err, length, drop, map, refl, sym, subst, arith}
 use Rattle.std.specs.Prelude.{reverse}
 use Rattle.nq_lines.proofs.Steps.{has_flag}
 use Rattle.nq_loop.proofs.Events.{can-come, counts-refused, counts-taken, has-count, refused, taken}
-use Rattle.nq_loop.specs.Holding.{CountsKeep, GivesTo, IsLooped, Loop, loop_of}
+use Rattle.nq_loop.specs.Holding.{CountsKeep, GivesTo, IsLooped, loop_of}
 use Rattle.nq_loop.specs.Looping.{halt_of}
 use Rattle.nq_loop.specs.Sending.{SendsAll, told_of}
 use Rattle.nq_storm.proofs.Choosing.{dropped}

@@ -1,4 +1,4 @@
-use Rattle.std.proofs.Common.{◌≡◌, ◌∙◌, sym, refl}
+use Rattle.std.proofs.Common.{◌∙◌, sym}
 use Rattle.nq_storm.proofs.Choosing.{found}
 use Rattle.nq_loop.proofs.giving.keep.Goals as goal
 

@@ -1,4 +1,4 @@
-use Rattle.std.proofs.Common.{◌≡◌, get_or, length, refl}
+use Rattle.std.proofs.Common.{get_or}
 use Rattle.std.proofs.lemmas.Option.{slice_get-get_or}
 use Rattle.nq_loop.proofs.Hearing.{brings}
 use Rattle.nq_loop.proofs.receiving.bring.Goals as goal

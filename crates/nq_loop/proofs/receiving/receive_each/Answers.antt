@@ -1,8 +1,8 @@
-use Rattle.std.proofs.Common.{◌≡◌, ◌∙◌, ◌∷◌, [], ◌++◌, Ok, Err, length, sym, subst}
+use Rattle.std.proofs.Common.{◌∙◌, ◌∷◌, [], length, sym, subst}
 use Rattle.nq_base.specs.declared.Party.{Party}
 use Rattle.nq_loop.specs.Looping.{Step, receive_steps}
 use Rattle.nq_loop.specs.Steps.{each_below}
-use Rattle.nq_loop.proofs.Whole.{cut-first, given-step, keeps-behind, then}
+use Rattle.nq_loop.proofs.Whole.{cut-first, keeps-behind, then}
 use Rattle.nq_loop.specs.Holding.{Keeps, Loops, loop_of}
 use Rattle.nq_loop.proofs.receiving.receive_each.Goals as goal
 

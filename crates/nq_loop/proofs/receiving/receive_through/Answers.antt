@@ -1,9 +1,9 @@
-use Rattle.std.proofs.Common.{◌≡◌, ◌≤◌, Ok, Err, map, take, ap, refl, subst, arith, length}
+use Rattle.std.proofs.Common.{map, take, refl, subst, length}
 use Rattle.std.specs.Prelude.{Some, None}
 use Rattle.nq_loop.proofs.Hearing.{none-came, none-heard, one-came, relinked}
 use Rattle.nq_loop.specs.Holding.{loop_of}
 use Rattle.nq_loop.specs.Looping.{HearsAt}
-use Rattle.nq_loop.specs.Sending.{FailsAt, place_of, told_of}
+use Rattle.nq_loop.specs.Sending.{FailsAt, told_of}
 use Rattle.nq_node.specs.Links.{Letter}
 use Rattle.nq_loop.proofs.receiving.receive_through.Goals as goal
 

@@ -1,9 +1,8 @@
-use Rattle.std.proofs.Common.{◌≡◌, ◌∙◌, Some, None, Err, refl, subst, sym}
+use Rattle.std.proofs.Common.{refl}
 use Rattle.std.specs.Prelude.{reverse}
 use Rattle.nq_loop.proofs.Hearing.{drops-it, takes-packet, wants-memory}
 use Rattle.nq_loop.specs.Holding.{loop_of}
 use Rattle.nq_loop.specs.Looping.{came_to}
-use Rattle.nq_loop.specs.Matching.{CountsAs}
 use Rattle.nq_loop.proofs.receiving.take_in.Goals as goal
 
 pub returns-in-Ok-Some : goal.returns-in-Ok-Some

@@ -1,4 +1,4 @@
-use Rattle.std.proofs.Common.{◌≡◌, ◌∙◌, ◌∷◌, [], ◌++◌, Ok, Err, length, sym, subst}
+use Rattle.std.proofs.Common.{◌∙◌, ◌∷◌, [], length, sym, subst}
 use Rattle.nq_base.specs.declared.Event.{Event}
 use Rattle.nq_loop.specs.Looping.{Step, round_steps}
 use Rattle.nq_loop.specs.Steps.{each_below}

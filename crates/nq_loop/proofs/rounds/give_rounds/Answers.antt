@@ -1,7 +1,7 @@
-use Rattle.std.proofs.Common.{◌≡◌, ◌≤◌, ◌∙◌, Err, Ok, false, length, suc, refl, sym, subst, arith}
-use Rattle.nq_loop.proofs.Whole.{given-step, keeps-any, keeps-then, no-steps, rounds-more, rounds-stop}
+use Rattle.std.proofs.Common.{◌≡◌, ◌≤◌, ◌∙◌, Err, Ok, false, suc, refl, sym, subst, arith}
+use Rattle.nq_loop.proofs.Whole.{keeps-any, keeps-then, no-steps, rounds-more, rounds-stop}
 use Rattle.nq_loop.specs.Holding.{Loops, loop_of}
-use Rattle.nq_loop.specs.Looping.{Step, rounds_steps}
+use Rattle.nq_loop.specs.Looping.{rounds_steps}
 use Rattle.nq_loop.proofs.rounds.give_rounds.Goals as goal
 
 pub loop-round-init : goal.loop-round-init

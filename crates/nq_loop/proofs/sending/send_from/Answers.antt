@@ -1,4 +1,4 @@
-use Rattle.std.proofs.Common.{◌≡◌, ◌<◌, ◌∷◌, [], length, map, Ok, Err, subst, arith}
+use Rattle.std.proofs.Common.{◌<◌, ◌∷◌, [], length, map, Ok, Err, subst, arith}
 use Rattle.std.specs.Prelude.{IfSome}
 use Rattle.nq_loop.proofs.Posts.{all-sent, sent-more, stops-at}
 use Rattle.nq_loop.specs.Sending.{SendsAll, told_of}

@@ -1,7 +1,7 @@
-use Rattle.std.proofs.Common.{◌≡◌, ◌<◌, ◌≤◌, ◌∙◌, List, [], ◌∷◌, ◌++◌, length, map, get_or, refl, sym, ap, subst, arith}
+use Rattle.std.proofs.Common.{◌≡◌, ◌≤◌, ◌∙◌, [], ◌++◌, length, map, get_or, refl, sym, ap, subst, arith}
 use Rattle.std.proofs.lemmas.List.{length-map}
 use Rattle.std.proofs.lemmas.Option.{slice_get-get_or}
-use Rattle.std.specs.Prelude.{slice_get, slice_set, Some}
+use Rattle.std.specs.Prelude.{slice_set}
 use Rattle.nq_loop.proofs.Posts.{changes-none, get-map, map-set-slice, set-changes, told-failed, told-sent}
 use Rattle.nq_loop.specs.Sending.{FailsAt, changed_at, place_of, told_of, with_sent}
 use Rattle.nq_loop.proofs.sending.send_packet.Goals as goal

@@ -1,4 +1,3 @@
-use Rattle.std.proofs.Common.{refl}
 use Rattle.nq_loop.proofs.Turned.{keeps-turn, turned}
 use Rattle.nq_loop.specs.Holding.{loop_of}
 use Rattle.nq_loop.proofs.turning.loop_turn.Goals as goal
