@@ -145,6 +145,13 @@ CACHES = [
     ("a cached read, one of 512 blocks", "1-of-512"),
 ]
 
+# Plain copies of the blocks of a list, in turn.
+COPIES = [
+    ("a copy, 1 block", "1"),
+    ("a copy, 32 blocks in turn", "32"),
+    ("a copy, 512 blocks in turn", "512"),
+]
+
 # Delayed writes: of blocks that are in the list, in turn or one of them again and again, or of new ones until so many are there.
 DELAYS = [
     ("a delayed write, 1 block", "again-1"),
@@ -163,7 +170,7 @@ CLIENTS = [
     ("a cached read without one", "client-read-cached"),
     ("a delayed write by a call", "client-write"),
 ]
-EXTENTS = ("1-1", "1-32", "1-512", "256-1", "256-32", "256-512")
+EXTENTS = ("1-1", "1-32", "1-512", "1-1-of-512", "256-1", "256-32", "256-512")
 
 # What a server is asked that keeps 1 or 256 files, with 1 or 2,048 rows.
 SERVER_REQUESTS = 50_000
@@ -192,6 +199,9 @@ def parts(program):
         ("any clock ticks, 64 hosts in turn", rounds["all"] / 65),
         *reads,
     ):
+        print(f"{name:36} {each * 1e9:8,.1f} ns {1 / each:14,.0f} per second")
+    for name, way in COPIES:
+        each = (often(program, ["copies", way], CACHE_READS)[0] - often(program, ["copies", way], 0)[0]) / CACHE_READS
         print(f"{name:36} {each * 1e9:8,.1f} ns {1 / each:14,.0f} per second")
     for name, way in DELAYS:
         each = (often(program, ["delays", way], CACHE_READS)[0] - often(program, ["delays", way], 0)[0]) / CACHE_READS

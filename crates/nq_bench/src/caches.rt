@@ -1,4 +1,4 @@
-//! The cache of a client, with so many blocks in it.
+//! The cache of a client, with so many blocks in it; and beside it plain copies of so many blocks.
 
 use nq_base::{Block, BlockNo, FileId};
 use nq_cache::Cache;
@@ -28,4 +28,27 @@ fn filled(alloc: Global, blocks: u32) -> Option<Cache> {
         cache.put(FILE, BlockNo(block), &Block::fill(block)).ok()?;
     }
     Some(cache)
+}
+
+/// Copies the blocks of a list of so many, one after the other and again from the first.
+pub(crate) fn copy_often(alloc: Global, blocks: u32, times: u64) -> Option<u64> {
+    let list = listed(alloc, blocks)?;
+    let mut into = Block::fill(0);
+    let mut sum: u64 = 0;
+    let mut place: usize = 0;
+    for _ in 0..times {
+        into.copy_from(list.get(place)?);
+        sum = sum.wrapping_add(u64::from(into.value()));
+        let next = place.wrapping_add(1);
+        place = if next < list.len() { next } else { 0 };
+    }
+    Some(sum)
+}
+
+fn listed(alloc: Global, blocks: u32) -> Option<Vec<Block>> {
+    let mut list = Vec::new(alloc);
+    for block in 0..blocks {
+        list.push(Block::fill(block)).ok()?;
+    }
+    Some(list)
 }

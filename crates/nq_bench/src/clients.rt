@@ -29,26 +29,32 @@ pub(crate) enum Act {
     Write,
 }
 
-/// How many files are held, and how many blocks are read or written in turn.
+/// How many files are held, how many blocks are there, and how many of them are read or written in turn.
 #[derive(Clone, Copy)]
 struct Extent {
     files: u32,
+    there: u32,
     blocks: u32,
 }
 
 impl Extent {
     /// The extent of this word, which has the files first.
     fn of(way: &str) -> Option<Extent> {
-        let (files, blocks) = match way {
-            "1-1" => (1, 1),
-            "1-32" => (1, 32),
-            "1-512" => (1, 512),
-            "256-1" => (256, 1),
-            "256-32" => (256, 32),
-            "256-512" => (256, 512),
+        let (files, there, blocks) = match way {
+            "1-1" => (1, 1, 1),
+            "1-32" => (1, 32, 32),
+            "1-512" => (1, 512, 512),
+            "1-1-of-512" => (1, 512, 1),
+            "256-1" => (256, 1, 1),
+            "256-32" => (256, 32, 32),
+            "256-512" => (256, 512, 512),
             _ => return None,
         };
-        Some(Extent { files, blocks })
+        Some(Extent {
+            files,
+            there,
+            blocks,
+        })
     }
 
     /// The file and the block that come at this place, where the files take turns.
@@ -109,7 +115,7 @@ impl Desk {
 
     /// Has each file held and each block read or written once. The server answers what is asked on the way.
     fn fill(&mut self, client: &mut Client, act: Act, extent: Extent) -> Option<()> {
-        for place in 0..extent.files.max(extent.blocks) {
+        for place in 0..extent.files.max(extent.there) {
             let (file, block) = extent.at(place)?;
             if let Answer::Pending = self.call(client, act, file, block) {
                 let reply = reply(act, place);

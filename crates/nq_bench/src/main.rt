@@ -1,11 +1,11 @@
 //! The program `nq_bench`: does one thing many times, to be timed from outside, and prints a number that stands on
 //! all that came out. Its words are what, which way and how often: `lookup`, `lookup-reply` or `read-reply` with
 //! `encode` or `decode`, `journal` with `print` or `parse`, `skew` with `all` or `clients`, `cache` with 1, 32, 512 or
-//! 1-of-512, which says how many of its blocks are read, `leases` with `row`, `put`, `drop`, `ask`, `clash` or `tick`,
-//! `delays` with `again-` and 1, 32, 512 or 1-of-512, or with `new-` and 1, 32 or 512, or `client-read`,
-//! `client-read-cached` or `client-write` with 1 or 256, the files held, and 1, 32 or 512, the blocks read or written, or
-//! `server-lookup`, `server-read`, `server-read-wanted`, `server-write` or `server-push` with 1-1, 256-1 or 256-2048, the files and
-//! the rows of the server.
+//! 1-of-512, which says how many of its blocks are read, `copies` with 1, 32 or 512, the blocks of a list, `leases` with
+//! `row`, `put`, `drop`, `ask`, `clash` or `tick`, `delays` with `again-` and 1, 32, 512 or 1-of-512, or with `new-` and
+//! 1, 32 or 512, or `client-read`, `client-read-cached` or `client-write` with 1 or 256, the files held, and 1, 32 or 512,
+//! the blocks read or written, or with 1-1-of-512, or `server-lookup`, `server-read`, `server-read-wanted`, `server-write`
+//! or `server-push` with 1-1, 256-1 or 256-2048, the files and the rows of the server.
 #![tactic(auto)]
 
 mod caches;
@@ -58,6 +58,9 @@ fn done(alloc: Global, what: &str, way: &str, times: u64) -> Option<u64> {
         ("cache", "32") => caches::read_often(alloc, 32, 32, times),
         ("cache", "512") => caches::read_often(alloc, 512, 512, times),
         ("cache", "1-of-512") => caches::read_often(alloc, 512, 1, times),
+        ("copies", "1") => caches::copy_often(alloc, 1, times),
+        ("copies", "32") => caches::copy_often(alloc, 32, times),
+        ("copies", "512") => caches::copy_often(alloc, 512, times),
         ("delays", way) => delays::often(alloc, way, times),
         ("leases", way) => leases::often(alloc, way, times),
         ("client-read", way) => clients::often(alloc, Act::Read, way, times),
