@@ -1,11 +1,13 @@
 #!/usr/bin/env python3
 """Times `nqnfs replay` on inputs that it makes, and prints events per second and peak memory; or times `nq_bench`, and
-prints datagrams and megabytes, or calls of the parts of server and client, per second; or times `nqnfs check` on journals.
+prints datagrams and megabytes, or calls of the parts of server and client, per second; or times `nqnfs check` on journals, or
+`nqnfs storm`.
 
     bench/bench.py PROGRAM [--words WORD ...]
     bench/bench.py PROGRAM --codecs
     bench/bench.py PROGRAM --parts
     bench/bench.py PROGRAM --journals LINES
+    bench/bench.py PROGRAM --storms
 
 PROGRAM is the built program, `nqnfs` or, with --codecs or --parts, `nq_bench` (`rt run` in the crate's folder builds it, and says
 where). Each input is run three times; the fastest run counts. The words are `replay` where none are given. With --journals it times
@@ -365,14 +367,44 @@ def journals(program, lines):
     return 1 if failed else 0
 
 
+# Storms that start with 1: of what kind, of how many events, and the seconds that they may take at most.
+STORMS = [
+    ("steady", 10_000, None),
+    ("steady", 100_000, 0.3),
+    ("lossy", 10_000, None),
+    ("lossy", 100_000, 0.6),
+    ("cut", 100_000, None),
+    ("hostile", 100_000, None),
+]
+
+
+def storms(program):
+    """Prints how much processor time the fastest of five runs of each storm takes. It fails where that is too much."""
+    print(f"{'storm':12} {'events':>9} {'seconds':>8} {'MB':>6} status  printed")
+    failed = False
+    for kind, events, most in STORMS:
+        fastest = None
+        for _ in range(5):
+            began = processor()
+            _, memory, status, printed = run(program, ["storm", kind, "1", str(events)], os.devnull)
+            took = processor() - began
+            fastest = took if fastest is None else min(took, fastest)
+        print(f"{kind:12} {events:9,} {fastest:8.3f} {memory:6.0f} {status:6}  {printed:,}")
+        failed = failed or status != 0 or (most is not None and fastest > most)
+    return 1 if failed else 0
+
+
 def main():
-    parser = argparse.ArgumentParser(description="Times nqnfs replay or check, or nq_bench.")
+    parser = argparse.ArgumentParser(description="Times nqnfs replay, check or storm, or nq_bench.")
     parser.add_argument("program")
     parser.add_argument("--words", nargs="*", default=["replay"])
     parser.add_argument("--codecs", action="store_true")
     parser.add_argument("--parts", action="store_true")
     parser.add_argument("--journals", type=int, metavar="LINES")
+    parser.add_argument("--storms", action="store_true")
     asked = parser.parse_args()
+    if asked.storms:
+        return storms(asked.program)
     if asked.journals:
         return journals(asked.program, asked.journals)
     if asked.codecs:
