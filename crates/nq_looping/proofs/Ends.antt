@@ -1,5 +1,5 @@
 -- How a loop ends.
-use Rattle.std.proofs.Common.{◌≡◌, ℕ, ◌≤◌, List, [], length, map, Option, inl, inr, refl, sym, ap, subst, ◌∙◌}
+use Rattle.std.proofs.Common.{◌≡◌, ℕ, List, [], map, Option, inl, inr, refl, subst}
 use Rattle.std.specs.Prelude.{reverse}
 use Rattle.std.specs.List.{AllByRecursion}
 use Rattle.nq_base.specs.declared.Event.{Event}
@@ -9,8 +9,8 @@ use Rattle.nq_loop.specs.declared.LoopTurn.{LoopTurn}
 use Rattle.nq_looping.proofs.Playing.{plays-taken}
 use Rattle.nq_looping.proofs.Turns.{now_at}
 use Rattle.nq_looping.specs.Ending.{limited_of, printed_of}
-use Rattle.nq_looping.specs.Looped.{HasEnded, IsWhole, LoopEnds, PrintsLoop, TellsEnd, between}
-use Rattle.nq_looping.specs.Printed.{PrintsRan, PrintsSpelled, loop_text}
+use Rattle.nq_looping.specs.Looped.{HasEnded, LoopEnds, PrintsLoop, TellsEnd, between}
+use Rattle.nq_looping.specs.Printed.{PrintsRan, PrintsSpelled}
 use Rattle.nq_looping.specs.Turning.{Between, Ran, TakesTurns}
 use Rattle.nq_looping.specs.Whole.{loop_head}
 use Rattle.nq_looping.specs.declared.ending.Looped.{Looped}
@@ -20,11 +20,9 @@ use Rattle.nq_node.specs.Links.{LinkTold}
 use Rattle.nq_play.proofs.Lawfully.{played-runs-are-lawful}
 use Rattle.nq_play.specs.Delivering.{Marks}
 use Rattle.nq_play.specs.Playing.{beginning}
-use Rattle.nq_replay.specs.Lines.{PrintsLine, limit_line}
-use Rattle.nq_replay.specs.Schedules.{TellsStop, bound_of}
+use Rattle.nq_replay.specs.Schedules.{TellsStop}
 use Rattle.nq_replay.specs.declared.Ending.{Ending}
 use Rattle.nq_script.specs.Lines.{once}
-use Rattle.nq_script.specs.Schedule.{SpellsSchedule}
 use Rattle.nq_script.specs.declared.heads.Head.{Head}
 use Rattle.nq_world.specs.Playing.{Plays, WorldOver}
 use Rattle.nq_world.specs.declared.Limit.{Limit}

@@ -1,5 +1,5 @@
 -- The head of a loop's schedule is one.
-use Rattle.std.proofs.Common.{◌≡◌, ◌≢◌, ℕ, ◌≤◌, List, [], ◌∷◌, inl, refl, arith, codes}
+use Rattle.std.proofs.Common.{ℕ, ◌≤◌, [], ◌∷◌, inl, refl, arith, codes}
 use Rattle.std.proofs.lemmas.List.Elements.{All-cons, All-nil}
 use Rattle.nq_base.specs.Name.{IsName, IsNameByte}
 use Rattle.nq_looping.specs.Whole.{loop_head}

@@ -1,5 +1,5 @@
 -- What is printed of a loop.
-use Rattle.std.proofs.Common.{◌≡◌, ℕ, List, ◌++◌, length, map, Option, sym, ap, subst, ◌∙◌, inl, inr}
+use Rattle.std.proofs.Common.{◌≡◌, ℕ, List, ◌++◌, map, Option, sym, ap, subst, ◌∙◌, inr}
 use Rattle.std.specs.List.{count_by}
 use Rattle.std.specs.Prelude.{reverse}
 use Rattle.nq_base.specs.Plain.{plain}

@@ -1,13 +1,13 @@
 -- Turns of a loop, one after another.
-use Rattle.std.proofs.Common.{◌≡◌, ℕ, ◌+◌, ◌<◌, ◌≤◌, Bool, true, false, List, Ok, Err, Option, zero, suc, inl, inr, refl, sym, ap, subst, ◌∙◌, arith, add-one}
+use Rattle.std.proofs.Common.{◌≡◌, ℕ, ◌+◌, ◌<◌, Bool, true, false, List, Ok, Err, Option, zero, suc, inl, inr, refl, ap, subst, ◌∙◌, arith, add-one}
 use Rattle.std.proofs.lemmas.Bool.Decides.{nat_tests}
-use Rattle.std.specs.Prelude.{Result, ◌&&◌, not, min, nat_le, slice_get}
+use Rattle.std.specs.Prelude.{◌&&◌, not, min, nat_le, slice_get}
 use Rattle.nq_base.specs.declared.Event.{Event}
 use Rattle.nq_loop.specs.Counting.{begun_in}
 use Rattle.nq_loop.specs.Holding.{IsLooping, Loop, StandsBehind, Turns, moment_of}
-use Rattle.nq_loop.specs.Looping.{TakesTurn, is_busy}
+use Rattle.nq_loop.specs.Looping.{is_busy}
 use Rattle.nq_loop.specs.declared.LoopTurn.{LoopTurn}
-use Rattle.nq_looping.specs.Turning.{Between, Goes, GoesOn, Ran, Stops, TakesTurns, all_answered, all_below, is_over, is_through, went_on}
+use Rattle.nq_looping.specs.Turning.{Between, Goes, Stops, TakesTurns, all_answered, all_below, is_over, is_through, went_on}
 use Rattle.nq_model.specs.World.{Head, run}
 
 -- ---- whether all is answered

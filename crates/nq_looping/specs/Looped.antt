@@ -1,9 +1,8 @@
 -- What the words of a loop do. Below, `held` is what the sink held before it and `now` is what it holds after it, where the sink tells
 -- them; `w` and `w'` are the sink's counts of faults before and after. `clock` and `links` are the readings to come and the links before
 -- it, and `clock'` and `links'` those after it. The events of a run are told with the newest first.
-use Rattle.std.specs.Prelude.{◌≡◌, ◌⊎◌, ℕ, List, [], Option, length, map, reverse}
+use Rattle.std.specs.Prelude.{◌≡◌, ◌⊎◌, ℕ, List, [], Option, reverse}
 use Rattle.nq_base.specs.declared.Event.{Event}
-use Rattle.nq_loop.specs.Looping.{Moment}
 use Rattle.nq_loop.specs.declared.LoopTurn.{LoopTurn}
 use Rattle.nq_looping.specs.Printed.{PrintsRan, loop_text}
 use Rattle.nq_looping.specs.Turning.{Between, Ran, Stops}

@@ -1,10 +1,9 @@
 -- What a loop prints. Below, `held` is what the sink held before it and `now` is what it holds after it, where the sink tells them; `w`
 -- and `w'` are the sink's counts of faults before and after.
-use Rattle.std.specs.Prelude.{◌≡◌, ◌⊎◌, ℕ, List, ◌++◌, length, map, reverse, Option}
+use Rattle.std.specs.Prelude.{◌≡◌, ◌⊎◌, ℕ, List, ◌++◌, map, reverse, Option}
 use Rattle.std.specs.List.{count_by}
 use Rattle.nq_base.specs.declared.Event.{Event}
 use Rattle.nq_looping.specs.Counts.{is_answer, is_call, loop_line}
-use Rattle.nq_play.specs.Playing.{beginning}
 use Rattle.nq_replay.specs.Replay.{journal_of, journal_printed}
 use Rattle.nq_replay.specs.declared.Ending.{Ending}
 use Rattle.nq_script.specs.Lines.{once}

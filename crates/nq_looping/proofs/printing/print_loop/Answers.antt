@@ -1,8 +1,8 @@
-use Rattle.std.proofs.Common.{◌≡◌, ◌∙◌, List, ap, length, map, reverse}
+use Rattle.std.proofs.Common.{◌≡◌, ◌∙◌, ap, map, reverse}
 use Rattle.std.specs.List.{count_by}
 use Rattle.nq_base.specs.Plain.{plain}
 use Rattle.nq_looping.proofs.Telling.{counted, prints_counted}
-use Rattle.nq_looping.specs.Counts.{is_answer, is_call, loop_line}
+use Rattle.nq_looping.specs.Counts.{is_answer, is_call}
 use Rattle.nq_replay.specs.Replay.{journal_of}
 use Rattle.nq_looping.proofs.printing.print_loop.Goals as goal
 

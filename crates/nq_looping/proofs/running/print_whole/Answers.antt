@@ -1,9 +1,7 @@
-use Rattle.std.proofs.Common.{◌≡◌, ap, subst, sym}
-use Rattle.std.specs.Prelude.{reverse}
+use Rattle.std.proofs.Common.{ap, subst, sym}
 use Rattle.nq_looping.proofs.Ends.{printed-tells}
 use Rattle.nq_looping.proofs.Heads.{fits-head}
 use Rattle.nq_looping.proofs.Spelling.{are-allowed, have-lines}
-use Rattle.nq_looping.specs.Whole.{loop_head}
 use Rattle.nq_script.specs.Heads.{FitsHead}
 use Rattle.nq_looping.proofs.running.print_whole.Goals as goal
 

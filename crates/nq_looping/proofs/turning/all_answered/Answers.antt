@@ -1,4 +1,4 @@
-use Rattle.std.proofs.Common.{◌≡◌, ◌∙◌, ap, arith, refl, sym}
+use Rattle.std.proofs.Common.{◌≡◌, ◌∙◌, ap, arith, refl}
 use Rattle.nq_looping.proofs.Turns.{more-below}
 use Rattle.nq_looping.specs.Turning.{all_below, is_through}
 use Rattle.nq_looping.proofs.turning.all_answered.Goals as goal

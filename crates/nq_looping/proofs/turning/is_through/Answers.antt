@@ -1,4 +1,4 @@
-use Rattle.std.proofs.Common.{◌≡◌, ◌∙◌}
+use Rattle.std.proofs.Common.{◌∙◌}
 use Rattle.nq_looping.proofs.Turns.{through}
 use Rattle.nq_looping.proofs.turning.is_through.Goals as goal
 

@@ -1,8 +1,7 @@
-use Rattle.std.proofs.Common.{◌≡◌, ◌≤◌, ◌∙◌, Ok, Err, inl, inr, length, refl, sym, ap, subst, arith}
+use Rattle.std.proofs.Common.{◌≡◌, ◌≤◌, ◌∙◌, inl, inr, length, refl, sym, arith}
 use Rattle.std.specs.Prelude.{reverse}
-use Rattle.nq_loop.specs.Holding.{IsLooping, Turns, loop_of}
+use Rattle.nq_loop.specs.Holding.{loop_of}
 use Rattle.nq_looping.proofs.Turns.{now_at, stopped, went}
-use Rattle.nq_looping.specs.Turning.{went_on}
 use Rattle.nq_looping.proofs.turning.take_turns.Goals as goal
 
 pub loop-turn-init : goal.loop-turn-init
