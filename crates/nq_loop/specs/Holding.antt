@@ -1,7 +1,6 @@
 -- The loop over a world as contracts see it. Below, `before` and `now` are the keeper's counts of faults.
-use Rattle.std.specs.Prelude.{◌≡◌, ◌<◌, ◌^◌, ℕ, Bool, List, [], ◌∷◌, Option, Result, Ok, Err, map, reverse}
+use Rattle.std.specs.Prelude.{◌≡◌, ◌<◌, ℕ, Bool, List, [], ◌∷◌, Option, Result, Ok, Err, map, reverse}
 use Rattle.std.specs.List.{AllByRecursion}
-use Rattle.nq_base.specs.Block.{filled}
 use Rattle.nq_base.specs.declared.Event.{Event}
 use Rattle.nq_fate.specs.Stormy.{WritesNumber}
 use Rattle.nq_io.specs.Faults.{Rose}

@@ -3,7 +3,6 @@ use Rattle.std.specs.Prelude.{reverse}
 use Rattle.nq_lines.proofs.Steps.{has_flag}
 use Rattle.nq_loop.proofs.Events.{can-come, counts-refused, counts-taken, has-count, refused, taken}
 use Rattle.nq_loop.specs.Holding.{CountsKeep, GivesTo, IsLooped, loop_of}
-use Rattle.nq_loop.specs.Looping.{halt_of}
 use Rattle.nq_loop.specs.Sending.{SendsAll, told_of}
 use Rattle.nq_storm.proofs.Choosing.{dropped}
 use Rattle.nq_loop.proofs.giving.give_last.Goals as goal

@@ -1,4 +1,4 @@
-use Rattle.std.proofs.Common.{◌≡◌, ◌≤◌, ◌∙◌, Err, Ok, false, suc, refl, sym, subst, arith}
+use Rattle.std.proofs.Common.{◌≡◌, ◌≤◌, ◌∙◌, Err, Ok, suc, refl, sym, subst, arith}
 use Rattle.nq_base.specs.declared.Party.{Party}
 use Rattle.nq_loop.proofs.Whole.{keeps-any, keeps-then, no-steps, each-more, each-stops}
 use Rattle.nq_loop.specs.Holding.{Loops, loop_of}

@@ -1,4 +1,4 @@
-use Rattle.std.proofs.Common.{map, take, refl, subst, length}
+use Rattle.std.proofs.Common.{map, take, refl, subst}
 use Rattle.std.specs.Prelude.{Some, None}
 use Rattle.nq_loop.proofs.Hearing.{none-came, none-heard, one-came, relinked}
 use Rattle.nq_loop.specs.Holding.{loop_of}

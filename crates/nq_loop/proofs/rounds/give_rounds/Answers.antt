@@ -1,4 +1,4 @@
-use Rattle.std.proofs.Common.{◌≡◌, ◌≤◌, ◌∙◌, Err, Ok, false, suc, refl, sym, subst, arith}
+use Rattle.std.proofs.Common.{◌≡◌, ◌≤◌, ◌∙◌, Err, Ok, suc, refl, sym, subst, arith}
 use Rattle.nq_loop.proofs.Whole.{keeps-any, keeps-then, no-steps, rounds-more, rounds-stop}
 use Rattle.nq_loop.specs.Holding.{Loops, loop_of}
 use Rattle.nq_loop.specs.Looping.{rounds_steps}

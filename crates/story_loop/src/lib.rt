@@ -1,0 +1,5 @@
+//! Worked loops, over links in memory and over UDP.
+#![tactic(auto)]
+
+#[cfg(test)]
+mod looping;
