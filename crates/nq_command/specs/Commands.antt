@@ -95,7 +95,12 @@ command_of other = None
 abbrev pub IsTerm : ℕ → Type 0
 IsTerm longest = (5 ≤ longest) × (longest ≤ 600)
 
--- a command whose server, if it has one, has a longest term that a server can have
+-- a number of hosts that a loop can have
+abbrev pub AreHosts : ℕ → Type 0
+AreHosts hosts = (1 ≤ hosts) × (hosts ≤ 64)
+
+-- a command whose server, if it has one, has a longest term that a server can have, and a loop of as many hosts as there can be
 abbrev pub IsRanged : Command → Type 0
 IsRanged (Command.Serve turns longest) = IsTerm longest
+IsRanged (Command.Loop hosts turns) = AreHosts hosts
 IsRanged other = ⊤

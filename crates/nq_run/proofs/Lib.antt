@@ -1,3 +1,4 @@
 pub mod Commands
+pub mod LoopPromises
 pub mod Promises
 pub mod StormPromises

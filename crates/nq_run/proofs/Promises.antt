@@ -1,5 +1,5 @@
 -- What a replay prints is lawful and sound.
-use Rattle.std.proofs.Common.{◌≡◌, ℕ, List, [], ◌++◌, Option, None, reverse, refl, subst, arith}
+use Rattle.std.proofs.Common.{◌≡◌, ℕ, List, [], Option, None, reverse, refl, subst, arith}
 use Rattle.std.proofs.lemmas.List.{reverse-reverse}
 use Rattle.nq_base.specs.declared.Event.{Event}
 use Rattle.nq_check.proofs.Sounds.{faultless_where_sound}

@@ -24,6 +24,7 @@ RunsNothing (Some Command.Check) told = ⊥
 RunsNothing (Some (Command.Serve turns longest)) told = ⊥
 RunsNothing (Some (Command.Client host inc turns)) told = ⊥
 RunsNothing (Some (Command.Storm kind start events)) told = LackKind kind told
+RunsNothing (Some (Command.Loop hosts turns)) told = ⊥
 RunsNothing other told = Unit {0}
 
 -- words that say none of the commands that are run, or a storm for which each fate tells its rule and is of another kind

@@ -1,10 +1,11 @@
 //! Running what the words say.
 
-ghost use Rattle.std.specs.Prelude.{◌≡◌, ◌<◌, ◌≤◌, ℕ, List, Some, length, map};
+ghost use Rattle.std.specs.Prelude.{◌≡◌, ◌+◌, ◌<◌, ◌≤◌, ℕ, List, Some, length, map};
 ghost use Rattle.nq_base.specs.declared.Event.{Event};
 ghost use Rattle.nq_base.specs.declared.SkewBroken.{SkewBroken};
 ghost use Rattle.nq_command.specs.Commands.{IsCheck, IsReplay, command_of};
 ghost use Rattle.nq_command.specs.declared.Command.{Command};
+ghost use Rattle.nq_loop.specs.Sending.{told_of};
 ghost use Rattle.nq_replay.specs.Ending.{Ends, IsUnlessFault, WithStatus, status_of};
 ghost use Rattle.nq_replay.specs.Judging.{Judges};
 ghost use Rattle.nq_replay.specs.Lines.{PrintsLine, usage_line};
@@ -12,6 +13,7 @@ ghost use Rattle.nq_replay.specs.Replay.{BreaksSkew, FaultyLine, OfInput, Passes
 ghost use Rattle.nq_replay.specs.declared.Ending.{Ending};
 ghost use Rattle.nq_replay.specs.declared.Bound.{Bound};
 ghost use Rattle.nq_run.specs.Hosting.{Attends, ServesFor};
+ghost use Rattle.nq_run.specs.Looping.{LoopsFor, LoopsLawfully};
 ghost use Rattle.nq_run.specs.Promised.{PrintsLawfully, PrintsSound, most_bytes};
 ghost use Rattle.nq_run.specs.Storming.{DoesStorm, NeverRuns, RunsNothing, StormsLawfully};
 ghost use Rattle.nq_script.specs.declared.heads.Head.{Head};
@@ -24,6 +26,7 @@ use nq_hosts::serve;
 use nq_io::{Sink, Source};
 use nq_keeper::Keeper;
 use nq_link::Link;
+use nq_looping::run_loop;
 use nq_replay::{Ending, judge, put_line, replay};
 use nq_storm_text::first_of;
 use nq_storming::run_storm;
@@ -34,13 +37,14 @@ use std::alloc::Global;
 const MOST_BYTES: usize = 16_777_216;
 
 /// Runs what the words say, with input of at most 16,777,216 bytes: `replay` and `check`, as [`replay`] and [`judge`] tell, `serve` over
-/// the keeper, the link and the clock, as [`serve`] tells, `client` over the link and the clock, as [`client`] tells, and `storm` by the
-/// first fate of the kind, as [`run_storm`] tells. The headline of `nq_laws` holds at each moment of the run whose journal `replay` or
-/// `storm` printed, and that journal is sound for `check`: leases, ticks, restarts and crashes included. That the schedule is within
-/// skew and keeps to the bounds is no premise, since the run itself tests it. The exit statuses:
+/// the keeper, the link and the clock, as [`serve`] tells, `client` over the link and the clock, as [`client`] tells, `storm` by the
+/// first fate of the kind, as [`run_storm`] tells, and `loop` over the clock and the links, of which the server's is the first, as
+/// [`run_loop`] tells. The headline of `nq_laws` holds at each moment of the run whose journal `replay`, `storm` or `loop` printed, and that
+/// journal is sound for `check`: leases, ticks, restarts and crashes included. That the schedule is within skew and keeps to the bounds
+/// is no premise, since the run itself tests it. The exit statuses:
 ///
-/// - 0: the journal of the run was printed, and of a storm its schedule before it and its counts behind it; or `yes`, since the journal
-///   that was read is sound; or the turns of the server, or the answers of the client.
+/// - 0: the journal of the run was printed, and of a storm or a loop its schedule before it and its counts behind it; or `yes`, since the
+///   journal that was read is sound; or the turns of the server, or the answers of the client.
 /// - 1: the words say none of these, or no fate is of the kind; prints `usage`.
 /// - 2: a line is outside the grammar, or delivers a packet that was not sent; prints `script line N`, with lines counted from 1.
 /// - 3: a tick of the server's clock breaks the rule on skew (Macklem 1994); prints `skew line N host H server S client C`.
@@ -48,9 +52,9 @@ const MOST_BYTES: usize = 16_777_216;
 /// - 5: the sink failed, which it has counted; a front of what is due is printed.
 /// - 6: the keeper failed, which it has counted; prints nothing.
 /// - 7: memory was wanting; a front of what is due may be printed.
-/// - 8: the link failed, which it has counted.
+/// - 8: the link, or one of those of a loop, failed, which it has counted.
 /// - 9: the input has more than 16,777,216 bytes, the schedule more than 100,000 events, or an event comes after more than 999,936
-///   packets; prints `limit line N bytes`, `events` or `packets`, with line 0 for a storm. A client that can take in no more prints
+///   packets; prints `limit line N bytes`, `events` or `packets`, with line 0 for a storm or a loop. A client that can take in no more prints
 ///   `events`.
 /// - 10: no number is left for a boot of the server, or for what it takes in; prints nothing.
 /// - 11: no turn of the client ended a call, or attaching, which is line 0; prints `noanswer line N`.
@@ -63,9 +67,11 @@ pub fn run<S: Source, K: Sink, P: Keeper + Drop, L: Link, C: Clock>(
     out: &mut K,
     keeper: P,
     link: &mut L,
+    links: &mut [L],
     clock: &mut C,
     fates: Vec<Box<dyn Fate>>,
 ) -> u8
+    requires links { (hosts turns : ℕ) → command_of words.now ≡ Some (Command.Loop hosts turns) → length links.old ≡ hosts + 1 }
     ensures ends { IsReplay words.now
         → WithStatus result (λ end. Ends end most_bytes (S.left input.old) (S.left input.new) (K.held out.old) (K.held out.new)
         (S.faults input.old) (S.faults input.new) (K.faults out.old) (K.faults out.new)) }
@@ -114,6 +120,14 @@ pub fn run<S: Source, K: Sink, P: Keeper + Drop, L: Link, C: Clock>(
         (K.held out.old) (K.held out.new) (K.faults out.old) (K.faults out.new)) }
     ensures lawful { (kind start events : ℕ) → command_of words.now ≡ Some (Command.Storm kind start events) → result ≡ status_of Ending.Done
         → StormsLawfully kind start events (map (λ fate. told fate) fates.items) (K.held out.old) (K.held out.new) }
+    ensures loops { (hosts turns : ℕ) → command_of words.now ≡ Some (Command.Loop hosts turns)
+        → LoopsFor result hosts turns (C.readings clock.old) (C.readings clock.new)
+        (map (told_of L.sent L.waiting L.faults) links.old) (map (told_of L.sent L.waiting L.faults) links.new)
+        (K.held out.old) (K.held out.new) (K.faults out.old) (K.faults out.new) }
+    ensures looped { (hosts turns : ℕ) → command_of words.now ≡ Some (Command.Loop hosts turns) → result ≡ status_of Ending.Done
+        → LoopsLawfully hosts turns (C.readings clock.old) (C.readings clock.new)
+        (map (told_of L.sent L.waiting L.faults) links.old) (map (told_of L.sent L.waiting L.faults) links.new)
+        (K.held out.old) (K.held out.new) }
 {
     match words.command() {
         Some(Command::Replay) => replay(alloc, input, out, MOST_BYTES).status(),
@@ -140,7 +154,8 @@ pub fn run<S: Source, K: Sink, P: Keeper + Drop, L: Link, C: Clock>(
                 events,
             },
         ) => storm(alloc, fates, kind, start, events, out),
-        _ => usage(out),
+        Some(Command::Loop { hosts, turns }) => looped(alloc, hosts, turns, links, clock, out),
+        None => usage(out),
     }
 }
 
@@ -160,6 +175,25 @@ fn storm<K: Sink>(
         Some(fate) => run_storm(alloc, fate, start, events, out).status(),
         None => usage(out),
     }
+}
+
+/// Runs a loop among so many hosts, 1 to 64, over their links; the status.
+fn looped<K: Sink, L: Link, C: Clock>(
+    alloc: Global,
+    hosts: u32,
+    turns: u32,
+    links: &mut [L],
+    clock: &mut C,
+    out: &mut K,
+) -> u8
+    requires some { 1 ≤ hosts }
+    requires few { hosts ≤ 64 }
+    requires links { length links.old ≡ hosts + 1 }
+    ensures { LoopsFor result hosts turns (C.readings clock.old) (C.readings clock.new)
+        (map (told_of L.sent L.waiting L.faults) links.old) (map (told_of L.sent L.waiting L.faults) links.new)
+        (K.held out.old) (K.held out.new) (K.faults out.old) (K.faults out.new) }
+{
+    run_loop(alloc, hosts, turns, links, clock, out).status()
 }
 
 /// Prints that nothing can be run; the status.

@@ -1,7 +1,11 @@
 //! The program `nqnfs`: runs what its words say, over the standard input and output, and ends with the status of the
 //! run. `nqnfs replay` reads a schedule and prints its journal. `nqnfs storm` makes a schedule up and runs it. `nqnfs serve` and
-//! `nqnfs client` are real hosts, over UDP.
+//! `nqnfs client` are real hosts, over UDP, and `nqnfs loop` is a server and its hosts in turns.
 #![tactic(auto)]
+
+ghost use Rattle.std.specs.Prelude.{◌≡◌, ◌+◌, ℕ, Some, IfOk, vec_len};
+ghost use Rattle.nq_command.specs.Commands.{command_of};
+ghost use Rattle.nq_command.specs.declared.Command.{Command};
 
 use nq_base::{Host, Party};
 use nq_clock::StdClock;
@@ -26,12 +30,13 @@ fn main(rt: HostRuntime) -> ExitCode {
     }
 }
 
-/// Runs what the words say, over an empty keeper in memory, the link of the party that they name, the clock of the machine, and the
-/// four fates.
+/// Runs what the words say, over an empty keeper in memory, the link of the party that they name, the links of a loop, the clock of the
+/// machine, and the four fates.
 fn run_over(rt: &HostRuntime, words: &Words) -> Result<u8, NoMemory> {
     let alloc = rt.alloc();
     let keeper = ListKeeper::new(alloc, Vec::new(alloc))?;
     let mut link = UdpLink::new(rt.clone()?, party_of(words));
+    let mut links = links_of(rt, words)?;
     let mut clock = StdClock::new(rt.clone()?);
     let mut input = StdSource::new(rt.reader());
     let mut out = StdSink::new(io::writer(rt));
@@ -41,7 +46,15 @@ fn run_over(rt: &HostRuntime, words: &Words) -> Result<u8, NoMemory> {
     fates.push(Box::new(alloc, CutFate::new())?)?;
     fates.push(Box::new(alloc, HostileFate::new())?)?;
     Ok(run(
-        alloc, words, &mut input, &mut out, keeper, &mut link, &mut clock, fates,
+        alloc,
+        words,
+        &mut input,
+        &mut out,
+        keeper,
+        &mut link,
+        links.as_mut_slice(),
+        &mut clock,
+        fates,
     ))
 }
 
@@ -51,6 +64,20 @@ fn party_of(words: &Words) -> Party {
         Some(Command::Client { host, .. }) => Party::Client(Host(host)),
         _ => Party::Server,
     }
+}
+
+/// The links of a loop, where the words say one: the server's, and then that of each host.
+fn links_of(rt: &HostRuntime, words: &Words) -> Result<Vec<UdpLink<HostRuntime>>, NoMemory>
+    ensures { IfOk result (λ links. (hosts turns : ℕ) → command_of words.now ≡ Some (Command.Loop hosts turns) → vec_len links ≡ hosts + 1) }
+{
+    let mut links = Vec::new(rt.alloc());
+    if let Some(Command::Loop { hosts, .. }) = words.command() {
+        links.push(UdpLink::new(rt.clone()?, Party::Server))?;
+        for host in 0..hosts {
+            links.push(UdpLink::new(rt.clone()?, Party::Client(Host(host))))?;
+        }
+    }
+    Ok(links)
 }
 
 /// The words behind the program's name; none where one of them is not UTF-8.

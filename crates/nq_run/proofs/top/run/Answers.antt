@@ -1,5 +1,6 @@
 use Rattle.std.proofs.Common.{◌∙◌, Some, ap, refl, sym}
 use Rattle.nq_command.specs.Commands.{command_of}
+use Rattle.nq_run.proofs.LoopPromises.{loop_does, loop_lawful, loop_usage}
 use Rattle.nq_run.proofs.Promises.{done_by, input_lawful, input_sound}
 use Rattle.nq_run.proofs.StormPromises.{storm_does, storm_lawful, storm_never, storm_prints, storm_usage}
 use Rattle.nq_run.specs.Promised.{most_bytes}
@@ -45,3 +46,18 @@ pub returns-in-Some-Storm-clause-lawful : goal.returns-in-Some-Storm-clause-lawf
 returns-in-Some-Storm-clause-lawful g c = λ kind start events is done.
     storm_lawful c.storm.result kind start events _ _ _ _ _
     (storm_does (command_of c.args.words.now) c.storm.result c.in-Some-Storm.kind c.in-Some-Storm.start c.in-Some-Storm.events kind start events _ _ _ _ _ (sym c.command.ensures.says ∙ c.in-Some-Storm.is ∙ ap Some c.in-Some-Storm.field-0-is) is c.storm.ensures) done
+
+pub returns-in-Some-Loop-clause-usage : goal.returns-in-Some-Loop-clause-usage
+returns-in-Some-Loop-clause-usage g c = λ none. absurd (loop_usage c.looped.result c.in-Some-Loop.hosts c.in-Some-Loop.turns _ _ _ _ _ _ _ _ c.looped.ensures none)
+
+pub returns-in-Some-Loop-clause-nothing : goal.returns-in-Some-Loop-clause-nothing
+returns-in-Some-Loop-clause-nothing g c = λ none. absurd (loop_usage c.looped.result c.in-Some-Loop.hosts c.in-Some-Loop.turns _ _ _ _ _ _ _ _ c.looped.ensures none)
+
+pub returns-in-Some-Loop-clause-loops : goal.returns-in-Some-Loop-clause-loops
+returns-in-Some-Loop-clause-loops g c = λ hosts turns is.
+    loop_does (command_of c.args.words.now) c.looped.result c.in-Some-Loop.hosts c.in-Some-Loop.turns hosts turns _ _ _ _ _ _ _ _ (sym c.command.ensures.says ∙ c.in-Some-Loop.is ∙ ap Some c.in-Some-Loop.field-0-is) is c.looped.ensures
+
+pub returns-in-Some-Loop-clause-looped : goal.returns-in-Some-Loop-clause-looped
+returns-in-Some-Loop-clause-looped g c = λ hosts turns is done.
+    loop_lawful c.looped.result hosts turns _ _ _ _ _ _ _ _
+    (loop_does (command_of c.args.words.now) c.looped.result c.in-Some-Loop.hosts c.in-Some-Loop.turns hosts turns _ _ _ _ _ _ _ _ (sym c.command.ensures.says ∙ c.in-Some-Loop.is ∙ ap Some c.in-Some-Loop.field-0-is) is c.looped.ensures) done

@@ -1,0 +1,32 @@
+-- What the command of loops does. Below, `clock` and `links` are the readings to come and the links before it, and `clock'` and `links'`
+-- those after it; `held` is what the sink held before and `now` is what it holds after, where the sink tells them; `w` and `w'` are its
+-- counts of faults before and after.
+use Rattle.std.specs.Prelude.{◌≡◌, ℕ, List, Option, None}
+use Rattle.nq_base.specs.declared.Event.{Event}
+use Rattle.nq_check.specs.Verdict.{verdict}
+use Rattle.nq_io.specs.Told.{with_end}
+use Rattle.nq_looping.specs.Ending.{status_of as status_of_loop}
+use Rattle.nq_looping.specs.Looped.{IsWhole, LoopEnds}
+use Rattle.nq_looping.specs.Printed.{loop_text}
+use Rattle.nq_looping.specs.Whole.{loop_head}
+use Rattle.nq_looping.specs.declared.Looped.{Looped}
+use Rattle.nq_model.specs.World.{run}
+use Rattle.nq_node.specs.Links.{LinkTold}
+use Rattle.nq_play.specs.Playing.{beginning}
+use Rattle.nq_run.specs.Promised.{HoldsThroughout}
+
+-- a loop among so many hosts took its turns, or ended before, and the status is that of its end
+pub record LoopsFor (code hosts turns : ℕ) (clock clock' : Option (List ℕ)) (links links' : List LinkTold) (held now : Option (List ℕ)) (w w' : ℕ) : Type 0 where
+  pub end : Looped
+  pub status : code ≡ status_of_loop end
+  pub ends : LoopEnds end hosts turns clock clock' links links' held now w w'
+
+-- a loop printed the text of the schedule that its turns made, the text of that schedule's journal, and its counts. The headline holds at
+-- each moment of its run, and nothing in its journal is at fault
+pub record LoopsLawfully (hosts turns : ℕ) (clock clock' : Option (List ℕ)) (links links' : List LinkTold) (held now : Option (List ℕ)) : Type 0 where
+  pub text : List ℕ
+  pub events : List Event
+  pub whole : IsWhole hosts turns text events clock clock' links links'
+  pub printed : now ≡ with_end held (loop_text (loop_head hosts) text events)
+  pub holds : HoldsThroughout (loop_head hosts) events
+  pub judged : verdict (run (beginning (loop_head hosts)) events).journal ≡ None
