@@ -3,7 +3,7 @@
 //! `nqnfs client` are real hosts, over UDP, and `nqnfs loop` is a server and its hosts in turns.
 #![tactic(auto)]
 
-ghost use Rattle.std.specs.Prelude.{◌≡◌, ◌+◌, ℕ, Some, IfOk, vec_len};
+ghost use Rattle.std.specs.Prelude.{◌≡◌, ◌+◌, ℕ, Some, IfOk, length, vec_len};
 ghost use Rattle.nq_command.specs.Commands.{command_of};
 ghost use Rattle.nq_command.specs.declared.Command.{Command};
 
@@ -24,37 +24,51 @@ fn main(rt: HostRuntime) -> ExitCode {
     let Ok(words) = words_of(&rt) else {
         return ExitCode::from(NO_MEMORY);
     };
-    match run_over(&rt, &words) {
+    match run_with_fates(&rt, &words) {
         Ok(status) => ExitCode::from(status),
         Err(NoMemory::Memory) => ExitCode::from(NO_MEMORY),
     }
 }
 
-/// Runs what the words say, over an empty keeper in memory, the link of the party that they name, the links of a loop, the clock of the
-/// machine, and the four fates.
-fn run_over(rt: &HostRuntime, words: &Words) -> Result<u8, NoMemory> {
+/// Runs what the words say, with the four fates; the status.
+fn run_with_fates(rt: &HostRuntime, words: &Words) -> Result<u8, NoMemory> {
     let alloc = rt.alloc();
-    let keeper = ListKeeper::new(alloc, Vec::new(alloc))?;
-    let mut link = UdpLink::new(rt.clone()?, party_of(words));
-    let mut links = links_of(rt, words)?;
-    let mut clock = StdClock::new(rt.clone()?);
-    let mut input = StdSource::new(rt.reader());
-    let mut out = StdSink::new(io::writer(rt));
     let mut fates: Vec<Box<dyn Fate>> = Vec::new(alloc);
     fates.push(Box::new(alloc, SteadyFate::new())?)?;
     fates.push(Box::new(alloc, LossyFate::new())?)?;
     fates.push(Box::new(alloc, CutFate::new())?)?;
     fates.push(Box::new(alloc, HostileFate::new())?)?;
+    run_with_links(rt, words, fates)
+}
+
+/// Runs what the words say, with the links of a loop and the link of the party that they name.
+fn run_with_links(
+    rt: &HostRuntime,
+    words: &Words,
+    fates: Vec<Box<dyn Fate>>,
+) -> Result<u8, NoMemory> {
+    let mut links = links_of(rt, words)?;
+    let mut link = UdpLink::new(rt.clone()?, party_of(words));
+    run_over(rt, words, &mut link, links.as_mut_slice(), fates)
+}
+
+/// Runs what the words say, over an empty keeper in memory and the clock of the machine.
+fn run_over(
+    rt: &HostRuntime,
+    words: &Words,
+    link: &mut UdpLink<HostRuntime>,
+    links: &mut [UdpLink<HostRuntime>],
+    fates: Vec<Box<dyn Fate>>,
+) -> Result<u8, NoMemory>
+    requires { (hosts turns : ℕ) → command_of words.now ≡ Some (Command.Loop hosts turns) → length links.old ≡ hosts + 1 }
+{
+    let alloc = rt.alloc();
+    let keeper = ListKeeper::new(alloc, Vec::new(alloc))?;
+    let mut clock = StdClock::new(rt.clone()?);
+    let mut input = StdSource::new(rt.reader());
+    let mut out = StdSink::new(io::writer(rt));
     Ok(run(
-        alloc,
-        words,
-        &mut input,
-        &mut out,
-        keeper,
-        &mut link,
-        links.as_mut_slice(),
-        &mut clock,
-        fates,
+        alloc, words, &mut input, &mut out, keeper, link, links, &mut clock, fates,
     ))
 }
 
@@ -66,16 +80,24 @@ fn party_of(words: &Words) -> Party {
     }
 }
 
-/// The links of a loop, where the words say one: the server's, and then that of each host.
+/// The links of a loop, where the words say one.
 fn links_of(rt: &HostRuntime, words: &Words) -> Result<Vec<UdpLink<HostRuntime>>, NoMemory>
     ensures { IfOk result (λ links. (hosts turns : ℕ) → command_of words.now ≡ Some (Command.Loop hosts turns) → vec_len links ≡ hosts + 1) }
 {
+    match words.command() {
+        Some(Command::Loop { hosts, .. }) => links_among(rt, hosts),
+        _ => Ok(Vec::new(rt.alloc())),
+    }
+}
+
+/// The server's link, and then that of each host.
+fn links_among(rt: &HostRuntime, hosts: u32) -> Result<Vec<UdpLink<HostRuntime>>, NoMemory>
+    ensures { IfOk result (λ links. vec_len links ≡ hosts + 1) }
+{
     let mut links = Vec::new(rt.alloc());
-    if let Some(Command::Loop { hosts, .. }) = words.command() {
-        links.push(UdpLink::new(rt.clone()?, Party::Server))?;
-        for host in 0..hosts {
-            links.push(UdpLink::new(rt.clone()?, Party::Client(Host(host))))?;
-        }
+    links.push(UdpLink::new(rt.clone()?, Party::Server))?;
+    for host in 0..hosts {
+        links.push(UdpLink::new(rt.clone()?, Party::Client(Host(host))))?;
     }
     Ok(links)
 }
