@@ -1,11 +1,13 @@
 //! What a loop of a number of turns prints.
 
+ghost use Rattle.std.specs.Prelude.{◌≡◌, IfOk, vec_len};
+
 use nq_base::{Host, Party, Ticks};
 use nq_clock::{Clock, MemClock, StdClock};
 use nq_io::{MemSink, MemSource};
 use nq_link::{Link, MemLink, UdpLink};
 use nq_looping::{Looped, run_loop};
-use nq_replay::{Ending, replay};
+use nq_replay::replay;
 use std::test::Fail;
 
 /// One host that begins its write, and a round in the second turn. Nothing comes back over links in memory.
@@ -25,7 +27,9 @@ loop calls 1 answered 0
 ";
 
 /// The links in memory of the server and of one host, with room for a few datagrams; the host's fails the calls that are listed.
-fn links_of(rt: &HostRuntime, failing: Vec<u32>) -> Result<Vec<MemLink>, Fail> {
+fn links_of(rt: &HostRuntime, failing: Vec<u32>) -> Result<Vec<MemLink>, Fail>
+    ensures { IfOk result (λ links. vec_len links ≡ 2) }
+{
     let alloc = rt.alloc();
     let mut links = Vec::new(alloc);
     let server = MemLink::new(alloc, Party::Server, 4, 4000, Vec::new(alloc))?;
@@ -33,6 +37,14 @@ fn links_of(rt: &HostRuntime, failing: Vec<u32>) -> Result<Vec<MemLink>, Fail> {
     let host = MemLink::new(alloc, Party::Client(Host(0)), 4, 4000, failing)?;
     links.push(host)?;
     Ok(links)
+}
+
+/// Whether so many datagrams were sent over the link at a place.
+fn has_sent(links: &[MemLink], place: usize, count: u64) -> bool {
+    match links.get(place) {
+        Some(link) => link.sent().len() == count,
+        None => false,
+    }
 }
 
 #[test]
@@ -44,8 +56,8 @@ fn a_host_alone_has_no_answer(rt: HostRuntime) -> Result<(), Fail> {
     let ended = run_loop(alloc, 1, 2, &mut links, &mut clock, &mut out);
     assert!(rt; ended == Looped::Done);
     assert_eq!(rt; out.bytes(), ALONE.as_bytes());
-    assert_eq!(rt; links[0].sent().len(), 0);
-    assert_eq!(rt; links[1].sent().len(), 1);
+    assert!(rt; has_sent(&links, 0, 0));
+    assert!(rt; has_sent(&links, 1, 1));
     Ok(())
 }
 
@@ -61,14 +73,27 @@ fn a_link_that_fails_ends_the_loop(rt: HostRuntime) -> Result<(), Fail> {
     Ok(())
 }
 
-/// Where the first of these bytes begin, within others.
-fn place_of(part: &[u8], whole: &[u8]) -> Option<usize> {
-    for (place, bytes) in whole.windows(part.len()).enumerate() {
-        if bytes == part {
-            return Some(place);
-        }
-    }
-    None
+/// How many bytes there are up to the first line `end`, with that line.
+fn end_of_first(text: &[u8]) -> Option<usize> {
+    let end = text
+        .windows(5)
+        .position(|part| part == b"\nend\n".as_slice())?;
+    Some(end.saturating_add(5))
+}
+
+/// Whether the first part of a text is a schedule, replaying it prints the second part, and the last part is these counts.
+fn is_replayed(rt: &HostRuntime, text: &[u8], counts: &[u8]) -> Result<bool, Fail> {
+    let alloc = rt.alloc();
+    let Some(end) = end_of_first(text) else {
+        return Ok(false);
+    };
+    let Some((schedule, behind)) = text.split_at_checked(end) else {
+        return Ok(false);
+    };
+    let mut input = MemSource::new(schedule.to_vec(alloc)?, Vec::new(alloc));
+    let mut out = MemSink::new(alloc, 1_000_000, Vec::new(alloc))?;
+    let ending = replay(alloc, &mut input, &mut out, 16_777_216);
+    Ok(ending.status() == 0 && behind.starts_with(out.bytes()) && behind.ends_with(counts))
 }
 
 #[test]
@@ -82,21 +107,6 @@ fn a_loop_over_udp_replays(rt: HostRuntime) -> Result<(), Fail> {
     let mut out = MemSink::new(alloc, 1_000_000, Vec::new(alloc))?;
     let ended = run_loop(alloc, 2, 2000, &mut links, &mut clock, &mut out);
     assert_eq!(rt; ended.status(), 0);
-    let text = out.bytes();
-    let Some(journal) = place_of(b"nqnfs-journal", text) else {
-        assert!(rt; false);
-        return Ok(());
-    };
-    let Some(counts) = place_of(b"loop calls", text) else {
-        assert!(rt; false);
-        return Ok(());
-    };
-    let mut schedule = Vec::new(alloc);
-    schedule.extend_from_slice(&text[..journal])?;
-    let mut input = MemSource::new(schedule, Vec::new(alloc));
-    let mut again = MemSink::new(alloc, 1_000_000, Vec::new(alloc))?;
-    assert!(rt; replay(alloc, &mut input, &mut again, 1_000_000) == Ending::Done);
-    assert_eq!(rt; again.bytes(), &text[journal..counts]);
-    assert_eq!(rt; &text[counts..], b"loop calls 6 answered 6\n".as_slice());
+    assert!(rt; is_replayed(&rt, out.bytes(), b"\nend\nloop calls 6 answered 6\n")?);
     Ok(())
 }
