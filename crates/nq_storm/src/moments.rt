@@ -48,26 +48,6 @@ fn offer_of<K: Keeper>(world: &World<K>, delivered: &mut Delivered, word: u32) -
     Offer::new(sent as u32, fresh as u32, world.lawful_server_tick(), word)
 }
 
-/// The event that a fate chooses from the menu of this moment.
-fn next_event<K: Keeper>(
-    world: &World<K>,
-    delivered: &mut Delivered,
-    fate: &mut dyn Fate,
-    earlier: u32,
-    word: u32,
-) -> Event
-    requires sent { length world.now.datagrams ≤ most_sent }
-    requires few { earlier < most_events }
-    ensures stormy { IsStormy result }
-    ensures same { delivered.new ≡ delivered.old }
-    ensures chosen { (head : Head) (start : ℕ) (events : List Event) → word ≡ word_behind start earlier → length events ≡ earlier
-        → IsAt head events world.now (K.content world.now.server.keeper) delivered.old
-        → IsChosen head start events (told fate.old) result (told fate.new) }
-{
-    let offer = offer_of(world, delivered, word);
-    choose_event(fate, &offer, earlier + 1)
-}
-
 /// How a storm ends where the world did not take an event in.
 fn ending_of(stepped: Stepped) -> Stormed
     ensures { result ≡ ending_of stepped }
@@ -141,7 +121,8 @@ pub(crate) fn pass_moment<K: Keeper>(
     let Ok(()) = delivered.reach(sent as usize) else {
         return Stormed::Memory;
     };
-    let event = next_event(world, delivered, fate, earlier, word);
+    let offer = offer_of(world, delivered, word);
+    let event = choose_event(fate, &offer, earlier + 1);
     match ran.push_filled(&event) {
         Ok(()) => give_last(world, delivered, ran, &event),
         Err(_) => Stormed::Memory,
