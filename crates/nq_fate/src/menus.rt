@@ -21,17 +21,20 @@ pub fn event_at(offer: &Offer, place: u32, number: u32) -> Event
     ensures here { slice_get (menu offer.now number) place ≡ Some result }
     ensures stormy { IsStormy result }
 {
+    // Each event is returned at once, since an event may hold a block, and each branch that hands one on would copy it.
     if place < offer.ticks_at {
-        Event::Deliver(u64::from(place))
-    } else if place < offer.restarts_at {
-        tick_at(offer.server_tick, place - offer.ticks_at)
-    } else if place < offer.crash_at {
-        Event::Restart(Host(place - offer.restarts_at))
-    } else if place < offer.calls_at {
-        Event::Crash { longest: LONGEST }
-    } else {
-        host_call(place - offer.calls_at, number)
+        return Event::Deliver(u64::from(place));
     }
+    if place < offer.restarts_at {
+        return tick_at(offer.server_tick, place - offer.ticks_at);
+    }
+    if place < offer.crash_at {
+        return Event::Restart(Host(place - offer.restarts_at));
+    }
+    if place < offer.calls_at {
+        return Event::Crash { longest: LONGEST };
+    }
+    host_call(place - offer.calls_at, number)
 }
 
 /// The tick at a place among the ticks.
@@ -41,12 +44,12 @@ fn tick_at(server_tick: bool, place: u32) -> Event
     ensures stormy { IsStormy result }
 {
     if !server_tick {
-        Event::ClientTick(Host(place))
-    } else if place == 0 {
-        Event::ServerTick
-    } else {
-        Event::ClientTick(Host(place - 1))
+        return Event::ClientTick(Host(place));
     }
+    if place == 0 {
+        return Event::ServerTick;
+    }
+    Event::ClientTick(Host(place - 1))
 }
 
 /// The call at a place among those of all hosts.
@@ -70,17 +73,24 @@ fn call_at(place: u32, number: u32) -> Call
     let file = FileId(1 + place % 8 / 4);
     let block = BlockNo(place % 4);
     if place < 8 {
-        Call::Read { file, block }
-    } else if place < 16 {
-        let body = Block::fill(number);
-        Call::Write { file, block, body }
-    } else if place < 24 {
-        let body = Block::fill(number);
-        Call::WriteSync { file, block, body }
-    } else {
-        Call::Sync {
-            file: FileId(place - 23),
-        }
+        return Call::Read { file, block };
+    }
+    if place < 16 {
+        return Call::Write {
+            file,
+            block,
+            body: Block::fill(number),
+        };
+    }
+    if place < 24 {
+        return Call::WriteSync {
+            file,
+            block,
+            body: Block::fill(number),
+        };
+    }
+    Call::Sync {
+        file: FileId(place - 23),
     }
 }
 

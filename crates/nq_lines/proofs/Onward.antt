@@ -1,5 +1,5 @@
 -- One thing after another.
-use Rattle.std.proofs.Common.{◌≡◌, ℕ, ◌+◌, ◌-◌, ◌<◌, List, [], ◌∷◌, drop, length, slice_get, Option, Some, None, zero, suc, refl, sym, subst, ◌∙◌, arith}
+use Rattle.std.proofs.Common.{◌≡◌, ℕ, ◌+◌, ◌-◌, ◌<◌, List, [], ◌∷◌, drop, length, slice_get, Option, Some, None, zero, suc, refl, sym, ap, subst, ◌∙◌, arith}
 use Rattle.nq_base.specs.declared.Event.{Event}
 use Rattle.nq_model.specs.World.{Head}
 use Rattle.nq_play.specs.Delivering.{next_packet}
@@ -29,6 +29,16 @@ done-here P events due here same = subst (λ d. WentTo d P) same here
 
 pub goes-same : (said : Stepped) (first due : Due) (P : List Event → Type 0) → first ≡ due → Goes said first P → Goes said due P
 goes-same said first due P same goes = subst (λ d. Goes said d P) same goes
+
+-- what is played once
+then-took : (first : Due) (play : List Event → Due) → and_then first (repeated 0 play) ≡ first
+then-took (took events) play = refl
+then-took (refused answer) play = refl
+
+pub played-once : (head : Head) (most : ℕ) (line : Line) (event : Event) (events : List Event) → line ≡ Line.Events event 1
+    → play_event head event events ≡ play_line head most line events
+played-once head most line event events is =
+    sym (ap (λ l. play_line head most l events) is ∙ then-took (play_event head event events) (play_event head event))
 
 -- ---- it stopped
 

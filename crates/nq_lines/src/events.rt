@@ -52,6 +52,23 @@ pub(crate) fn take<K: Keeper>(
     }
 }
 
+/// Gives the delivery of a packet to a world.
+pub(crate) fn deliver<K: Keeper>(
+    world: &mut World<K>,
+    delivered: &mut Delivered,
+    packet: u64,
+) -> Stepped
+    ensures goes { (head : Head) (events : List Event) → IsAt head events world.old (K.content world.old.server.keeper) delivered.old
+        → Goes result (play_event head (Event.Deliver packet) events) (λ es. IsAt head es world.new (K.content world.new.server.keeper) delivered.new) }
+    ensures faults { CountsFaults result (K.faults world.old.server.keeper) (K.faults world.new.server.keeper) }
+    ensures follows { K.follows world.old.server.keeper world.new.server.keeper }
+    ensures settings { HasSettings (length world.old.clients) world.old.skew.window world.old.term world.new }
+{
+    // A variable of its own: a borrowed value of this size would be copied.
+    let event = Event::Deliver(packet);
+    take(world, delivered, &event)
+}
+
 /// Gives an event so many times.
 pub(crate) fn take_times<K: Keeper>(
     world: &mut World<K>,
@@ -85,7 +102,8 @@ fn tick_hosts<K: Keeper>(world: &mut World<K>, delivered: &mut Delivered, hosts:
     ensures settings { HasSettings (length world.old.clients) world.old.skew.window world.old.term world.new }
 {
     for host in 0..hosts {
-        match take(world, delivered, &Event::ClientTick(Host(host))) {
+        let event = Event::ClientTick(Host(host));
+        match take(world, delivered, &event) {
             Stepped::Done => {}
             other => return other,
         }
@@ -102,8 +120,9 @@ fn round<K: Keeper>(world: &mut World<K>, delivered: &mut Delivered, hosts: u32)
     ensures follows { K.follows world.old.server.keeper world.new.server.keeper }
     ensures settings { HasSettings (length world.old.clients) world.old.skew.window world.old.term world.new }
 {
+    let event = Event::ServerTick;
     match tick_hosts(world, delivered, hosts) {
-        Stepped::Done => take(world, delivered, &Event::ServerTick),
+        Stepped::Done => take(world, delivered, &event),
         other => other,
     }
 }
@@ -143,7 +162,7 @@ pub(crate) fn flow<K: Keeper>(world: &mut World<K>, delivered: &mut Delivered, m
     for turn in 0..most {
         match delivered.next(world.packets().len() as usize) {
             None => return Stepped::Done,
-            Some(packet) => match take(world, delivered, &Event::Deliver(packet as u64)) {
+            Some(packet) => match deliver(world, delivered, packet as u64) {
                 Stepped::Done => {}
                 other => return other,
             },

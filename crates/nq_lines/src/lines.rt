@@ -11,7 +11,7 @@ ghost use Rattle.nq_script.specs.declared.lines.Line.{Line};
 ghost use Rattle.nq_world.specs.Playing.{CountsFaults, HasSettings, Plays};
 ghost use Rattle.nq_world.specs.declared.stepped.Stepped.{Stepped};
 
-use crate::events::{flow, rounds, take_times};
+use crate::events::{deliver, flow, rounds, take_times};
 use crate::played::Played;
 use nq_keeper::Keeper;
 use nq_play::Delivered;
@@ -43,8 +43,8 @@ fn play_line<K: Keeper>(
     }
 }
 
-/// Plays the line at a place.
-fn play_at<K: Keeper>(
+/// Plays the line at a place, of which a second one is made.
+fn play_second<K: Keeper>(
     world: &mut World<K>,
     delivered: &mut Delivered,
     hosts: u32,
@@ -64,6 +64,30 @@ fn play_at<K: Keeper>(
     match lines.get(place) {
         Some(line) => play_line(world, delivered, hosts, most, &line),
         None => unreachable!(),
+    }
+}
+
+/// Plays the line at a place. A delivery, which most lines are, makes no second line.
+fn play_at<K: Keeper>(
+    world: &mut World<K>,
+    delivered: &mut Delivered,
+    hosts: u32,
+    most: u32,
+    lines: &Lines,
+    place: usize,
+) -> Stepped
+    requires hosts { hosts ≤ length world.old.clients }
+    requires can { AreForWorld (length world.old.clients) world.old.skew.window lines.now }
+    requires below { place < length lines.now }
+    ensures goes { (line : Line) → slice_get lines.now place ≡ Some line → (head : Head) (events : List Event) → head.hosts ≡ hosts → IsAt head events world.old (K.content world.old.server.keeper) delivered.old
+        → Goes result (play_line head most line events) (λ es. IsAt head es world.new (K.content world.new.server.keeper) delivered.new) }
+    ensures faults { CountsFaults result (K.faults world.old.server.keeper) (K.faults world.new.server.keeper) }
+    ensures follows { K.follows world.old.server.keeper world.new.server.keeper }
+    ensures settings { HasSettings (length world.old.clients) world.old.skew.window world.old.term world.new }
+{
+    match lines.packet_at(place) {
+        Some(packet) => deliver(world, delivered, packet),
+        None => play_second(world, delivered, hosts, most, lines, place),
     }
 }
 

@@ -11,6 +11,12 @@ use Rattle.nq_script.specs.Text.{spaced}
 abbrev pub IsFilled : (body : List ℕ) → Type 0
 IsFilled body = (value : ℕ) × (value < 2 ^ 32) × (body ≡ filled value)
 
+-- a call whose body, if it has one, a number fills
+abbrev pub IsFilledCall : Call → Type 0
+IsFilledCall (Call.Write file block body) = IsFilled body
+IsFilledCall (Call.WriteSync file block body) = IsFilled body
+IsFilledCall other = Unit {0}
+
 -- the words of a call; a body is told by its value
 abbrev pub call_words : Call → List (List ℕ)
 call_words (Call.Create name blocks) = codes "create" ∷ name ∷ decimal blocks ∷ []

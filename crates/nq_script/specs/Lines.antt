@@ -2,7 +2,7 @@
 use Rattle.std.specs.Prelude.{◌≡◌, ◌⊎◌, ℕ, ◌<◌, ◌≤◌, ◌^◌, ◌==◌, List, [], ◌∷◌, ◌++◌, replicate, codes, if◌then◌else◌}
 use Rattle.std.specs.Fmt.{decimal}
 use Rattle.nq_base.specs.declared.Event.{Event}
-use Rattle.nq_script.specs.Calls.{HasCall, FitsCall, call_of, call_words}
+use Rattle.nq_script.specs.Calls.{HasCall, IsFilledCall, FitsCall, call_of, call_words}
 use Rattle.nq_script.specs.Text.{spaced}
 use Rattle.nq_script.specs.declared.heads.Head.{Head}
 use Rattle.nq_script.specs.declared.lines.Line.{Line}
@@ -38,6 +38,11 @@ abbrev pub HasEvent : (version : ℕ) → Event → Type 0
 HasEvent version (Event.Call host call) = HasCall version call
 HasEvent version (Event.Crash longest) = ((version ≡ 1) × (longest ≡ 60)) ⊎ ((version ≡ 2) × (5 ≤ longest))
 HasEvent version other = Unit {0}
+
+-- an event whose body, if it has one, a number fills
+abbrev pub IsFilledEvent : Event → Type 0
+IsFilledEvent (Event.Call host call) = IsFilledCall call
+IsFilledEvent other = Unit {0}
 
 -- how often one line tells an event: ticks up to a thousand times, others once
 abbrev pub TellsTimes : Event → (times : ℕ) → Type 0

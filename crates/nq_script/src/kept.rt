@@ -2,7 +2,9 @@
 
 ghost use Rattle.std.specs.Prelude.{◌≡◌, ◌<◌, ◌++◌, ◌∷◌, [], ℕ, List, length, slice_index_or, map, IfOk, IfSome, IsNone, OnErr, OnOk};
 ghost use Rattle.std.specs.List.{AllByRecursion};
-ghost use Rattle.nq_base.specs.Block.{filled};
+ghost use Rattle.nq_base.specs.Block.{filled, value_of};
+ghost use Rattle.nq_script.specs.Calls.{IsFilled, IsFilledCall};
+ghost use Rattle.nq_script.specs.Lines.{IsFilledEvent};
 ghost use Rattle.nq_script.specs.Kept.{body_in, IsBodyIn, call_in, IsCallIn, event_in, IsEventIn, Grows};
 
 use nq_base::{Block, BlockNo, Call, Event, FileId, Host, Name, NoMemory};
@@ -99,6 +101,15 @@ fn keep_body(bodies: &mut Vec<Block>, body: Block) -> Result<KeptBody, NoMemory>
     }
 }
 
+/// Keeps a body that a number fills, which takes no memory.
+fn keep_filled_body(body: &Block) -> KeptBody
+    requires { IsFilled body.now }
+    ensures is { (bodies : List (List ℕ)) → body_in bodies result ≡ body.now }
+    ensures there { (bodies : List (List ℕ)) → IsBodyIn bodies result }
+{
+    KeptBody::Filled(body.value())
+}
+
 /// Keeps a name.
 fn keep_name(names: &mut Vec<Name>, name: Name) -> Result<usize, NoMemory>
     ensures ok { IfOk result (λ place. (place ≡ length names.old.items) × (names.new.items ≡ names.old.items ++ name ∷ [])) }
@@ -147,6 +158,52 @@ fn keep_call(
     }
 }
 
+/// Keeps a call whose body, if it has one, a number fills.
+fn keep_filled_call(names: &mut Vec<Name>, call: &Call) -> Result<KeptCall, NoMemory>
+    requires { IsFilledCall call.now }
+    ensures ok { IfOk result (λ kept. (bodies : List (List ℕ)) → (call_in names.new.items bodies kept ≡ call.now) × IsCallIn names.new.items bodies kept) }
+    ensures names { Grows names.old.items names.new.items }
+{
+    match call {
+        Call::Create { name, blocks } => {
+            let name = keep_name(names, *name)?;
+            Ok(KeptCall::Create {
+                name,
+                blocks: *blocks,
+            })
+        }
+        Call::Lookup { name } => {
+            let name = keep_name(names, *name)?;
+            Ok(KeptCall::Lookup { name })
+        }
+        Call::Attr { file } => Ok(KeptCall::Attr { file: *file }),
+        Call::Read { file, block } => Ok(KeptCall::Read {
+            file: *file,
+            block: *block,
+        }),
+        Call::Fetch { file, block } => Ok(KeptCall::Fetch {
+            file: *file,
+            block: *block,
+        }),
+        Call::Write { file, block, body } => Ok(KeptCall::Write {
+            file: *file,
+            block: *block,
+            body: keep_filled_body(body),
+        }),
+        Call::WriteSync { file, block, body } => Ok(KeptCall::WriteSync {
+            file: *file,
+            block: *block,
+            body: keep_filled_body(body),
+        }),
+        Call::Sync { file } => Ok(KeptCall::Sync { file: *file }),
+        Call::Resize { file, blocks } => Ok(KeptCall::Resize {
+            file: *file,
+            blocks: *blocks,
+        }),
+        Call::Remove { file } => Ok(KeptCall::Remove { file: *file }),
+    }
+}
+
 /// Keeps an event at the end.
 pub(crate) fn push(
     events: &mut Vec<KeptEvent>,
@@ -190,6 +247,34 @@ fn push_kept(events: &mut Vec<KeptEvent>, kept: KeptEvent) -> Result<(), NoMemor
     }
 }
 
+/// Keeps an event at the end whose body, if it has one, a number fills.
+pub(crate) fn push_filled(
+    events: &mut Vec<KeptEvent>,
+    names: &mut Vec<Name>,
+    event: &Event,
+) -> Result<(), NoMemory>
+    requires { IsFilledEvent event.now }
+    ensures ok { (bodies : List (List ℕ)) → AllByRecursion (IsEventIn names.old.items bodies) events.old.items
+        → OnOk result (map (event_in names.new.items bodies) events.new.items ≡ map (event_in names.old.items bodies) events.old.items ++ event.now ∷ []) }
+    ensures err { (bodies : List (List ℕ)) → AllByRecursion (IsEventIn names.old.items bodies) events.old.items
+        → OnErr result (map (event_in names.new.items bodies) events.new.items ≡ map (event_in names.old.items bodies) events.old.items) }
+    ensures there { (bodies : List (List ℕ)) → AllByRecursion (IsEventIn names.old.items bodies) events.old.items
+        → AllByRecursion (IsEventIn names.new.items bodies) events.new.items }
+{
+    let kept = match event {
+        Event::Call { host, call } => {
+            let call = keep_filled_call(names, call)?;
+            KeptEvent::Call { host: *host, call }
+        }
+        Event::Deliver(packet) => KeptEvent::Deliver(*packet),
+        Event::ServerTick => KeptEvent::ServerTick,
+        Event::ClientTick(host) => KeptEvent::ClientTick(*host),
+        Event::Restart(host) => KeptEvent::Restart(*host),
+        Event::Crash { longest } => KeptEvent::Crash { longest: *longest },
+    };
+    push_kept(events, kept)
+}
+
 /// The name at a place.
 fn name_at(names: &[Name], place: usize) -> Name
     requires { place < length names.now }
@@ -215,8 +300,22 @@ fn body_of(bodies: &[Block], kept: KeptBody) -> Block
     }
 }
 
+/// The value of a body that is kept.
+pub(crate) fn value_of(bodies: &[Block], kept: KeptBody) -> u32
+    requires { IsBodyIn bodies.now kept }
+    ensures { result ≡ value_of (body_in bodies.now kept) }
+{
+    match kept {
+        KeptBody::Filled(value) => value,
+        KeptBody::Whole(place) => match bodies.get(place) {
+            Some(body) => body.value(),
+            None => unreachable!(),
+        },
+    }
+}
+
 /// The call that is kept.
-fn call_of(names: &[Name], bodies: &[Block], kept: KeptCall) -> Call
+pub(crate) fn call_of(names: &[Name], bodies: &[Block], kept: KeptCall) -> Call
     requires { IsCallIn names.now bodies.now kept }
     ensures { result ≡ call_in names.now bodies.now kept }
 {

@@ -1,6 +1,6 @@
 //! The lines of events.
 
-ghost use Rattle.std.specs.Prelude.{◌≡◌, ◌≢◌, ◌↔◌, IsTrue};
+ghost use Rattle.std.specs.Prelude.{◌≡◌, ◌≢◌, ◌↔◌, ℕ, IfSome, IsNone, IsTrue};
 ghost use Rattle.nq_script.specs.Faults.{Answers};
 ghost use Rattle.nq_script.specs.Lines.{SpellsLine, line_of};
 ghost use Rattle.nq_script.specs.Reading.{told_line, call_line, deliver_line, clock_line, tick_line, server_ticks, client_ticks, round_line, restart_line, crash_line, word_line, times_of};
@@ -49,6 +49,17 @@ impl ToldLine {
         match self {
             ToldLine::End => true,
             _ => false,
+        }
+    }
+
+    /// The packet that this line delivers; None where it is another line.
+    pub(crate) fn packet(&self) -> Option<u64>
+        ensures some { IfSome result (λ packet. self.now ≡ ToldLine.Deliver packet) }
+        ensures none { IsNone result → (packet : ℕ) → self.now ≡ ToldLine.Deliver packet → ⊥ }
+    {
+        match self {
+            ToldLine::Deliver(packet) => Some(*packet),
+            _ => None,
         }
     }
 }

@@ -1,8 +1,12 @@
 //! Schedules: lists of events.
 
-ghost use Rattle.std.specs.Prelude.{◌≡◌, ◌↔◌, ◌++◌, ◌∷◌, ◌-◌, [], length, slice_get, take, IsOk, IfOk, IsTrue, OnErr, OnOk};
+ghost use Rattle.std.specs.Prelude.{◌≡◌, ◌↔◌, ◌++◌, ◌∷◌, ◌-◌, ◌<◌, [], ℕ, List, Some, length, slice_get, take, IsOk, IfOk, IsTrue, OnErr, OnOk};
+ghost use Rattle.nq_base.specs.declared.Event.{Event};
+ghost use Rattle.nq_script.specs.Lines.{HasEvent, IsFilledEvent, SpellsEvent};
+ghost use Rattle.nq_script.specs.Text.{text_of};
 
-use crate::kept::{KeptEvent, event_of, push};
+use crate::kept::{KeptEvent, event_of, push, push_filled};
+use crate::print::append_kept_line;
 use nq_base::{Block, Event, Name, NoMemory};
 use std::alloc::Global;
 use std::marker::Model;
@@ -49,6 +53,15 @@ impl Schedule {
         push(&mut self.events, &mut self.names, &mut self.bodies, event)
     }
 
+    /// Adds an event like this one at the end. Its body, if it has one, is one that `Block::fill` gives.
+    pub fn push_filled(&mut self, event: &Event) -> Result<(), NoMemory>
+        requires { IsFilledEvent event.now }
+        ensures ok { OnOk result (self.new ≡ self.old ++ event.now ∷ []) }
+        ensures err { OnErr result (self.new ≡ self.old) }
+    {
+        push_filled(&mut self.events, &mut self.names, event)
+    }
+
     /// Takes the last event away, if there is one.
     #[tactic(auto, using(crate::proofs::Keeping::all_of_front))]
     pub fn drop_last(&mut self)
@@ -79,6 +92,24 @@ impl Schedule {
         match self.events.get(place) {
             Some(kept) => Some(event_of(&self.names, &self.bodies, *kept)),
             None => None,
+        }
+    }
+
+    /// Appends the line of the event at a place, with its line feed, in a version that can tell the event.
+    pub fn append_line(
+        &self,
+        place: usize,
+        version: u32,
+        text: &mut Vec<u8>,
+    ) -> Result<(), NoMemory>
+        requires there { place < length self.now }
+        requires has { (event : Event) → slice_get self.now place ≡ Some event → HasEvent version event }
+        ensures { OnOk result ((event : Event) × (line : List ℕ) × (slice_get self.now place ≡ Some event)
+            × SpellsEvent version event line × (text.new.items ≡ text.old.items ++ text_of (line ∷ []))) }
+    {
+        match self.events.get(place) {
+            Some(kept) => append_kept_line(text, &self.names, &self.bodies, *kept, version),
+            None => unreachable!(),
         }
     }
 }

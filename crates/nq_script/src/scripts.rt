@@ -1,9 +1,10 @@
 //! The whole text of a schedule.
 
-ghost use Rattle.std.specs.Prelude.{◌≡◌, ◌↔◌, ◌+◌, ◌<◌, ◌^◌, ◌⊎◌, ◌++◌, ◌∷◌, ℕ, List, [], OnOk, length, map, slice_get, IsTrue};
+ghost use Rattle.std.specs.Prelude.{◌≡◌, ◌↔◌, ◌+◌, ◌<◌, ◌^◌, ◌⊎◌, ◌++◌, ◌∷◌, ℕ, List, [], Some, IfSome, IsNone, OnOk, length, map, slice_get, IsTrue};
+ghost use Rattle.nq_base.specs.declared.Event.{Event};
 ghost use Rattle.nq_script.specs.Faults.{Answers};
 ghost use Rattle.nq_script.specs.Heads.{head_lines};
-ghost use Rattle.nq_script.specs.Lines.{line_of};
+ghost use Rattle.nq_script.specs.Lines.{line_of, once};
 ghost use Rattle.nq_script.specs.Progress.{EndsWith, WrongLine, WrongEnd};
 ghost use Rattle.nq_script.specs.Schedule.{SpellsSchedule, FirstBadLine};
 ghost use Rattle.nq_script.specs.declared.heads.Head.{Head};
@@ -77,6 +78,18 @@ impl Lines {
     {
         match self.told.get(place) {
             Some(told) => Some(line_of(told)),
+            None => None,
+        }
+    }
+
+    /// The packet that the line at a place delivers; None where it is another line, or the place is not below the length.
+    /// Unlike `get` it makes no event, which may hold a block.
+    pub fn packet_at(&self, place: usize) -> Option<u64>
+        ensures delivered { IfSome result (λ packet. slice_get self.now place ≡ Some (once (Event.Deliver packet))) }
+        ensures other { IsNone result → (packet : ℕ) → slice_get self.now place ≡ Some (once (Event.Deliver packet)) → ⊥ }
+    {
+        match self.told.get(place) {
+            Some(told) => told.packet(),
             None => None,
         }
     }

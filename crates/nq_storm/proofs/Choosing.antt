@@ -1,5 +1,5 @@
--- The event that is chosen, and kept.
-use Rattle.std.proofs.Common.{◌≡◌, ℕ, ◌+◌, ◌-◌, List, [], ◌∷◌, ◌++◌, length, take, Option, Some, refl, sym, ap, subst, ◌∙◌, arith, length-append}
+-- The event that is chosen, and what is kept where it is dropped.
+use Rattle.std.proofs.Common.{◌≡◌, ℕ, ◌+◌, ◌-◌, List, [], ◌∷◌, ◌++◌, length, take, Option, Some, sym, ap, subst, ◌∙◌, arith, length-append}
 use Rattle.std.proofs.Math.Seq.{take-append_seam}
 use Rattle.std.specs.Prelude.{◌%◌, IfSome, slice_get}
 use Rattle.nq_base.specs.declared.Event.{Event}
@@ -9,27 +9,15 @@ use Rattle.nq_fate.specs.declared.offers.Offer.{Offer}
 use Rattle.nq_model.specs.World.{Head}
 use Rattle.nq_storm_text.specs.Storming.{IsChosen, IsOffered, word_behind}
 
-last_kept : {A : Type 0} (xs : List A) (x : A) → slice_get (xs ++ x ∷ []) (length xs) ≡ Some x
-last_kept [] x = refl
-last_kept (y ∷ xs) x = last_kept xs x
-
-pub at_end : {A : Type 0} (before after : List A) (last : A) (place : ℕ) → length before ≡ place → after ≡ before ++ last ∷ [] → slice_get after place ≡ Some last
-at_end before after last place many same = rw same (rw (sym many) (last_kept before last))
-
-pub found : {A : Type 0} (before after : List A) (last here : A) (place : ℕ) → length before ≡ place → after ≡ before ++ last ∷ [] → slice_get after place ≡ Some here → last ≡ here
-found before after last here place many same is =
-    let both : Some last ≡ Some here = sym (at_end before after last place many same) ∙ is in
-    cc
-
--- what a fate chose is what is kept
-pub is_chosen : (head : Head) (start : ℕ) (events : List Event) (earlier word : ℕ) (offer : Offer) (told tells : Option Rule) (event here : Event) → event ≡ here → word ≡ word_behind start earlier → length events ≡ earlier → IsOffered head events word offer
+-- what a fate chose is chosen from the menu of the moment
+pub is_chosen : (head : Head) (start : ℕ) (events : List Event) (earlier word : ℕ) (offer : Offer) (told tells : Option Rule) (event : Event) → word ≡ word_behind start earlier → length events ≡ earlier → IsOffered head events word offer
     → ((answer : ℕ) × (slice_get (menu offer (earlier + 1)) (answer % offer.size) ≡ Some event) × IfSome told (λ rule. (answer ≡ (chosen rule offer).0) × (tells ≡ Some (chosen rule offer).1)))
-    → IsChosen head start events told here tells
-is_chosen head start events earlier word offer told tells event here same drawn many offered choice = record {
+    → IsChosen head start events told event tells
+is_chosen head start events earlier word offer told tells event drawn many offered choice = record {
   offer = offer;
   offered = subst (λ n. IsOffered head events (word_behind start n) offer) (sym many) (subst (λ w. IsOffered head events w offer) drawn offered);
   answer = choice.0;
-  place = subst (λ n. slice_get (menu offer (n + 1)) (choice.0 % offer.size) ≡ Some here) (sym many) (subst (λ e. slice_get (menu offer (earlier + 1)) (choice.0 % offer.size) ≡ Some e) same choice.1);
+  place = subst (λ n. slice_get (menu offer (n + 1)) (choice.0 % offer.size) ≡ Some event) (sym many) choice.1;
   ruled = choice.2;
 }
 

@@ -3,9 +3,10 @@ use Rattle.std.proofs.Common.{◌≡◌, ℕ, ◌<◌, ◌≤◌, Bool, List, []
 use Rattle.std.proofs.lemmas.List.{reverse-append}
 use Rattle.std.specs.List.{AllByRecursion}
 use Rattle.std.specs.Prelude.{◌↔◌, IsTrue, IfSome, reverse, unwrap_or}
+use Rattle.nq_base.specs.declared.Call.{Call}
 use Rattle.nq_base.specs.declared.Event.{Event}
 use Rattle.nq_fate.specs.Rules.{Rule}
-use Rattle.nq_fate.specs.Stormy.{IsStormy}
+use Rattle.nq_fate.specs.Stormy.{IsStormy, WritesNumber}
 use Rattle.nq_fate.specs.declared.offers.Offer.{Offer}
 use Rattle.nq_lines.proofs.Steps.{as-many, next-is}
 use Rattle.nq_lines.specs.Going.{IsAt}
@@ -13,6 +14,8 @@ use Rattle.nq_model.specs.Kept.{Kept}
 use Rattle.nq_model.specs.Skew.{IsWithinSkew}
 use Rattle.nq_model.specs.World.{Head}
 use Rattle.nq_play.specs.Delivering.{Marks, least_undelivered, next_packet}
+use Rattle.nq_script.specs.Calls.{IsFilledCall}
+use Rattle.nq_script.specs.Lines.{IsFilledEvent}
 use Rattle.nq_storm.proofs.Limits.{is_reached}
 use Rattle.nq_storm.specs.Ending.{EndsAt, Gives, Halts, IsInStorm, Stands, ending_of}
 use Rattle.nq_storm_text.specs.Storming.{IsChosen, IsOffered}
@@ -34,6 +37,16 @@ of-menus (Event.Crash longest) stormy = (omega (arith, stormy), omega (arith, st
 -- an event of a menu can come to the world of a storm
 pub can_come : {K : Type 0} (event : Event) (w : WorldOver K) → HasSettings 4 60 30 w → IsStormy event → CanCome (length w.clients) w.skew.window event
 can_come event w settings stormy = rw (settings.hosts_are, settings.longest_is) (of-menus event stormy)
+
+-- what a storm writes is filled with a number
+filled_call : (call : Call) → WritesNumber call → IsFilledCall call
+filled_call (Call.Write file block body) writes = writes
+filled_call (Call.WriteSync file block body) writes = writes
+filled_call other writes = tt
+
+pub filled_event : (event : Event) → IsStormy event → IsFilledEvent event
+filled_event (Event.Call host call) stormy = filled_call call stormy.1
+filled_event other stormy = tt
 
 -- ---- what is offered
 

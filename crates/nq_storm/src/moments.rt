@@ -1,6 +1,6 @@
 //! One moment of a storm.
 
-ghost use Rattle.std.specs.Prelude.{◌≡◌, ◌<◌, ◌≤◌, ◌+◌, ◌-◌, ◌^◌, ◌++◌, ◌∷◌, [], ℕ, List, Option, IfOk, IfSome, IsNone, OnErr, length, reverse, take};
+ghost use Rattle.std.specs.Prelude.{◌≡◌, ◌<◌, ◌≤◌, ◌+◌, ◌-◌, ◌^◌, ◌++◌, ◌∷◌, [], ℕ, List, Option, IfSome, IsNone, length, reverse, take};
 ghost use Rattle.std.specs.List.{AllByRecursion};
 ghost use Rattle.nq_base.specs.declared.Event.{Event};
 ghost use Rattle.nq_fate.specs.Rules.{Rule};
@@ -14,7 +14,7 @@ ghost use Rattle.nq_storm.specs.declared.stormed.Stormed.{Stormed};
 ghost use Rattle.nq_world.specs.Playing.{HasSettings};
 
 use crate::stormed::Stormed;
-use nq_base::{Event, NoMemory};
+use nq_base::Event;
 use nq_fate::{Fate, Offer, choose_event};
 use nq_keeper::Keeper;
 use nq_lines::note;
@@ -46,34 +46,6 @@ fn offer_of<K: Keeper>(world: &World<K>, delivered: &mut Delivered, word: u32) -
     let sent = world.packets().len() as usize;
     let fresh = delivered.next(sent).unwrap_or(sent);
     Offer::new(sent as u32, fresh as u32, world.lawful_server_tick(), word)
-}
-
-/// The event that a fate chooses from the menu of this moment, which is kept at the end of `ran`.
-fn keep_next<K: Keeper>(
-    world: &World<K>,
-    delivered: &mut Delivered,
-    fate: &mut dyn Fate,
-    earlier: u32,
-    word: u32,
-    ran: &mut Schedule,
-) -> Result<Event, NoMemory>
-    requires sent { length world.now.datagrams ≤ most_sent }
-    requires many { length ran.old ≡ earlier }
-    requires few { earlier < most_events }
-    ensures kept { IfOk result (λ event. ran.new ≡ ran.old ++ event ∷ []) }
-    ensures refused { OnErr result (ran.new ≡ ran.old) }
-    ensures stormy { IfOk result IsStormy }
-    ensures same { delivered.new ≡ delivered.old }
-    ensures chosen { IfOk result (λ event. (head : Head) (start : ℕ) (events : List Event) → word ≡ word_behind start earlier → length events ≡ earlier
-        → IsAt head events world.now (K.content world.now.server.keeper) delivered.old
-        → IsChosen head start events (told fate.old) event (told fate.new)) }
-{
-    let offer = offer_of(world, delivered, word);
-    ran.push(choose_event(fate, &offer, earlier + 1))?;
-    match ran.get(earlier as usize) {
-        Some(event) => Ok(event),
-        None => unreachable!(),
-    }
 }
 
 /// How a storm ends where the world did not take an event in.
@@ -149,8 +121,10 @@ pub(crate) fn pass_moment<K: Keeper>(
     let Ok(()) = delivered.reach(sent as usize) else {
         return Stormed::Memory;
     };
-    match keep_next(world, delivered, fate, earlier, word, ran) {
-        Ok(event) => give_last(world, delivered, ran, &event),
+    let offer = offer_of(world, delivered, word);
+    let event = choose_event(fate, &offer, earlier + 1);
+    match ran.push_filled(&event) {
+        Ok(()) => give_last(world, delivered, ran, &event),
         Err(_) => Stormed::Memory,
     }
 }

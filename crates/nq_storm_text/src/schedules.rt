@@ -8,8 +8,8 @@ ghost use Rattle.nq_script.specs.Schedule.{SpellsSchedule};
 ghost use Rattle.nq_script.specs.Text.{text_of};
 ghost use Rattle.nq_storm_text.specs.Whole.{storm_head};
 
-use nq_base::{Event, FileList, Name, NoMemory};
-use nq_script::{Head, Schedule, print_event, print_head};
+use nq_base::{FileList, Name, NoMemory};
+use nq_script::{Head, Schedule, print_head};
 use std::alloc::Global;
 
 /// The head of the schedule of a storm.
@@ -45,47 +45,20 @@ pub fn schedule_text(alloc: Global, head: &Head, ran: &Schedule) -> Result<Vec<u
     ensures { IfOk result (λ text. SpellsSchedule storm_head (map once ran.now) text.items) }
 {
     let mut text = print_head(alloc, head)?;
-    push_events(alloc, &mut text, ran)?;
+    push_events(&mut text, ran)?;
     push(&mut text, b"end\n")?;
     Ok(text)
 }
 
 /// Appends the lines of events.
-fn push_events(alloc: Global, text: &mut Vec<u8>, ran: &Schedule) -> Result<(), NoMemory>
+fn push_events(text: &mut Vec<u8>, ran: &Schedule) -> Result<(), NoMemory>
     requires { AllByRecursion IsStormy ran.now }
     ensures { OnOk result ((texts : List (List ℕ)) × AreSpelled storm_head ran.now texts × (text.new.items ≡ text.old.items ++ text_of texts)) }
 {
     for place in 0..ran.len() {
-        push_event_at(alloc, text, ran, place)?;
+        ran.append_line(place, 1, text)?;
     }
     Ok(())
-}
-
-/// Appends the line of the event at a place.
-fn push_event_at(
-    alloc: Global,
-    text: &mut Vec<u8>,
-    ran: &Schedule,
-    place: usize,
-) -> Result<(), NoMemory>
-    requires stormy { AllByRecursion IsStormy ran.now }
-    requires there { place < length ran.now }
-    ensures { OnOk result ((event : _) × (line : List ℕ) × (slice_get ran.now place ≡ Some event) × SpellsEvent 1 event line × (text.new.items ≡ text.old.items ++ text_of (line ∷ []))) }
-{
-    match ran.get(place) {
-        Some(event) => push_event(alloc, text, &event),
-        None => unreachable!(),
-    }
-}
-
-/// Appends the line of an event.
-fn push_event(alloc: Global, text: &mut Vec<u8>, event: &Event) -> Result<(), NoMemory>
-    requires { IsStormy event.now }
-    ensures { OnOk result ((line : List ℕ) × SpellsEvent 1 event.now line × (text.new.items ≡ text.old.items ++ text_of (line ∷ []))) }
-{
-    let line = print_event(alloc, event, 1)?;
-    push(text, &line)?;
-    push(text, b"\n")
 }
 
 /// Appends bytes.

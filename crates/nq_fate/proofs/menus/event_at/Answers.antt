@@ -43,8 +43,8 @@ returns-then-place-offer-4 c =
       stormy = refl;
     }
 
-pub returns-else-place-offer-4 : goal.returns-else-place-offer-4
-returns-else-place-offer-4 c =
+pub returns : goal.returns
+returns c =
     let ticks = c.args.offer.now.ticks_behind in
     let restarts = c.args.offer.now.restarts_behind in
     let crash = c.args.offer.now.crash_behind in

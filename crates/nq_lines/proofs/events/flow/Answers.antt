@@ -18,11 +18,11 @@ returns-in_default g c = record {
   goes = λ head events at.
       let on = c.loop-turn.invariant.on head events at in
       let next = next-is head on.events c.loop-turn.world _ c.loop-turn.delivered c.len.result c.next.result on.here (c.len.ensures ∙ ap length c.packets.ensures) c.next.ensures.next in
-      stops-here (play_event head (Event.Deliver c.in-Some.packet) on.events) (λ es. play_flow head (c.args.most - (c.loop-turn.turn + 1)) es) c.take.result _ _ _ (c.take.ensures.goes head on.events (rw c.next.ensures.same on.here)) c.in_default.not-Done
+      stops-here (play_event head (Event.Deliver c.in-Some.packet) on.events) (λ es. play_flow head (c.args.most - (c.loop-turn.turn + 1)) es) c.deliver.result _ _ _ (c.deliver.ensures.goes head on.events (rw c.next.ensures.same on.here)) c.in_default.not-Done
       (flow-some head c.args.most c.loop-turn.turn c.in-Some.packet on.events _ c.next.result c.loop-turn-test.true on.same next c.in-Some.is);
-  faults = faults-on c.take.result (g.K.Keeper.faults c.args.world.now.server.keeper) (g.K.Keeper.faults c.loop-turn.world.server.keeper) (g.K.Keeper.faults c.take.new.world.server.keeper) c.loop-turn.invariant.faults c.take.ensures.faults;
-  follows = g.met.K.Keeper.follows_on _ _ _ c.loop-turn.invariant.follows c.take.ensures.follows;
-  settings = settings-on _ _ _ _ _ c.loop-turn.invariant.settings c.take.ensures.settings;
+  faults = faults-on c.deliver.result (g.K.Keeper.faults c.args.world.now.server.keeper) (g.K.Keeper.faults c.loop-turn.world.server.keeper) (g.K.Keeper.faults c.deliver.new.world.server.keeper) c.loop-turn.invariant.faults c.deliver.ensures.faults;
+  follows = g.met.K.Keeper.follows_on _ _ _ c.loop-turn.invariant.follows c.deliver.ensures.follows;
+  settings = settings-on _ _ _ _ _ c.loop-turn.invariant.settings c.deliver.ensures.settings;
 }
 
 pub loop-turn-preserved : goal.loop-turn-preserved
@@ -33,6 +33,6 @@ loop-turn-preserved g c = record {
       goes-on (play_event head (Event.Deliver c.in-Some.packet) on.events) (λ es. play_flow head (c.args.most - (c.loop-turn.turn + 1)) es) _ _ (c.in-Done.ensures.goes head on.events (rw c.next.ensures.same on.here))
       (flow-some head c.args.most c.loop-turn.turn c.in-Some.packet on.events _ c.next.result c.loop-turn-test.true on.same next c.in-Some.is);
   faults = c.in-Done.ensures.faults ∙ c.loop-turn.invariant.faults;
-  follows = g.met.K.Keeper.follows_on _ _ _ c.loop-turn.invariant.follows c.take.ensures.follows;
-  settings = settings-on _ _ _ _ _ c.loop-turn.invariant.settings c.take.ensures.settings;
+  follows = g.met.K.Keeper.follows_on _ _ _ c.loop-turn.invariant.follows c.deliver.ensures.follows;
+  settings = settings-on _ _ _ _ _ c.loop-turn.invariant.settings c.deliver.ensures.settings;
 }

@@ -2,42 +2,46 @@ use Rattle.std.proofs.Common.{◌≡◌, ◌≤◌, ◌∙◌, ap, arith, length
 use Rattle.std.proofs.lemmas.List.{length-reverse}
 use Rattle.std.specs.Prelude.{reverse}
 use Rattle.nq_lines.proofs.Steps.{as-many}
-use Rattle.nq_storm.proofs.Choosing.{dropped}
+use Rattle.nq_storm.proofs.Choosing.{dropped, is_chosen}
 use Rattle.nq_storm.proofs.Limits.{reached_at}
-use Rattle.nq_storm.proofs.Passing.{all_behind, gives_not, passed}
+use Rattle.nq_storm.proofs.Passing.{all_behind, filled_event, gives_not, passed}
 use Rattle.nq_lines.specs.Going.{IsAt}
 use Rattle.nq_storm.specs.Ending.{Gives}
 use Rattle.nq_storm.proofs.moments.pass_moment.Goals as goal
 
-pub returns-in-Ok-keep_next-clause-passes : goal.returns-in-Ok-keep_next-clause-passes
-returns-in-Ok-keep_next-clause-passes g c = λ done head start first word here.
+pub returns-in-Ok-push_filled-clause-passes : goal.returns-in-Ok-push_filled-clause-passes
+returns-in-Ok-push_filled-clause-passes g c = λ done head start first word here.
     let before = c.args.ran.now in
     let count = length-reverse before ∙ c.requires.many in
     let at : IsAt head (reverse before) c.args.world.now (g.K.Keeper.content c.args.world.now.server.keeper) c.reach.new.self = record { plays = here.at.plays; marks = c.reach.ensures.same (reverse before) here.at.marks } in
-    let chosen = c.in-Ok-keep_next.ensures.chosen head start (reverse before) word count at in
     let sent : c.len-sent.result ≡ length c.args.world.now.datagrams = c.len-sent.ensures ∙ ap length c.packets.ensures in
     let flagged : c.len-sent.result ≤ length c.reach.new.self = c.in-Ok.ensures.reached in
     let room : length c.args.world.now.datagrams ≤ length c.reach.new.self = omega arith in
-    let gives = c.give_last.ensures.gives head (reverse before) (rw c.keep_next.ensures.same at) (rw c.keep_next.ensures.same room) in
-    passed head start first before c.give_last.new.ran c.in-Ok-keep_next.event _ _ c.args.world.now c.give_last.new.world _ _ _ _ here chosen
-    (subst (λ ended. Gives ended head (reverse before) c.in-Ok-keep_next.event c.give_last.new.world (g.K.Keeper.content c.give_last.new.world.server.keeper) c.give_last.new.delivered) done gives) (c.give_last.ensures.kept done ∙ c.in-Ok-keep_next.ensures.kept)
+    let chosen = is_chosen head start (reverse before) c.args.earlier c.args.word c.offer_of-offer.result _ _ c.choose_event-event.result word count
+    (c.offer_of-offer.ensures.offers head (reverse before) at) c.choose_event-event.ensures.chosen in
+    let gives = c.give_last.ensures.gives head (reverse before) (rw c.offer_of-offer.ensures.same at) (rw c.offer_of-offer.ensures.same room) in
+    passed head start first before c.give_last.new.ran c.choose_event-event.result _ _ c.args.world.now c.give_last.new.world _ _ _ _ here chosen
+    (subst (λ ended. Gives ended head (reverse before) c.choose_event-event.result c.give_last.new.world (g.K.Keeper.content c.give_last.new.world.server.keeper) c.give_last.new.delivered) done gives) (c.give_last.ensures.kept done ∙ c.in-Ok-push_filled.ensures.ok)
 
-pub returns-in-Ok-keep_next-clause-halts : goal.returns-in-Ok-keep_next-clause-halts
-returns-in-Ok-keep_next-clause-halts g c = λ other head events count at.
+pub returns-in-Ok-push_filled-clause-halts : goal.returns-in-Ok-push_filled-clause-halts
+returns-in-Ok-push_filled-clause-halts g c = λ other head events count at.
     let here : IsAt head events c.args.world.now (g.K.Keeper.content c.args.world.now.server.keeper) c.reach.new.self = record { plays = at.plays; marks = c.reach.ensures.same events at.marks } in
     let sent : c.len-sent.result ≡ length c.args.world.now.datagrams = c.len-sent.ensures ∙ ap length c.packets.ensures in
     let flagged : c.len-sent.result ≤ length c.reach.new.self = c.in-Ok.ensures.reached in
     let room : length c.args.world.now.datagrams ≤ length c.reach.new.self = omega arith in
-    gives_not c.give_last.result head events c.in-Ok-keep_next.event c.give_last.new.world _ _ other
-    (c.give_last.ensures.gives head events (rw c.keep_next.ensures.same here) (rw c.keep_next.ensures.same room))
+    gives_not c.give_last.result head events c.choose_event-event.result c.give_last.new.world _ _ other
+    (c.give_last.ensures.gives head events (rw c.offer_of-offer.ensures.same here) (rw c.offer_of-offer.ensures.same room))
 
-pub returns-in-Ok-keep_next-clause-same : goal.returns-in-Ok-keep_next-clause-same
-returns-in-Ok-keep_next-clause-same g c = λ other. dropped c.args.ran.now c.keep_next.new.ran c.give_last.new.ran c.in-Ok-keep_next.event c.in-Ok-keep_next.ensures.kept (c.give_last.ensures.dropped other)
+pub returns-in-Ok-push_filled-clause-same : goal.returns-in-Ok-push_filled-clause-same
+returns-in-Ok-push_filled-clause-same g c = λ other. dropped c.args.ran.now c.push_filled.new.self c.give_last.new.ran c.choose_event-event.result c.in-Ok-push_filled.ensures.ok (c.give_last.ensures.dropped other)
 
-pub returns-in-Ok-keep_next-clause-stormy : goal.returns-in-Ok-keep_next-clause-stormy
-returns-in-Ok-keep_next-clause-stormy g c = λ all.
-    all_behind c.give_last.result c.args.ran.now c.keep_next.new.ran c.give_last.new.ran c.in-Ok-keep_next.event c.in-Ok-keep_next.ensures.kept c.give_last.ensures.kept
-    (λ other. dropped c.args.ran.now c.keep_next.new.ran c.give_last.new.ran c.in-Ok-keep_next.event c.in-Ok-keep_next.ensures.kept (c.give_last.ensures.dropped other)) c.in-Ok-keep_next.ensures.stormy all
+pub returns-in-Ok-push_filled-clause-stormy : goal.returns-in-Ok-push_filled-clause-stormy
+returns-in-Ok-push_filled-clause-stormy g c = λ all.
+    all_behind c.give_last.result c.args.ran.now c.push_filled.new.self c.give_last.new.ran c.choose_event-event.result c.in-Ok-push_filled.ensures.ok c.give_last.ensures.kept
+    (λ other. dropped c.args.ran.now c.push_filled.new.self c.give_last.new.ran c.choose_event-event.result c.in-Ok-push_filled.ensures.ok (c.give_last.ensures.dropped other)) c.choose_event-event.ensures.stormy all
+
+pub push_filled-requires : goal.push_filled-requires
+push_filled-requires g c = filled_event c.choose_event-event.result c.choose_event-event.ensures.stormy
 
 pub returns-in-Some-clause-halts : goal.returns-in-Some-clause-halts
 returns-in-Some-clause-halts g c = λ other head events count at.
