@@ -61,6 +61,19 @@ pub(crate) fn answer(
     }
 }
 
+/// Answers a NULL. It stands apart, since room for a reply costs as much as one with a body.
+#[inline(never)]
+pub(crate) fn answer_null(
+    alloc: Global,
+    host: Host,
+    xid: u32,
+    out: &mut Outbox,
+) -> Result<Taken, Halt>
+    ensures { Says (to_host host (reply_to xid Answer.Null)) result out.old out.new }
+{
+    answer(alloc, host, xid, &Reply::Null, out)
+}
+
 /// Refuses a request, and does nothing else.
 pub(crate) fn refuse(
     alloc: Global,

@@ -20,7 +20,7 @@ use crate::reading::take_in;
 use crate::received::{Halt, Received, Taken};
 use crate::state::{Phase, State};
 use crate::ticks::tick;
-use nq_base::{FileId, FileRow, Host, Inc, Ticks};
+use nq_base::{FileId, FileRow, Host, Inc, Request, Ticks};
 use nq_boot::StartFault;
 use nq_journal::Journal;
 use nq_keeper::{KeepFault, Keeper};
@@ -36,6 +36,8 @@ pub struct Server<K> {
     pub(crate) keeper: K,
     pub(crate) state: State,
     pub(crate) taken: u64,
+    /// The request that came last, so that none is moved.
+    pub(crate) request: Request,
 }
 
 impl<K> Model for Server<K> {
@@ -118,6 +120,7 @@ impl<K: Keeper> Server<K> {
                 keeper,
                 state: state_after(begun, None, longest, now),
                 taken: 0,
+                request: Request::Null,
             }),
             Err(StartFault::Failed) => Err(BootFault::Failed(keeper)),
             Err(StartFault::Memory) => Err(BootFault::Memory(keeper)),
@@ -155,6 +158,7 @@ impl<K: Keeper> Server<K> {
             &mut self.state,
             sender,
             datagram,
+            &mut self.request,
             out,
             log,
         ) {
@@ -234,6 +238,7 @@ impl<K: Keeper> Server<K> {
             keeper,
             state: _,
             taken: _,
+            request: _,
         } = self;
         keeper
     }
