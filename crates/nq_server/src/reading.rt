@@ -12,7 +12,7 @@ use crate::received::{Halt, Reason, Taken};
 use crate::replying::say_error;
 use crate::requests::answer;
 use crate::state::State;
-use nq_base::{Host, Request};
+use nq_base::{Host, Reply, Request};
 use nq_datagrams::{Class, ErrorReply, read_incoming_into};
 use nq_journal::Journal;
 use nq_keeper::Keeper;
@@ -28,6 +28,7 @@ fn take<K: Keeper>(
     sender: Host,
     class: Class,
     request: &Request,
+    said: &mut Reply,
     out: &mut Outbox,
     log: &mut Journal,
 ) -> Result<Taken, Halt>
@@ -57,11 +58,14 @@ fn take<K: Keeper>(
         Class::Garbage { xid } => {
             say_error(alloc, sender, xid, ErrorReply::GarbageArguments, out)
         }
-        Class::Request { xid } => { answer(alloc, keeper, state, sender, xid, request, out, log) }
+        Class::Request { xid } => {
+            answer(alloc, keeper, state, sender, xid, request, said, out, log)
+        }
     }
 }
 
-/// Reads a datagram from a host, and takes it in. A request is read into `request`, which may hold anything before and after.
+/// Reads a datagram from a host, and takes it in. A request is read into `request`, and the
+/// reply to a READ is made in `said`; both may hold anything before and after.
 pub(crate) fn take_in<K: Keeper>(
     alloc: Global,
     keeper: &mut K,
@@ -69,6 +73,7 @@ pub(crate) fn take_in<K: Keeper>(
     sender: Host,
     datagram: &[u8],
     request: &mut Request,
+    said: &mut Reply,
     out: &mut Outbox,
     log: &mut Journal,
 ) -> Result<Taken, Halt>
@@ -81,5 +86,5 @@ pub(crate) fn take_in<K: Keeper>(
     ensures leaves { LeavesStep (λ kept. receive (server_of (beside_of state.old) kept) sender (next_of out.old) (datagram_in datagram.now)) (K.content keeper.old) (K.leaves keeper.old keeper.new) }
 {
     let class = read_incoming_into(datagram, request);
-    take(alloc, keeper, state, sender, class, request, out, log)
+    take(alloc, keeper, state, sender, class, request, said, out, log)
 }

@@ -20,7 +20,7 @@ use crate::reading::take_in;
 use crate::received::{Halt, Received, Taken};
 use crate::state::{Phase, State};
 use crate::ticks::tick;
-use nq_base::{FileId, FileRow, Host, Inc, Request, Ticks};
+use nq_base::{FileId, FileRow, Host, Inc, Reply, Request, Ticks};
 use nq_boot::StartFault;
 use nq_journal::Journal;
 use nq_keeper::{KeepFault, Keeper};
@@ -38,6 +38,8 @@ pub struct Server<K> {
     pub(crate) taken: u64,
     /// The request that came last, so that none is moved.
     pub(crate) request: Request,
+    /// The reply to the READ that came last, so that each body is read into the same place.
+    pub(crate) said: Reply,
 }
 
 impl<K> Model for Server<K> {
@@ -121,6 +123,7 @@ impl<K: Keeper> Server<K> {
                 state: state_after(begun, None, longest, now),
                 taken: 0,
                 request: Request::Null,
+                said: Reply::Null,
             }),
             Err(StartFault::Failed) => Err(BootFault::Failed(keeper)),
             Err(StartFault::Memory) => Err(BootFault::Memory(keeper)),
@@ -159,6 +162,7 @@ impl<K: Keeper> Server<K> {
             sender,
             datagram,
             &mut self.request,
+            &mut self.said,
             out,
             log,
         ) {
@@ -239,6 +243,7 @@ impl<K: Keeper> Server<K> {
             state: _,
             taken: _,
             request: _,
+            said: _,
         } = self;
         keeper
     }
