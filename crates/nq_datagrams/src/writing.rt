@@ -44,7 +44,8 @@ pub fn call_bytes(alloc: Global, xid: u32, request: &Request) -> Result<Vec<u8>,
     Ok(out.into_bytes())
 }
 
-/// The datagram of a reply.
+/// The datagram of a reply. It is inlined, so that a caller's reply that has no block needs no room for one.
+#[inline(always)]
 #[tactic(auto, unfolding(crate::specs::Messages::bytes_of))]
 pub fn reply_bytes(alloc: Global, xid: u32, reply: &Reply) -> Result<Vec<u8>, NoMemory>
     ensures written { IfOk result (λ v. v.items ≡ bytes_of (reply_to xid reply.now)) }
@@ -116,7 +117,9 @@ impl BegunReply {
         Ok(BegunReply { xid, out })
     }
 
-    /// Writes the results, for which there is room, and gives the datagram. It takes no memory.
+    /// Writes the results, for which there is room, and gives the datagram. It takes no memory. It is inlined, so that a caller's
+    /// reply that has no block needs no room for one.
+    #[inline(always)]
     #[tactic(auto, unfolding(crate::specs::Messages::bytes_of))]
     pub fn end(self, reply: &Reply) -> Vec<u8>
         requires { results_len reply.now ≤ self.room }

@@ -20,7 +20,7 @@ use crate::finding;
 use crate::leasing::{Wish, get_lease, read};
 use crate::looking::{get_attr, look_up};
 use crate::received::{Halt, Reason, Taken};
-use crate::replying::{Caller, answer_null, refuse};
+use crate::replying::{self, Caller, refuse};
 use crate::state::{Phase, State};
 use nq_base::{Host, HostRow, Refusal, Reply, Request, Who};
 use nq_evict::vacated;
@@ -248,7 +248,7 @@ pub(crate) fn answer<K: Keeper>(
     ensures leaves { LeavesStep (λ kept. answer_request (server_of (beside_of state.old) kept) sender xid (next_of out.old) request.now (asked_by request.now)) (K.content keeper.old) (K.leaves keeper.old keeper.new) }
 {
     let Some(who) = asker(request) else {
-        return answer_null(alloc, sender, xid, out);
+        return replying::answer(alloc, sender, xid, &Reply::Null, out);
     };
     if !is_of_sender(&who, sender) {
         return Ok(Taken::Dropped(Reason::WrongHost));

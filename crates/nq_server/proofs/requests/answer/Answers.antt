@@ -16,7 +16,7 @@ use Rattle.nq_server.proofs.requests.answer.Goals as goal
 
 pub returns-in_default-clause-takes : goal.returns-in_default-clause-takes
 returns-in_default-clause-takes g c =
-    takes-answered c.args.sender (reply c.args.xid Answer.Null) c.answer_null.result (λ kept. answer_request (server_of (beside_of c.args.state.now) kept) c.args.sender c.args.xid (next_of c.args.out.now) c.args.request.now (asker c.args.request.now)) (g.K.Keeper.content c.args.keeper.now) (g.K.Keeper.content c.args.keeper.now) (g.K.Keeper.faults c.args.keeper.now) (g.K.Keeper.faults c.args.keeper.now) (beside_of c.args.state.now) c.args.out.now c.answer_null.new.out c.args.log.now refl refl c.answer_null.ensures
+    takes-answered c.args.sender (reply c.args.xid Answer.Null) c.answer.result (λ kept. answer_request (server_of (beside_of c.args.state.now) kept) c.args.sender c.args.xid (next_of c.args.out.now) c.args.request.now (asker c.args.request.now)) (g.K.Keeper.content c.args.keeper.now) (g.K.Keeper.content c.args.keeper.now) (g.K.Keeper.faults c.args.keeper.now) (g.K.Keeper.faults c.args.keeper.now) (beside_of c.args.state.now) c.args.out.now c.answer.new.out c.args.log.now refl refl c.answer.ensures
     (λ kept told. ap (answer_request (server_of (beside_of c.args.state.now) kept) c.args.sender c.args.xid (next_of c.args.out.now) c.args.request.now) (sym c.asker.ensures ∙ c.in_default.is))
 
 pub returns-then-not-is_of_sender-clause-takes : goal.returns-then-not-is_of_sender-clause-takes
