@@ -1,14 +1,14 @@
 //! What a datagram is to a client.
 
-ghost use Rattle.std.specs.Prelude.{◌≡◌, Ok};
-ghost use Rattle.nq_rpc.specs.Lent.{lent_message, lent_outcome};
-ghost use Rattle.nq_datagrams.specs.Incoming.{answer_in, call_in, heard_as, heard_for, notice_in, reply_to};
-ghost use Rattle.nq_datagrams.specs.Told.{told_client};
+ghost use Rattle.std.specs.Prelude.{◌≡◌};
+ghost use Rattle.nq_rpc.specs.Lent.{lent_outcome};
+ghost use Rattle.nq_datagrams.specs.Incoming.{call_in, heard_for, reply_to};
+ghost use Rattle.nq_datagrams.specs.Told.{told_client, told_reply};
 
 use crate::numbers::{EVICTED, PROGRAM, RPC_VERSION, VERSION};
 use nq_base::{Reply, Request};
 use nq_rpc::{LentCall, LentMessage, LentOutcome, LentReply, decode_in_place};
-use nq_wire::{Procedure, WireFault, decode_reply, decode_request};
+use nq_wire::{Procedure, decode_reply_into, decode_request_into};
 use std::alloc::Global;
 
 /// The request of a client for whose reply it waits.
@@ -30,29 +30,29 @@ pub enum Heard {
 }
 
 /// Reads a datagram that came to a client; None where it is neither a notice nor the reply for which it waits. It takes
-/// no memory.
+/// no memory. A reply is moved once, since no other function hands it on.
 #[tactic(auto, unfolding(crate::specs::Incoming::heard_for))]
-pub fn read_heard(alloc: Global, awaited: Option<Awaited>, datagram: &[u8]) -> Option<Heard>
+pub fn read_heard(_alloc: Global, awaited: Option<Awaited>, datagram: &[u8]) -> Option<Heard>
     ensures { told_client result ≡ heard_for awaited datagram.now }
 {
-    match decode_in_place(datagram) {
-        Err(_) => None,
-        Ok(message) => of_message(alloc, awaited, message),
+    let message = match decode_in_place(datagram) {
+        Err(_) => return None,
+        Ok(message) => message,
+    };
+    let (xid, outcome) = match message {
+        LentMessage::Call(call) => return of_call(call),
+        LentMessage::Reply(LentReply { xid, outcome }) => (xid, outcome),
+    };
+    let mut reply = Reply::Null;
+    if !is_answer(awaited, xid, outcome, &mut reply) {
+        return None;
     }
-}
-
-fn of_message(alloc: Global, awaited: Option<Awaited>, message: LentMessage<'_>) -> Option<Heard>
-    ensures { told_client result ≡ heard_as awaited (Ok (lent_message message.entry)) }
-{
-    match message {
-        LentMessage::Call(call) => of_call(alloc, call),
-        LentMessage::Reply(LentReply { xid, outcome }) => of_reply(alloc, awaited, xid, outcome),
-    }
+    Some(Heard::Reply { xid, reply })
 }
 
 /// A call: EVICTED alone concerns a client.
 #[tactic(auto, unfolding(crate::specs::Incoming::call_in))]
-fn of_call(alloc: Global, call: LentCall<'_>) -> Option<Heard>
+fn of_call(call: LentCall<'_>) -> Option<Heard>
     ensures { told_client result ≡ call_in (record { head = call.entry.head; rpcvers = call.entry.rpcvers; arguments = call.entry.arguments.now }) }
 {
     let LentCall {
@@ -67,42 +67,26 @@ fn of_call(alloc: Global, call: LentCall<'_>) -> Option<Heard>
     {
         return None;
     }
-    notice(head.xid, decode_request(alloc, EVICTED, arguments))
-}
-
-fn notice(xid: u32, read: Result<Request, WireFault>) -> Option<Heard>
-    ensures { told_client result ≡ notice_in xid read }
-{
-    match read {
-        Ok(request) => Some(Heard::Notice { xid, request }),
+    let xid = head.xid;
+    let mut request = Request::Null;
+    match decode_request_into(EVICTED, arguments, &mut request) {
+        Ok(()) => Some(Heard::Notice { xid, request }),
         Err(_) => None,
     }
 }
 
-/// A reply: one to the request for which the client waits is read by its procedure.
+/// Whether a reply is the one for which the client waits. It is read into `into`, by the procedure of the request.
 #[tactic(auto, unfolding(crate::specs::Incoming::reply_to))]
-fn of_reply(
-    alloc: Global,
-    awaited: Option<Awaited>,
-    xid: u32,
-    outcome: LentOutcome<'_>,
-) -> Option<Heard>
-    ensures { told_client result ≡ reply_to awaited xid (lent_outcome outcome.entry) }
+fn is_answer(awaited: Option<Awaited>, xid: u32, outcome: LentOutcome<'_>, into: &mut Reply) -> bool
+    ensures { told_reply xid into.new result ≡ reply_to awaited xid (lent_outcome outcome.entry) }
 {
     match (awaited, outcome) {
-        (Some(awaited), LentOutcome::Success(results)) if xid == awaited.xid => answer(
-            xid,
-            decode_reply(alloc, awaited.procedure.number(), results),
-        ),
-        _ => None,
-    }
-}
-
-fn answer(xid: u32, read: Result<Reply, WireFault>) -> Option<Heard>
-    ensures { told_client result ≡ answer_in xid read }
-{
-    match read {
-        Ok(reply) => Some(Heard::Reply { xid, reply }),
-        Err(_) => None,
+        (Some(awaited), LentOutcome::Success(results)) if xid == awaited.xid => {
+            match decode_reply_into(awaited.procedure.number(), results, into) {
+                Ok(()) => true,
+                Err(_) => false,
+            }
+        }
+        _ => false,
     }
 }

@@ -3,14 +3,16 @@
 ghost use Rattle.std.specs.Prelude.{◌≡◌, Ok};
 ghost use Rattle.nq_rpc.specs.Lent.{lent_message};
 ghost use Rattle.nq_datagrams.specs.Incoming.{asked_as, called_as, datagram_in, read_as};
-ghost use Rattle.nq_datagrams.specs.Told.{told};
+ghost use Rattle.nq_datagrams.specs.Told.{told, told_as};
+ghost use Rattle.nq_base.specs.declared.Request.{Request};
+ghost use Rattle.nq_wire.specs.Reading.{left_in};
 
 use crate::numbers::{
     EVICTED, LAST_PROCEDURE, LONGEST_DATAGRAM, PROGRAM, RPC_VERSION, VACATED, VERSION,
 };
 use nq_base::Request;
 use nq_rpc::{LentCall, LentMessage, RpcFault, decode_in_place};
-use nq_wire::{WireFault, decode_request};
+use nq_wire::{WireFault, decode_request_into};
 use std::alloc::Global;
 
 /// What a datagram is to the server: the classes stand in the order in which they are tried.
@@ -38,33 +40,59 @@ pub enum Incoming {
     Request { xid: u32, request: Request },
 }
 
-/// Reads a datagram that came to the server. It takes no memory.
+/// What a datagram is to the server, where the request itself stands apart: the classes of [`Incoming`].
+#[derive(Clone, Copy)]
+pub enum Class {
+    /// It has more than 4400 bytes.
+    TooLong,
+    /// It is no message of RPC (RFC 1057 section 8).
+    NoMessage(RpcFault),
+    /// It is a reply.
+    NoCall,
+    /// It is a call of another version of RPC than 2.
+    OtherRpc { xid: u32 },
+    /// It is a call of another program.
+    OtherProgram { xid: u32 },
+    /// It is a call of another version of the program than 1.
+    OtherVersion { xid: u32 },
+    /// It is a call of a procedure that is not served: EVICTED, or one above the last.
+    UnknownProcedure { xid: u32 },
+    /// It is a VACATED whose arguments are not in its grammar. No reply is owed.
+    GarbageVacated,
+    /// It is a call whose arguments are not in the grammar of its procedure.
+    Garbage { xid: u32 },
+    /// It is a request.
+    Request { xid: u32 },
+}
+
+/// Reads a datagram that came to the server. A request is read into `into`, which after every other class may hold anything. It
+/// takes no memory.
 #[tactic(auto, unfolding(crate::specs::Incoming::datagram_in))]
-pub fn read_incoming(alloc: Global, datagram: &[u8]) -> Incoming
-    ensures { told result ≡ datagram_in datagram.now }
+pub fn read_incoming_into(datagram: &[u8], into: &mut Request) -> Class
+    ensures { told_as result into.new ≡ datagram_in datagram.now }
 {
     if datagram.len() > LONGEST_DATAGRAM {
-        return Incoming::TooLong;
+        return Class::TooLong;
     }
     match decode_in_place(datagram) {
-        Err(fault) => Incoming::NoMessage(fault),
-        Ok(message) => of_message(alloc, message),
+        Err(fault) => Class::NoMessage(fault),
+        Ok(message) => of_message(message, into),
     }
 }
 
-fn of_message(alloc: Global, message: LentMessage<'_>) -> Incoming
-    ensures { told result ≡ read_as (Ok (lent_message message.entry)) }
+fn of_message(message: LentMessage<'_>, into: &mut Request) -> Class
+    ensures { told_as result into.new ≡ read_as (Ok (lent_message message.entry)) }
 {
     match message {
-        LentMessage::Reply(_) => Incoming::NoCall,
-        LentMessage::Call(call) => called(alloc, call),
+        LentMessage::Reply(_) => Class::NoCall,
+        LentMessage::Call(call) => called(call, into),
     }
 }
 
 /// A call, by its numbers in the order in which they are tested.
 #[tactic(auto, unfolding(crate::specs::Incoming::called_as))]
-fn called(alloc: Global, call: LentCall<'_>) -> Incoming
-    ensures { told result ≡ called_as (record { head = call.entry.head; rpcvers = call.entry.rpcvers; arguments = call.entry.arguments.now }) }
+fn called(call: LentCall<'_>, into: &mut Request) -> Class
+    ensures { told_as result into.new ≡ called_as (record { head = call.entry.head; rpcvers = call.entry.rpcvers; arguments = call.entry.arguments.now }) }
 {
     let LentCall {
         head,
@@ -73,31 +101,47 @@ fn called(alloc: Global, call: LentCall<'_>) -> Incoming
     } = call;
     let xid = head.xid;
     if rpcvers != RPC_VERSION {
-        return Incoming::OtherRpc { xid };
+        return Class::OtherRpc { xid };
     }
     if head.prog != PROGRAM {
-        return Incoming::OtherProgram { xid };
+        return Class::OtherProgram { xid };
     }
     if head.vers != VERSION {
-        return Incoming::OtherVersion { xid };
+        return Class::OtherVersion { xid };
     }
     if head.procedure == EVICTED || head.procedure > LAST_PROCEDURE {
-        return Incoming::UnknownProcedure { xid };
+        return Class::UnknownProcedure { xid };
     }
-    asked(
-        xid,
-        head.procedure,
-        decode_request(alloc, head.procedure, arguments),
-    )
+    let read = decode_request_into(head.procedure, arguments, into);
+    asked(xid, head.procedure, read)
 }
 
-/// A call of a procedure that is served, by what its arguments are.
-fn asked(xid: u32, procedure: u32, read: Result<Request, WireFault>) -> Incoming
-    ensures { told result ≡ asked_as xid procedure read }
+/// A call of a procedure that is served, by whether its arguments were read.
+fn asked(xid: u32, procedure: u32, read: Result<(), WireFault>) -> Class
+    ensures { (r : Request) → told_as result r ≡ asked_as xid procedure (left_in r read) }
 {
     match read {
-        Ok(request) => Incoming::Request { xid, request },
-        Err(_) if procedure == VACATED => Incoming::GarbageVacated,
-        Err(_) => Incoming::Garbage { xid },
+        Ok(()) => Class::Request { xid },
+        Err(_) if procedure == VACATED => Class::GarbageVacated,
+        Err(_) => Class::Garbage { xid },
+    }
+}
+
+/// Reads a datagram that came to the server. It takes no memory.
+pub fn read_incoming(_alloc: Global, datagram: &[u8]) -> Incoming
+    ensures { told result ≡ datagram_in datagram.now }
+{
+    let mut request = Request::Null;
+    match read_incoming_into(datagram, &mut request) {
+        Class::TooLong => Incoming::TooLong,
+        Class::NoMessage(fault) => Incoming::NoMessage(fault),
+        Class::NoCall => Incoming::NoCall,
+        Class::OtherRpc { xid } => Incoming::OtherRpc { xid },
+        Class::OtherProgram { xid } => Incoming::OtherProgram { xid },
+        Class::OtherVersion { xid } => Incoming::OtherVersion { xid },
+        Class::UnknownProcedure { xid } => Incoming::UnknownProcedure { xid },
+        Class::GarbageVacated => Incoming::GarbageVacated,
+        Class::Garbage { xid } => Incoming::Garbage { xid },
+        Class::Request { xid } => Incoming::Request { xid, request },
     }
 }

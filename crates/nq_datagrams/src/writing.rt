@@ -44,13 +44,21 @@ pub fn call_bytes(alloc: Global, xid: u32, request: &Request) -> Result<Vec<u8>,
     Ok(out.into_bytes())
 }
 
-/// The datagram of a reply.
+/// How many bytes of a reply stand before its results.
+const REPLY_HEAD: usize = 24;
+
+/// The most bytes of results that have no block. Where they are reserved at once, memory is taken once.
+const SHORT_RESULTS: usize = 56;
+
+/// The datagram of a reply. It is inlined, so that a caller's reply that has no block needs no room for one.
+#[inline(always)]
 #[tactic(auto, unfolding(crate::specs::Messages::bytes_of))]
 pub fn reply_bytes(alloc: Global, xid: u32, reply: &Reply) -> Result<Vec<u8>, NoMemory>
     ensures written { IfOk result (λ v. v.items ≡ bytes_of (reply_to xid reply.now)) }
     ensures fits { OnOk result (FitsMessage (reply_to xid reply.now)) }
 {
     let mut out = Writer::new(alloc)?;
+    out.reserve(REPLY_HEAD + SHORT_RESULTS)?;
     begin_reply(xid, &mut out)?;
     encode_reply_into(reply, &mut out)?;
     Ok(out.into_bytes())
@@ -110,13 +118,18 @@ impl BegunReply {
     pub fn new(alloc: Global, xid: u32, room: usize) -> Result<BegunReply, NoMemory>
         ensures { IfOk result (λ b. (b.xid ≡ xid) × (room ≤ b.room)) }
     {
+        let Some(whole) = room.checked_add(REPLY_HEAD) else {
+            return Err(NoMemory::Memory);
+        };
         let mut out = Writer::new(alloc)?;
+        out.reserve(whole)?;
         begin_reply(xid, &mut out)?;
-        out.reserve(room)?;
         Ok(BegunReply { xid, out })
     }
 
-    /// Writes the results, for which there is room, and gives the datagram. It takes no memory.
+    /// Writes the results, for which there is room, and gives the datagram. It takes no memory. It is inlined, so that a caller's
+    /// reply that has no block needs no room for one.
+    #[inline(always)]
     #[tactic(auto, unfolding(crate::specs::Messages::bytes_of))]
     pub fn end(self, reply: &Reply) -> Vec<u8>
         requires { results_len reply.now ≤ self.room }

@@ -21,6 +21,8 @@ use Rattle.nq_model.specs.Server.{Server, ServerStep}
 use Rattle.nq_model.specs.Table.{find_row, put_row, drop_host, drop_rows_of}
 use Rattle.nq_server.specs.declared.deciding.Ready.{Ready}
 use Rattle.nq_server.specs.declared.received.Taken.{Taken}
+use Rattle.nq_server.specs.declared.verdicts.Short.{Short}
+use Rattle.nq_server.specs.declared.verdicts.Short.TheVariants as short
 use Rattle.nq_server.specs.Leasing.{MakesBeside}
 use Rattle.nq_server.specs.State.{Beside}
 use Rattle.nq_server.specs.Stepping.{Enters, Sends, outcome_of}
@@ -36,6 +38,16 @@ file_to_tell other = None
 abbrev pub length_in : Kept → Option ℕ → ℕ
 length_in kept None = 0
 length_in kept (Some file) = kept_length (row_of_found (find_file file kept.files))
+
+-- a reply that has no body
+abbrev pub short_reply : (inc : ℕ) → Short → Answer
+short_reply inc short.Null = Answer.Null
+short_reply inc short.Attach = Answer.Attach inc
+short_reply inc (short.Create file) = Answer.Create inc file
+short_reply inc (short.Write rev) = Answer.Write inc rev
+short_reply inc (short.Resize rev) = Answer.Resize inc rev
+short_reply inc short.Remove = Answer.Remove inc
+short_reply inc (short.Refused status) = Answer.Refused inc status
 
 -- the reply to a request that was decided so: none where a later incarnation is attached
 abbrev pub answer_to : Who → Request → Decided → Option Answer

@@ -24,10 +24,10 @@ use crate::finding;
 use crate::gates::{file_to_change, file_to_tell, gate};
 use crate::leasing::make_room;
 use crate::received::{Halt, Reason, Taken};
-use crate::replying::{Caller, end_reply};
+use crate::replying::Caller;
 use crate::state::{Phase, State};
 use crate::ticks::halt_of;
-use crate::verdicts::answer_to;
+use crate::verdicts::{answer_to, end_short};
 use nq_base::{Access, Decided, FileId, Heads, NoMemory, Request, Verdict, Who};
 use nq_datagrams::BegunReply;
 use nq_evict::{NoticeTo, notices};
@@ -198,7 +198,7 @@ fn conclude(
     let Some(said) = answer_to(&who, request, decided) else {
         return Taken::Dropped(Reason::OldIncarnation);
     };
-    end_reply(who.host, begun, &said, out);
+    end_short(who.host, begun, &said, out);
     do_if_fresh(state, who, request, decided, blocks, notice, log);
     Taken::Done
 }

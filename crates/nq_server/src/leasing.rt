@@ -330,6 +330,27 @@ fn blank(inc: Inc) -> Reply
     }
 }
 
+/// Makes a reply one to a READ of which only the body is known so far. The reply to an earlier READ lends its body, which is
+/// written over.
+fn make_blank(said: &mut Reply, asker: Inc)
+    ensures blank { IsBlank asker said.new }
+    ensures read { IsRead said.new }
+{
+    if let Reply::Read {
+        inc,
+        rev,
+        grant,
+        ..
+    } = said
+    {
+        *inc = asker;
+        *rev = Rev(0);
+        *grant = None;
+        return;
+    }
+    *said = blank(asker);
+}
+
 /// Reads the block that a READ asks for into the body of its reply.
 fn find_body<K: Keeper>(keeper: &mut K, wish: &Wish, said: &mut Reply) -> Result<Found, Halt>
     requires { IsRead said.old }
@@ -454,13 +475,14 @@ fn read_found(
     }
 }
 
-/// Answers a READ.
+/// Answers a READ. Its reply is made in `said`, which may hold any reply before and after.
 pub(crate) fn read<K: Keeper>(
     alloc: Global,
     keeper: &mut K,
     state: &mut State,
     caller: Caller,
     wish: &Wish,
+    said: &mut Reply,
     out: &mut Outbox,
     log: &mut Journal,
 ) -> Result<Taken, Halt>
@@ -474,15 +496,13 @@ pub(crate) fn read<K: Keeper>(
     ensures leaves { LeavesOne (K.content keeper.old) (K.leaves keeper.old keeper.new) }
 {
     let who = caller.who;
-    let mut said = blank(who.inc);
-    match find_body(keeper, wish, &mut said)? {
+    make_blank(said, who.inc);
+    match find_body(keeper, wish, said)? {
         Found::Stale => refuse(alloc, who, caller.xid, Refusal::Stale, out),
         Found::Invalid => refuse(alloc, who, caller.xid, Refusal::Inval, out),
         Found::Got(row) => {
             let question = question(state, who, &row, wish.want);
-            read_found(
-                alloc, state, &question, caller.xid, wish, &mut said, out, log,
-            )
+            read_found(alloc, state, &question, caller.xid, wish, said, out, log)
         }
     }
 }

@@ -2,7 +2,7 @@
 
 ghost use Rattle.std.specs.Prelude.{◌<◌, ◌≤◌, ◌+◌, ◌^◌};
 ghost use Rattle.nq_datagrams.specs.Incoming.{datagram_in};
-ghost use Rattle.nq_datagrams.specs.Told.{told};
+ghost use Rattle.nq_datagrams.specs.Told.{told_as};
 ghost use Rattle.nq_model.specs.ServerStep.{receive};
 ghost use Rattle.nq_server.specs.Sound.{IsSound};
 ghost use Rattle.nq_server.specs.State.{beside_of, server_of};
@@ -12,8 +12,8 @@ use crate::received::{Halt, Reason, Taken};
 use crate::replying::say_error;
 use crate::requests::answer;
 use crate::state::State;
-use nq_base::Host;
-use nq_datagrams::{ErrorReply, Incoming, read_incoming};
+use nq_base::{Host, Reply, Request};
+use nq_datagrams::{Class, ErrorReply, read_incoming_into};
 use nq_journal::Journal;
 use nq_keeper::Keeper;
 use nq_wire::Outbox;
@@ -26,51 +26,54 @@ fn take<K: Keeper>(
     keeper: &mut K,
     state: &mut State,
     sender: Host,
-    incoming: &Incoming,
+    class: Class,
+    request: &Request,
+    said: &mut Reply,
     out: &mut Outbox,
     log: &mut Journal,
 ) -> Result<Taken, Halt>
     requires sound { IsSound state.old }
     requires drawn { state.old.table.drawn < 2 ^ 62 }
-    ensures takes { Takes (λ kept. receive (server_of (beside_of state.old) kept) sender (next_of out.old) (told incoming.now)) result (K.content keeper.old) (K.content keeper.new) (K.faults keeper.old) (K.faults keeper.new) (beside_of state.old) (beside_of state.new) out.old out.new log.old log.new }
+    ensures takes { Takes (λ kept. receive (server_of (beside_of state.old) kept) sender (next_of out.old) (told_as class request.now)) result (K.content keeper.old) (K.content keeper.new) (K.faults keeper.old) (K.faults keeper.new) (beside_of state.old) (beside_of state.new) out.old out.new log.old log.new }
     ensures sound { IsSound state.new }
     ensures drawn { state.new.table.drawn ≤ state.old.table.drawn + 1 }
     ensures follows { K.follows keeper.old keeper.new }
-    ensures leaves { LeavesStep (λ kept. receive (server_of (beside_of state.old) kept) sender (next_of out.old) (told incoming.now)) (K.content keeper.old) (K.leaves keeper.old keeper.new) }
+    ensures leaves { LeavesStep (λ kept. receive (server_of (beside_of state.old) kept) sender (next_of out.old) (told_as class request.now)) (K.content keeper.old) (K.leaves keeper.old keeper.new) }
 {
-    match incoming {
-        Incoming::TooLong => Ok(Taken::Dropped(Reason::TooLong)),
-        Incoming::NoMessage(fault) => Ok(Taken::Dropped(Reason::Rpc(*fault))),
-        Incoming::NoCall => Ok(Taken::Dropped(Reason::NotACall)),
-        Incoming::OtherRpc { xid } => {
-            say_error(alloc, sender, *xid, ErrorReply::RpcMismatch, out)
+    match class {
+        Class::TooLong => Ok(Taken::Dropped(Reason::TooLong)),
+        Class::NoMessage(fault) => Ok(Taken::Dropped(Reason::Rpc(fault))),
+        Class::NoCall => Ok(Taken::Dropped(Reason::NotACall)),
+        Class::OtherRpc { xid } => { say_error(alloc, sender, xid, ErrorReply::RpcMismatch, out) }
+        Class::OtherProgram { xid } => {
+            say_error(alloc, sender, xid, ErrorReply::ProgramUnavailable, out)
         }
-        Incoming::OtherProgram { xid } => {
-            say_error(alloc, sender, *xid, ErrorReply::ProgramUnavailable, out)
+        Class::OtherVersion { xid } => {
+            say_error(alloc, sender, xid, ErrorReply::ProgramMismatch, out)
         }
-        Incoming::OtherVersion { xid } => {
-            say_error(alloc, sender, *xid, ErrorReply::ProgramMismatch, out)
+        Class::UnknownProcedure { xid } => {
+            say_error(alloc, sender, xid, ErrorReply::ProcedureUnavailable, out)
         }
-        Incoming::UnknownProcedure { xid } => {
-            say_error(alloc, sender, *xid, ErrorReply::ProcedureUnavailable, out)
+        Class::GarbageVacated => Ok(Taken::Dropped(Reason::NoReplyOwed)),
+        Class::Garbage { xid } => {
+            say_error(alloc, sender, xid, ErrorReply::GarbageArguments, out)
         }
-        Incoming::GarbageVacated => Ok(Taken::Dropped(Reason::NoReplyOwed)),
-        Incoming::Garbage { xid } => {
-            say_error(alloc, sender, *xid, ErrorReply::GarbageArguments, out)
-        }
-        Incoming::Request { xid, request } => {
-            answer(alloc, keeper, state, sender, *xid, request, out, log)
+        Class::Request { xid } => {
+            answer(alloc, keeper, state, sender, xid, request, said, out, log)
         }
     }
 }
 
-/// Reads a datagram from a host, and takes it in.
+/// Reads a datagram from a host, and takes it in. A request is read into `request`, and the
+/// reply to a READ is made in `said`; both may hold anything before and after.
 pub(crate) fn take_in<K: Keeper>(
     alloc: Global,
     keeper: &mut K,
     state: &mut State,
     sender: Host,
     datagram: &[u8],
+    request: &mut Request,
+    said: &mut Reply,
     out: &mut Outbox,
     log: &mut Journal,
 ) -> Result<Taken, Halt>
@@ -82,6 +85,6 @@ pub(crate) fn take_in<K: Keeper>(
     ensures follows { K.follows keeper.old keeper.new }
     ensures leaves { LeavesStep (λ kept. receive (server_of (beside_of state.old) kept) sender (next_of out.old) (datagram_in datagram.now)) (K.content keeper.old) (K.leaves keeper.old keeper.new) }
 {
-    let incoming = read_incoming(alloc, datagram);
-    take(alloc, keeper, state, sender, &incoming, out, log)
+    let class = read_incoming_into(datagram, request);
+    take(alloc, keeper, state, sender, class, request, said, out, log)
 }

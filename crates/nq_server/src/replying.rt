@@ -30,8 +30,9 @@ pub(crate) struct Caller {
     pub(crate) xid: u32,
 }
 
-/// Adds a reply to a host. Where memory is wanting the datagrams are as before.
-pub(crate) fn reply(
+/// Adds a reply to a host. Where memory is wanting the datagrams are as before. It is inlined, as what it calls is.
+#[inline(always)]
+fn reply(
     alloc: Global,
     host: Host,
     xid: u32,
@@ -45,7 +46,8 @@ pub(crate) fn reply(
     out.push(Party::Client(host), bytes)
 }
 
-/// Answers a request with a reply, and does nothing else.
+/// Answers a request with a reply, and does nothing else. It is inlined, as what it calls is.
+#[inline(always)]
 pub(crate) fn answer(
     alloc: Global,
     host: Host,
@@ -109,7 +111,9 @@ fn push_error(
     out.push(Party::Client(host), bytes)
 }
 
-/// Ends a reply to a host, for which there is room. It takes no memory.
+/// Ends a reply to a host, for which there is room. It takes no memory. It is inlined, so that a caller's reply that has no block
+/// needs no room for one.
+#[inline(always)]
 pub(crate) fn end_reply(host: Host, begun: BegunReply, said: &Reply, out: &mut Outbox)
     requires room { results_len said.now ≤ begun.room }
     requires datagram { 1 ≤ out.old.spare }

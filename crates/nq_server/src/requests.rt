@@ -87,6 +87,7 @@ fn look<K: Keeper>(
     state: &mut State,
     caller: Caller,
     request: &Request,
+    said: &mut Reply,
     out: &mut Outbox,
     log: &mut Journal,
 ) -> Result<Taken, Halt>
@@ -119,7 +120,7 @@ fn look<K: Keeper>(
                 block: *block,
                 want: *want,
             };
-            read(alloc, keeper, state, caller, &wish, out, log)
+            read(alloc, keeper, state, caller, &wish, said, out, log)
         }
         Request::GetLease { file, want, .. } => {
             get_lease(alloc, keeper, state, caller, *file, *want, out, log)
@@ -136,6 +137,7 @@ fn perform<K: Keeper>(
     state: &mut State,
     caller: Caller,
     request: &Request,
+    said: &mut Reply,
     out: &mut Outbox,
     log: &mut Journal,
 ) -> Result<Taken, Halt>
@@ -154,7 +156,7 @@ fn perform<K: Keeper>(
             Ok(Taken::Done)
         }
         (Request::Null | Request::Evicted { .. }, _) => Ok(Taken::Done),
-        (_, Phase::Serving(_)) => look(alloc, keeper, state, caller, request, out, log),
+        (_, Phase::Serving(_)) => look(alloc, keeper, state, caller, request, said, out, log),
         (_, Phase::Recovering { .. }) => {
             refuse(alloc, caller.who, caller.xid, Refusal::TryLater, out)
         }
@@ -182,6 +184,7 @@ fn admit<K: Keeper>(
     state: &mut State,
     caller: Caller,
     request: &Request,
+    said: &mut Reply,
     out: &mut Outbox,
     log: &mut Journal,
 ) -> Result<Taken, Halt>
@@ -203,7 +206,7 @@ fn admit<K: Keeper>(
     if is_newer(&who, &line) {
         return not_attached(alloc, caller, request, out);
     }
-    perform(alloc, keeper, state, caller, request, out, log)
+    perform(alloc, keeper, state, caller, request, said, out, log)
 }
 
 /// The hosts that there can be.
@@ -223,7 +226,8 @@ fn is_of_sender(who: &Who, sender: Host) -> bool
     who.host == sender && is_known(who.host)
 }
 
-/// Answers a request that came from this host. At most one change is kept, and all memory is taken before it.
+/// Answers a request that came from this host. At most one change is kept, and all memory is taken before it. The reply to a
+/// READ is made in `said`, which may hold any reply before and after.
 pub(crate) fn answer<K: Keeper>(
     alloc: Global,
     keeper: &mut K,
@@ -231,6 +235,7 @@ pub(crate) fn answer<K: Keeper>(
     sender: Host,
     xid: u32,
     request: &Request,
+    said: &mut Reply,
     out: &mut Outbox,
     log: &mut Journal,
 ) -> Result<Taken, Halt>
@@ -252,6 +257,6 @@ pub(crate) fn answer<K: Keeper>(
     if is_decided_once(request) {
         decide_once(alloc, keeper, state, caller, request, out, log)
     } else {
-        admit(alloc, keeper, state, caller, request, out, log)
+        admit(alloc, keeper, state, caller, request, said, out, log)
     }
 }

@@ -20,7 +20,7 @@ use crate::reading::take_in;
 use crate::received::{Halt, Received, Taken};
 use crate::state::{Phase, State};
 use crate::ticks::tick;
-use nq_base::{FileId, FileRow, Host, Inc, Ticks};
+use nq_base::{FileId, FileRow, Host, Inc, Reply, Request, Ticks};
 use nq_boot::StartFault;
 use nq_journal::Journal;
 use nq_keeper::{KeepFault, Keeper};
@@ -36,6 +36,10 @@ pub struct Server<K> {
     pub(crate) keeper: K,
     pub(crate) state: State,
     pub(crate) taken: u64,
+    /// The request that came last, so that none is moved.
+    pub(crate) request: Request,
+    /// The reply to the READ that came last, so that each body is read into the same place.
+    pub(crate) said: Reply,
 }
 
 impl<K> Model for Server<K> {
@@ -118,6 +122,8 @@ impl<K: Keeper> Server<K> {
                 keeper,
                 state: state_after(begun, None, longest, now),
                 taken: 0,
+                request: Request::Null,
+                said: Reply::Null,
             }),
             Err(StartFault::Failed) => Err(BootFault::Failed(keeper)),
             Err(StartFault::Memory) => Err(BootFault::Memory(keeper)),
@@ -155,6 +161,8 @@ impl<K: Keeper> Server<K> {
             &mut self.state,
             sender,
             datagram,
+            &mut self.request,
+            &mut self.said,
             out,
             log,
         ) {
@@ -234,6 +242,8 @@ impl<K: Keeper> Server<K> {
             keeper,
             state: _,
             taken: _,
+            request: _,
+            said: _,
         } = self;
         keeper
     }

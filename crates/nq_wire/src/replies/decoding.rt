@@ -4,7 +4,7 @@ ghost use Rattle.std.specs.Prelude.{◌≡◌, ◌≢◌, ◌<◌, ◌≤◌, �
 ghost use Rattle.nq_base.specs.declared.Reply.{Reply};
 ghost use Rattle.nq_xdr.specs.Reading.{Gives};
 ghost use Rattle.nq_wire.specs.Reply.{results, IsRefusable, IsResults, ReadsReply, ReadsResults};
-ghost use Rattle.nq_wire.specs.Reading.{found_at, created_at, attributes_at, block_at, written_at, lease_at, resized_at, results_at, answer_at, reply_at, reply_in};
+ghost use Rattle.nq_wire.specs.Reading.{found_at, created_at, attributes_at, block_at, written_at, lease_at, resized_at, results_at, answer_at, reply_at, reply_in, left_in};
 
 use crate::fault::Garbage;
 use crate::parts::decoding::{body, end, optional_grant};
@@ -14,133 +14,185 @@ use nq_xdr::Reader;
 use std::alloc::Global;
 
 #[tactic(auto, unfolding(crate::specs::Reading::found_at, crate::specs::Reply::results))]
-fn found(inc: Inc, reader: &mut Reader) -> Result<Reply, Garbage>
-    ensures found { ReadsResults Procedure.Lookup inc reader.old reader.new result }
-    ensures step { Gives (λ r. (r, reader.new)) result (found_at inc reader.old) }
+fn found(inc: Inc, reader: &mut Reader, into: &mut Reply) -> Result<(), Garbage>
+    ensures found { ReadsResults Procedure.Lookup inc reader.old reader.new (left_in into.new result) }
+    ensures step { Gives (λ r. (r, reader.new)) (left_in into.new result) (found_at inc reader.old) }
 {
     let file = reader.u32()?;
     let blocks = reader.u32()?;
-    Ok(Reply::Lookup {
+    *into = Reply::Lookup {
         inc,
         file: FileId(file),
         blocks,
-    })
+    };
+    Ok(())
 }
 
 #[tactic(auto, unfolding(crate::specs::Reading::created_at, crate::specs::Reply::results))]
-fn created(inc: Inc, reader: &mut Reader) -> Result<Reply, Garbage>
-    ensures found { ReadsResults Procedure.Create inc reader.old reader.new result }
-    ensures step { Gives (λ r. (r, reader.new)) result (created_at inc reader.old) }
+fn created(inc: Inc, reader: &mut Reader, into: &mut Reply) -> Result<(), Garbage>
+    ensures found { ReadsResults Procedure.Create inc reader.old reader.new (left_in into.new result) }
+    ensures step { Gives (λ r. (r, reader.new)) (left_in into.new result) (created_at inc reader.old) }
 {
     let file = reader.u32()?;
-    Ok(Reply::Create {
+    *into = Reply::Create {
         inc,
         file: FileId(file),
-    })
+    };
+    Ok(())
 }
 
 #[tactic(auto, unfolding(crate::specs::Reading::attributes_at, crate::specs::Reply::results))]
-fn attributes(inc: Inc, reader: &mut Reader) -> Result<Reply, Garbage>
-    ensures found { ReadsResults Procedure.GetAttr inc reader.old reader.new result }
-    ensures step { Gives (λ r. (r, reader.new)) result (attributes_at inc reader.old) }
+fn attributes(inc: Inc, reader: &mut Reader, into: &mut Reply) -> Result<(), Garbage>
+    ensures found { ReadsResults Procedure.GetAttr inc reader.old reader.new (left_in into.new result) }
+    ensures step { Gives (λ r. (r, reader.new)) (left_in into.new result) (attributes_at inc reader.old) }
 {
     let blocks = reader.u32()?;
     let rev = reader.u64()?;
-    Ok(Reply::GetAttr {
+    *into = Reply::GetAttr {
         inc,
         blocks,
         rev: Rev(rev),
-    })
+    };
+    Ok(())
 }
 
 #[tactic(auto, unfolding(crate::specs::Reading::block_at, crate::specs::Reply::results))]
-fn block(inc: Inc, reader: &mut Reader) -> Result<Reply, Garbage>
-    ensures found { ReadsResults Procedure.Read inc reader.old reader.new result }
-    ensures step { Gives (λ r. (r, reader.new)) result (block_at inc reader.old) }
+fn block(inc: Inc, reader: &mut Reader, into: &mut Reply) -> Result<(), Garbage>
+    ensures found { ReadsResults Procedure.Read inc reader.old reader.new (left_in into.new result) }
+    ensures step { Gives (λ r. (r, reader.new)) (left_in into.new result) (block_at inc reader.old) }
 {
     let rev = reader.u64()?;
     let body = body(reader)?;
     let grant = optional_grant(reader)?;
-    Ok(Reply::Read {
+    *into = Reply::Read {
         inc,
         rev: Rev(rev),
         body,
         grant,
-    })
+    };
+    Ok(())
 }
 
 #[tactic(auto, unfolding(crate::specs::Reading::written_at, crate::specs::Reply::results))]
-fn written(inc: Inc, reader: &mut Reader) -> Result<Reply, Garbage>
-    ensures found { ReadsResults Procedure.Write inc reader.old reader.new result }
-    ensures step { Gives (λ r. (r, reader.new)) result (written_at inc reader.old) }
+fn written(inc: Inc, reader: &mut Reader, into: &mut Reply) -> Result<(), Garbage>
+    ensures found { ReadsResults Procedure.Write inc reader.old reader.new (left_in into.new result) }
+    ensures step { Gives (λ r. (r, reader.new)) (left_in into.new result) (written_at inc reader.old) }
 {
     let rev = reader.u64()?;
-    Ok(Reply::Write { inc, rev: Rev(rev) })
+    *into = Reply::Write { inc, rev: Rev(rev) };
+    Ok(())
 }
 
 #[tactic(auto, unfolding(crate::specs::Reading::lease_at, crate::specs::Reply::results))]
-fn lease(inc: Inc, reader: &mut Reader) -> Result<Reply, Garbage>
-    ensures found { ReadsResults Procedure.GetLease inc reader.old reader.new result }
-    ensures step { Gives (λ r. (r, reader.new)) result (lease_at inc reader.old) }
+fn lease(inc: Inc, reader: &mut Reader, into: &mut Reply) -> Result<(), Garbage>
+    ensures found { ReadsResults Procedure.GetLease inc reader.old reader.new (left_in into.new result) }
+    ensures step { Gives (λ r. (r, reader.new)) (left_in into.new result) (lease_at inc reader.old) }
 {
     let grant = optional_grant(reader)?;
-    Ok(Reply::GetLease { inc, grant })
+    *into = Reply::GetLease { inc, grant };
+    Ok(())
 }
 
 #[tactic(auto, unfolding(crate::specs::Reading::resized_at, crate::specs::Reply::results))]
-fn resized(inc: Inc, reader: &mut Reader) -> Result<Reply, Garbage>
-    ensures found { ReadsResults Procedure.Resize inc reader.old reader.new result }
-    ensures step { Gives (λ r. (r, reader.new)) result (resized_at inc reader.old) }
+fn resized(inc: Inc, reader: &mut Reader, into: &mut Reply) -> Result<(), Garbage>
+    ensures found { ReadsResults Procedure.Resize inc reader.old reader.new (left_in into.new result) }
+    ensures step { Gives (λ r. (r, reader.new)) (left_in into.new result) (resized_at inc reader.old) }
 {
     let rev = reader.u64()?;
-    Ok(Reply::Resize { inc, rev: Rev(rev) })
+    *into = Reply::Resize { inc, rev: Rev(rev) };
+    Ok(())
 }
 
 /// The results behind the incarnation and the status OK.
 #[tactic(auto, unfolding(crate::specs::Reply::results))]
-fn results(procedure: Procedure, inc: Inc, reader: &mut Reader) -> Result<Reply, Garbage>
-    ensures found { ReadsResults procedure inc reader.old reader.new result }
-    ensures step { Gives (λ r. (r, reader.new)) result (results_at procedure inc reader.old) }
+fn results(
+    procedure: Procedure,
+    inc: Inc,
+    reader: &mut Reader,
+    into: &mut Reply,
+) -> Result<(), Garbage>
+    ensures found { ReadsResults procedure inc reader.old reader.new (left_in into.new result) }
+    ensures step { Gives (λ r. (r, reader.new)) (left_in into.new result) (results_at procedure inc reader.old) }
 {
     match procedure {
-        Procedure::Attach => Ok(Reply::Attach { inc }),
-        Procedure::Lookup => found(inc, reader),
-        Procedure::Create => created(inc, reader),
-        Procedure::GetAttr => attributes(inc, reader),
-        Procedure::Read => block(inc, reader),
-        Procedure::Write => written(inc, reader),
-        Procedure::GetLease => lease(inc, reader),
-        Procedure::Resize => resized(inc, reader),
-        Procedure::Remove => Ok(Reply::Remove { inc }),
+        Procedure::Attach => {
+            *into = Reply::Attach { inc };
+            Ok(())
+        }
+        Procedure::Lookup => found(inc, reader, into),
+        Procedure::Create => created(inc, reader, into),
+        Procedure::GetAttr => attributes(inc, reader, into),
+        Procedure::Read => block(inc, reader, into),
+        Procedure::Write => written(inc, reader, into),
+        Procedure::GetLease => lease(inc, reader, into),
+        Procedure::Resize => resized(inc, reader, into),
+        Procedure::Remove => {
+            *into = Reply::Remove { inc };
+            Ok(())
+        }
         Procedure::Null | Procedure::Vacated | Procedure::Evicted => Err(Garbage),
     }
 }
 
 /// The incarnation and the status, and what follows them.
 #[tactic(auto, unfolding(crate::specs::Reading::answer_at, crate::specs::Reply::results, crate::specs::Reply::ok))]
-fn answer(procedure: Procedure, reader: &mut Reader) -> Result<Reply, Garbage>
-    ensures found { IsRefusable procedure → ReadsReply procedure reader.old reader.new result }
-    ensures step { Gives (λ r. (r, reader.new)) result (answer_at procedure reader.old) }
+fn answer(procedure: Procedure, reader: &mut Reader, into: &mut Reply) -> Result<(), Garbage>
+    ensures found { IsRefusable procedure → ReadsReply procedure reader.old reader.new (left_in into.new result) }
+    ensures step { Gives (λ r. (r, reader.new)) (left_in into.new result) (answer_at procedure reader.old) }
 {
     let inc = Inc(reader.u32()?);
     let number = reader.u32()?;
     if number == status::OK {
-        return results(procedure, inc, reader);
+        return results(procedure, inc, reader, into);
     }
     let status = status::refusal(number)?;
-    Ok(Reply::Refused { inc, status })
+    *into = Reply::Refused { inc, status };
+    Ok(())
 }
 
 #[tactic(auto, unfolding(crate::specs::Reply::results))]
-fn reply(procedure: Procedure, reader: &mut Reader) -> Result<Reply, Garbage>
-    ensures found { ReadsReply procedure reader.old reader.new result }
-    ensures step { Gives (λ r. (r, reader.new)) result (reply_at procedure reader.old) }
+fn reply(procedure: Procedure, reader: &mut Reader, into: &mut Reply) -> Result<(), Garbage>
+    ensures found { ReadsReply procedure reader.old reader.new (left_in into.new result) }
+    ensures step { Gives (λ r. (r, reader.new)) (left_in into.new result) (reply_at procedure reader.old) }
 {
     match procedure {
-        Procedure::Null => Ok(Reply::Null),
+        Procedure::Null => {
+            *into = Reply::Null;
+            Ok(())
+        }
         Procedure::Vacated | Procedure::Evicted => Err(Garbage),
-        _ => answer(procedure, reader),
+        _ => answer(procedure, reader, into),
     }
+}
+
+/// Reads the reply whose results are all of the bytes into `into`, which after a fault may hold anything. The number is that of
+/// the procedure that was called. The body of a block is copied once, and no memory is wanted.
+///
+/// # Errors
+///
+/// `NoSuchProc` exactly where the number is above 11, else `Garbage` exactly where the bytes are not the
+/// procedure's results, as always of VACATED and EVICTED, which have no reply.
+pub fn decode_reply_into(procedure: u32, bytes: &[u8], into: &mut Reply) -> Result<(), WireFault>
+    // What is read is spelled so, and what is spelled so is read.
+    ensures found { IfOk (left_in into.new result) (λ r. IsResults procedure r bytes.now) }
+    ensures only { (r : Reply) → IsResults procedure r bytes.now → left_in into.new result ≡ Ok r }
+
+    // When each error comes.
+    ensures no_procedure { (result ≡ Err WireFault.NoSuchProc) ↔ (11 < procedure) }
+    ensures garbage { (result ≡ Err WireFault.Garbage)
+        ↔ ((procedure ≤ 11) × ((r : Reply) → IsResults procedure r bytes.now → ⊥)) }
+    ensures memory { result ≢ Err WireFault.Memory }
+
+    // All of it, as reading from the left.
+    ensures step { left_in into.new result ≡ reply_in procedure bytes.now }
+{
+    let Some(called) = Procedure::from_number(procedure) else {
+        return Err(WireFault::NoSuchProc);
+    };
+    let mut reader = Reader::new(bytes);
+    reply(called, &mut reader, into)?;
+    end(reader)?;
+    Ok(())
 }
 
 /// The reply whose results are all of the bytes, by the number of the procedure that was called. The body
@@ -164,11 +216,9 @@ pub fn decode_reply(_alloc: Global, procedure: u32, bytes: &[u8]) -> Result<Repl
     // All of it, as reading from the left.
     ensures step { result ≡ reply_in procedure bytes.now }
 {
-    let Some(called) = Procedure::from_number(procedure) else {
-        return Err(WireFault::NoSuchProc);
-    };
-    let mut reader = Reader::new(bytes);
-    let reply = reply(called, &mut reader)?;
-    end(reader)?;
-    Ok(reply)
+    let mut reply = Reply::Null;
+    match decode_reply_into(procedure, bytes, &mut reply) {
+        Ok(()) => Ok(reply),
+        Err(fault) => Err(fault),
+    }
 }

@@ -6,7 +6,7 @@ ghost use Rattle.nq_xdr.specs.Reading.{Gives};
 ghost use Rattle.nq_xdr.specs.Item.{hyper};
 ghost use Rattle.nq_wire.specs.Parts.{optional, base_bytes, IsPushBase};
 ghost use Rattle.nq_wire.specs.Request.{arguments, IsOneWrite, IsArguments, ReadsRequest};
-ghost use Rattle.nq_wire.specs.Reading.{attach_at, lookup_at, create_at, get_attr_at, read_at, span_at, write_at, get_lease_at, vacated_at, evicted_at, resize_at, remove_at, request_at, request_in};
+ghost use Rattle.nq_wire.specs.Reading.{attach_at, lookup_at, create_at, get_attr_at, read_at, span_at, write_at, get_lease_at, vacated_at, evicted_at, resize_at, remove_at, request_at, request_in, left_in};
 
 use crate::fault::Garbage;
 use crate::parts::decoding::{body, end, name, optional_push, optional_want, tag, want, who};
@@ -16,71 +16,76 @@ use nq_xdr::Reader;
 use std::alloc::Global;
 
 #[tactic(auto, unfolding(crate::specs::Reading::attach_at, crate::specs::Request::arguments))]
-fn attach(reader: &mut Reader) -> Result<Request, Garbage>
-    ensures found { ReadsRequest Procedure.Attach reader.old reader.new result }
-    ensures step { Gives (λ r. (r, reader.new)) result (attach_at reader.old) }
+fn attach(reader: &mut Reader, into: &mut Request) -> Result<(), Garbage>
+    ensures found { ReadsRequest Procedure.Attach reader.old reader.new (left_in into.new result) }
+    ensures step { Gives (λ r. (r, reader.new)) (left_in into.new result) (attach_at reader.old) }
 {
     let who = who(reader)?;
-    Ok(Request::Attach { who })
+    *into = Request::Attach { who };
+    Ok(())
 }
 
 #[tactic(auto, unfolding(crate::specs::Reading::lookup_at, crate::specs::Request::arguments))]
-fn lookup(reader: &mut Reader) -> Result<Request, Garbage>
-    ensures found { ReadsRequest Procedure.Lookup reader.old reader.new result }
-    ensures step { Gives (λ r. (r, reader.new)) result (lookup_at reader.old) }
+fn lookup(reader: &mut Reader, into: &mut Request) -> Result<(), Garbage>
+    ensures found { ReadsRequest Procedure.Lookup reader.old reader.new (left_in into.new result) }
+    ensures step { Gives (λ r. (r, reader.new)) (left_in into.new result) (lookup_at reader.old) }
 {
     let who = who(reader)?;
     let name = name(reader)?;
-    Ok(Request::Lookup { who, name })
+    *into = Request::Lookup { who, name };
+    Ok(())
 }
 
 #[tactic(auto, unfolding(crate::specs::Reading::create_at, crate::specs::Request::arguments))]
-fn create(reader: &mut Reader) -> Result<Request, Garbage>
-    ensures found { ReadsRequest Procedure.Create reader.old reader.new result }
-    ensures step { Gives (λ r. (r, reader.new)) result (create_at reader.old) }
+fn create(reader: &mut Reader, into: &mut Request) -> Result<(), Garbage>
+    ensures found { ReadsRequest Procedure.Create reader.old reader.new (left_in into.new result) }
+    ensures step { Gives (λ r. (r, reader.new)) (left_in into.new result) (create_at reader.old) }
 {
     let who = who(reader)?;
     let seq = reader.u64()?;
     let name = name(reader)?;
     let blocks = reader.u32()?;
-    Ok(Request::Create {
+    *into = Request::Create {
         who,
         seq: Seq(seq),
         name,
         blocks,
-    })
+    };
+    Ok(())
 }
 
 #[tactic(auto, unfolding(crate::specs::Reading::get_attr_at, crate::specs::Request::arguments))]
-fn get_attr(reader: &mut Reader) -> Result<Request, Garbage>
-    ensures found { ReadsRequest Procedure.GetAttr reader.old reader.new result }
-    ensures step { Gives (λ r. (r, reader.new)) result (get_attr_at reader.old) }
+fn get_attr(reader: &mut Reader, into: &mut Request) -> Result<(), Garbage>
+    ensures found { ReadsRequest Procedure.GetAttr reader.old reader.new (left_in into.new result) }
+    ensures step { Gives (λ r. (r, reader.new)) (left_in into.new result) (get_attr_at reader.old) }
 {
     let who = who(reader)?;
     let file = reader.u32()?;
-    Ok(Request::GetAttr {
+    *into = Request::GetAttr {
         who,
         file: FileId(file),
-    })
+    };
+    Ok(())
 }
 
 #[tactic(auto, unfolding(crate::specs::Reading::read_at, crate::specs::Request::arguments))]
-fn read(reader: &mut Reader) -> Result<Request, Garbage>
-    ensures found { ReadsRequest Procedure.Read reader.old reader.new result }
-    ensures step { Gives (λ r. (r, reader.new)) result (read_at reader.old) }
+fn read(reader: &mut Reader, into: &mut Request) -> Result<(), Garbage>
+    ensures found { ReadsRequest Procedure.Read reader.old reader.new (left_in into.new result) }
+    ensures step { Gives (λ r. (r, reader.new)) (left_in into.new result) (read_at reader.old) }
 {
     let who = who(reader)?;
     let call = reader.u64()?;
     let file = reader.u32()?;
     let block = reader.u32()?;
     let want = optional_want(reader)?;
-    Ok(Request::Read {
+    *into = Request::Read {
         who,
         call,
         file: FileId(file),
         block: BlockNo(block),
         want,
-    })
+    };
+    Ok(())
 }
 
 /// The numbers of the first and the last write, which are equal where the WRITE is no push.
@@ -100,9 +105,9 @@ fn span(reader: &mut Reader) -> Result<(u64, u64, Option<PushBase>), Garbage>
 }
 
 #[tactic(auto, unfolding(crate::specs::Reading::write_at, crate::specs::Request::arguments))]
-fn write(reader: &mut Reader) -> Result<Request, Garbage>
-    ensures found { ReadsRequest Procedure.Write reader.old reader.new result }
-    ensures step { Gives (λ r. (r, reader.new)) result (write_at reader.old) }
+fn write(reader: &mut Reader, into: &mut Request) -> Result<(), Garbage>
+    ensures found { ReadsRequest Procedure.Write reader.old reader.new (left_in into.new result) }
+    ensures step { Gives (λ r. (r, reader.new)) (left_in into.new result) (write_at reader.old) }
 {
     let who = who(reader)?;
     let seq = reader.u64()?;
@@ -110,7 +115,7 @@ fn write(reader: &mut Reader) -> Result<Request, Garbage>
     let block = reader.u32()?;
     let (first, last, push) = span(reader)?;
     let body = body(reader)?;
-    Ok(Request::Write {
+    *into = Request::Write {
         who,
         seq: Seq(seq),
         file: FileId(file),
@@ -119,109 +124,152 @@ fn write(reader: &mut Reader) -> Result<Request, Garbage>
         last: Number(last),
         push,
         body,
-    })
+    };
+    Ok(())
 }
 
 #[tactic(auto, unfolding(crate::specs::Reading::get_lease_at, crate::specs::Request::arguments))]
-fn get_lease(reader: &mut Reader) -> Result<Request, Garbage>
-    ensures found { ReadsRequest Procedure.GetLease reader.old reader.new result }
-    ensures step { Gives (λ r. (r, reader.new)) result (get_lease_at reader.old) }
+fn get_lease(reader: &mut Reader, into: &mut Request) -> Result<(), Garbage>
+    ensures found { ReadsRequest Procedure.GetLease reader.old reader.new (left_in into.new result) }
+    ensures step { Gives (λ r. (r, reader.new)) (left_in into.new result) (get_lease_at reader.old) }
 {
     let who = who(reader)?;
     let file = reader.u32()?;
     let want = want(reader)?;
-    Ok(Request::GetLease {
+    *into = Request::GetLease {
         who,
         file: FileId(file),
         want,
-    })
+    };
+    Ok(())
 }
 
 #[tactic(auto, unfolding(crate::specs::Reading::vacated_at, crate::specs::Request::arguments))]
-fn vacated(reader: &mut Reader) -> Result<Request, Garbage>
-    ensures found { ReadsRequest Procedure.Vacated reader.old reader.new result }
-    ensures step { Gives (λ r. (r, reader.new)) result (vacated_at reader.old) }
+fn vacated(reader: &mut Reader, into: &mut Request) -> Result<(), Garbage>
+    ensures found { ReadsRequest Procedure.Vacated reader.old reader.new (left_in into.new result) }
+    ensures step { Gives (λ r. (r, reader.new)) (left_in into.new result) (vacated_at reader.old) }
 {
     let who = who(reader)?;
     let file = reader.u32()?;
     let tag = tag(reader)?;
-    Ok(Request::Vacated {
+    *into = Request::Vacated {
         who,
         file: FileId(file),
         tag,
-    })
+    };
+    Ok(())
 }
 
 #[tactic(auto, unfolding(crate::specs::Reading::evicted_at, crate::specs::Request::arguments))]
-fn evicted(reader: &mut Reader) -> Result<Request, Garbage>
-    ensures found { ReadsRequest Procedure.Evicted reader.old reader.new result }
-    ensures step { Gives (λ r. (r, reader.new)) result (evicted_at reader.old) }
+fn evicted(reader: &mut Reader, into: &mut Request) -> Result<(), Garbage>
+    ensures found { ReadsRequest Procedure.Evicted reader.old reader.new (left_in into.new result) }
+    ensures step { Gives (λ r. (r, reader.new)) (left_in into.new result) (evicted_at reader.old) }
 {
     let who = who(reader)?;
     let file = reader.u32()?;
     let tag = tag(reader)?;
-    Ok(Request::Evicted {
+    *into = Request::Evicted {
         who,
         file: FileId(file),
         tag,
-    })
+    };
+    Ok(())
 }
 
 #[tactic(auto, unfolding(crate::specs::Reading::resize_at, crate::specs::Request::arguments))]
-fn resize(reader: &mut Reader) -> Result<Request, Garbage>
-    ensures found { ReadsRequest Procedure.Resize reader.old reader.new result }
-    ensures step { Gives (λ r. (r, reader.new)) result (resize_at reader.old) }
+fn resize(reader: &mut Reader, into: &mut Request) -> Result<(), Garbage>
+    ensures found { ReadsRequest Procedure.Resize reader.old reader.new (left_in into.new result) }
+    ensures step { Gives (λ r. (r, reader.new)) (left_in into.new result) (resize_at reader.old) }
 {
     let who = who(reader)?;
     let seq = reader.u64()?;
     let call = reader.u64()?;
     let file = reader.u32()?;
     let blocks = reader.u32()?;
-    Ok(Request::Resize {
+    *into = Request::Resize {
         who,
         seq: Seq(seq),
         call,
         file: FileId(file),
         blocks,
-    })
+    };
+    Ok(())
 }
 
 #[tactic(auto, unfolding(crate::specs::Reading::remove_at, crate::specs::Request::arguments))]
-fn remove(reader: &mut Reader) -> Result<Request, Garbage>
-    ensures found { ReadsRequest Procedure.Remove reader.old reader.new result }
-    ensures step { Gives (λ r. (r, reader.new)) result (remove_at reader.old) }
+fn remove(reader: &mut Reader, into: &mut Request) -> Result<(), Garbage>
+    ensures found { ReadsRequest Procedure.Remove reader.old reader.new (left_in into.new result) }
+    ensures step { Gives (λ r. (r, reader.new)) (left_in into.new result) (remove_at reader.old) }
 {
     let who = who(reader)?;
     let seq = reader.u64()?;
     let call = reader.u64()?;
     let file = reader.u32()?;
-    Ok(Request::Remove {
+    *into = Request::Remove {
         who,
         seq: Seq(seq),
         call,
         file: FileId(file),
-    })
+    };
+    Ok(())
 }
 
 #[tactic(auto, unfolding(crate::specs::Request::arguments))]
-fn request(procedure: Procedure, reader: &mut Reader) -> Result<Request, Garbage>
-    ensures found { ReadsRequest procedure reader.old reader.new result }
-    ensures step { Gives (λ r. (r, reader.new)) result (request_at procedure reader.old) }
+fn request(procedure: Procedure, reader: &mut Reader, into: &mut Request) -> Result<(), Garbage>
+    ensures found { ReadsRequest procedure reader.old reader.new (left_in into.new result) }
+    ensures step { Gives (λ r. (r, reader.new)) (left_in into.new result) (request_at procedure reader.old) }
 {
     match procedure {
-        Procedure::Null => Ok(Request::Null),
-        Procedure::Attach => attach(reader),
-        Procedure::Lookup => lookup(reader),
-        Procedure::Create => create(reader),
-        Procedure::GetAttr => get_attr(reader),
-        Procedure::Read => read(reader),
-        Procedure::Write => write(reader),
-        Procedure::GetLease => get_lease(reader),
-        Procedure::Vacated => vacated(reader),
-        Procedure::Evicted => evicted(reader),
-        Procedure::Resize => resize(reader),
-        Procedure::Remove => remove(reader),
+        Procedure::Null => {
+            *into = Request::Null;
+            Ok(())
+        }
+        Procedure::Attach => attach(reader, into),
+        Procedure::Lookup => lookup(reader, into),
+        Procedure::Create => create(reader, into),
+        Procedure::GetAttr => get_attr(reader, into),
+        Procedure::Read => read(reader, into),
+        Procedure::Write => write(reader, into),
+        Procedure::GetLease => get_lease(reader, into),
+        Procedure::Vacated => vacated(reader, into),
+        Procedure::Evicted => evicted(reader, into),
+        Procedure::Resize => resize(reader, into),
+        Procedure::Remove => remove(reader, into),
     }
+}
+
+/// Reads the request whose arguments are all of the bytes into `into`, which after a fault may hold anything. The number is that
+/// of the procedure that is called. The body of a block is copied once, and no memory is wanted.
+///
+/// # Errors
+///
+/// `NoSuchProc` exactly where the number is above 11, else `Garbage` exactly where the bytes are not the
+/// procedure's arguments.
+pub fn decode_request_into(
+    procedure: u32,
+    bytes: &[u8],
+    into: &mut Request,
+) -> Result<(), WireFault>
+    // What is read is spelled so, and what is spelled so is read.
+    ensures found { IfOk (left_in into.new result) (λ r. IsArguments procedure r bytes.now) }
+    ensures only { (r : Request) → IsArguments procedure r bytes.now → left_in into.new result ≡ Ok r }
+
+    // When each error comes.
+    ensures no_procedure { (result ≡ Err WireFault.NoSuchProc) ↔ (11 < procedure) }
+    ensures garbage { (result ≡ Err WireFault.Garbage)
+        ↔ ((procedure ≤ 11) × ((r : Request) → IsArguments procedure r bytes.now → ⊥)) }
+    ensures memory { result ≢ Err WireFault.Memory }
+
+    // All of it, as reading from the left.
+    ensures step { left_in into.new result ≡ request_in procedure bytes.now }
+{
+    let Some(called) = Procedure::from_number(procedure) else {
+        return Err(WireFault::NoSuchProc);
+    };
+    let mut reader = Reader::new(bytes);
+    request(called, &mut reader, into)?;
+    end(reader)?;
+    Ok(())
 }
 
 /// The request whose arguments are all of the bytes, by the number of the procedure that is called. The
@@ -245,11 +293,9 @@ pub fn decode_request(_alloc: Global, procedure: u32, bytes: &[u8]) -> Result<Re
     // All of it, as reading from the left.
     ensures step { result ≡ request_in procedure bytes.now }
 {
-    let Some(called) = Procedure::from_number(procedure) else {
-        return Err(WireFault::NoSuchProc);
-    };
-    let mut reader = Reader::new(bytes);
-    let request = request(called, &mut reader)?;
-    end(reader)?;
-    Ok(request)
+    let mut request = Request::Null;
+    match decode_request_into(procedure, bytes, &mut request) {
+        Ok(()) => Ok(request),
+        Err(fault) => Err(fault),
+    }
 }
