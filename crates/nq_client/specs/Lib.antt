@@ -1,5 +1,6 @@
 pub mod Answering
 pub mod Asked
+pub mod Asking
 pub mod ByFile
 pub mod Calling
 pub mod Counted

@@ -15,7 +15,7 @@ ghost use Rattle.nq_client.specs.State.{call_of};
 use crate::finishing::Letters;
 use crate::heard::Heard;
 use crate::reading::read_cached;
-use crate::receiving::read;
+use crate::receiving::{heeds, read};
 use crate::starting::begin;
 use crate::state::State;
 use crate::step::Step;
@@ -184,14 +184,19 @@ impl Client {
         if self.taken == Client::MOST_TAKEN {
             return Heard::Spent;
         }
-        let Some(news) = read(&self.step.state, datagram) else {
+        let heard = read(&self.step.state, datagram);
+        let Some(heard) = &heard else {
             self.taken += 1;
             return Heard::Ignored;
         };
-        match hear(&mut self.step, &mut self.letters, packet, &news, out, log) {
-            Ok(heard) => {
+        if !heeds(&self.step.state, heard) {
+            self.taken += 1;
+            return Heard::Ignored;
+        }
+        match hear(&mut self.step, &mut self.letters, packet, heard, out, log) {
+            Ok(()) => {
                 self.taken += 1;
-                heard
+                self.step.gives_heard()
             }
             Err(NoMemory::Memory) => Heard::Memory,
         }

@@ -2,17 +2,15 @@
 
 ghost use Rattle.std.specs.Prelude.{◌≡◌, ◌≤◌, ◌<◌, ◌+◌, ◌^◌, false, Some};
 ghost use Rattle.nq_base.specs.Plain.{plain_answer, plain_said};
-ghost use Rattle.nq_model.specs.Client.{lease_on};
-ghost use Rattle.nq_model.specs.Settle.{after_delay, body_in, delays, is_full_in, settle, settle_body, settle_call, settle_put, settle_read, settle_sync, settle_write, settle_write_in, ticket_is_for_call};
+ghost use Rattle.nq_model.specs.Client.{in_state, lease_on};
+ghost use Rattle.nq_model.specs.Settle.{body_in, delays, is_full_in, settle, ticket_is_for_call};
 ghost use Rattle.nq_client.specs.Prepared.{Leaves};
-ghost use Rattle.nq_client.specs.Settling.{ended, leave_to_read, leave_to_write, tells_read, within, writes};
-ghost use Rattle.nq_client.specs.State.{under_way};
-ghost use Rattle.nq_client.specs.Step.{HasNumbers, HasRoom, step_of, with_call};
+ghost use Rattle.nq_client.specs.Settling.{ended, goes_on_delayed, leave_to_read, leave_to_write, settles_body, settles_put, settles_read, settles_sync, settles_write, tells_read, with_written, within, writes};
+ghost use Rattle.nq_client.specs.Step.{HasNumbers, HasRoom, step_of};
 
 use crate::asked::{Asked, Job};
 use crate::leases::Leases;
 use crate::reading::read_held;
-use crate::state::UnderWay;
 use crate::step::Step;
 use nq_base::{Answer, Block, BlockNo, Call, Entry, FileId, Number, Said, Ticks, Value};
 
@@ -103,68 +101,61 @@ impl Step {
         }
     }
 
-    /// What the call under way needs no packet for, where the request under way is not its own. It is apart, since a call is
-    /// large, and most steps find none under way.
+    /// What the call under way needs no packet for, where the request under way is not its own. The call stays where it is: it
+    /// is large.
     fn settle_under_way(&mut self)
         requires room { HasRoom self.old }
         requires numbers { HasNumbers 1 self.old.state }
         requires free { ticket_is_for_call self.old.state.asked ≡ false }
         ensures { step_of self.new ≡ settle (step_of self.old) }
     {
-        match self.state.call.take() {
-            Some(u) => self.settle_call(u),
+        match &self.state.call {
+            Some(u) => match &u.call {
+                Call::Read { file, block } | Call::Fetch { file, block } => {
+                    let (q, file, block) = (u.q, *file, *block);
+                    self.settle_read(q, file, block);
+                }
+                Call::Write { file, block, body } => {
+                    let (q, through) = (u.q, u.through);
+                    let (file, block, body) = (*file, *block, body.copied());
+                    self.settle_write(q, through, false, file, block, &body);
+                }
+                Call::WriteSync { file, block, body } => {
+                    let (q, through, written) = (u.q, u.through, u.written);
+                    let (file, block, body) = (*file, *block, body.copied());
+                    self.settle_put(q, written, through, file, block, &body);
+                }
+                Call::Sync { file } => {
+                    let (q, file) = (u.q, *file);
+                    self.settle_sync(q, file);
+                }
+                Call::Create { .. }
+                | Call::Lookup { .. }
+                | Call::Attr { .. }
+                | Call::Resize { .. }
+                | Call::Remove { .. } => {}
+            },
             None => {}
         }
     }
 
-    /// The call under way, by what it is.
-    fn settle_call(&mut self, u: UnderWay)
-        requires room { HasRoom self.old }
-        requires numbers { HasNumbers 1 self.old.state }
-        ensures { step_of self.new ≡ settle_call (with_call (step_of self.old) (under_way u)) (under_way u) u.call }
-    {
-        match &u.call {
-            Call::Read { file, block } | Call::Fetch { file, block } => {
-                let (file, block) = (*file, *block);
-                self.settle_read(u, file, block);
-            }
-            Call::Write { file, block, body } => {
-                let (file, block, body) = (*file, *block, body.copied());
-                self.settle_write(u, false, file, block, &body);
-            }
-            Call::WriteSync { file, block, body } => {
-                let (file, block, body) = (*file, *block, body.copied());
-                self.settle_put(u, file, block, &body);
-            }
-            Call::Sync { file } => {
-                let file = *file;
-                self.settle_sync(u, file);
-            }
-            Call::Create { .. }
-            | Call::Lookup { .. }
-            | Call::Attr { .. }
-            | Call::Resize { .. }
-            | Call::Remove { .. } => self.state.call = Some(u),
-        }
-    }
-
     /// A read, by the lease that is held.
-    fn settle_read(&mut self, u: UnderWay, file: FileId, block: BlockNo)
+    fn settle_read(&mut self, q: u64, file: FileId, block: BlockNo)
         requires room { HasRoom self.old }
-        ensures { step_of self.new ≡ settle_read (with_call (step_of self.old) (under_way u)) (under_way u) file block (lease_on file self.old.state.leases.items) }
+        ensures { step_of self.new ≡ settles_read (step_of self.old) q file block (lease_on file self.old.state.leases.items) }
     {
         match leave_to_read(&self.state.leases, self.state.time, file, block) {
-            Leave::None => self.state.call = Some(u),
-            Leave::PastEnd => self.ends_call(u.q, Answer::Range, Said::Range),
-            Leave::Granted => self.settle_body(u, file, block),
+            Leave::None => {}
+            Leave::PastEnd => self.ends_call(q, Answer::Range, Said::Range),
+            Leave::Granted => self.settle_body(q, file, block),
         }
     }
 
     /// A read under a lease that lets it, by what the client has.
-    #[tactic(auto, unfolding(nq_model::specs::Settle::answers, nq_model::specs::Settle::reads_cached, nq_model::specs::Settle::after_read))]
-    fn settle_body(&mut self, u: UnderWay, file: FileId, block: BlockNo)
+    #[tactic(auto, unfolding(nq_model::specs::Settle::answers, nq_model::specs::Settle::after_read))]
+    fn settle_body(&mut self, q: u64, file: FileId, block: BlockNo)
         requires room { HasRoom self.old }
-        ensures { step_of self.new ≡ settle_body (with_call (step_of self.old) (under_way u)) (under_way u) file block (body_in file block self.old.state.dirty.dirty self.old.state.dirty.push self.old.state.cache.clean) }
+        ensures { step_of self.new ≡ settles_body (step_of self.old) q file block (body_in file block self.old.state.dirty.dirty self.old.state.dirty.push self.old.state.cache.clean) }
     {
         let mut body = Block::fill(0);
         if read_held(
@@ -174,9 +165,7 @@ impl Step {
             block,
             &mut body,
         ) {
-            self.tells_read(u.q, file, block, body);
-        } else {
-            self.state.call = Some(u);
+            self.tells_read(q, file, block, body);
         }
     }
 
@@ -200,46 +189,61 @@ impl Step {
     }
 
     /// A put: its write is delayed, or waits until it is stored.
-    fn settle_put(&mut self, u: UnderWay, file: FileId, block: BlockNo, body: &Block)
+    fn settle_put(
+        &mut self,
+        q: u64,
+        written: bool,
+        through: bool,
+        file: FileId,
+        block: BlockNo,
+        body: &Block,
+    )
         requires room { HasRoom self.old }
         requires numbers { HasNumbers 1 self.old.state }
-        ensures { step_of self.new ≡ settle_put (with_call (step_of self.old) (under_way u)) (under_way u) u.written file block body.now }
+        ensures { step_of self.new ≡ settles_put (step_of self.old) q written through file block body.now }
     {
-        if u.written {
-            self.settle_sync(u, file);
+        if written {
+            self.settle_sync(q, file);
         } else {
-            self.settle_write(u, true, file, block, body);
+            self.settle_write(q, through, true, file, block, body);
         }
     }
 
     /// A write, by the lease that is held: it is delayed, unless it is to go through or a notice waits.
-    fn settle_write(&mut self, u: UnderWay, sync: bool, file: FileId, block: BlockNo, body: &Block)
+    fn settle_write(
+        &mut self,
+        q: u64,
+        through: bool,
+        sync: bool,
+        file: FileId,
+        block: BlockNo,
+        body: &Block,
+    )
         requires room { HasRoom self.old }
         requires numbers { HasNumbers 1 self.old.state }
-        ensures { step_of self.new ≡ settle_write (with_call (step_of self.old) (under_way u)) (under_way u) sync file block body.now (lease_on file self.old.state.leases.items) }
+        ensures { step_of self.new ≡ settles_write (step_of self.old) q through sync file block body.now (lease_on file self.old.state.leases.items) }
     {
-        if u.through || self.state.notices.waits(file) {
-            self.state.call = Some(u);
+        if through || self.state.notices.waits(file) {
             return;
         }
         match leave_to_write(&self.state.leases, self.state.time, file, block) {
-            Leave::None => self.state.call = Some(u),
-            Leave::PastEnd => self.ends_call(u.q, Answer::Range, Said::Range),
-            Leave::Granted => self.writes(u, sync, file, block, body),
+            Leave::None => {}
+            Leave::PastEnd => self.ends_call(q, Answer::Range, Said::Range),
+            Leave::Granted => self.writes(q, sync, file, block, body),
         }
     }
 
     /// A write under a lease that lets it, where there is room for it.
-    fn writes(&mut self, u: UnderWay, sync: bool, file: FileId, block: BlockNo, body: &Block)
+    fn writes(&mut self, q: u64, sync: bool, file: FileId, block: BlockNo, body: &Block)
         requires room { HasRoom self.old }
         requires numbers { HasNumbers 1 self.old.state }
-        ensures { step_of self.new ≡ writes (with_call (step_of self.old) (under_way u)) (under_way u) sync file block body.now }
+        ensures { step_of self.new ≡ writes (step_of self.old) q sync file block body.now }
     {
         if self.state.dirty.is_full(file, block) {
-            self.ends_call(u.q, Answer::DirtyFull, Said::DirtyFull);
+            self.ends_call(q, Answer::DirtyFull, Said::DirtyFull);
         } else {
             self.delays(file, block, body);
-            self.after_delay(u, sync);
+            self.after_delay(q, sync);
         }
     }
 
@@ -267,28 +271,35 @@ impl Step {
         });
     }
 
-    /// What comes after a write was delayed: a write is answered, a put waits until it is stored.
-    #[tactic(auto, unfolding(nq_model::specs::Settle::answers, nq_model::specs::Settle::marks_written))]
-    fn after_delay(&mut self, u: UnderWay, sync: bool)
+    /// What comes after the write of the call under way was delayed: a write is answered, a put waits until it is stored.
+    fn after_delay(&mut self, q: u64, sync: bool)
         requires { 1 ≤ self.old.entries.spare }
-        ensures { step_of self.new ≡ after_delay (with_call (step_of self.old) (under_way u)) (under_way u) sync }
+        ensures { step_of self.new ≡ goes_on_delayed (step_of self.old) q sync }
     {
         if sync {
-            self.state.call = Some(UnderWay { written: true, ..u });
+            self.marks_written();
         } else {
-            self.ends_call(u.q, Answer::Ok(Value::Nothing), Said::Ok);
+            self.ends_call(q, Answer::Ok(Value::Nothing), Said::Ok);
+        }
+    }
+
+    /// The write of the call under way was delayed.
+    fn marks_written(&mut self)
+        ensures { step_of self.new ≡ in_state (step_of self.old) (record (step_of self.old).client { call = with_written (step_of self.old).client.call }) }
+    {
+        match &mut self.state.call {
+            Some(u) => u.written = true,
+            None => {}
         }
     }
 
     /// A sync, or a put whose write was delayed: it is answered once the file is clean.
-    fn settle_sync(&mut self, u: UnderWay, file: FileId)
+    fn settle_sync(&mut self, q: u64, file: FileId)
         requires room { HasRoom self.old }
-        ensures { step_of self.new ≡ settle_sync (with_call (step_of self.old) (under_way u)) (under_way u) file }
+        ensures { step_of self.new ≡ settles_sync (step_of self.old) q file }
     {
         if self.state.dirty.is_clean(file) {
-            self.ends_call(u.q, Answer::Ok(Value::Nothing), Said::Ok);
-        } else {
-            self.state.call = Some(u);
+            self.ends_call(q, Answer::Ok(Value::Nothing), Said::Ok);
         }
     }
 }
