@@ -1,13 +1,13 @@
 -- The call under way is settled, and asks, where it stands in the client.
-use Rattle.std.proofs.Common.{◌≡◌, ℕ, Bool, true, false, not, ◌&&◌, List, Option, Some, None, nat_le, is_some, if◌then◌else◌, ◌⊎◌, inl, inr, refl, sym, ap, ◌∙◌}
+use Rattle.std.proofs.Common.{◌≡◌, ℕ, Bool, true, false, not, ◌&&◌, ◌||◌, List, Option, Some, None, nat_le, is_some, if◌then◌else◌, ◌⊎◌, inl, inr, refl, sym, ap, ◌∙◌}
 use Rattle.std.specs.Option.{option_map}
 use Rattle.nq_base.specs.declared.Answer.{Answer}
 use Rattle.nq_base.specs.declared.Call.{Call}
-use Rattle.nq_client.specs.Settling.{goes_on_delayed, settles_body, settles_put, settles_read, settles_write, with_written}
+use Rattle.nq_client.specs.Settling.{body_of_call, called_body, goes_on_delayed, settles_body, settles_put, settles_read, settles_sync, settles_write, with_written, writes}
 use Rattle.nq_client.specs.State.{under_way}
 use Rattle.nq_client.specs.declared.state.UnderWay as code
-use Rattle.nq_model.specs.Client.{ClientStep, Lease, UnderWay, in_state, lease_on, lets_read, lets_write, notice_on}
-use Rattle.nq_model.specs.Settle.{after_delay, after_write, answers, cached_body, delays, is_full, marks_written, reads_cached, settle, settle_body, settle_call, settle_put, settle_read, settle_under_way, settle_write, ticket_is_for_call}
+use Rattle.nq_model.specs.Client.{Client, ClientStep, Lease, UnderWay, in_state, is_clean, lease_on, lets_read, lets_write, notice_on}
+use Rattle.nq_model.specs.Settle.{after_delay, after_read, after_write, answers, cached_body, delays, is_full, marks_written, reads_cached, settle, settle_body, settle_call, settle_put, settle_read, settle_sync, settle_under_way, settle_write, ticket_is_for_call}
 
 body-in-place : (t : ClientStep) (u : UnderWay) (file block : ℕ) (o : Option (List ℕ)) → settles_body t u.q file block o ≡ settle_body t u file block o
 unfolding reads_cached
@@ -42,6 +42,10 @@ put-in-place t u file block body e = put-written t u u.written file block body e
 not-its-own : (b : Bool) (t s : ClientStep) → b ≡ false → s ≡ (if b then t else s)
 not-its-own true t s h = absurd cc
 not-its-own false t s h = refl
+
+-- the block of the call under way, by what it is
+pub called-body : (t : ClientStep) (u : UnderWay) (k : Call) → t.client.call ≡ Some u → u.call ≡ k → called_body t.client.call ≡ body_of_call k
+called-body t u k e h = ap called_body e ∙ ap body_of_call h
 
 -- the call under way, by what it is, where the request under way is not its own
 pub settled-as : (t : ClientStep) (o : Option code.UnderWay) (u : code.UnderWay) (k : Call) → t.client.call ≡ option_map under_way o → o ≡ Some u → u.call ≡ k → ticket_is_for_call t.client.ticket ≡ false → settle_call t (under_way u) k ≡ settle t

@@ -1,7 +1,8 @@
 -- What a call under way needs no packet for, in the steps of the code.
 use Rattle.std.specs.Prelude.{ℕ, Bool, true, false, not, ◌&&◌, List, ◌∷◌, Option, Some, None, is_some, nat_le, if◌then◌else◌}
-use Rattle.nq_base.specs.Block.{value_of}
+use Rattle.nq_base.specs.Block.{filled, value_of}
 use Rattle.nq_base.specs.declared.Answer.{Answer}
+use Rattle.nq_base.specs.declared.Call.{Call}
 use Rattle.nq_base.specs.declared.Entry.{Entry}
 use Rattle.nq_base.specs.declared.Said.{Said}
 use Rattle.nq_base.specs.declared.Value.{Value}
@@ -74,6 +75,16 @@ with_written (Some u) = Some (record u { written = true })
 abbrev pub goes_on_delayed : ClientStep → (q : ℕ) → (sync : Bool) → ClientStep
 goes_on_delayed t q true = in_state t (record t.client { call = with_written t.client.call })
 goes_on_delayed t q false = answers t q (Answer.Ok Value.Nothing) None
+
+-- the block that the call under way writes; no other call is delayed
+abbrev pub body_of_call : Call → List ℕ
+body_of_call (Call.Write file block body) = body
+body_of_call (Call.WriteSync file block body) = body
+body_of_call other = filled 0
+
+abbrev pub called_body : Option UnderWay → List ℕ
+called_body None = filled 0
+called_body (Some u) = body_of_call u.call
 
 -- a write under a lease that lets it
 abbrev pub writes : ClientStep → (q : ℕ) → (sync : Bool) (file block : ℕ) (body : List ℕ) → ClientStep

@@ -129,13 +129,11 @@ impl Client {
         if self.taken == Client::MOST_TAKEN {
             return Answer::Spent;
         }
-        match room_for_call(&mut self.step, &mut self.letters, call, out, log) {
-            Ok(named) => {
-                self.taken += 1;
-                make_call(&mut self.step, &mut self.letters, call, named, out, log)
-            }
-            Err(NoMemory::Memory) => Answer::Memory,
-        }
+        let Ok(named) = room_for_call(&mut self.step, &mut self.letters, call, out, log) else {
+            return Answer::Memory;
+        };
+        self.taken += 1;
+        make_call(&mut self.step, &mut self.letters, call, named, out, log)
     }
 
     /// Takes in a tick of its clock, which shows this time now, in ticks. A request that waits for its reply for 2 ticks is
@@ -154,13 +152,11 @@ impl Client {
         if self.taken == Client::MOST_TAKEN {
             return Heard::Spent;
         }
-        match reserve(&mut self.step, &mut self.letters, 2, out, log) {
-            Ok(()) => {
-                self.taken += 1;
-                make_tick(&mut self.step, &mut self.letters, now, out, log)
-            }
-            Err(NoMemory::Memory) => Heard::Memory,
-        }
+        let Ok(()) = reserve(&mut self.step, &mut self.letters, 2, out, log) else {
+            return Heard::Memory;
+        };
+        self.taken += 1;
+        make_tick(&mut self.step, &mut self.letters, now, out, log)
     }
 
     /// Takes in a datagram of the server, which is the packet of this number: the reply to the request under way, or a
@@ -193,13 +189,11 @@ impl Client {
             self.taken += 1;
             return Heard::Ignored;
         }
-        match hear(&mut self.step, &mut self.letters, packet, heard, out, log) {
-            Ok(()) => {
-                self.taken += 1;
-                self.step.gives_heard()
-            }
-            Err(NoMemory::Memory) => Heard::Memory,
-        }
+        let Ok(()) = hear(&mut self.step, &mut self.letters, packet, heard, out, log) else {
+            return Heard::Memory;
+        };
+        self.taken += 1;
+        self.step.gives_heard()
     }
 
     /// Reads a block from what the client has, without memory: a delayed one, else the one under way, else a clean one.

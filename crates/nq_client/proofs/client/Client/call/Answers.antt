@@ -8,21 +8,21 @@ use Rattle.nq_model.specs.Client.{Client}
 use Rattle.nq_model.specs.ClientStep.{client_call}
 use Rattle.nq_client.proofs.client.Client.call.Goals as goal
 
-pub invariant_of-self : goal.invariant_of-self
-invariant_of-self c = (
+pub invariant_of-self-2 : goal.invariant_of-self-2
+invariant_of-self-2 c = (
   c.make_call.ensures.begun,
   call_within c.self.inside.step.state c.room_for_call.new.step.state c.make_call.new.step.state c.args.call.now c.self.inside.taken c.room_for_call.ensures.client c.make_call.ensures.client c.self.invariant.1 (not_all c.self.inside.step.state c.self.inside.taken c.self.invariant.1 c.if-self-eq-MOST_TAKEN.false),
 )
 
-pub returns-in-Ok-clause-spent : goal.returns-in-Ok-clause-spent
-returns-in-Ok-clause-spent c =
+pub returns-clause-spent : goal.returns-clause-spent
+returns-clause-spent c =
     let x = called (client_of c.room_for_call.new.step.state) c.args.call.now in (
       λ h. absurd (not_spent c.make_call.result (client_call (client_of c.room_for_call.new.step.state) c.args.call.now).answer x.given c.make_call.ensures.answer h),
       λ h. absurd (c.if-self-eq-MOST_TAKEN.false (ap (λ (v : Counted). v.taken) c.self.view_is ∙ h)),
     )
 
-pub returns-in-Ok-clause-called : goal.returns-in-Ok-clause-called
-returns-in-Ok-clause-called c =
+pub returns-clause-called : goal.returns-clause-called
+returns-clause-called c =
     let e : client_of c.room_for_call.new.step.state ≡ c.args.self.now.client = c.room_for_call.ensures.client ∙ ap (λ (v : Counted). v.client) c.self.view_is in
     let k : c.self.inside.taken + 1 ≡ c.args.self.now.taken + 1 = ap (λ (v : Counted). v.taken + 1) c.self.view_is in
     let x = called c.args.self.now.client c.args.call.now in
