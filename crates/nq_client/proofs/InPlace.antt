@@ -1,13 +1,13 @@
 -- The call under way is settled, and asks, where it stands in the client.
-use Rattle.std.proofs.Common.{◌≡◌, ℕ, Bool, true, false, not, ◌&&◌, ◌||◌, List, Option, Some, None, nat_le, is_some, if◌then◌else◌, ◌⊎◌, inl, inr, refl, sym, ap, ◌∙◌}
+use Rattle.std.proofs.Common.{◌≡◌, ℕ, Bool, true, false, not, ◌&&◌, List, Option, Some, None, nat_le, is_some, if◌then◌else◌, ◌⊎◌, inl, inr, refl, sym, ap, ◌∙◌}
 use Rattle.std.specs.Option.{option_map}
 use Rattle.nq_base.specs.declared.Answer.{Answer}
 use Rattle.nq_base.specs.declared.Call.{Call}
-use Rattle.nq_client.specs.Settling.{body_of_call, called_body, goes_on_delayed, settles_body, settles_put, settles_read, settles_sync, settles_write, with_written, writes}
+use Rattle.nq_client.specs.Settling.{body_of_call, called_body, goes_on_delayed, settles_body, settles_put, settles_read, settles_write, with_written}
 use Rattle.nq_client.specs.State.{under_way}
 use Rattle.nq_client.specs.declared.state.UnderWay as code
-use Rattle.nq_model.specs.Client.{Client, ClientStep, Lease, UnderWay, in_state, is_clean, lease_on, lets_read, lets_write, notice_on}
-use Rattle.nq_model.specs.Settle.{after_delay, after_read, after_write, answers, cached_body, delays, is_full, marks_written, reads_cached, settle, settle_body, settle_call, settle_put, settle_read, settle_sync, settle_under_way, settle_write, ticket_is_for_call}
+use Rattle.nq_model.specs.Client.{ClientStep, Lease, UnderWay, in_state, lease_on, lets_read, lets_write, notice_on}
+use Rattle.nq_model.specs.Settle.{after_delay, after_write, answers, cached_body, delays, is_full, marks_written, reads_cached, settle, settle_body, settle_call, settle_put, settle_read, settle_under_way, settle_write, ticket_is_for_call}
 
 body-in-place : (t : ClientStep) (u : UnderWay) (file block : ℕ) (o : Option (List ℕ)) → settles_body t u.q file block o ≡ settle_body t u file block o
 unfolding reads_cached
