@@ -133,7 +133,8 @@ impl Client {
             return Answer::Memory;
         };
         self.taken += 1;
-        make_call(&mut self.step, &mut self.letters, call, named, out, log)
+        make_call(&mut self.step, &mut self.letters, call, named, out, log);
+        self.step.gives_answer()
     }
 
     /// Takes in a tick of its clock, which shows this time now, in ticks. A request that waits for its reply for 2 ticks is
@@ -156,7 +157,8 @@ impl Client {
             return Heard::Memory;
         };
         self.taken += 1;
-        make_tick(&mut self.step, &mut self.letters, now, out, log)
+        make_tick(&mut self.step, &mut self.letters, now, out, log);
+        self.step.gives_heard()
     }
 
     /// Takes in a datagram of the server, which is the packet of this number: the reply to the request under way, or a

@@ -5,7 +5,6 @@ ghost use Rattle.nq_base.specs.Plain.{plain_answer};
 ghost use Rattle.nq_model.specs.ClientStep.{client_call, client_tick};
 ghost use Rattle.nq_client.specs.Calling.{IsNamedFor};
 ghost use Rattle.nq_client.specs.Finishing.{Grows, HasLetters, HasRoomFor};
-ghost use Rattle.nq_client.specs.Outcome.{IsHeard, or_pending};
 ghost use Rattle.nq_client.specs.Receiving.{HasRoomForFiles, IsHeeded, most_entries, on_heard};
 ghost use Rattle.nq_client.specs.State.{client_of};
 ghost use Rattle.nq_client.specs.Step.{HasNumbers, IsBegun, step_of};
@@ -13,10 +12,9 @@ ghost use Rattle.nq_client.specs.Tied.{Tied};
 
 use crate::calling::{Named, named_for};
 use crate::finishing::Letters;
-use crate::heard::Heard;
 use crate::receiving::most_entries;
 use crate::step::Step;
-use nq_base::{Answer, Call, NoMemory, Ticks};
+use nq_base::{Call, NoMemory, Ticks};
 use nq_journal::Journal;
 use nq_wire::Outbox;
 
@@ -63,7 +61,7 @@ pub(crate) fn room_for_call(
     named_for(&step.state, call)
 }
 
-/// Makes a call, with the memory that it may want.
+/// Makes a call, with the memory that it may want. It leaves its answer in the step.
 pub(crate) fn make_call(
     step: &mut Step,
     letters: &mut Letters,
@@ -71,7 +69,7 @@ pub(crate) fn make_call(
     named: Named,
     out: &mut Outbox,
     log: &mut Journal,
-) -> Answer
+)
     requires begun { IsBegun step.old }
     requires letters { HasLetters letters.old }
     requires room { HasRoomFor 3 step.old out.old log.old }
@@ -79,38 +77,36 @@ pub(crate) fn make_call(
     requires calls { step.old.state.calls < 2 ^ 62 }
     requires named { IsNamedFor named call.now step.old.state.losses.items }
     requires tied { Tied step.old.state.asked step.old.state.dirty.push }
-    ensures begun { IsBegun step.new }
+    ensures begun { IsBegun (record step.new { answer = None }) }
     ensures client { client_of step.new.state ≡ (client_call (client_of step.old.state) call.now).client }
     ensures grows { Grows (client_call (client_of step.old.state) call.now) out.old out.new log.old log.new }
-    ensures answer { plain_answer result ≡ or_pending (client_call (client_of step.old.state) call.now).answer }
+    ensures answer { option_map plain_answer step.new.answer ≡ (client_call (client_of step.old.state) call.now).answer }
 {
     step.call(call, named);
     step.finish(letters, out, log);
-    step.gives_answer()
 }
 
-/// Makes a tick, with the memory that it may want.
+/// Makes a tick, with the memory that it may want. It leaves its answer in the step.
 pub(crate) fn make_tick(
     step: &mut Step,
     letters: &mut Letters,
     now: Ticks,
     out: &mut Outbox,
     log: &mut Journal,
-) -> Heard
+)
     requires begun { IsBegun step.old }
     requires letters { HasLetters letters.old }
     requires room { HasRoomFor 2 step.old out.old log.old }
     requires numbers { HasNumbers 2 step.old.state }
     requires early { now < 2 ^ 62 }
     requires tied { Tied step.old.state.asked step.old.state.dirty.push }
-    ensures begun { IsBegun step.new }
+    ensures begun { IsBegun (record step.new { answer = None }) }
     ensures client { client_of step.new.state ≡ (client_tick (client_of step.old.state) now).client }
     ensures grows { Grows (client_tick (client_of step.old.state) now) out.old out.new log.old log.new }
-    ensures heard { IsHeard result (client_tick (client_of step.old.state) now).answer }
+    ensures answer { option_map plain_answer step.new.answer ≡ (client_tick (client_of step.old.state) now).answer }
 {
     step.tick(now);
     step.finish(letters, out, log);
-    step.gives_heard()
 }
 
 /// Takes the memory that a datagram may want which counts.
