@@ -4,9 +4,9 @@ pub mod Counts
 pub mod Fitting
 pub mod Found
 pub mod Grants
+pub mod InPlace
 pub mod Least
 pub mod Marks
-pub mod NextRequest
 pub mod NoticeList
 pub mod Outcomes
 pub mod Places

@@ -9,20 +9,20 @@ use Rattle.nq_base.specs.declared.Who.{Who}
 use Rattle.nq_base.specs.declared.Call.{Call}
 use Rattle.nq_client.proofs.Calls.{Within, called, ticked}
 use Rattle.nq_client.proofs.Counts.{within}
-use Rattle.nq_client.proofs.Received.{news-within}
+use Rattle.nq_client.proofs.Received.{heard-within}
 use Rattle.nq_client.proofs.Settled.{is_given}
 use Rattle.nq_client.specs.Counted.{Counted, IsWithin}
 use Rattle.nq_client.specs.Entries.{Tells}
 use Rattle.nq_client.specs.Finishing.{Grows, to_server}
 use Rattle.nq_client.specs.Outcome.{Called, Gives, or_pending}
-use Rattle.nq_client.specs.Receiving.{IsHeeded, most_entries, on_news}
+use Rattle.nq_client.specs.Receiving.{IsHeeded, most_entries, on_heard}
 use Rattle.nq_client.specs.State.{client_of}
 use Rattle.nq_client.specs.Step.{IsBegun, request_message, step_of, vacated_message}
 use Rattle.nq_client.specs.Tied.{Tied}
-use Rattle.nq_client.specs.declared.receiving.News.{News}
 use Rattle.nq_client.specs.declared.state.State.{State}
 use Rattle.nq_client.specs.declared.step.Step.{Step}
 use Rattle.nq_client.specs.declared.step.Vacated.{Vacated}
+use Rattle.nq_datagrams.specs.declared.Heard.{Heard}
 use Rattle.nq_journal.specs.Items.{EntryList}
 use Rattle.nq_model.specs.Client.{Client, ClientStep, Ticket, begun}
 use Rattle.nq_model.specs.ClientStep.{at_time, client_call, client_tick}
@@ -147,6 +147,6 @@ not_all s taken w ne = let few = w.taken_few in below taken most_taken_by_client
 -- ---- datagrams
 
 -- the numbers after what counts
-pub news_within : (s0 s2 : State) (number : ℕ) (news : News) (taken : ℕ) → client_of s2 ≡ (on_news (client_of s0) number news).client → IsHeeded s0.asked news → IsWithin s0 taken → taken < most_taken_by_client → IsWithin s2 (taken + 1)
-news_within s0 s2 number news taken f h w lt =
-    within_after (most_entries (client_of s0)) s2 (client_of s0) (on_news (client_of s0) number news) taken f (news-within (client_of s0) number news h) lt w.time w.calls w.seq w.number w.xid w.tied
+pub heard_within : (s0 s2 : State) (number : ℕ) (heard : Heard) (taken : ℕ) → client_of s2 ≡ (on_heard (client_of s0) number heard).client → IsHeeded s0.asked heard → IsWithin s0 taken → taken < most_taken_by_client → IsWithin s2 (taken + 1)
+heard_within s0 s2 number heard taken f h w lt =
+    within_after (most_entries (client_of s0)) s2 (client_of s0) (on_heard (client_of s0) number heard) taken f (heard-within (client_of s0) number heard h) lt w.time w.calls w.seq w.number w.xid w.tied

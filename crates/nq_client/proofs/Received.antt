@@ -1,18 +1,19 @@
 -- How much a datagram takes that counts, and what it keeps.
 use Rattle.std.proofs.Common.{◌≡◌, ◌≤◌, ◌<◌, ◌^◌, ◌+◌, ℕ, true, false, length, Option, Some, None, IsTrue, refl, sym, ap, subst, ◌∙◌, arith}
 use Rattle.nq_base.specs.declared.Reply.{Reply}
+use Rattle.nq_base.specs.declared.Request.{Request}
 use Rattle.nq_base.specs.declared.Tag.{Tag}
 use Rattle.nq_client.proofs.Calls.{Within}
 use Rattle.nq_client.proofs.Replied.{Kept, answered-kept, answered-none}
 use Rattle.nq_client.proofs.Requested.{sends, Sent}
 use Rattle.nq_client.proofs.Settled.{choice, settled, Settled, is_given}
 use Rattle.nq_client.proofs.Ties.{tied-cancelled}
-use Rattle.nq_client.specs.Receiving.{answered, after_reply, at_stake, Counts, file_at_stake, IsHeeded, most_entries, on_news, on_notice, on_reply}
+use Rattle.nq_client.specs.Receiving.{answered, after_reply, at_stake, Counts, file_at_stake, IsHeeded, most_entries, on_call, on_heard, on_notice, on_reply}
 use Rattle.nq_client.specs.State.{client_of}
 use Rattle.nq_client.specs.Step.{HasNumbers, step_of}
 use Rattle.nq_client.specs.Tied.{Tied, TiedFor}
-use Rattle.nq_client.specs.declared.receiving.News.{News}
 use Rattle.nq_client.specs.declared.step.Step.{Step}
+use Rattle.nq_datagrams.specs.declared.Heard.{Heard}
 use Rattle.nq_model.specs.Client.{Client, ClientStep, Ticket, begun, is_clean}
 use Rattle.nq_model.specs.Hear.{all_dirty, cancelled, cancels, evicted, goes_on, notes_notice, replied, reply_counts, spends, vacates_lease}
 use Rattle.nq_model.specs.Send.{send_next}
@@ -166,7 +167,23 @@ notice-within n c file tag =
     (ap is_given k.answer)
     (λ tied. subst (λ o. Tied o (evicted (cancels (begun c) file) file tag).client.push) (sym k.ticket) (subst (λ p. Tied (cancelled file c.ticket) p) (sym k.push) (tied-cancelled file c.ticket c.push tied)))
 
+idle-within : (n : ℕ) (c : Client) → Within (n + 4) c (begun c)
+idle-within n c = record {
+  now = refl;
+  calls = omega arith;
+  seq = omega arith;
+  number = omega arith;
+  xid = omega arith;
+  few = omega arith;
+  given = refl;
+  tied = λ h. h;
+}
+
+call-within : (n : ℕ) (c : Client) (r : Request) → Within (n + 4) c (on_call c r)
+call-within n c (Request.Evicted who file tag) = notice-within n c file tag
+call-within n c other = idle-within n c
+
 -- what counts
-pub news-within : (c : Client) (number : ℕ) (news : News) → IsHeeded c.ticket news → Within (most_entries c) c (on_news c number news)
-news-within c number (News.Notice file tag) h = notice-within (length (all_dirty c (at_stake c.ticket))) c file tag
-news-within c number (News.Reply r) h = reply-within c number r c.ticket refl h
+pub heard-within : (c : Client) (number : ℕ) (heard : Heard) → IsHeeded c.ticket heard → Within (most_entries c) c (on_heard c number heard)
+heard-within c number (Heard.Notice xid r) h = call-within (length (all_dirty c (at_stake c.ticket))) c r
+heard-within c number (Heard.Reply xid r) h = reply-within c number r c.ticket refl h

@@ -1,10 +1,12 @@
 pub mod Answering
 pub mod Asked
+pub mod Asking
 pub mod ByFile
 pub mod Calling
 pub mod Counted
 pub mod Entries
 pub mod Finishing
+pub mod Given
 pub mod Granting
 pub mod Hearing
 pub mod Leases

@@ -3,8 +3,8 @@ use Rattle.std.specs.Prelude.{◌≤◌, ◌+◌, ℕ, Bool, false, length, Opti
 use Rattle.nq_base.specs.declared.Reply.{Reply}
 use Rattle.nq_base.specs.declared.Request.{Request}
 use Rattle.nq_base.specs.declared.Tag.{Tag}
-use Rattle.nq_client.specs.declared.receiving.News.{News}
 use Rattle.nq_client.specs.declared.step.Step.{Step}
+use Rattle.nq_datagrams.specs.declared.Heard.{Heard}
 use Rattle.nq_model.specs.Client.{Client, ClientStep, Ticket, begun}
 use Rattle.nq_model.specs.Hear.{all_dirty, cancels, done, evicted, goes_on, is_reply_to, refused, replied, reply_counts}
 
@@ -43,10 +43,15 @@ on_reply c number r ticket = goes_on (after_reply (begun c) number ticket r)
 abbrev pub on_notice : Client → (file : ℕ) → Tag → ClientStep
 on_notice c file tag = goes_on (evicted (cancels (begun c) file) file tag)
 
+-- a call of the server, of which a notice alone counts
+abbrev pub on_call : Client → Request → ClientStep
+on_call c (Request.Evicted who file tag) = on_notice c file tag
+on_call c other = begun c
+
 -- what counts, in the packet of this number
-abbrev pub on_news : Client → (number : ℕ) → News → ClientStep
-on_news c number (News.Notice file tag) = on_notice c file tag
-on_news c number (News.Reply r) = on_reply c number r c.ticket
+abbrev pub on_heard : Client → (number : ℕ) → Heard → ClientStep
+on_heard c number (Heard.Notice xid r) = on_call c r
+on_heard c number (Heard.Reply xid r) = on_reply c number r c.ticket
 
 -- a reply counts for the request under way
 abbrev pub Counts : Option Ticket → Reply → Type 0
@@ -54,9 +59,9 @@ Counts None r = ⊥
 Counts (Some ticket) r = IsTrue (reply_counts r ticket)
 
 -- so does what is no reply
-abbrev pub IsHeeded : Option Ticket → News → Type 0
-IsHeeded ticket (News.Notice file tag) = Unit {0}
-IsHeeded ticket (News.Reply r) = Counts ticket r
+abbrev pub IsHeeded : Option Ticket → Heard → Type 0
+IsHeeded ticket (Heard.Notice xid r) = Unit {0}
+IsHeeded ticket (Heard.Reply xid r) = Counts ticket r
 
 -- how many entries a client makes at most of what counts
 abbrev pub most_entries : Client → ℕ

@@ -8,7 +8,7 @@ use Rattle.nq_client.specs.State.{client_of}
 use Rattle.nq_client.specs.declared.state.State.{State}
 use Rattle.nq_client.specs.declared.step.Step.{Step}
 use Rattle.nq_client.specs.declared.step.Vacated.{Vacated}
-use Rattle.nq_model.specs.Client.{ClientStep, Ticket, UnderWay}
+use Rattle.nq_model.specs.Client.{ClientStep, Ticket}
 use Rattle.nq_model.specs.Message.{Message, call}
 
 -- the vacated message, if there is one
@@ -34,10 +34,6 @@ step_of s = record {
   answer = option_map plain_answer s.answer;
   cached = s.cached;
 }
-
--- the step, with this call under way
-abbrev pub with_call : ClientStep → UnderWay → ClientStep
-with_call t u = record t { client = record t.client { call = Some u } }
 
 -- between steps nothing is given
 pub record IsBegun (s : Step) : Type 0 where

@@ -3,15 +3,16 @@
 ghost use Rattle.std.specs.Prelude.{◌≡◌, ◌+◌, ◌<◌, ◌^◌, Some, None, true, false, is_some, IsTrue, IfSome, if◌then◌else◌};
 ghost use Rattle.nq_base.specs.declared.Request.{Request};
 ghost use Rattle.nq_model.specs.Client.{for_call, lease_on};
-ghost use Rattle.nq_model.specs.Send.{asks, next_change, next_of_call, next_of_under_way, next_put, next_write, read_want, sends_request, sends_write, shares_live, then_calls, want_of, after_seq, gives_up};
+ghost use Rattle.nq_model.specs.Send.{asks, next_change, next_put, read_want, sends_request, sends_write, shares_live, then_calls, want_of, after_seq, gives_up};
 ghost use Rattle.nq_held.specs.Leases.{lease_of};
 ghost use Rattle.nq_wire.specs.Parts.{IsWanted};
 ghost use Rattle.nq_wire.specs.Request.{HasSpelling};
-ghost use Rattle.nq_client.specs.State.{client_of, under_way};
-ghost use Rattle.nq_client.specs.Step.{HasNumbers, step_of, with_call};
+ghost use Rattle.nq_client.specs.Asking.{writes_or_asks};
+ghost use Rattle.nq_client.specs.State.{client_of};
+ghost use Rattle.nq_client.specs.Step.{HasNumbers, step_of};
 
 use crate::asked::Job;
-use crate::state::{State, UnderWay};
+use crate::state::State;
 use crate::step::Step;
 use nq_base::{Block, BlockNo, Call, FileId, Mode, Name, Number, Request, Seq, Ticks, Want, Who};
 use nq_held::Held;
@@ -74,10 +75,10 @@ impl Step {
     }
 
     /// Sends a WRITE that goes through.
-    fn sends_write(&mut self, file: FileId, block: BlockNo, body: &Block)
+    fn sends_write(&mut self, file: FileId, block: BlockNo, body: Block)
         requires idle { self.old.state.asked ≡ None }
         requires numbers { HasNumbers 1 self.old.state }
-        ensures step { step_of self.new ≡ sends_write (step_of self.old) file block body.now }
+        ensures step { step_of self.new ≡ sends_write (step_of self.old) file block body }
         ensures sent { is_some self.new.state.asked ≡ true }
     {
         let number = self.state.number;
@@ -91,7 +92,7 @@ impl Step {
             first: number,
             last: number,
             push: None,
-            body: body.copied(),
+            body,
         });
     }
 
@@ -110,20 +111,43 @@ impl Step {
         may_ask
     }
 
-    /// A write that was not delayed goes through where it is to or where a non-caching lease runs, else a lease is wanted.
-    fn next_write(&mut self, u: &UnderWay, file: FileId, block: BlockNo, body: &Block)
+    /// A write that was not delayed goes through where it is to or where a non-caching lease runs, else a lease is wanted;
+    /// whether a request was sent.
+    fn next_write(
+        &mut self,
+        may_ask: bool,
+        through: bool,
+        file: FileId,
+        block: BlockNo,
+        body: Block,
+    ) -> bool
         requires idle { self.old.state.asked ≡ None }
         requires numbers { HasNumbers 1 self.old.state }
-        ensures step { step_of self.new ≡ next_write (step_of self.old) (under_way u.now) file block body.now }
-        ensures sent { is_some self.new.state.asked ≡ true }
+        ensures step { step_of self.new ≡ (if may_ask then writes_or_asks (step_of self.old) through file block body else step_of self.old) }
+        ensures sent { IsTrue result → is_some self.new.state.asked ≡ true }
+        ensures quiet { result ≡ false → self.new ≡ self.old }
     {
-        if u.through || self.state.is_shared(file) {
+        if !may_ask {
+            return false;
+        }
+        if through || self.state.is_shared(file) {
             self.sends_write(file, block, body);
         } else {
-            let want = self.state.want(Mode::Writing);
-            let who = self.state.who;
-            self.sends_request(Job::ForCall, Request::GetLease { who, file, want });
+            self.asks_for_writing(file);
         }
+        true
+    }
+
+    /// Asks for a writing lease.
+    fn asks_for_writing(&mut self, file: FileId)
+        requires idle { self.old.state.asked ≡ None }
+        requires numbers { HasNumbers 1 self.old.state }
+        ensures step { step_of self.new ≡ sends_request (step_of self.old) for_call (Request.GetLease self.old.state.who file (want_of (client_of self.old.state) Mode.Writing)) }
+        ensures sent { is_some self.new.state.asked ≡ true }
+    {
+        let want = self.state.want(Mode::Writing);
+        let who = self.state.who;
+        self.sends_request(Job::ForCall, Request::GetLease { who, file, want });
     }
 
     /// A put: its file is pushed where its write was delayed, else the write goes through; whether a request was sent.
@@ -133,12 +157,12 @@ impl Step {
         may_ask: bool,
         file: FileId,
         block: BlockNo,
-        body: &Block,
+        body: Block,
     ) -> bool
         requires idle { self.old.state.asked ≡ None }
         requires none { self.old.state.dirty.push ≡ None }
         requires numbers { HasNumbers 1 self.old.state }
-        ensures step { step_of self.new ≡ next_put (step_of self.old) written may_ask file block body.now }
+        ensures step { step_of self.new ≡ next_put (step_of self.old) written may_ask file block body }
         ensures sent { IsTrue result → is_some self.new.state.asked ≡ true }
         ensures quiet { result ≡ false → self.new ≡ self.old }
     {
@@ -204,63 +228,97 @@ impl Step {
         may_ask
     }
 
-    /// The call's next request, by what the call is; whether one was sent.
-    pub(crate) fn next_of_call(&mut self, u: &UnderWay, may_ask: bool) -> bool
+    /// LOOKUP, unless the client pauses; whether it was sent.
+    fn looks_up(&mut self, may_ask: bool, name: Name) -> bool
+        requires idle { self.old.state.asked ≡ None }
+        requires numbers { HasNumbers 1 self.old.state }
+        ensures step { step_of self.new ≡ asks (step_of self.old) may_ask (Request.Lookup self.old.state.who name) }
+        ensures sent { IsTrue result → is_some self.new.state.asked ≡ true }
+        ensures quiet { result ≡ false → self.new ≡ self.old }
+    {
+        let who = self.state.who;
+        self.asks(may_ask, Request::Lookup { who, name })
+    }
+
+    /// GETATTR, unless the client pauses; whether it was sent.
+    fn measures(&mut self, may_ask: bool, file: FileId) -> bool
+        requires idle { self.old.state.asked ≡ None }
+        requires numbers { HasNumbers 1 self.old.state }
+        ensures step { step_of self.new ≡ asks (step_of self.old) may_ask (Request.GetAttr self.old.state.who file) }
+        ensures sent { IsTrue result → is_some self.new.state.asked ≡ true }
+        ensures quiet { result ≡ false → self.new ≡ self.old }
+    {
+        let who = self.state.who;
+        self.asks(may_ask, Request::GetAttr { who, file })
+    }
+
+    /// READ with what a read wants, unless the client pauses; whether it was sent.
+    fn reads(&mut self, may_ask: bool, q: u64, file: FileId, block: BlockNo) -> bool
+        requires idle { self.old.state.asked ≡ None }
+        requires numbers { HasNumbers 1 self.old.state }
+        ensures step { step_of self.new ≡ asks (step_of self.old) may_ask (Request.Read self.old.state.who q file block (read_want (client_of self.old.state) file)) }
+        ensures sent { IsTrue result → is_some self.new.state.asked ≡ true }
+        ensures quiet { result ≡ false → self.new ≡ self.old }
+    {
+        let who = self.state.who;
+        let want = self.state.read_want(file);
+        self.asks(may_ask, read_request(q, who, file, block, want))
+    }
+
+    /// READ without a want, unless the client pauses; whether it was sent.
+    fn fetches(&mut self, may_ask: bool, q: u64, file: FileId, block: BlockNo) -> bool
+        requires idle { self.old.state.asked ≡ None }
+        requires numbers { HasNumbers 1 self.old.state }
+        ensures step { step_of self.new ≡ asks (step_of self.old) may_ask (Request.Read self.old.state.who q file block None) }
+        ensures sent { IsTrue result → is_some self.new.state.asked ≡ true }
+        ensures quiet { result ≡ false → self.new ≡ self.old }
+    {
+        let who = self.state.who;
+        self.asks(may_ask, read_request(q, who, file, block, None))
+    }
+
+    /// A resize: the file is pushed until it is clean, and then RESIZE is sent; whether a request was sent.
+    fn resizes(&mut self, may_ask: bool, q: u64, file: FileId, blocks: u32) -> bool
         requires idle { self.old.state.asked ≡ None }
         requires none { self.old.state.dirty.push ≡ None }
         requires numbers { HasNumbers 1 self.old.state }
-        ensures step { with_call (step_of self.new) (under_way u.now) ≡ next_of_call (with_call (step_of self.old) (under_way u.now)) (under_way u.now) may_ask u.now.call }
+        ensures step { step_of self.new ≡ next_change (step_of self.old) may_ask file (Request.Resize self.old.state.who self.old.state.seq q file blocks) }
         ensures sent { IsTrue result → is_some self.new.state.asked ≡ true }
         ensures quiet { result ≡ false → self.new ≡ self.old }
     {
         let who = self.state.who;
         let seq = self.state.seq;
-        match &u.call {
-            Call::Create { name, blocks } => self.creates(may_ask, *name, *blocks),
-            Call::Lookup { name } => self.asks(may_ask, Request::Lookup { who, name: *name }),
-            Call::Attr { file } => self.asks(may_ask, Request::GetAttr { who, file: *file }),
-            Call::Read { file, block } => {
-                let want = self.state.read_want(*file);
-                self.asks(may_ask, read_request(u.q, who, *file, *block, want))
-            }
-            Call::Fetch { file, block } => {
-                self.asks(may_ask, read_request(u.q, who, *file, *block, None))
-            }
-            Call::Write { file, block, body } => {
-                if may_ask {
-                    self.next_write(u, *file, *block, body);
-                }
-                may_ask
-            }
-            Call::WriteSync { file, block, body } => {
-                self.next_put(u.written, may_ask, *file, *block, body)
-            }
-            Call::Sync { file } => self.pushes(*file),
-            Call::Resize { file, blocks } => self.next_change(
-                may_ask,
-                *file,
-                Request::Resize {
-                    who,
-                    seq,
-                    call: u.q,
-                    file: *file,
-                    blocks: *blocks,
-                },
-            ),
-            Call::Remove { file } => self.next_change(
-                may_ask,
-                *file,
-                Request::Remove {
-                    who,
-                    seq,
-                    call: u.q,
-                    file: *file,
-                },
-            ),
-        }
+        let request = Request::Resize {
+            who,
+            seq,
+            call: q,
+            file,
+            blocks,
+        };
+        self.next_change(may_ask, file, request)
     }
 
-    /// The next request of the call under way, if there is one; whether one was sent.
+    /// A removal: the file is pushed until it is clean, and then REMOVE is sent; whether a request was sent.
+    fn removes(&mut self, may_ask: bool, q: u64, file: FileId) -> bool
+        requires idle { self.old.state.asked ≡ None }
+        requires none { self.old.state.dirty.push ≡ None }
+        requires numbers { HasNumbers 1 self.old.state }
+        ensures step { step_of self.new ≡ next_change (step_of self.old) may_ask file (Request.Remove self.old.state.who self.old.state.seq q file) }
+        ensures sent { IsTrue result → is_some self.new.state.asked ≡ true }
+        ensures quiet { result ≡ false → self.new ≡ self.old }
+    {
+        let who = self.state.who;
+        let seq = self.state.seq;
+        let request = Request::Remove {
+            who,
+            seq,
+            call: q,
+            file,
+        };
+        self.next_change(may_ask, file, request)
+    }
+
+    /// The next request of the call under way, if there is one; whether one was sent. The call stays where it is: it is large.
     pub(crate) fn calls(&mut self) -> bool
         requires idle { self.old.state.asked ≡ None }
         requires none { self.old.state.dirty.push ≡ None }
@@ -269,28 +327,50 @@ impl Step {
         ensures sent { IsTrue result → is_some self.new.state.asked ≡ true }
         ensures quiet { result ≡ false → self.new ≡ self.old }
     {
-        match &self.state.call {
-            Some(_) => self.calls_under_way(),
-            None => false,
-        }
-    }
-
-    /// The same, apart: a call is large, and most steps find none under way.
-    fn calls_under_way(&mut self) -> bool
-        requires idle { self.old.state.asked ≡ None }
-        requires none { self.old.state.dirty.push ≡ None }
-        requires numbers { HasNumbers 1 self.old.state }
-        ensures step { step_of self.new ≡ then_calls (step_of self.old) }
-        ensures sent { IsTrue result → is_some self.new.state.asked ≡ true }
-        ensures quiet { result ≡ false → self.new ≡ self.old }
-    {
         let may_ask = self.state.pause <= self.state.time;
-        match self.state.call.take() {
-            Some(u) => {
-                let sent = self.next_of_call(&u, may_ask);
-                self.state.call = Some(u);
-                sent
-            }
+        match &self.state.call {
+            Some(u) => match &u.call {
+                Call::Create { name, blocks } => {
+                    let (name, blocks) = (*name, *blocks);
+                    self.creates(may_ask, name, blocks)
+                }
+                Call::Lookup { name } => {
+                    let name = *name;
+                    self.looks_up(may_ask, name)
+                }
+                Call::Attr { file } => {
+                    let file = *file;
+                    self.measures(may_ask, file)
+                }
+                Call::Read { file, block } => {
+                    let (q, file, block) = (u.q, *file, *block);
+                    self.reads(may_ask, q, file, block)
+                }
+                Call::Fetch { file, block } => {
+                    let (q, file, block) = (u.q, *file, *block);
+                    self.fetches(may_ask, q, file, block)
+                }
+                Call::Write { file, block, body } => {
+                    let (through, file, block, body) = (u.through, *file, *block, body.copied());
+                    self.next_write(may_ask, through, file, block, body)
+                }
+                Call::WriteSync { file, block, body } => {
+                    let (written, file, block, body) = (u.written, *file, *block, body.copied());
+                    self.next_put(written, may_ask, file, block, body)
+                }
+                Call::Sync { file } => {
+                    let file = *file;
+                    self.pushes(file)
+                }
+                Call::Resize { file, blocks } => {
+                    let (q, file, blocks) = (u.q, *file, *blocks);
+                    self.resizes(may_ask, q, file, blocks)
+                }
+                Call::Remove { file } => {
+                    let (q, file) = (u.q, *file);
+                    self.removes(may_ask, q, file)
+                }
+            },
             None => false,
         }
     }

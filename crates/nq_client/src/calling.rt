@@ -9,10 +9,11 @@ ghost use Rattle.nq_client.specs.Prepared.{Leaves};
 ghost use Rattle.nq_client.specs.Calling.{HasRoomToCall, IsNamedFor};
 ghost use Rattle.nq_client.specs.Tied.{Tied};
 
+use crate::given::Brief;
 use crate::losses::spans_of;
 use crate::state::{State, UnderWay};
 use crate::step::Step;
-use nq_base::{Answer, Call, Entry, FileId, Losses, NoMemory, Said, Spans, Told};
+use nq_base::{Call, Entry, FileId, Losses, NoMemory, Said, Spans, Told};
 use std::alloc::Global;
 
 /// The losses that a call is told before anything else, as its answer and as a journal names them.
@@ -183,7 +184,7 @@ impl Step {
             q: self.state.calls,
             said: Said::Busy,
         });
-        self.answer = Some(Answer::Busy);
+        self.answer.put(Brief::Busy);
     }
 
     /// The call is told its losses, which are then named.
@@ -211,7 +212,7 @@ impl Step {
     {
         self.state.losses.forget(file);
         let Named { losses, spans } = named;
-        self.ends_call(q, Answer::Lost(losses), Said::Lost(spans));
+        self.ends_call(q, Brief::Lost(losses), Said::Lost(spans));
     }
 
     /// A call of a client that has none under way, and that is told of no losses.

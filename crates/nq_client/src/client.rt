@@ -15,7 +15,7 @@ ghost use Rattle.nq_client.specs.State.{call_of};
 use crate::finishing::Letters;
 use crate::heard::Heard;
 use crate::reading::read_cached;
-use crate::receiving::read;
+use crate::receiving::{heeds, read};
 use crate::starting::begin;
 use crate::state::State;
 use crate::step::Step;
@@ -129,13 +129,12 @@ impl Client {
         if self.taken == Client::MOST_TAKEN {
             return Answer::Spent;
         }
-        match room_for_call(&mut self.step, &mut self.letters, call, out, log) {
-            Ok(named) => {
-                self.taken += 1;
-                make_call(&mut self.step, &mut self.letters, call, named, out, log)
-            }
-            Err(NoMemory::Memory) => Answer::Memory,
-        }
+        let Ok(named) = room_for_call(&mut self.step, &mut self.letters, call, out, log) else {
+            return Answer::Memory;
+        };
+        self.taken += 1;
+        make_call(&mut self.step, &mut self.letters, call, named, out, log);
+        self.step.gives_answer()
     }
 
     /// Takes in a tick of its clock, which shows this time now, in ticks. A request that waits for its reply for 2 ticks is
@@ -154,13 +153,12 @@ impl Client {
         if self.taken == Client::MOST_TAKEN {
             return Heard::Spent;
         }
-        match reserve(&mut self.step, &mut self.letters, 2, out, log) {
-            Ok(()) => {
-                self.taken += 1;
-                make_tick(&mut self.step, &mut self.letters, now, out, log)
-            }
-            Err(NoMemory::Memory) => Heard::Memory,
-        }
+        let Ok(()) = reserve(&mut self.step, &mut self.letters, 2, out, log) else {
+            return Heard::Memory;
+        };
+        self.taken += 1;
+        make_tick(&mut self.step, &mut self.letters, now, out, log);
+        self.step.gives_heard()
     }
 
     /// Takes in a datagram of the server, which is the packet of this number: the reply to the request under way, or a
@@ -184,17 +182,20 @@ impl Client {
         if self.taken == Client::MOST_TAKEN {
             return Heard::Spent;
         }
-        let Some(news) = read(&self.step.state, datagram) else {
+        let heard = read(&self.step.state, datagram);
+        let Some(heard) = &heard else {
             self.taken += 1;
             return Heard::Ignored;
         };
-        match hear(&mut self.step, &mut self.letters, packet, &news, out, log) {
-            Ok(heard) => {
-                self.taken += 1;
-                heard
-            }
-            Err(NoMemory::Memory) => Heard::Memory,
+        if !heeds(&self.step.state, heard) {
+            self.taken += 1;
+            return Heard::Ignored;
         }
+        let Ok(()) = hear(&mut self.step, &mut self.letters, packet, heard, out, log) else {
+            return Heard::Memory;
+        };
+        self.taken += 1;
+        self.step.gives_heard()
     }
 
     /// Reads a block from what the client has, without memory: a delayed one, else the one under way, else a clean one.

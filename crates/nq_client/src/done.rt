@@ -32,7 +32,7 @@ impl Step {
         ensures refused { OnErr result (self.new ≡ self.old) }
     {
         self.takes_read(file, block, body, grant, sent)?;
-        self.answers_body(body.copied(), packet);
+        self.answers_body(body, packet);
         Ok(())
     }
 

@@ -174,10 +174,10 @@ impl Step {
         ensures state { self.new.state ≡ self.old.state }
         ensures answer { plain_answer result ≡ or_pending (option_map plain_answer self.old.answer) }
     {
-        match self.answer.take() {
-            Some(answer) => answer,
-            None => Answer::Pending,
+        if !self.answer.is_some() {
+            return Answer::Pending;
         }
+        self.answer.take()
     }
 
     /// Gives what is heard of the answer, with which the step ends.
@@ -187,22 +187,9 @@ impl Step {
         ensures state { self.new.state ≡ self.old.state }
         ensures heard { IsHeard result (option_map plain_answer self.old.answer) }
     {
-        match &self.answer {
-            Some(_) => self.gives_heard_answer(),
-            None => Heard::Nothing,
+        if !self.answer.is_some() {
+            return Heard::Nothing;
         }
-    }
-
-    /// The same, apart: an answer is large, and most steps give none.
-    fn gives_heard_answer(&mut self) -> Heard
-        requires { IsBegun (record self.old { answer = None }) }
-        ensures begun { IsBegun self.new }
-        ensures state { self.new.state ≡ self.old.state }
-        ensures heard { IsHeard result (option_map plain_answer self.old.answer) }
-    {
-        match self.answer.take() {
-            Some(answer) => Heard::Answered(answer),
-            None => Heard::Nothing,
-        }
+        Heard::Answered(self.answer.take())
     }
 }

@@ -5,16 +5,16 @@ ghost use Rattle.nq_model.specs.Hear.{cancelled, cancels, goes_on, spends};
 ghost use Rattle.nq_model.specs.Table.{same_who};
 ghost use Rattle.nq_client.specs.Hearing.{is_wanted};
 ghost use Rattle.nq_client.specs.Prepared.{IsPrepared};
-ghost use Rattle.nq_client.specs.Receiving.{Counts, IsHeeded, at_stake, on_news, on_notice, on_reply};
+ghost use Rattle.nq_client.specs.Receiving.{Counts, IsHeeded, at_stake, on_call, on_heard, on_notice, on_reply};
 ghost use Rattle.nq_client.specs.State.{client_of};
 ghost use Rattle.nq_client.specs.Step.{HasNumbers, HasRoom, IsBegun, step_of};
 ghost use Rattle.nq_client.specs.Tied.{Tied};
 
 use crate::asked::Asked;
 use crate::counting::wants;
-use crate::receiving::News;
 use crate::step::Step;
-use nq_base::{FileId, NoMemory, Reply, Tag, Who};
+use nq_base::{FileId, NoMemory, Reply, Request, Tag, Who};
+use nq_datagrams::Heard;
 
 /// Whether a request that wants a lease on the file is under way.
 fn is_wanted(asked: &Option<Asked>, file: FileId) -> bool
@@ -83,6 +83,21 @@ impl Step {
         self.goes_on();
     }
 
+    /// Takes a call of the server in, of which a notice alone counts.
+    fn hears_call(&mut self, request: &Request)
+        requires begun { IsBegun self.old }
+        requires room { HasRoom self.old }
+        requires notices { 1 ≤ self.old.state.notices.spare }
+        requires tied { Tied self.old.state.asked self.old.state.dirty.push }
+        requires numbers { HasNumbers 3 self.old.state }
+        ensures { step_of self.new ≡ on_call (client_of self.old.state) request.now }
+    {
+        match request {
+            Request::Evicted { file, tag, .. } => self.hears_notice(*file, *tag),
+            _ => {}
+        }
+    }
+
     /// Takes a reply in that counts, in the packet of this number.
     fn hears_reply(&mut self, packet: u64, reply: &Reply) -> Result<(), NoMemory>
         requires begun { IsBegun self.old }
@@ -103,22 +118,22 @@ impl Step {
     /// # Errors
     ///
     /// Only want of memory, and then nothing changed.
-    pub(crate) fn hears(&mut self, packet: u64, news: &News) -> Result<(), NoMemory>
+    pub(crate) fn hears(&mut self, packet: u64, heard: &Heard) -> Result<(), NoMemory>
         requires begun { IsBegun self.old }
         requires prepared { IsPrepared (at_stake self.old.state.asked) self.old }
         requires notices { 1 ≤ self.old.state.notices.spare }
         requires tied { Tied self.old.state.asked self.old.state.dirty.push }
         requires numbers { HasNumbers 3 self.old.state }
-        requires heeded { IsHeeded self.old.state.asked news.now }
-        ensures heard { OnOk result (step_of self.new ≡ on_news (client_of self.old.state) packet news.now) }
+        requires heeded { IsHeeded self.old.state.asked heard.now }
+        ensures heard { OnOk result (step_of self.new ≡ on_heard (client_of self.old.state) packet heard.now) }
         ensures refused { OnErr result (self.new ≡ self.old) }
     {
-        match news {
-            News::Notice { file, tag } => {
-                self.hears_notice(*file, *tag);
+        match heard {
+            Heard::Notice { request, .. } => {
+                self.hears_call(request);
                 Ok(())
             }
-            News::Reply(reply) => self.hears_reply(packet, reply),
+            Heard::Reply { reply, .. } => self.hears_reply(packet, reply),
         }
     }
 }

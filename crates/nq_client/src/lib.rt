@@ -11,6 +11,7 @@ mod done;
 mod due;
 mod entries;
 mod finishing;
+mod given;
 mod granting;
 mod heard;
 mod hearing;

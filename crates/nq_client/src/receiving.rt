@@ -1,28 +1,19 @@
 //! Datagrams that come to a client, and which of them count.
 
-ghost use Rattle.std.specs.Prelude.{◌≡◌, ℕ, option_map, IfSome};
-ghost use Rattle.nq_datagrams.specs.Incoming.{awaited_of, hears_in};
-ghost use Rattle.nq_datagrams.specs.Told.{told_message};
+ghost use Rattle.std.specs.Prelude.{◌≡◌, ℕ, IsTrue, if◌then◌else◌};
+ghost use Rattle.nq_datagrams.specs.Incoming.{awaited_of, hears, hears_in};
+ghost use Rattle.nq_datagrams.specs.Told.{told_client, told_message};
 ghost use Rattle.nq_model.specs.Hear.{hear, hear_call};
-ghost use Rattle.nq_client.specs.Receiving.{IsHeeded, at_stake, counts, file_at_stake, most_entries, on_news};
+ghost use Rattle.nq_client.specs.Receiving.{IsHeeded, at_stake, counts, file_at_stake, most_entries, on_call, on_heard};
 ghost use Rattle.nq_client.specs.State.{client_of};
 
 use crate::asked::Asked;
 use crate::counting::{holds_later, inc_of, reply_counts};
 use crate::hearing::is_same;
 use crate::state::State;
-use nq_base::{FileId, Reply, Request, Tag};
+use nq_base::{FileId, Reply, Request};
 use nq_datagrams::{Awaited, Heard, read_heard};
 use nq_wire::Procedure;
-
-/// What counts for a client.
-#[derive(Drop)]
-pub(crate) enum News {
-    /// The lease on a file is to be given up that was granted by this tag.
-    Notice { file: FileId, tag: Tag },
-    /// The reply to the request under way.
-    Reply(Reply),
-}
 
 /// The number and the procedure of the request under way.
 fn awaited(asked: &Option<Asked>) -> Option<Awaited>
@@ -49,48 +40,34 @@ fn counts(state: &State, xid: u32, reply: &Reply) -> bool
     }
 }
 
-/// The notice, if it counts: it is of this incarnation, and no lease with a later tag is held.
-fn heeded_notice(state: &State, request: &Request) -> Option<News>
-    ensures step { (number : ℕ) → option_map (on_news (client_of state.now) number) result ≡ hear_call (client_of state.now) request.now }
-    ensures heeded { IfSome result (IsHeeded state.now.asked) }
+/// Whether a call of the server counts: it is a notice of this incarnation, and no lease with a later tag is held.
+fn call_counts(state: &State, request: &Request) -> bool
+    ensures { (if result then Some (on_call (client_of state.now) request.now) else None) ≡ hear_call (client_of state.now) request.now }
 {
     match request {
-        Request::Evicted { who, file, tag }
-            if is_same(who, &state.who) && !holds_later(*tag, &state.leases.on(*file)) => {
-            Some(News::Notice {
-                file: *file,
-                tag: *tag,
-            })
+        Request::Evicted { who, file, tag } => {
+            is_same(who, &state.who) && !holds_later(*tag, &state.leases.on(*file))
         }
-        _ => None,
+        _ => false,
     }
 }
 
-/// What was heard, if it counts.
-fn heeded(state: &State, heard: Heard) -> Option<News>
-    ensures step { (number : ℕ) → option_map (on_news (client_of state.now) number) result ≡ hear (client_of state.now) number (told_message heard) }
-    ensures heeded { IfSome result (IsHeeded state.now.asked) }
+/// Whether what was heard counts.
+pub(crate) fn heeds(state: &State, heard: &Heard) -> bool
+    ensures step { (number : ℕ) → (if result then Some (on_heard (client_of state.now) number heard.now) else None) ≡ hear (client_of state.now) number (told_message heard.now) }
+    ensures heeded { IsTrue result → IsHeeded state.now.asked heard.now }
 {
     match heard {
-        Heard::Notice { request, .. } => heeded_notice(state, &request),
-        Heard::Reply { xid, reply } => {
-            if !counts(state, xid, &reply) {
-                return None;
-            }
-            Some(News::Reply(reply))
-        }
+        Heard::Notice { request, .. } => call_counts(state, request),
+        Heard::Reply { xid, reply } => counts(state, *xid, reply),
     }
 }
 
-/// Reads a datagram; None where it does not count. It takes no memory.
-pub(crate) fn read(state: &State, datagram: &[u8]) -> Option<News>
-    ensures step { (number : ℕ) → option_map (on_news (client_of state.now) number) result ≡ hears_in (client_of state.now) number datagram.now }
-    ensures heeded { IfSome result (IsHeeded state.now.asked) }
+/// Reads a datagram; None where it is neither a notice nor the reply for which the client waits. It takes no memory.
+pub(crate) fn read(state: &State, datagram: &[u8]) -> Option<Heard>
+    ensures { (number : ℕ) → hears (client_of state.now) number (told_client result) ≡ hears_in (client_of state.now) number datagram.now }
 {
-    match read_heard(state.alloc, awaited(&state.asked), datagram) {
-        Some(heard) => heeded(state, heard),
-        None => None,
-    }
+    read_heard(state.alloc, awaited(&state.asked), datagram)
 }
 
 /// The file whose delayed writes the reply to a request may lose, or 0.

@@ -1,20 +1,25 @@
 //! What the call under way needs no packet for: cached reads, delayed writes, and syncs of clean files.
 
-ghost use Rattle.std.specs.Prelude.{◌≡◌, ◌≤◌, ◌<◌, ◌+◌, ◌^◌, false, Some};
+ghost use Rattle.std.specs.Prelude.{◌≡◌, ◌≤◌, ◌<◌, ◌+◌, ◌^◌, false, Some, option_map};
 ghost use Rattle.nq_base.specs.Plain.{plain_answer, plain_said};
-ghost use Rattle.nq_model.specs.Client.{lease_on};
-ghost use Rattle.nq_model.specs.Settle.{after_delay, body_in, delays, is_full_in, settle, settle_body, settle_call, settle_put, settle_read, settle_sync, settle_write, settle_write_in, ticket_is_for_call};
+ghost use Rattle.nq_base.specs.declared.Answer.{Answer};
+ghost use Rattle.nq_base.specs.declared.Answer.TheVariants.{Ok as ok};
+ghost use Rattle.nq_base.specs.declared.Value.{Value};
+ghost use Rattle.nq_client.specs.Given.{answer_of_brief};
+ghost use Rattle.nq_model.specs.Client.{in_state, lease_on};
+ghost use Rattle.nq_model.specs.Settle.{body_in, delays, is_full_in, settle, ticket_is_for_call};
 ghost use Rattle.nq_client.specs.Prepared.{Leaves};
-ghost use Rattle.nq_client.specs.Settling.{ended, leave_to_read, leave_to_write, tells_read, within, writes};
+ghost use Rattle.nq_client.specs.Settling.{body_of_call, called_body, ended, goes_on_delayed, leave_to_read, leave_to_write, settles_body, settles_put, settles_read, settles_sync, settles_write, tells_read, with_written, within, writes};
 ghost use Rattle.nq_client.specs.State.{under_way};
-ghost use Rattle.nq_client.specs.Step.{HasNumbers, HasRoom, step_of, with_call};
+ghost use Rattle.nq_client.specs.Step.{HasNumbers, HasRoom, step_of};
 
 use crate::asked::{Asked, Job};
+use crate::given::Brief;
 use crate::leases::Leases;
 use crate::reading::read_held;
 use crate::state::UnderWay;
 use crate::step::Step;
-use nq_base::{Answer, Block, BlockNo, Call, Entry, FileId, Number, Said, Ticks, Value};
+use nq_base::{Block, BlockNo, Call, Entry, FileId, Number, Said, Ticks};
 
 /// What the lease on a file lets a call do with a block without a packet.
 #[derive(Clone, Copy)]
@@ -73,12 +78,61 @@ fn is_for_call(asked: &Option<Asked>) -> bool
     }
 }
 
+/// The block that the call under way writes; zeros where it writes none.
+fn called_body(call: &Option<UnderWay>) -> Block
+    ensures { result ≡ called_body (option_map under_way call.now) }
+{
+    match call {
+        Some(u) => body_of_call(&u.call),
+        None => Block::fill(0),
+    }
+}
+
+/// The block that a call writes; zeros where it writes none.
+fn body_of_call(call: &Call) -> Block
+    ensures { result ≡ body_of_call call.now }
+{
+    match call {
+        Call::Write { body, .. } | Call::WriteSync { body, .. } => body.copied(),
+        Call::Create { .. }
+        | Call::Lookup { .. }
+        | Call::Attr { .. }
+        | Call::Read { .. }
+        | Call::Fetch { .. }
+        | Call::Sync { .. }
+        | Call::Resize { .. }
+        | Call::Remove { .. } => Block::fill(0),
+    }
+}
+
 #[tactic(auto, unfolding(nq_model::specs::Settle::answers))]
 impl Step {
     /// An answer, as a journal tells it, ends the call under way.
-    pub(crate) fn ends_call(&mut self, q: u64, answer: Answer, said: Said)
+    pub(crate) fn ends_call(&mut self, q: u64, brief: Brief, said: Said)
         requires { 1 ≤ self.old.entries.spare }
-        ensures step { step_of self.new ≡ ended (step_of self.old) q (plain_answer answer) (plain_said said) }
+        ensures step { step_of self.new ≡ ended (step_of self.old) q (plain_answer (answer_of_brief brief)) (plain_said said) }
+        ensures left { Leaves 1 self.old self.new }
+        ensures leases { self.old.state.leases.spare ≤ self.new.state.leases.spare }
+        ensures cache { self.new.state.cache ≡ self.old.state.cache }
+    {
+        self.tells_answer(q, said);
+        self.answer.put(brief);
+    }
+
+    /// An answer that brings a block, as a journal tells it, ends the call under way.
+    pub(crate) fn ends_call_with(&mut self, q: u64, body: &Block, said: Said)
+        requires { 1 ≤ self.old.entries.spare }
+        ensures step { step_of self.new ≡ ended (step_of self.old) q (ok (Value.Body body.now)) (plain_said said) }
+        ensures left { Leaves 1 self.old self.new }
+    {
+        self.tells_answer(q, said);
+        self.answer.put_body(body);
+    }
+
+    /// No call is under way any more, and a journal tells the answer.
+    fn tells_answer(&mut self, q: u64, said: Said)
+        requires { 1 ≤ self.old.entries.spare }
+        ensures step { step_of self.new ≡ record (ended (step_of self.old) q Answer.Busy (plain_said said)) { answer = (step_of self.old).answer } }
         ensures left { Leaves 1 self.old self.new }
         ensures leases { self.old.state.leases.spare ≤ self.new.state.leases.spare }
         ensures cache { self.new.state.cache ≡ self.old.state.cache }
@@ -89,7 +143,6 @@ impl Step {
             q,
             said,
         });
-        self.answer = Some(answer);
     }
 
     /// What the call under way needs no packet for.
@@ -103,68 +156,60 @@ impl Step {
         }
     }
 
-    /// What the call under way needs no packet for, where the request under way is not its own. It is apart, since a call is
-    /// large, and most steps find none under way.
+    /// What the call under way needs no packet for, where the request under way is not its own. The call stays where it is: it
+    /// is large.
     fn settle_under_way(&mut self)
         requires room { HasRoom self.old }
         requires numbers { HasNumbers 1 self.old.state }
         requires free { ticket_is_for_call self.old.state.asked ≡ false }
         ensures { step_of self.new ≡ settle (step_of self.old) }
     {
-        match self.state.call.take() {
-            Some(u) => self.settle_call(u),
+        match &self.state.call {
+            Some(u) => match &u.call {
+                Call::Read { file, block } | Call::Fetch { file, block } => {
+                    let (q, file, block) = (u.q, *file, *block);
+                    self.settle_read(q, file, block);
+                }
+                Call::Write { file, block, .. } => {
+                    let (q, through, file, block) = (u.q, u.through, *file, *block);
+                    self.settle_write(q, through, false, file, block);
+                }
+                Call::WriteSync { file, block, .. } => {
+                    let (q, through, written) = (u.q, u.through, u.written);
+                    let (file, block) = (*file, *block);
+                    self.settle_put(q, written, through, file, block);
+                }
+                Call::Sync { file } => {
+                    let (q, file) = (u.q, *file);
+                    self.settle_sync(q, file);
+                }
+                Call::Create { .. }
+                | Call::Lookup { .. }
+                | Call::Attr { .. }
+                | Call::Resize { .. }
+                | Call::Remove { .. } => {}
+            },
             None => {}
         }
     }
 
-    /// The call under way, by what it is.
-    fn settle_call(&mut self, u: UnderWay)
-        requires room { HasRoom self.old }
-        requires numbers { HasNumbers 1 self.old.state }
-        ensures { step_of self.new ≡ settle_call (with_call (step_of self.old) (under_way u)) (under_way u) u.call }
-    {
-        match &u.call {
-            Call::Read { file, block } | Call::Fetch { file, block } => {
-                let (file, block) = (*file, *block);
-                self.settle_read(u, file, block);
-            }
-            Call::Write { file, block, body } => {
-                let (file, block, body) = (*file, *block, body.copied());
-                self.settle_write(u, false, file, block, &body);
-            }
-            Call::WriteSync { file, block, body } => {
-                let (file, block, body) = (*file, *block, body.copied());
-                self.settle_put(u, file, block, &body);
-            }
-            Call::Sync { file } => {
-                let file = *file;
-                self.settle_sync(u, file);
-            }
-            Call::Create { .. }
-            | Call::Lookup { .. }
-            | Call::Attr { .. }
-            | Call::Resize { .. }
-            | Call::Remove { .. } => self.state.call = Some(u),
-        }
-    }
-
     /// A read, by the lease that is held.
-    fn settle_read(&mut self, u: UnderWay, file: FileId, block: BlockNo)
+    fn settle_read(&mut self, q: u64, file: FileId, block: BlockNo)
         requires room { HasRoom self.old }
-        ensures { step_of self.new ≡ settle_read (with_call (step_of self.old) (under_way u)) (under_way u) file block (lease_on file self.old.state.leases.items) }
+        ensures { step_of self.new ≡ settles_read (step_of self.old) q file block (lease_on file self.old.state.leases.items) }
     {
         match leave_to_read(&self.state.leases, self.state.time, file, block) {
-            Leave::None => self.state.call = Some(u),
-            Leave::PastEnd => self.ends_call(u.q, Answer::Range, Said::Range),
-            Leave::Granted => self.settle_body(u, file, block),
+            Leave::None => {}
+            Leave::PastEnd => self.ends_call(q, Brief::Range, Said::Range),
+            Leave::Granted => self.settle_body(q, file, block),
         }
     }
 
     /// A read under a lease that lets it, by what the client has.
-    #[tactic(auto, unfolding(nq_model::specs::Settle::answers, nq_model::specs::Settle::reads_cached, nq_model::specs::Settle::after_read))]
-    fn settle_body(&mut self, u: UnderWay, file: FileId, block: BlockNo)
+    #[tactic(auto, unfolding(nq_model::specs::Settle::answers, nq_model::specs::Settle::after_read))]
+    fn settle_body(&mut self, q: u64, file: FileId, block: BlockNo)
         requires room { HasRoom self.old }
-        ensures { step_of self.new ≡ settle_body (with_call (step_of self.old) (under_way u)) (under_way u) file block (body_in file block self.old.state.dirty.dirty self.old.state.dirty.push self.old.state.cache.clean) }
+        ensures { step_of self.new ≡ settles_body (step_of self.old) q file block (body_in file block self.old.state.dirty.dirty self.old.state.dirty.push self.old.state.cache.clean) }
     {
         let mut body = Block::fill(0);
         if read_held(
@@ -174,16 +219,14 @@ impl Step {
             block,
             &mut body,
         ) {
-            self.tells_read(u.q, file, block, body);
-        } else {
-            self.state.call = Some(u);
+            self.tells_read(q, file, block, &body);
         }
     }
 
     /// A read was answered from what the client has.
-    fn tells_read(&mut self, q: u64, file: FileId, block: BlockNo, body: Block)
+    fn tells_read(&mut self, q: u64, file: FileId, block: BlockNo, body: &Block)
         requires { 2 ≤ self.old.entries.spare }
-        ensures { step_of self.new ≡ tells_read (step_of self.old) q file block body }
+        ensures { step_of self.new ≡ tells_read (step_of self.old) q file block body.now }
     {
         let value = body.value();
         self.state.leases.mark_used(file);
@@ -195,65 +238,65 @@ impl Step {
             value,
             served: None,
         });
-        self.ends_call(q, Answer::Ok(Value::Body(body)), Said::OkValue(value));
+        self.ends_call_with(q, body, Said::OkValue(value));
         self.cached = true;
     }
 
     /// A put: its write is delayed, or waits until it is stored.
-    fn settle_put(&mut self, u: UnderWay, file: FileId, block: BlockNo, body: &Block)
+    fn settle_put(&mut self, q: u64, written: bool, through: bool, file: FileId, block: BlockNo)
         requires room { HasRoom self.old }
         requires numbers { HasNumbers 1 self.old.state }
-        ensures { step_of self.new ≡ settle_put (with_call (step_of self.old) (under_way u)) (under_way u) u.written file block body.now }
+        ensures { step_of self.new ≡ settles_put (step_of self.old) q written through file block (called_body (step_of self.old).client.call) }
     {
-        if u.written {
-            self.settle_sync(u, file);
+        if written {
+            self.settle_sync(q, file);
         } else {
-            self.settle_write(u, true, file, block, body);
+            self.settle_write(q, through, true, file, block);
         }
     }
 
     /// A write, by the lease that is held: it is delayed, unless it is to go through or a notice waits.
-    fn settle_write(&mut self, u: UnderWay, sync: bool, file: FileId, block: BlockNo, body: &Block)
+    fn settle_write(&mut self, q: u64, through: bool, sync: bool, file: FileId, block: BlockNo)
         requires room { HasRoom self.old }
         requires numbers { HasNumbers 1 self.old.state }
-        ensures { step_of self.new ≡ settle_write (with_call (step_of self.old) (under_way u)) (under_way u) sync file block body.now (lease_on file self.old.state.leases.items) }
+        ensures { step_of self.new ≡ settles_write (step_of self.old) q through sync file block (called_body (step_of self.old).client.call) (lease_on file self.old.state.leases.items) }
     {
-        if u.through || self.state.notices.waits(file) {
-            self.state.call = Some(u);
+        if through || self.state.notices.waits(file) {
             return;
         }
         match leave_to_write(&self.state.leases, self.state.time, file, block) {
-            Leave::None => self.state.call = Some(u),
-            Leave::PastEnd => self.ends_call(u.q, Answer::Range, Said::Range),
-            Leave::Granted => self.writes(u, sync, file, block, body),
+            Leave::None => {}
+            Leave::PastEnd => self.ends_call(q, Brief::Range, Said::Range),
+            Leave::Granted => self.writes(q, sync, file, block),
         }
     }
 
     /// A write under a lease that lets it, where there is room for it.
-    fn writes(&mut self, u: UnderWay, sync: bool, file: FileId, block: BlockNo, body: &Block)
+    fn writes(&mut self, q: u64, sync: bool, file: FileId, block: BlockNo)
         requires room { HasRoom self.old }
         requires numbers { HasNumbers 1 self.old.state }
-        ensures { step_of self.new ≡ writes (with_call (step_of self.old) (under_way u)) (under_way u) sync file block body.now }
+        ensures { step_of self.new ≡ writes (step_of self.old) q sync file block (called_body (step_of self.old).client.call) }
     {
         if self.state.dirty.is_full(file, block) {
-            self.ends_call(u.q, Answer::DirtyFull, Said::DirtyFull);
+            self.ends_call(q, Brief::DirtyFull, Said::DirtyFull);
         } else {
-            self.delays(file, block, body);
-            self.after_delay(u, sync);
+            self.delays(file, block);
+            self.after_delay(q, sync);
         }
     }
 
-    /// Delays a write.
+    /// Delays the write of the call under way.
     #[tactic(auto, unfolding(nq_model::specs::Settle::after_write))]
-    fn delays(&mut self, file: FileId, block: BlockNo, body: &Block)
+    fn delays(&mut self, file: FileId, block: BlockNo)
         requires room { HasRoom self.old }
         requires numbers { HasNumbers 1 self.old.state }
         requires place { is_full_in file block self.old.state.dirty.dirty self.old.state.dirty.push ≡ false }
-        ensures step { step_of self.new ≡ delays (step_of self.old) file block body.now }
+        ensures step { step_of self.new ≡ delays (step_of self.old) file block (called_body (step_of self.old).client.call) }
         ensures spare { self.old.entries.spare ≡ self.new.entries.spare + 1 }
     {
+        let body = called_body(&self.state.call);
         let number = self.state.number;
-        self.state.dirty.write(file, block, number, body).unwrap();
+        self.state.dirty.write(file, block, number, &body).unwrap();
         self.state.number = Number(number.0 + 1);
         self.state.leases.mark_used(file);
         self.state.cache.remove(file, block);
@@ -267,28 +310,35 @@ impl Step {
         });
     }
 
-    /// What comes after a write was delayed: a write is answered, a put waits until it is stored.
-    #[tactic(auto, unfolding(nq_model::specs::Settle::answers, nq_model::specs::Settle::marks_written))]
-    fn after_delay(&mut self, u: UnderWay, sync: bool)
+    /// What comes after the write of the call under way was delayed: a write is answered, a put waits until it is stored.
+    fn after_delay(&mut self, q: u64, sync: bool)
         requires { 1 ≤ self.old.entries.spare }
-        ensures { step_of self.new ≡ after_delay (with_call (step_of self.old) (under_way u)) (under_way u) sync }
+        ensures { step_of self.new ≡ goes_on_delayed (step_of self.old) q sync }
     {
         if sync {
-            self.state.call = Some(UnderWay { written: true, ..u });
+            self.marks_written();
         } else {
-            self.ends_call(u.q, Answer::Ok(Value::Nothing), Said::Ok);
+            self.ends_call(q, Brief::Nothing, Said::Ok);
+        }
+    }
+
+    /// The write of the call under way was delayed.
+    fn marks_written(&mut self)
+        ensures { step_of self.new ≡ in_state (step_of self.old) (record (step_of self.old).client { call = with_written (step_of self.old).client.call }) }
+    {
+        match &mut self.state.call {
+            Some(u) => u.written = true,
+            None => {}
         }
     }
 
     /// A sync, or a put whose write was delayed: it is answered once the file is clean.
-    fn settle_sync(&mut self, u: UnderWay, file: FileId)
+    fn settle_sync(&mut self, q: u64, file: FileId)
         requires room { HasRoom self.old }
-        ensures { step_of self.new ≡ settle_sync (with_call (step_of self.old) (under_way u)) (under_way u) file }
+        ensures { step_of self.new ≡ settles_sync (step_of self.old) q file }
     {
         if self.state.dirty.is_clean(file) {
-            self.ends_call(u.q, Answer::Ok(Value::Nothing), Said::Ok);
-        } else {
-            self.state.call = Some(u);
+            self.ends_call(q, Brief::Nothing, Said::Ok);
         }
     }
 }

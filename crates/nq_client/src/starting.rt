@@ -67,6 +67,6 @@ pub(crate) fn begin(
     let mut step = first_step(alloc, who, term, time)?;
     step.finish(letters, out, &mut log);
     // No call is under way, so there is no answer to give.
-    step.answer = None;
+    step.answer.clear();
     Ok(step)
 }

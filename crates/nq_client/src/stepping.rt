@@ -1,22 +1,20 @@
 //! Whole steps of a client: memory is taken first, then the step is made, then its outcome is given.
 
-ghost use Rattle.std.specs.Prelude.{◌≡◌, ◌≤◌, ◌<◌, ◌+◌, ◌^◌, IfOk, OnErr, OnOk};
+ghost use Rattle.std.specs.Prelude.{◌≡◌, ◌≤◌, ◌<◌, ◌+◌, ◌^◌, None, option_map, IfOk, OnErr, OnOk};
 ghost use Rattle.nq_base.specs.Plain.{plain_answer};
 ghost use Rattle.nq_model.specs.ClientStep.{client_call, client_tick};
 ghost use Rattle.nq_client.specs.Calling.{IsNamedFor};
 ghost use Rattle.nq_client.specs.Finishing.{Grows, HasLetters, HasRoomFor};
-ghost use Rattle.nq_client.specs.Outcome.{IsHeard, or_pending};
-ghost use Rattle.nq_client.specs.Receiving.{HasRoomForFiles, IsHeeded, most_entries, on_news};
+ghost use Rattle.nq_client.specs.Receiving.{HasRoomForFiles, IsHeeded, most_entries, on_heard};
 ghost use Rattle.nq_client.specs.State.{client_of};
 ghost use Rattle.nq_client.specs.Step.{HasNumbers, IsBegun, step_of};
 ghost use Rattle.nq_client.specs.Tied.{Tied};
 
 use crate::calling::{Named, named_for};
 use crate::finishing::Letters;
-use crate::heard::Heard;
-use crate::receiving::{News, most_entries};
+use crate::receiving::most_entries;
 use crate::step::Step;
-use nq_base::{Answer, Call, NoMemory, Ticks};
+use nq_base::{Call, NoMemory, Ticks};
 use nq_journal::Journal;
 use nq_wire::Outbox;
 
@@ -63,7 +61,7 @@ pub(crate) fn room_for_call(
     named_for(&step.state, call)
 }
 
-/// Makes a call, with the memory that it may want.
+/// Makes a call, with the memory that it may want. It leaves its answer in the step.
 pub(crate) fn make_call(
     step: &mut Step,
     letters: &mut Letters,
@@ -71,7 +69,7 @@ pub(crate) fn make_call(
     named: Named,
     out: &mut Outbox,
     log: &mut Journal,
-) -> Answer
+)
     requires begun { IsBegun step.old }
     requires letters { HasLetters letters.old }
     requires room { HasRoomFor 3 step.old out.old log.old }
@@ -79,42 +77,40 @@ pub(crate) fn make_call(
     requires calls { step.old.state.calls < 2 ^ 62 }
     requires named { IsNamedFor named call.now step.old.state.losses.items }
     requires tied { Tied step.old.state.asked step.old.state.dirty.push }
-    ensures begun { IsBegun step.new }
+    ensures begun { IsBegun (record step.new { answer = None }) }
     ensures client { client_of step.new.state ≡ (client_call (client_of step.old.state) call.now).client }
     ensures grows { Grows (client_call (client_of step.old.state) call.now) out.old out.new log.old log.new }
-    ensures answer { plain_answer result ≡ or_pending (client_call (client_of step.old.state) call.now).answer }
+    ensures answer { option_map plain_answer step.new.answer ≡ (client_call (client_of step.old.state) call.now).answer }
 {
     step.call(call, named);
     step.finish(letters, out, log);
-    step.gives_answer()
 }
 
-/// Makes a tick, with the memory that it may want.
+/// Makes a tick, with the memory that it may want. It leaves its answer in the step.
 pub(crate) fn make_tick(
     step: &mut Step,
     letters: &mut Letters,
     now: Ticks,
     out: &mut Outbox,
     log: &mut Journal,
-) -> Heard
+)
     requires begun { IsBegun step.old }
     requires letters { HasLetters letters.old }
     requires room { HasRoomFor 2 step.old out.old log.old }
     requires numbers { HasNumbers 2 step.old.state }
     requires early { now < 2 ^ 62 }
     requires tied { Tied step.old.state.asked step.old.state.dirty.push }
-    ensures begun { IsBegun step.new }
+    ensures begun { IsBegun (record step.new { answer = None }) }
     ensures client { client_of step.new.state ≡ (client_tick (client_of step.old.state) now).client }
     ensures grows { Grows (client_tick (client_of step.old.state) now) out.old out.new log.old log.new }
-    ensures heard { IsHeard result (client_tick (client_of step.old.state) now).answer }
+    ensures answer { option_map plain_answer step.new.answer ≡ (client_tick (client_of step.old.state) now).answer }
 {
     step.tick(now);
     step.finish(letters, out, log);
-    step.gives_heard()
 }
 
 /// Takes the memory that a datagram may want which counts.
-fn room_for_news(
+fn room_for_heard(
     step: &mut Step,
     letters: &mut Letters,
     out: &mut Outbox,
@@ -137,55 +133,56 @@ fn room_for_news(
     step.state.cache.reserve(1)
 }
 
-/// Takes in what counts, with the memory that it may want.
-fn make_news(
+/// Takes in what counts, with the memory that it may want. It leaves its answer in the step.
+fn make_heard(
     step: &mut Step,
     letters: &mut Letters,
     packet: u64,
-    news: &News,
+    heard: &nq_datagrams::Heard,
     out: &mut Outbox,
     log: &mut Journal,
-) -> Result<Heard, NoMemory>
+) -> Result<(), NoMemory>
     requires begun { IsBegun step.old }
     requires letters { HasLetters letters.old }
     requires room { HasRoomFor (most_entries (client_of step.old.state)) step.old out.old log.old }
     requires files { HasRoomForFiles step.old }
     requires numbers { HasNumbers 3 step.old.state }
     requires tied { Tied step.old.state.asked step.old.state.dirty.push }
-    requires heeded { IsHeeded step.old.state.asked news.now }
-    ensures begun { IsBegun step.new }
-    ensures client { OnOk result (client_of step.new.state ≡ (on_news (client_of step.old.state) packet news.now).client) }
-    ensures grows { OnOk result (Grows (on_news (client_of step.old.state) packet news.now) out.old out.new log.old log.new) }
-    ensures heard { IfOk result (λ h. IsHeard h (on_news (client_of step.old.state) packet news.now).answer) }
+    requires heeded { IsHeeded step.old.state.asked heard.now }
+    ensures begun { OnOk result (IsBegun (record step.new { answer = None })) }
+    ensures client { OnOk result (client_of step.new.state ≡ (on_heard (client_of step.old.state) packet heard.now).client) }
+    ensures grows { OnOk result (Grows (on_heard (client_of step.old.state) packet heard.now) out.old out.new log.old log.new) }
+    ensures answer { OnOk result (option_map plain_answer step.new.answer ≡ (on_heard (client_of step.old.state) packet heard.now).answer) }
     ensures refused { OnErr result ((step.new ≡ step.old) × (out.new ≡ out.old) × (log.new ≡ log.old)) }
 {
-    step.hears(packet, news)?;
+    step.hears(packet, heard)?;
     step.finish(letters, out, log);
-    Ok(step.gives_heard())
+    Ok(())
 }
 
-/// Takes in what counts.
+/// Takes in what counts. It leaves its answer in the step.
 pub(crate) fn hear(
     step: &mut Step,
     letters: &mut Letters,
     packet: u64,
-    news: &News,
+    heard: &nq_datagrams::Heard,
     out: &mut Outbox,
     log: &mut Journal,
-) -> Result<Heard, NoMemory>
+) -> Result<(), NoMemory>
     requires begun { IsBegun step.old }
     requires numbers { HasNumbers 3 step.old.state }
     requires tied { Tied step.old.state.asked step.old.state.dirty.push }
-    requires heeded { IsHeeded step.old.state.asked news.now }
-    ensures begun { IsBegun step.new }
-    ensures client { OnOk result (client_of step.new.state ≡ (on_news (client_of step.old.state) packet news.now).client) }
-    ensures grows { OnOk result (Grows (on_news (client_of step.old.state) packet news.now) out.old out.new log.old log.new) }
-    ensures heard { IfOk result (λ h. IsHeard h (on_news (client_of step.old.state) packet news.now).answer) }
+    requires heeded { IsHeeded step.old.state.asked heard.now }
+    ensures begun { OnOk result (IsBegun (record step.new { answer = None })) }
+    ensures client { OnOk result (client_of step.new.state ≡ (on_heard (client_of step.old.state) packet heard.now).client) }
+    ensures grows { OnOk result (Grows (on_heard (client_of step.old.state) packet heard.now) out.old out.new log.old log.new) }
+    ensures answer { OnOk result (option_map plain_answer step.new.answer ≡ (on_heard (client_of step.old.state) packet heard.now).answer) }
+    ensures between { OnErr result (IsBegun step.new) }
     ensures same { OnErr result (client_of step.new.state ≡ client_of step.old.state) }
     ensures first { OnErr result (out.new.first ≡ out.old.first) }
     ensures datagrams { OnErr result (out.new.datagrams ≡ out.old.datagrams) }
     ensures entries { OnErr result (log.new.entries ≡ log.old.entries) }
 {
-    room_for_news(step, letters, out, log)?;
-    make_news(step, letters, packet, news, out, log)
+    room_for_heard(step, letters, out, log)?;
+    make_heard(step, letters, packet, heard, out, log)
 }

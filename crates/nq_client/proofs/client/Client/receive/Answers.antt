@@ -1,8 +1,11 @@
-use Rattle.nq_client.proofs.Outcomes.{news_within, not_all}
+use Rattle.std.proofs.Common.{IsTrue, rules, ap, ◌∙◌}
+use Rattle.nq_client.proofs.Outcomes.{heard_within, not_all}
+use Rattle.nq_client.specs.State.{client_of}
 use Rattle.nq_client.proofs.client.Client.receive.Goals as goal
 
-pub invariant_of-self-in-Ok : goal.invariant_of-self-in-Ok
-invariant_of-self-in-Ok c = (
-  c.hear.ensures.begun,
-  news_within c.self.inside.step.state c.hear.new.step.state c.args.packet c.in-Some.news c.self.inside.taken c.in-Ok.ensures.client c.in-Some.ensures.heeded c.self.invariant.1 (not_all c.self.inside.step.state c.self.inside.taken c.self.invariant.1 c.if-self-eq-MOST_TAKEN.false),
-)
+pub invariant_of-self-2 : goal.invariant_of-self-2
+invariant_of-self-2 c =
+    let heeds : IsTrue c.heeds.result = search rules in (
+      c.gives_heard.ensures.begun,
+      heard_within c.self.inside.step.state c.gives_heard.new.self.state c.args.packet c.in-Some.heard c.self.inside.taken (ap client_of c.gives_heard.ensures.state ∙ c.in-Ok.ensures.client) (c.heeds.ensures.heeded heeds) c.self.invariant.1 (not_all c.self.inside.step.state c.self.inside.taken c.self.invariant.1 c.if-self-eq-MOST_TAKEN.false),
+    )
