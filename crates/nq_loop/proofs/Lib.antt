@@ -6,3 +6,4 @@ pub mod Calls
 pub mod Events
 pub mod Hearing
 pub mod Turned
+pub mod Kept

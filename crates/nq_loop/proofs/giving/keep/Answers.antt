@@ -1,5 +1,5 @@
 use Rattle.std.proofs.Common.{◌∙◌, sym}
-use Rattle.nq_storm.proofs.Choosing.{found}
+use Rattle.nq_loop.proofs.Kept.{found}
 use Rattle.nq_loop.proofs.giving.keep.Goals as goal
 
 pub returns-clause-kept : goal.returns-clause-kept
