@@ -1,16 +1,17 @@
 //! A hundred thousand datagrams made from well-formed ones by changed, cut and added bytes.
 
+use crate::grammar::word_at;
+use crate::owed::{is_paid, owed_to};
 use crate::story::Story;
-use crate::words::bytes_of;
-use nq_base::{FileId, Host, Party, Ticks};
-use nq_datagrams::{Incoming, read_incoming};
+use crate::words::{bytes_of, put_word};
+use nq_base::{FileId, Host, Ticks};
 use nq_keeper::ListKeeper;
-use nq_server::{Reason, Received, Server};
-use nq_wire::Outbox;
+use nq_server::Server;
 use rand_core::SeedableRng;
 use rand_core::utils::NextWord;
 use rand_pcg::Lcg64Xsh32;
 use std::alloc::Global;
+use std::process::Abort;
 use std::test::Fail;
 
 /// How often the server crashes, and each host attaches anew.
@@ -49,13 +50,6 @@ const INCARNATION: usize = 44;
 
 const SEQUENCE: usize = 52;
 
-/// Writes a word, where the datagram reaches so far.
-fn put_word(datagram: &mut [u8], place: usize, word: u32) {
-    for (byte, written) in datagram.iter_mut().skip(place).zip(word.to_be_bytes()) {
-        *byte = written;
-    }
-}
-
 /// Whether the datagram calls a procedure that is decided once.
 fn has_sequence(datagram: &[u8]) -> bool {
     matches!(datagram.get(23).copied(), Some(3 | 6 | 10 | 11))
@@ -83,75 +77,21 @@ fn change(datagram: &mut [u8], place: usize, byte: u8) {
     }
 }
 
-/// What the class of a datagram wants of the server's answer: it is dropped for a reason, it is answered with so many words behind
-/// its number, or it is a request.
-#[derive(Clone, Copy, PartialEq, Eq)]
-enum Wanted {
-    Dropped,
-    Words(&'static str),
-    Request,
-}
-
-fn wanted_for(incoming: &Incoming) -> Wanted {
-    match incoming {
-        Incoming::TooLong | Incoming::NoMessage(_) | Incoming::NoCall | Incoming::GarbageVacated =>
-            Wanted::Dropped,
-        Incoming::OtherRpc { .. } => Wanted::Words("1 1 0 2 2"),
-        Incoming::OtherProgram { .. } => Wanted::Words("1 0 0 0 1"),
-        Incoming::OtherVersion { .. } => Wanted::Words("1 0 0 0 2 1 1"),
-        Incoming::UnknownProcedure { .. } => Wanted::Words("1 0 0 0 3"),
-        Incoming::Garbage { .. } => Wanted::Words("1 0 0 0 4"),
-        Incoming::Request { .. } => Wanted::Request,
+/// The incarnation that the server keeps for a host.
+fn kept_of(story: &mut Story, host: u32) -> Result<u32, Fail> {
+    if host >= HOSTS {
+        return Err("no host".into());
     }
+    let kept = story.server().kept_inc(Host(host))?;
+    Ok(kept.0)
 }
 
-/// Whether the one datagram that was sent goes to the sender, and has the number of what came and then these words.
-fn is_answer(
-    alloc: Global,
-    out: &Outbox,
-    host: u32,
-    datagram: &[u8],
-    words: &str,
-) -> Result<bool, Fail> {
-    let mut wanted = Vec::new(alloc);
-    wanted.extend_from_slice(datagram.get(..4).unwrap_or(&[]))?;
-    wanted.extend_from_slice(&bytes_of(alloc, words)?)?;
-    Ok(match out.get(0) {
-        Some((to, bytes)) => {
-            out.len() == 1 && to == Party::Client(Host(host)) && bytes == wanted.as_slice()
-        }
-        None => false,
-    })
-}
-
-/// Whether a request was taken as one may be: it was dropped for its host or incarnation, or the reply, if one is due, stands behind
-/// the notices.
-fn is_taken(received: Received, out: &Outbox, host: u32) -> bool {
-    match received {
-        Received::Done => out.is_empty() || (out.len() <= 64 && ends_with_reply(out, host)),
-        Received::Dropped(Reason::WrongHost | Reason::OldIncarnation) => out.is_empty(),
-        _ => false,
-    }
-}
-
-/// Whether the last datagram goes to this host.
-fn ends_with_reply(out: &Outbox, host: u32) -> bool {
-    match out.get(out.len().saturating_sub(1)) {
-        Some((to, _)) => to == Party::Client(Host(host)),
-        None => false,
-    }
-}
-
-/// Whether the server answers a datagram as its class says.
-fn is_answered(story: &mut Story, alloc: Global, host: u32, datagram: &[u8]) -> Result<bool, Fail> {
+/// Whether the server answers a datagram as it is owed.
+fn is_answered(story: &mut Story, host: u32, kept: u32, datagram: &[u8]) -> Result<bool, Fail> {
+    let owed = owed_to(datagram, host, kept);
+    let xid = word_at(datagram, 0).unwrap_or(0);
     let (received, out) = story.take_in(host, datagram)?;
-    match wanted_for(&read_incoming(alloc, datagram)) {
-        Wanted::Dropped => Ok(matches!(received, Received::Dropped(_)) && out.is_empty()),
-        Wanted::Words(words) => {
-            Ok(received == Received::Done && is_answer(alloc, &out, host, datagram, words)?)
-        }
-        Wanted::Request => Ok(is_taken(received, &out, host)),
-    }
+    Ok(is_paid(owed, received, &out, host, xid))
 }
 
 /// Whether the server keeps at most 256 files.
@@ -167,38 +107,84 @@ fn keeps_few_files(server: &mut Server<ListKeeper>) -> bool {
     false
 }
 
-/// A datagram of a host in this incarnation, with this sequence, that may be spoilt.
-fn made(
+/// Makes datagrams, by the words of a generator.
+#[derive(Drop)]
+struct Maker {
     alloc: Global,
-    words: &mut Lcg64Xsh32,
-    host: u32,
-    incarnation: u32,
-    sequence: u32,
-) -> Result<Vec<u8>, Fail> {
-    let word = words.next_word() as usize;
-    let place = if word % 16 == 0 {
-        SHORT + word / 16 % 2
-    } else {
-        word / 16 % SHORT
-    };
-    let text = WELL_FORMED.get(place).ok_or("no datagram")?;
-    let mut datagram = bytes_of(alloc, text)?;
-    put_word(&mut datagram, HOST, host);
-    put_word(&mut datagram, INCARNATION, incarnation);
-    if has_sequence(&datagram) {
-        put_word(&mut datagram, SEQUENCE, sequence);
-    }
-    spoil(&mut datagram, words)?;
-    Ok(datagram)
+    forms: Vec<Vec<u8>>,
+    words: Lcg64Xsh32,
 }
 
-/// Each host attaches in this incarnation.
-fn attach_all(story: &mut Story, alloc: Global, incarnation: u32) -> Result<(), Fail> {
+impl Maker {
+    fn new(alloc: Global) -> Result<Maker, Fail> {
+        let mut forms = Vec::new(alloc);
+        for text in WELL_FORMED {
+            forms.push(bytes_of(alloc, text)?)?;
+        }
+        Ok(Maker {
+            alloc,
+            forms,
+            words: Lcg64Xsh32::seed_from_u64(1),
+        })
+    }
+
+    /// The host that sends next.
+    fn host(&mut self) -> u32 {
+        self.words.next_word() % HOSTS
+    }
+
+    /// A copy of a well-formed datagram.
+    fn copied(&mut self) -> Result<Vec<u8>, Fail> {
+        let word = self.words.next_word() as usize;
+        let place = if word % 16 == 0 {
+            SHORT + word / 16 % 2
+        } else {
+            word / 16 % SHORT
+        };
+        let form = self.forms.get(place).ok_or("no datagram")?;
+        Ok(Vec::from_slice(self.alloc, form)?)
+    }
+
+    /// A datagram of a host in this incarnation, with this sequence, that may be spoilt.
+    fn made(&mut self, host: u32, incarnation: u32, sequence: u32) -> Result<Vec<u8>, Fail> {
+        let mut datagram = self.copied()?;
+        put_word(&mut datagram, HOST, host);
+        put_word(&mut datagram, INCARNATION, incarnation);
+        if has_sequence(&datagram) {
+            put_word(&mut datagram, SEQUENCE, sequence);
+        }
+        spoil(&mut datagram, &mut self.words)?;
+        Ok(datagram)
+    }
+}
+
+/// Each host attaches in its next incarnation.
+fn attach_all(story: &mut Story, alloc: Global) -> Result<(), Fail> {
     let mut attach = bytes_of(alloc, "2 0 2 20004e51 1 1 0 0 0 0 0 1")?;
-    put_word(&mut attach, INCARNATION, incarnation);
     for host in 0..HOSTS {
+        let kept = kept_of(story, host)?;
         put_word(&mut attach, HOST, host);
+        put_word(&mut attach, INCARNATION, kept.saturating_add(1));
         story.take_in(host, &attach)?;
+    }
+    Ok(())
+}
+
+/// The server takes in the datagrams of a round.
+fn take_in_round(
+    rt: &impl Abort,
+    story: &mut Story,
+    maker: &mut Maker,
+    round: u32,
+) -> Result<(), Fail> {
+    for sequence in 1..=IN_A_ROUND {
+        let host = maker.host();
+        let kept = kept_of(story, host)?;
+        let datagram = maker.made(host, kept, sequence)?;
+        assert!(rt;
+            is_answered(story, host, kept, &datagram)?,
+            "datagram {sequence} of round {round}"
+        );
     }
     Ok(())
 }
@@ -207,22 +193,15 @@ fn attach_all(story: &mut Story, alloc: Global, incarnation: u32) -> Result<(), 
 fn whatever_comes_is_answered_or_dropped(rt: HostRuntime) -> Result<(), Fail> {
     let alloc = rt.alloc();
     let mut story = Story::begin(alloc)?;
-    let mut words = Lcg64Xsh32::seed_from_u64(1);
+    let mut maker = Maker::new(alloc)?;
     for round in 1..=ROUNDS {
         let time = u64::from(round) * 100;
         story.tick(&rt, time)?;
         if round % 10 == 0 {
             story.crash(&rt, time);
         }
-        attach_all(&mut story, alloc, round)?;
-        for sequence in 1..=IN_A_ROUND {
-            let host = words.next_word() % HOSTS;
-            let datagram = made(alloc, &mut words, host, round, sequence)?;
-            assert!(rt;
-                is_answered(&mut story, alloc, host, &datagram)?,
-                "datagram {sequence} of round {round}"
-            );
-        }
+        attach_all(&mut story, alloc)?;
+        take_in_round(&rt, &mut story, &mut maker, round)?;
         let server = story.server();
         assert!(rt; server.table().len() <= 2048 && server.time() == Ticks(time));
         assert!(rt; keeps_few_files(server));

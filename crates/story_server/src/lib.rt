@@ -7,9 +7,15 @@ mod attaching;
 #[cfg(test)]
 mod calls;
 #[cfg(test)]
+mod full;
+#[cfg(test)]
+mod grammar;
+#[cfg(test)]
 mod hostile;
 #[cfg(test)]
 mod leases;
+#[cfg(test)]
+mod owed;
 #[cfg(test)]
 mod recovering;
 #[cfg(test)]

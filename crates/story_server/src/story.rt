@@ -159,3 +159,11 @@ pub(crate) fn is_sent(alloc: Global, out: &Outbox, place: usize, text: &str) -> 
         None => false,
     })
 }
+
+/// The bytes of the datagram at a place, where it goes to this host.
+pub(crate) fn sent_to(out: &Outbox, place: usize, host: u32) -> Option<&[u8]> {
+    match out.get(place) {
+        Some((to, bytes)) if to == Party::Client(Host(host)) => Some(bytes),
+        _ => None,
+    }
+}

@@ -21,3 +21,13 @@ pub(crate) fn bytes_of(alloc: Global, text: &str) -> Result<Vec<u8>, Fail> {
     }
     Ok(bytes)
 }
+
+/// Writes a word, where the datagram reaches so far.
+pub(crate) fn put_word(datagram: &mut [u8], place: usize, word: u32) {
+    let Some(rest) = datagram.get_mut(place..) else {
+        return;
+    };
+    for (byte, written) in rest.iter_mut().zip(word.to_be_bytes()) {
+        *byte = written;
+    }
+}
