@@ -24,3 +24,8 @@ abbrev pub given : Kind → (body : List ℕ) → Option Answer
 given Kind.Absent body = None
 given Kind.Body body = Some (Answer.Ok (Value.Body body))
 given (Kind.Brief brief) body = Some (answer_of_brief brief)
+
+-- the answer after a read that found this block, or none
+abbrev pub given_read : Option (List ℕ) → Option Answer → Option Answer
+given_read None answer = answer
+given_read (Some body) answer = Some (Answer.Ok (Value.Body body))

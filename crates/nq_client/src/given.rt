@@ -1,11 +1,16 @@
 //! The answer that a step gives.
 
-ghost use Rattle.std.specs.Prelude.{◌≡◌, None, Some, true, is_some};
+ghost use Rattle.std.specs.Prelude.{◌≡◌, None, Some, true, is_some, option_map};
+ghost use Rattle.nq_base.specs.Block.{value_of};
 ghost use Rattle.nq_base.specs.declared.Answer.TheVariants.{Ok as ok};
 ghost use Rattle.nq_base.specs.declared.Value.{Value};
-ghost use Rattle.nq_client.specs.Given.{answer_of_brief};
+ghost use Rattle.nq_client.specs.Given.{answer_of_brief, given_read};
+ghost use Rattle.nq_model.specs.Settle.{body_in, clean_after_read};
 
-use nq_base::{Answer, Block, FileId, Losses, Value};
+use crate::reading::read_held;
+use nq_base::{Answer, Block, BlockNo, FileId, Losses, Value};
+use nq_cache::Cache;
+use nq_dirty::Dirty;
 use std::marker::Model;
 use std::mem;
 
@@ -103,6 +108,25 @@ impl Given {
     {
         self.body.copy_from(body);
         self.kind = Kind::Body;
+    }
+
+    /// Answers with a block that is delayed, under way or clean, and gives its number. A clean one comes to the front.
+    pub(crate) fn put_held(
+        &mut self,
+        dirty: &Dirty,
+        cache: &mut Cache,
+        file: FileId,
+        block: BlockNo,
+    ) -> Option<u32>
+        ensures number { result ≡ option_map value_of (body_in file block dirty.now.dirty dirty.now.push cache.old.clean) }
+        ensures answer { self.new ≡ given_read (body_in file block dirty.now.dirty dirty.now.push cache.old.clean) self.old }
+        ensures cache { cache.new ≡ record cache.old { clean = clean_after_read file block dirty.now.dirty dirty.now.push cache.old.clean } }
+    {
+        if !read_held(dirty, cache, file, block, &mut self.body) {
+            return None;
+        }
+        self.kind = Kind::Body;
+        Some(self.body.value())
     }
 
     /// Takes the answer out.

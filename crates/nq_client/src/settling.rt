@@ -16,7 +16,6 @@ ghost use Rattle.nq_client.specs.Step.{HasNumbers, HasRoom, step_of};
 use crate::asked::{Asked, Job};
 use crate::given::Brief;
 use crate::leases::Leases;
-use crate::reading::read_held;
 use crate::state::UnderWay;
 use crate::step::Step;
 use nq_base::{Block, BlockNo, Call, Entry, FileId, Number, Said, Ticks};
@@ -211,24 +210,21 @@ impl Step {
         requires room { HasRoom self.old }
         ensures { step_of self.new ≡ settles_body (step_of self.old) q file block (body_in file block self.old.state.dirty.dirty self.old.state.dirty.push self.old.state.cache.clean) }
     {
-        let mut body = Block::fill(0);
-        if read_held(
-            &self.state.dirty,
-            &mut self.state.cache,
-            file,
-            block,
-            &mut body,
-        ) {
-            self.tells_read(q, file, block, &body);
+        let state = &mut self.state;
+        match self
+            .answer
+            .put_held(&state.dirty, &mut state.cache, file, block)
+        {
+            Some(value) => self.tells_read(q, file, block, value),
+            None => {}
         }
     }
 
-    /// A read was answered from what the client has.
-    fn tells_read(&mut self, q: u64, file: FileId, block: BlockNo, body: &Block)
+    /// A read was answered from what the client has, with a block of this number.
+    fn tells_read(&mut self, q: u64, file: FileId, block: BlockNo, value: u32)
         requires { 2 ≤ self.old.entries.spare }
-        ensures { step_of self.new ≡ tells_read (step_of self.old) q file block body.now }
+        ensures { step_of self.new ≡ tells_read (step_of self.old) q file block value }
     {
-        let value = body.value();
         self.state.leases.mark_used(file);
         self.entries.note(Entry::R {
             who: self.state.who,
@@ -238,7 +234,7 @@ impl Step {
             value,
             served: None,
         });
-        self.ends_call_with(q, body, Said::OkValue(value));
+        self.tells_answer(q, Said::OkValue(value));
         self.cached = true;
     }
 
