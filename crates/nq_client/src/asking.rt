@@ -8,13 +8,15 @@ ghost use Rattle.nq_held.specs.Leases.{lease_of};
 ghost use Rattle.nq_wire.specs.Parts.{IsWanted};
 ghost use Rattle.nq_wire.specs.Request.{HasSpelling};
 ghost use Rattle.nq_client.specs.Asking.{writes_or_asks};
+ghost use Rattle.nq_client.specs.Settling.{called_body};
 ghost use Rattle.nq_client.specs.State.{client_of};
 ghost use Rattle.nq_client.specs.Step.{HasNumbers, step_of};
 
 use crate::asked::Job;
+use crate::settling::called_body;
 use crate::state::State;
 use crate::step::Step;
-use nq_base::{Block, BlockNo, Call, FileId, Mode, Name, Number, Request, Seq, Ticks, Want, Who};
+use nq_base::{BlockNo, Call, FileId, Mode, Name, Number, Request, Seq, Ticks, Want};
 use nq_held::Held;
 
 /// Whether a live non-caching lease is held.
@@ -74,13 +76,14 @@ impl Step {
         self.sends_request(Job::ForCall, request);
     }
 
-    /// Sends a WRITE that goes through.
-    fn sends_write(&mut self, file: FileId, block: BlockNo, body: Block)
+    /// Sends a WRITE of the block of the call under way, which goes through.
+    fn sends_write(&mut self, file: FileId, block: BlockNo)
         requires idle { self.old.state.asked ≡ None }
         requires numbers { HasNumbers 1 self.old.state }
-        ensures step { step_of self.new ≡ sends_write (step_of self.old) file block body }
+        ensures step { step_of self.new ≡ sends_write (step_of self.old) file block (called_body (step_of self.old).client.call) }
         ensures sent { is_some self.new.state.asked ≡ true }
     {
+        let body = called_body(&self.state.call);
         let number = self.state.number;
         let seq = self.state.seq;
         self.state.number = Number(number.0 + 1);
@@ -96,34 +99,12 @@ impl Step {
         });
     }
 
-    /// A request of the call that takes no sequence, unless the client pauses; whether it was sent.
-    fn asks(&mut self, may_ask: bool, request: Request) -> bool
-        requires idle { self.old.state.asked ≡ None }
-        requires numbers { HasNumbers 1 self.old.state }
-        requires spelled { HasSpelling request }
-        ensures step { step_of self.new ≡ asks (step_of self.old) may_ask request }
-        ensures sent { IsTrue result → is_some self.new.state.asked ≡ true }
-        ensures quiet { result ≡ false → self.new ≡ self.old }
-    {
-        if may_ask {
-            self.sends_request(Job::ForCall, request);
-        }
-        may_ask
-    }
-
     /// A write that was not delayed goes through where it is to or where a non-caching lease runs, else a lease is wanted;
     /// whether a request was sent.
-    fn next_write(
-        &mut self,
-        may_ask: bool,
-        through: bool,
-        file: FileId,
-        block: BlockNo,
-        body: Block,
-    ) -> bool
+    fn next_write(&mut self, may_ask: bool, through: bool, file: FileId, block: BlockNo) -> bool
         requires idle { self.old.state.asked ≡ None }
         requires numbers { HasNumbers 1 self.old.state }
-        ensures step { step_of self.new ≡ (if may_ask then writes_or_asks (step_of self.old) through file block body else step_of self.old) }
+        ensures step { step_of self.new ≡ (if may_ask then writes_or_asks (step_of self.old) through file block (called_body (step_of self.old).client.call) else step_of self.old) }
         ensures sent { IsTrue result → is_some self.new.state.asked ≡ true }
         ensures quiet { result ≡ false → self.new ≡ self.old }
     {
@@ -131,7 +112,7 @@ impl Step {
             return false;
         }
         if through || self.state.is_shared(file) {
-            self.sends_write(file, block, body);
+            self.sends_write(file, block);
         } else {
             self.asks_for_writing(file);
         }
@@ -151,18 +132,11 @@ impl Step {
     }
 
     /// A put: its file is pushed where its write was delayed, else the write goes through; whether a request was sent.
-    fn next_put(
-        &mut self,
-        written: bool,
-        may_ask: bool,
-        file: FileId,
-        block: BlockNo,
-        body: Block,
-    ) -> bool
+    fn next_put(&mut self, written: bool, may_ask: bool, file: FileId, block: BlockNo) -> bool
         requires idle { self.old.state.asked ≡ None }
         requires none { self.old.state.dirty.push ≡ None }
         requires numbers { HasNumbers 1 self.old.state }
-        ensures step { step_of self.new ≡ next_put (step_of self.old) written may_ask file block body }
+        ensures step { step_of self.new ≡ next_put (step_of self.old) written may_ask file block (called_body (step_of self.old).client.call) }
         ensures sent { IsTrue result → is_some self.new.state.asked ≡ true }
         ensures quiet { result ≡ false → self.new ≡ self.old }
     {
@@ -170,7 +144,7 @@ impl Step {
             return self.pushes(file);
         }
         if may_ask {
-            self.sends_write(file, block, body);
+            self.sends_write(file, block);
         }
         may_ask
     }
@@ -236,8 +210,11 @@ impl Step {
         ensures sent { IsTrue result → is_some self.new.state.asked ≡ true }
         ensures quiet { result ≡ false → self.new ≡ self.old }
     {
-        let who = self.state.who;
-        self.asks(may_ask, Request::Lookup { who, name })
+        if may_ask {
+            let who = self.state.who;
+            self.sends_request(Job::ForCall, Request::Lookup { who, name });
+        }
+        may_ask
     }
 
     /// GETATTR, unless the client pauses; whether it was sent.
@@ -248,8 +225,31 @@ impl Step {
         ensures sent { IsTrue result → is_some self.new.state.asked ≡ true }
         ensures quiet { result ≡ false → self.new ≡ self.old }
     {
-        let who = self.state.who;
-        self.asks(may_ask, Request::GetAttr { who, file })
+        if may_ask {
+            let who = self.state.who;
+            self.sends_request(Job::ForCall, Request::GetAttr { who, file });
+        }
+        may_ask
+    }
+
+    /// Sends the READ of a call.
+    fn sends_read(&mut self, q: u64, file: FileId, block: BlockNo, want: Option<Want>)
+        requires idle { self.old.state.asked ≡ None }
+        requires numbers { HasNumbers 1 self.old.state }
+        requires wanted { IfSome want (λ w. IsWanted w.mode) }
+        ensures step { step_of self.new ≡ sends_request (step_of self.old) for_call (Request.Read self.old.state.who q file block want) }
+        ensures sent { is_some self.new.state.asked ≡ true }
+    {
+        self.sends_request(
+            Job::ForCall,
+            Request::Read {
+                who: self.state.who,
+                call: q,
+                file,
+                block,
+                want,
+            },
+        );
     }
 
     /// READ with what a read wants, unless the client pauses; whether it was sent.
@@ -260,9 +260,11 @@ impl Step {
         ensures sent { IsTrue result → is_some self.new.state.asked ≡ true }
         ensures quiet { result ≡ false → self.new ≡ self.old }
     {
-        let who = self.state.who;
-        let want = self.state.read_want(file);
-        self.asks(may_ask, read_request(q, who, file, block, want))
+        if may_ask {
+            let want = self.state.read_want(file);
+            self.sends_read(q, file, block, want);
+        }
+        may_ask
     }
 
     /// READ without a want, unless the client pauses; whether it was sent.
@@ -273,8 +275,10 @@ impl Step {
         ensures sent { IsTrue result → is_some self.new.state.asked ≡ true }
         ensures quiet { result ≡ false → self.new ≡ self.old }
     {
-        let who = self.state.who;
-        self.asks(may_ask, read_request(q, who, file, block, None))
+        if may_ask {
+            self.sends_read(q, file, block, None);
+        }
+        may_ask
     }
 
     /// A resize: the file is pushed until it is clean, and then RESIZE is sent; whether a request was sent.
@@ -350,13 +354,13 @@ impl Step {
                     let (q, file, block) = (u.q, *file, *block);
                     self.fetches(may_ask, q, file, block)
                 }
-                Call::Write { file, block, body } => {
-                    let (through, file, block, body) = (u.through, *file, *block, body.copied());
-                    self.next_write(may_ask, through, file, block, body)
+                Call::Write { file, block, .. } => {
+                    let (through, file, block) = (u.through, *file, *block);
+                    self.next_write(may_ask, through, file, block)
                 }
-                Call::WriteSync { file, block, body } => {
-                    let (written, file, block, body) = (u.written, *file, *block, body.copied());
-                    self.next_put(written, may_ask, file, block, body)
+                Call::WriteSync { file, block, .. } => {
+                    let (written, file, block) = (u.written, *file, *block);
+                    self.next_put(written, may_ask, file, block)
                 }
                 Call::Sync { file } => {
                     let file = *file;
@@ -373,18 +377,5 @@ impl Step {
             },
             None => false,
         }
-    }
-}
-
-/// The READ of a call.
-fn read_request(q: u64, who: Who, file: FileId, block: BlockNo, want: Option<Want>) -> Request
-    ensures { result ≡ Request.Read who q file block want }
-{
-    Request::Read {
-        who,
-        call: q,
-        file,
-        block,
-        want,
     }
 }

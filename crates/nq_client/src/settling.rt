@@ -78,7 +78,7 @@ fn is_for_call(asked: &Option<Asked>) -> bool
 }
 
 /// The block that the call under way writes; zeros where it writes none.
-fn called_body(call: &Option<UnderWay>) -> Block
+pub(crate) fn called_body(call: &Option<UnderWay>) -> Block
     ensures { result ≡ called_body (option_map under_way call.now) }
 {
     match call {
