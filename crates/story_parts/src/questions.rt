@@ -1,11 +1,13 @@
+//! Tests of what a host is told that asks for a lease.
+
 ghost use Rattle.std.specs.Prelude.{◌≡◌};
 ghost use Rattle.nq_model.specs.Table.{find_row};
 
-use super::*;
 use nq_base::{
     Access, Asked, FileId, Grant, Host, Inc, Mode, Question, Rev, Row, RowKey, Tag, Ticks, Want,
     Who,
 };
+use nq_grant::{ask, conflict};
 use nq_lease::Table;
 use std::process::Abort;
 use std::test::Fail;

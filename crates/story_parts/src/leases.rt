@@ -1,5 +1,7 @@
-use super::*;
+//! Tests of the lease table.
+
 use nq_base::{Access, FileId, Host, Inc, Mode, NoMemory, Row, RowKey, Tag, Ticks, Who};
+use nq_lease::{MOST_ROWS, Table};
 use std::process::Abort;
 use std::test::Fail;
 

@@ -1,5 +1,10 @@
-use super::*;
+//! Tests of what a datagram is to the server and to a client.
+
 use nq_base::{FileId, Host, Inc, Reply, Request, Tag, Who};
+use nq_datagrams::{
+    Awaited, BegunReply, ErrorReply, Heard, Incoming, call_bytes, error_bytes, read_heard,
+    read_incoming, reply_bytes,
+};
 use nq_rpc::RpcFault;
 use nq_wire::Procedure;
 use std::alloc::{AllocError, Global};

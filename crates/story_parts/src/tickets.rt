@@ -1,5 +1,7 @@
-use super::*;
+//! Tests of requests under way.
+
 use nq_base::Ticks;
+use nq_pending::Ticket;
 use std::alloc::AllocError;
 
 const XID: u32 = 7;

@@ -1,8 +1,10 @@
-use super::*;
+//! Tests of leases that are given up before they end.
+
 use nq_base::{
     Access, Block, BlockNo, FileId, Host, Inc, Mode, Number, Party, Row, Tag, Ticks, Who,
 };
 use nq_dirty::Dirty;
+use nq_evict::{Notice, NoticeTo, notices, vacated};
 use nq_lease::Table;
 use nq_wire::Outbox;
 use std::alloc::{AllocError, Global};

@@ -1,7 +1,10 @@
 //! Tests of storms.
 
-use super::*;
 use nq_base::{Call, Event};
+use nq_fate::{
+    CutFate, Fate, HostileFate, LossyFate, Offer, SteadyFate, Words, choose_event, event_at,
+    menu_is_offered,
+};
 use std::alloc::AllocError;
 
 /// What stands at a place of a menu.

@@ -1,6 +1,6 @@
 //! Tests of items.
 
-use super::*;
+use nq_xdr::{Reader, Writer, XdrFault};
 use std::test::Fail;
 
 /// The file of RFC 1014 section 6: its name, its kind, its interpreter, its owner and its data.

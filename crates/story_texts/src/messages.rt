@@ -2,7 +2,10 @@
 
 ghost use Rattle.std.specs.Prelude.{◌<◌};
 
-use super::*;
+use nq_rpc::{
+    Bytes, CallMessage, Head, LentMessage, LentOutcome, Message, NoMemory, Outcome, ReplyMessage,
+    RpcFault, begin_call, begin_reply, decode, decode_in_place, encode, encode_into,
+};
 use nq_xdr::Writer;
 use std::alloc::{AllocError, Global};
 use std::test::Fail;

@@ -1,11 +1,8 @@
-//! Tests of a world's parts.
+//! In which order an event is tested for what it may not do.
 
-use super::*;
-use nq_base::{Event, FileList, Host, Inc, Party};
+use nq_base::{Event, Host};
 use nq_clock::Skew;
-use nq_keeper::{Keeper, ListKeeper};
-use nq_net::Packets;
-use nq_wire::Outbox;
+use nq_world::{Limit, Stepped, test};
 use std::test::Fail;
 
 /// A delivery, tested after so many events and packets.
@@ -135,47 +132,5 @@ fn the_fourth_tick_in_a_row_breaks_the_skew_before_the_limit_on_packets(
         word(test(3, 0, &skew, &Event::ClientTick(Host(0)))),
         "done"
     );
-    Ok(())
-}
-
-#[test]
-fn what_an_outbox_holds_is_sent(rt: HostRuntime) -> Result<(), Fail> {
-    let alloc = rt.alloc();
-    let mut packets = Packets::new(alloc)?;
-    let mut out = Outbox::new(alloc, 0)?;
-    out.push(Party::Client(Host(1)), Vec::from_slice(alloc, b"notice")?)?;
-    out.push(Party::Client(Host(0)), Vec::from_slice(alloc, b"reply")?)?;
-    send(&mut packets, Party::Server, &out)?;
-    assert_eq!(rt; packets.len(), 2);
-    match packets.get(1) {
-        Some(packet) => {
-            let mut bytes = Vec::new(alloc);
-            packet.bytes_into(&mut bytes)?;
-            assert!(rt; packet.sender() == Party::Server);
-            assert!(rt; packet.to() == Party::Client(Host(0)));
-            assert_eq!(rt; bytes.as_slice(), b"reply".as_slice());
-        }
-        None => assert!(rt; false),
-    }
-    Ok(())
-}
-
-#[test]
-fn the_first_incarnation_of_each_host_is_kept(rt: HostRuntime) -> Result<(), Fail> {
-    let alloc = rt.alloc();
-    let files = FileList::new(alloc)?;
-    let mut keeper = ListKeeper::new(alloc, Vec::new(alloc))?;
-    match keep_head(&mut keeper, 2, 60, &files) {
-        Ok(()) => {}
-        Err(_) => assert!(rt; false),
-    }
-    match keeper.host(Host(1)) {
-        Ok(row) => assert!(rt; row.inc == Inc(1)),
-        Err(_) => assert!(rt; false),
-    }
-    match keeper.host(Host(2)) {
-        Ok(row) => assert!(rt; row.inc == Inc(0)),
-        Err(_) => assert!(rt; false),
-    }
     Ok(())
 }

@@ -1,7 +1,7 @@
 //! Tests of packets.
 
-use super::*;
-use nq_base::Host;
+use nq_base::{Host, Party};
+use nq_net::{NoMemory, Packets};
 use std::test::Fail;
 
 const HOST: Party = Party::Client(Host(3));

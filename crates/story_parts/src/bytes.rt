@@ -1,6 +1,6 @@
 //! Tests of sources and sinks.
 
-use super::*;
+use nq_io::{Got, MemSink, MemSource, Put, Sink, Source, StdSink, StdSource, Whole, read_all};
 use std::alloc::Global;
 use std::io;
 use std::io::{ErrorKind, Read, Write};

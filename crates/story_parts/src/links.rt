@@ -1,5 +1,7 @@
-use super::*;
-use nq_base::Host;
+//! Tests of links.
+
+use nq_base::{Host, Party};
+use nq_link::{Came, Link, MemLink, Sent, UdpLink};
 use std::test::Fail;
 
 /// The datagram that a link gives, as its sender and its bytes; None where nothing comes.
