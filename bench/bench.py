@@ -3,14 +3,13 @@
 prints datagrams and megabytes, or calls of the parts of server and client, per second; or times `nqnfs check` on journals, or
 `nqnfs storm`.
 
-    bench/bench.py PROGRAM [--words WORD ...]
-    bench/bench.py PROGRAM --codecs
-    bench/bench.py PROGRAM --parts
-    bench/bench.py PROGRAM --journals LINES
-    bench/bench.py PROGRAM --storms
+    bench/bench.py [--program FILE] [--words WORD ...]
+    bench/bench.py [--program FILE] --codecs
+    bench/bench.py [--program FILE] --parts
+    bench/bench.py [--program FILE] --journals LINES
+    bench/bench.py [--program FILE] --storms
 
-PROGRAM is the built program, `nqnfs` or, with --codecs or --parts, `nq_bench` (`rt run` in the crate's folder builds it, and says
-where). Each input is run three times; the fastest run counts. The words are `replay` where none are given. With --journals it times
+The program is the built `nqnfs` or, with --codecs or --parts, the built `nq_bench` (`rt run` in the crate's folder builds it). Each input is run three times; the fastest run counts. The words are `replay` where none are given. With --journals it times
 `nqnfs check` on sound journals of four kinds, of a tenth of so many lines and of so many.
 """
 import argparse
@@ -23,6 +22,7 @@ import sys
 import tempfile
 import time
 
+TOP = os.path.normpath(os.path.join(os.path.dirname(os.path.abspath(__file__)), ".."))
 HEAD = "nqnfs-schedule 1\nhosts 2\nterm 30\nfile a 64\nbegin\n"
 MOST_INPUT = 16 * 1024 * 1024
 
@@ -396,13 +396,16 @@ def storms(program):
 
 def main():
     parser = argparse.ArgumentParser(description="Times nqnfs replay, check or storm, or nq_bench.")
-    parser.add_argument("program")
+    parser.add_argument("--program")
     parser.add_argument("--words", nargs="*", default=["replay"])
     parser.add_argument("--codecs", action="store_true")
     parser.add_argument("--parts", action="store_true")
     parser.add_argument("--journals", type=int, metavar="LINES")
     parser.add_argument("--storms", action="store_true")
     asked = parser.parse_args()
+    if asked.program is None:
+        crate = "nq_bench" if asked.codecs or asked.parts else "nqnfs"
+        asked.program = os.path.join(TOP, "crates", crate, "out", crate)
     if asked.storms:
         return storms(asked.program)
     if asked.journals:

@@ -1,7 +1,7 @@
 #!/usr/bin/env python3
 """Times one client against `nqnfs serve` over the loopback interface.
 
-  bench/loopback.py [PROGRAM] [--requests N]
+  bench/loopback.py [--program FILE] [--requests N]
 
 It attaches as host 0, makes a file, and then asks one request after another, each when the reply to the last one is there: LOOKUP,
 READ without a wish, and WRITE that goes through. It prints requests per second, and the median and the 99th percentile of the round
@@ -75,7 +75,7 @@ def processor_seconds(process):
 
 def main():
     parser = argparse.ArgumentParser(description=__doc__.splitlines()[0])
-    parser.add_argument("program", nargs="?", default=str(ROOT / "crates/nqnfs/out/nqnfs"))
+    parser.add_argument("--program", default=str(ROOT / "crates/nqnfs/out/nqnfs"))
     parser.add_argument("--requests", type=int, default=20_000)
     given = parser.parse_args()
     program = str(pathlib.Path(given.program).resolve())

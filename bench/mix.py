@@ -2,12 +2,14 @@
 """A mix of calls, deliveries, ticks, restarts and crashes, drawn with a seed; and how fast `nqnfs replay` runs it.
 
     bench/mix.py HOSTS LINES [--seed N]                    prints a schedule with so many hosts and so many lines of events
-    bench/mix.py --times PROGRAM [--seed N] [SCHEDULE ...]   times the program on mixes, on a flow, and on these schedules too
+    bench/mix.py --times [--program FILE] [--seed N] [SCHEDULE ...]   times the program on mixes, on a flow, and on schedules
 
-The mix has leases that run and end, delayed writes that are stored or lost, hosts that start again and crashes of the server. A
-schedule that is given may be packed by gzip. Where a file `sums.txt` lies beside it, the SHA-256 of its journal is compared too.
+The mix has leases that run and end, delayed writes that are stored or lost, hosts that start again and crashes of the server. Where no
+schedule is given, those of `bench/large/` are taken. A schedule may be packed by gzip. Where a file `sums.txt` lies beside it, the
+SHA-256 of its journal is compared too.
 """
 import argparse
+import glob
 import gzip
 import hashlib
 import itertools
@@ -17,6 +19,7 @@ import subprocess
 import sys
 import tempfile
 
+TOP = os.path.normpath(os.path.join(os.path.dirname(os.path.abspath(__file__)), ".."))
 TERM = 20
 FILES = 8
 BLOCKS = 16
@@ -164,12 +167,13 @@ def times(program, seed, paths):
 
 def main():
     parser = argparse.ArgumentParser(description="Prints a mixed schedule, or times nqnfs replay on some.")
-    parser.add_argument("--times", metavar="PROGRAM")
+    parser.add_argument("--times", action="store_true")
+    parser.add_argument("--program", default=os.path.join(TOP, "crates/nqnfs/out/nqnfs"))
     parser.add_argument("--seed", type=int, default=1)
-    parser.add_argument("words", nargs="*", metavar="HOSTS LINES | SCHEDULE")
+    parser.add_argument("words", nargs="*", metavar="HOSTS_LINES_OR_SCHEDULE")
     asked = parser.parse_args()
     if asked.times:
-        return times(asked.times, asked.seed, asked.words)
+        return times(asked.program, asked.seed, asked.words or sorted(glob.glob(os.path.join(TOP, "bench/large/*.schedule.gz"))))
     hosts, count = map(int, asked.words)
     sys.stdout.buffer.writelines(text_of(hosts, itertools.islice(mix(hosts, asked.seed), count)))
     return 0

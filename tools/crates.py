@@ -5,6 +5,7 @@
     crates.py --check  ends with status 1 where a list differs, and says where
 """
 
+import argparse
 import os
 import re
 import sys
@@ -34,6 +35,9 @@ def named_by(crate):
 
 
 def main():
+    asked = argparse.ArgumentParser(description=__doc__.splitlines()[0])
+    asked.add_argument("--check", action="store_true", help="write nothing, and say where a list differs")
+    said = asked.parse_args()
     with open(LIST) as text:
         lines = text.read().splitlines()
     crates = [line.split(":")[0] for line in lines if line and not line.startswith("#")]
@@ -48,7 +52,7 @@ def main():
         kit = [other for other in listed.split() if other not in crates]
         wanted.append(f"{crate}: {' '.join(own + kit)}".rstrip())
     differing = [(old, new) for old, new in zip(lines, wanted) if old != new]
-    if "--check" in sys.argv[1:]:
+    if said.check:
         for old, new in differing:
             print(f"listed: {old}\nnamed:  {new}")
         return 1 if differing else 0

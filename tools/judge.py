@@ -1,13 +1,14 @@
 #!/usr/bin/env python3
 """Judges every journal of examples/ with the built program, and compares what it says.
 
-    judge.py PROGRAM
+  tools/judge.py [--program FILE]
 
-PROGRAM is the built `nqnfs`. A journal with a file NAME.verdict beside it has to be judged as that file says, and with the status
-of that verdict; each other one is the journal of a run, and has to be sound. The status is 1 where the program says something
+A journal with a file NAME.verdict beside it has to be judged as that file says, and with the status of that verdict; each other one is the
+journal of a run, and has to be sound. The program is built before, in `crates/nqnfs` by `rt run`. The status is 1 where it says something
 else of any of them.
 """
 
+import argparse
 import glob
 import os
 import subprocess
@@ -39,7 +40,10 @@ def fault_of(program, journal):
     return None
 
 
-def main(program):
+def main():
+    asked = argparse.ArgumentParser(description=__doc__.splitlines()[0])
+    asked.add_argument("--program", default=os.path.join(TOP, "crates/nqnfs/out/nqnfs"))
+    program = os.path.abspath(asked.parse_args().program)
     journals = sorted(glob.glob(os.path.join(TOP, "examples", "**", "*.journal"), recursive=True))
     faults = 0
     for journal in journals:
@@ -52,6 +56,4 @@ def main(program):
 
 
 if __name__ == "__main__":
-    if len(sys.argv) != 2:
-        sys.exit(__doc__)
-    sys.exit(main(os.path.abspath(sys.argv[1])))
+    sys.exit(main())

@@ -3,7 +3,9 @@
 
     readme.py            runs the commands of README.md, docs/ and examples/README.md, but for the slow ones
     readme.py --slow     runs the slow ones too, those that prove for long
-    readme.py --links    follows the links, and runs nothing
+    readme.py --links    follows the links, and runs no command
+
+It always asks `crates.py --check` and `terms.py --check`, whether crates.txt and the modules of the examples are as they have to be.
 
 A command stands in a block that begins with ```sh, a slow one in a block that begins with ```sh slow. A block that begins
 with ```text and follows it shows what it prints. Each command begins at the top of the clone. The clone has what is
@@ -11,6 +13,7 @@ committed, so commit a page before you try it. The status is 1 where a command f
 nowhere.
 """
 
+import argparse
 import glob
 import os
 import re
@@ -62,15 +65,28 @@ def fault_of(command, shown, clone):
     return None
 
 
+def wrong_lists():
+    """What is not as it has to be of what scripts write."""
+    for script in ("crates.py", "terms.py"):
+        done = subprocess.run([sys.executable, os.path.join(TOP, "tools", script), "--check"], capture_output=True, text=True)
+        if done.returncode != 0:
+            yield f"tools/{script} --check says\n{done.stdout}{done.stderr[-2000:]}"
+
+
 def main():
+    asked = argparse.ArgumentParser(description=__doc__.splitlines()[0])
+    asked.add_argument("--slow", action="store_true", help="run the slow commands too")
+    asked.add_argument("--links", action="store_true", help="run no command")
+    said = asked.parse_args()
     faults = [f"{page}: no file at {link}" for page in pages() for link in wrong_links(page)]
-    if "--links" not in sys.argv[1:]:
+    faults += wrong_lists()
+    if not said.links:
         with tempfile.TemporaryDirectory() as folder:
             clone = os.path.join(folder, "clone")
             subprocess.run(["git", "clone", "--quiet", TOP, clone], check=True)
             for page in pages():
                 for command, slow, shown in commands_of(page):
-                    if slow and "--slow" not in sys.argv[1:]:
+                    if slow and not said.slow:
                         print(f"{page}: left out, slow: {command.strip()}")
                         continue
                     print(f"{page}: {command.strip()}", flush=True)

@@ -1,7 +1,7 @@
 #!/usr/bin/env python3
 """Runs storms with the built program, and compares what they print.
 
-  tools/storms.py [PROGRAM]
+  tools/storms.py [--program FILE]
 
 `examples/storms.txt` has lines `storm KIND START N SUM` with the SHA-256 of all that another program prints for this storm. Each storm is
 run, `replay` is given the schedule that it printed and has to print its journal, and `check` has to say that the journal is sound. Storms of
@@ -46,7 +46,7 @@ def faults(program, words, wanted):
 
 def main():
     asked = argparse.ArgumentParser(description=__doc__.splitlines()[0])
-    asked.add_argument("program", nargs="?", default=str(ROOT / "crates/nqnfs/out/nqnfs"))
+    asked.add_argument("--program", default=str(ROOT / "crates/nqnfs/out/nqnfs"))
     program = asked.parse_args().program
     storms = [line.split() for line in (ROOT / "examples/storms.txt").read_text().splitlines()]
     wrong = 0

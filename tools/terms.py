@@ -6,13 +6,34 @@
     terms.py journals NAME FILE..  a module of nq_examples that defines each journal by the name of its file, and NAME,
                                    the list of them all
     terms.py examples NAME FILE..  the same of schedules, each with the journal beside it in a file of the same name
+    terms.py --check               compares the modules of nq_examples with what is made of the texts of examples/
 
-A text is one of versions 1 and 2. What is not of its grammar ends the script with a message.
+A text is one of versions 1 and 2. What is not of its grammar ends the script with a message. `--check` ends with status 1 where a
+module differs, and says which.
 """
 
+import argparse
+import glob
 import os
 import re
 import sys
+
+TOP = os.path.normpath(os.path.join(os.path.dirname(os.path.abspath(__file__)), ".."))
+
+# The modules of nq_examples: the file of each, the list of all that it defines, and the texts of which it is made.
+MODULES = [
+    ("Worked", "worked", "*.schedule", range(0)),
+    ("MixedOne", "mixed_one", "mixed/run-*.schedule", range(1, 21)),
+    ("MixedTwo", "mixed_two", "mixed/run-*.schedule", range(21, 41)),
+    ("MixedThree", "mixed_three", "mixed/run-*.schedule", range(41, 65)),
+    ("NotLegal", "not_legal", "spoiled/legal/*.journal", range(0)),
+    ("NotOrdered", "not_ordered", "spoiled/ordered/*.journal", range(0)),
+    ("NotOfTheirCall", "not_of_their_call", "spoiled/of-their-call/*.journal", range(0)),
+    ("NotAccounted", "not_accounted", "spoiled/accounted/*.journal", range(0)),
+    ("NotExcused", "not_excused", "spoiled/excused/*.journal", range(0)),
+    ("NotReported", "not_reported", "spoiled/reported/*.journal", range(0)),
+    ("NotSynchronized", "not_synchronized", "spoiled/synchronized/*.journal", range(0)),
+]
 
 # The longest term that a version 1 text means.
 VERSION_1_LONGEST = 60
@@ -280,18 +301,48 @@ def examples(list_name, paths):
     return "".join(parts) + list_of_all(list_name, "Example", paths)
 
 
+def module(kind, list_name, paths):
+    """A whole module, of journals or of schedules with their journals."""
+    body = (journals if kind == "journals" else examples)(list_name, paths)
+    return imports(body) + body
+
+
+def texts_of(pattern, numbers):
+    """The files of examples/ of this pattern, in order, or those of them that have one of these numbers."""
+    paths = sorted(glob.glob(os.path.join(TOP, "examples", pattern)))
+    return [path for path in paths if not numbers or int(re.sub(r"\D", "", os.path.basename(path))) in numbers]
+
+
+def check():
+    """Says which modules of nq_examples are not what is made of the texts now, and how many."""
+    differing = 0
+    for file, list_name, pattern, numbers in MODULES:
+        kind = "journals" if pattern.endswith(".journal") else "examples"
+        with open(os.path.join(TOP, "crates/nq_examples/specs", file + ".antt"), encoding="utf-8") as there:
+            if there.read() != module(kind, list_name, texts_of(pattern, numbers)):
+                differing += 1
+                print(f"{file}.antt is not made of examples/{pattern}")
+    return 1 if differing else 0
+
+
 def main():
-    if len(sys.argv) == 3 and sys.argv[1] == "journal":
-        print(journal(read(sys.argv[2])))
-    elif len(sys.argv) == 3 and sys.argv[1] == "schedule":
-        print("\n".join(schedule(read(sys.argv[2]))))
-    elif len(sys.argv) > 3 and sys.argv[1] in ("journals", "examples"):
-        module = journals if sys.argv[1] == "journals" else examples
-        body = module(sys.argv[2], sys.argv[3:])
-        print(imports(body) + body, end="")
+    asked = argparse.ArgumentParser(description=__doc__, formatter_class=argparse.RawDescriptionHelpFormatter, usage="terms.py ..")
+    asked.add_argument("--check", action="store_true", help="compare the modules of nq_examples with the texts of examples/")
+    asked.add_argument("words", nargs="*", help="what is made, and of which files")
+    said = asked.parse_args()
+    words = said.words
+    if said.check and not words:
+        return check()
+    if len(words) == 2 and words[0] == "journal":
+        print(journal(read(words[1])))
+    elif len(words) == 2 and words[0] == "schedule":
+        print("\n".join(schedule(read(words[1]))))
+    elif len(words) > 2 and words[0] in ("journals", "examples"):
+        print(module(words[0], words[1], words[2:]), end="")
     else:
-        sys.exit(__doc__)
+        asked.error("nothing is made of these words")
+    return 0
 
 
 if __name__ == "__main__":
-    main()
+    sys.exit(main())

@@ -20,6 +20,3 @@ pub use nq_base::SkewBroken;
 pub use skew::Skew;
 pub use std_clock::StdClock;
 pub use timer::{Armed, Due};
-
-#[cfg(test)]
-mod tests;

@@ -19,6 +19,3 @@ pub use to_bytes::{LONGEST_CALL, write_call};
 pub use to_client::{Awaited, Heard, read_heard};
 pub use to_server::{Class, Incoming, read_incoming, read_incoming_into};
 pub use writing::{BegunReply, ErrorReply, call_bytes, error_bytes, reply_bytes};
-
-#[cfg(test)]
-mod tests;

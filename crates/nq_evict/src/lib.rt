@@ -15,6 +15,3 @@ pub use notice::Notice;
 pub use notifying::{NoticeTo, notices};
 pub use vacancy::{Cleared, Vacancy};
 pub use vacating::vacated;
-
-#[cfg(test)]
-mod tests;

@@ -16,6 +16,3 @@ pub use fates::{CutFate, HostileFate, LossyFate, SteadyFate};
 pub use menus::{event_at, menu_is_offered};
 pub use offers::Offer;
 pub use words::Words;
-
-#[cfg(test)]
-mod tests;

@@ -8,6 +8,3 @@ mod scan;
 
 pub use cases::ask;
 pub use scan::conflict;
-
-#[cfg(test)]
-mod tests;

@@ -23,6 +23,3 @@ pub use source::{Got, Source};
 pub use std_sink::StdSink;
 pub use std_source::StdSource;
 pub use whole::{Whole, read_all};
-
-#[cfg(test)]
-mod tests;

@@ -14,6 +14,3 @@ mod table;
 pub use changes::{Full, MOST_ROWS};
 pub use rows::is_in_the_way;
 pub use table::Table;
-
-#[cfg(test)]
-mod tests;

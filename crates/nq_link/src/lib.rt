@@ -12,6 +12,3 @@ pub use link::{Came, Link, Sent};
 pub use mem_link::MemLink;
 pub use nq_base::{NoMemory, Party};
 pub use udp_link::UdpLink;
-
-#[cfg(test)]
-mod tests;

@@ -9,6 +9,3 @@ mod runs;
 pub use nq_base::Party;
 pub use nq_memory::NoMemory;
 pub use packets::{Packet, Packets};
-
-#[cfg(test)]
-mod tests;

@@ -4,6 +4,3 @@
 mod ticket;
 
 pub use ticket::Ticket;
-
-#[cfg(test)]
-mod tests;

@@ -21,6 +21,3 @@ pub use fault::RpcFault;
 pub use lent::{LentCall, LentMessage, LentOutcome, LentReply};
 pub use message::{CallMessage, Head, Message, Outcome, ReplyMessage};
 pub use nq_memory::NoMemory;
-
-#[cfg(test)]
-mod tests;

@@ -23,6 +23,3 @@ pub use starting::NewFault;
 pub use stepped::{Limit, Stepped};
 pub use testing::{MOST_EVENTS, MOST_SENT, test};
 pub use world::World;
-
-#[cfg(test)]
-mod tests;

@@ -14,6 +14,3 @@ pub use fault::XdrFault;
 pub use nq_memory::NoMemory;
 pub use reader::Reader;
 pub use writer::Writer;
-
-#[cfg(test)]
-mod tests;

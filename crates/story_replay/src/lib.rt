@@ -15,3 +15,5 @@ mod restarts;
 mod session;
 #[cfg(test)]
 mod story;
+#[cfg(test)]
+mod tested;

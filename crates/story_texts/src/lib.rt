@@ -6,6 +6,12 @@
 #[cfg(test)]
 mod datagrams;
 #[cfg(test)]
+mod incoming;
+#[cfg(test)]
+mod items;
+#[cfg(test)]
 mod journals;
+#[cfg(test)]
+mod messages;
 #[cfg(test)]
 mod schedules;
