@@ -1,5 +1,5 @@
 -- What is kept of a client's call under way, over a whole step of the client: a call, a tick, a datagram, a restart.
-use Rattle.std.proofs.Common.{◌≡◌, ◌<◌, ◌≤◌, ◌⊎◌, ℕ, ◌+◌, Bool, true, false, ◌&&◌, ◌==◌, List, [], ◌∷◌, Some, None, is_some, if◌then◌else◌, refl, subst, ap, ◌∙◌, arith, inl, inr}
+use Rattle.std.proofs.Common.{◌≡◌, ◌<◌, ◌≤◌, ◌⊎◌, ℕ, ◌+◌, Bool, true, false, ◌&&◌, ◌==◌, List, [], ◌∷◌, Some, None, is_some, if◌then◌else◌, refl, sym, subst, ap, ◌∙◌, arith, inl, inr}
 use Rattle.std.specs.Option.{option_or}
 use Rattle.std.proofs.lemmas.Bool.{and_parts, and_from}
 use Rattle.nq_base.specs.declared.Call.{Call}
@@ -21,7 +21,8 @@ use Rattle.nq_model.specs.Hear.{inc_of, replied, cancels, evicted, hear}
 use Rattle.nq_model.specs.Journal.{Exists, Throughout, IsAnswer, IsOpen, call_of, told_by}
 use Rattle.nq_model.specs.Message.{Message, reply, sequence_of}
 use Rattle.nq_model.specs.Send.{send_next}
-use Rattle.nq_model.specs.Settle.{settle}
+use Rattle.nq_model.specs.Settle.{names_losses, settle}
+use Rattle.nq_promises.specs.AnswersAreOfTheirCalls.{IsChanging}
 use Rattle.nq_promises.specs.LossesAreReported.{cleans}
 use Rattle.walk_run.proofs.Packets.{In}
 use Rattle.walk_server.proofs.Incarnations.{who-same}
@@ -109,14 +110,6 @@ module _ (line : HostRow) (c : Client) (journal : List Entry) (h : Ready line c 
   called : (op : Call) → KeepsOf line c (C c.who (c.calls + 1) (told op) ∷ journal)
   called op = one-more (C c.who (c.calls + 1) (told op)) (λ u is a. a) (λ f b n l e. cc) (λ f b n v e. cc) journal h.keeps
 
-  busy : (op : Call) → End line journal (book_of (says_busy (begins_call c op)))
-  unfolding says_busy begins_call
-  busy op = record {
-    keeps = one-more (A c.who (c.calls + 1) Said.Busy) (λ u is a. let few = h.counted u is in let same : c.calls + 1 ≡ u.q = a.1 in absurd (omega arith)) (λ f b n l e. cc) (λ f b n v e. cc) (C c.who (c.calls + 1) (told op) ∷ journal) (called op);
-    kept = (tt, (tt, h.kept));
-    own = own-more c.who _ (C c.who (c.calls + 1) (told op) ∷ []) refl (own-more c.who (C c.who (c.calls + 1) (told op)) [] refl (λ e i. absurd i));
-  }
-
   mid-begins : (op : Call) → Mid All line journal (book_of (begins_call c op))
   unfolding begins_call
   mid-begins op = record {
@@ -142,6 +135,27 @@ module _ (line : HostRow) (c : Client) (journal : List Entry) (h : Ready line c 
       case (inl bad) = bad
       case (inr a) = unanswered c.who (c.calls + 1) journal fresh a
 
+  busy : (op : Call) → End line journal (book_of (says_busy (begins_call c op)))
+  unfolding says_busy begins_call
+  busy op = record {
+    keeps = one-more (A c.who (c.calls + 1) Said.Busy) (λ u is a. let few = h.counted u is in let same : c.calls + 1 ≡ u.q = a.1 in absurd (omega arith)) (λ f b n l e. cc) (λ f b n v e. cc) (C c.who (c.calls + 1) (told op) ∷ journal) (called op);
+    kept = (record { is_open = open-new op; form = tt }, (tt, h.kept));
+    own = own-more c.who _ (C c.who (c.calls + 1) (told op) ∷ []) refl (own-more c.who (C c.who (c.calls + 1) (told op)) [] refl (λ e i. absurd i));
+  }
+
+  -- a call that is told losses asks for a change
+  changed-changes : (file : ℕ) (op : Call) → changed_file op ≡ Some file → IsChanging (Some (told op))
+  changed-changes file (Call.Write f block body) e = tt
+  changed-changes file (Call.WriteSync f block body) e = tt
+  changed-changes file (Call.Sync f) e = tt
+  changed-changes file (Call.Resize f blocks) e = tt
+  changed-changes file (Call.Remove f) e = tt
+  changed-changes file other e = none-some file e
+
+  mid-tells : (op : Call) (file : ℕ) → changed_file op ≡ Some file → Mid All line journal (book_of (names_losses (begins_call c op) (begins_call c op).client.calls file))
+  unfolding begins_call
+  mid-tells op file of = mid-names (begins_call c op) (begins_call c op).client.calls file (open-new op) (subst IsChanging (sym (tells-new op)) (changed-changes file op of)) (mid-begins op)
+
   free-call : (t : Ticket) → c.call ≡ None → c.ticket ≡ Some t → t.job ≡ for_call → ⊥
   free-call t none is job = let some : is_some c.call ≡ true = h.alone.asking.called t is job in let gone : is_some c.call ≡ false = ap is_some none in absurd (cc)
 
@@ -166,7 +180,7 @@ module _ (line : HostRow) (c : Client) (journal : List Entry) (h : Ready line c 
   pub call-end : (op : Call) → After journal (book_of (client_call c op)) → End line journal (book_of (client_call c op))
   call-end op = call-cases c op (λ s. After journal (book_of s) → End line journal (book_of s)) (record {
     busy = λ why a. busy op;
-    telling = λ file loss losses none on of some a. mid-end _ (mid-names (begins_call c op) _ file (mid-begins op));
+    telling = λ file loss losses none on of some a. mid-end _ (mid-tells op file of);
     going = λ none on unlost a. mid-unless-cached (is_called (begins_call c op) op) (mid-called op none unlost) a;
   })
 

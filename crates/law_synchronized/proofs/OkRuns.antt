@@ -9,7 +9,7 @@ use Rattle.walk_calls.proofs.CallsFit.{entry_who, entry_call}
 use Rattle.walk_client.proofs.ClientMoves.{none-some}
 use Rattle.law_fates.proofs.AnsweredWorlds.{run-answered}
 use Rattle.law_leases.proofs.LeaseIntervals.{run-runs}
-use Rattle.nq_promises.specs.Bounds.{KeepsBounds}
+use Rattle.nq_promises.specs.Bounds.{KeepsBounds, InEveryRun}
 use Rattle.nq_model.specs.Client.{Client, ClientStep, UnderWay}
 use Rattle.nq_model.specs.ClientStep.{client_call, client_tick, restart, attached_client, fresh_client}
 use Rattle.nq_model.specs.Hear.{hear}
@@ -169,6 +169,10 @@ module _ (stands : StandingInEveryRun) (counts : CountedInEveryRun) (most : ℕ)
     crashed = λ events longest during long few g. server-step (Event.Crash longest) events _ during (crash-makes (run head events).packets (run head events).server longest) g;
   }
 
+-- each answer at its place
+pub answered-runs : StandingInEveryRun → CountedInEveryRun → InEveryRun (λ head events. Throughout KeptHere (run head events).journal)
+answered-runs stands counts most head events bounds within = (run-keeps (oks-keep stands counts most head) events bounds within).kept
+
 -- the law
 pub synchronized-runs : StandingInEveryRun → CountedInEveryRun → SynchronizedInEveryRun
-synchronized-runs stands counts most head events bounds within = synchronized (run head events).journal (run-keeps (oks-keep stands counts most head) events bounds within).kept
+synchronized-runs stands counts most head events bounds within = synchronized (run head events).journal (answered-runs stands counts most head events bounds within)

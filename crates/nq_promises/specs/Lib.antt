@@ -10,6 +10,8 @@ pub mod UntouchedAreZeros
 pub mod Headline
 -- journals
 pub mod CallsAreOrdered
+pub mod AnswersAreOfTheirCalls
+pub mod OksHaveTheirDeeds
 pub mod ReadsAreLegal
 pub mod WritesAreAccounted
 pub mod LossesAreExcused
