@@ -136,16 +136,3 @@ answer-here other before h = tt
 pub answers-are-of-calls : (journal : List Entry) → Throughout KeptHere journal → AnswersAreOfTheirCalls journal
 answers-are-of-calls [] h = tt
 answers-are-of-calls (entry ∷ before) h = (answer-here entry before h.0, answers-are-of-calls before h.1)
-
--- what an ok to a `write` has made
-abbrev pub HasWrittenAt : Entry → List Entry → Type 0
-HasWrittenAt (A who q Ok) before = (told : Told) × (call_of before who q ≡ Some told) × HasWritten before who q told
-HasWrittenAt other before = ⊤
-
-written-here : (entry : Entry) (before : List Entry) → KeptHere entry before → HasWrittenAt entry before
-written-here (A who q Ok) before h = (h.1.told, h.1.asks, h.1.wrote)
-written-here other before h = tt
-
-pub writes-are-made : (journal : List Entry) → Throughout KeptHere journal → Throughout HasWrittenAt journal
-writes-are-made [] h = tt
-writes-are-made (entry ∷ before) h = (written-here entry before h.0, writes-are-made before h.1)

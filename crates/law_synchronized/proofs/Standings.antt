@@ -11,7 +11,7 @@ use Rattle.nq_model.specs.Journal.{Exists, Throughout, Covers}
 use Rattle.nq_model.specs.World.{run}
 use Rattle.law_reports.proofs.ReportedRuns.{losses-fit}
 use Rattle.law_synchronized.proofs.OkFacts.{CoversNumber, by_store, by_loss, LiesWithin, in_list, under_way}
-use Rattle.law_synchronized.proofs.KeptPlaces.{answers-are-of-calls, HasWrittenAt, writes-are-made}
+use Rattle.law_synchronized.proofs.KeptPlaces.{KeptHere, answers-are-of-calls}
 use Rattle.law_synchronized.proofs.OkRuns.{StandingInEveryRun, CountedInEveryRun, answered-runs, synchronized-runs}
 use Rattle.nq_promises.specs.AnswersAreOfTheirCalls.{AnswersAreOfTheirCallsInEveryRun}
 use Rattle.nq_promises.specs.Bounds.{InEveryRun}
@@ -58,10 +58,10 @@ counted most head events bounds within host c is =
 pub synchronized-in-every-run : SynchronizedInEveryRun
 synchronized-in-every-run = synchronized-runs standing counted
 
--- and each answer is of its call
-pub answers-in-every-run : AnswersAreOfTheirCallsInEveryRun
-answers-in-every-run most head events bounds within = answers-are-of-calls (run head events).journal (answered-runs standing counted most head events bounds within)
+-- each answer at its place
+pub answered-in-every-run : InEveryRun (λ head events. Throughout KeptHere (run head events).journal)
+answered-in-every-run = answered-runs standing counted
 
--- a `write` that was answered ok has made a W while it was open
-pub written-in-every-run : InEveryRun (λ head events. Throughout HasWrittenAt (run head events).journal)
-written-in-every-run most head events bounds within = writes-are-made (run head events).journal (answered-runs standing counted most head events bounds within)
+-- and each is of its call
+pub answers-in-every-run : AnswersAreOfTheirCallsInEveryRun
+answers-in-every-run most head events bounds within = answers-are-of-calls (run head events).journal (answered-in-every-run most head events bounds within)
