@@ -1,3 +1,4 @@
 pub mod Places
 pub mod OkDeeds
 pub mod SomeDeeds
+pub mod RefusedJournals

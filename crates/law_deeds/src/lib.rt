@@ -4,4 +4,6 @@
 
 mod deeds;
 
-pub use deeds::{deeds_are_met, oks_have_their_deeds_in_every_run};
+pub use deeds::{
+    deeds_are_met, oks_have_their_deeds_in_every_run, only_calls_refuse, only_deeds_refuse,
+};

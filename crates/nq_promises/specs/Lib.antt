@@ -6,6 +6,7 @@ pub mod Contents
 pub mod Told
 pub mod Undisturbed
 pub mod UntouchedAreZeros
+pub mod BodiesAreFilled
 -- the headline
 pub mod Headline
 -- journals
