@@ -20,6 +20,7 @@ pub mod LossesAreReported
 pub mod OksAreKept
 pub mod EndingsComeLate
 pub mod EventsSendFew
+pub mod StepsAreOfOneHost
 -- what the server and the clients have
 pub mod BlocksAreHeld
 pub mod WritesAreUndisturbed
