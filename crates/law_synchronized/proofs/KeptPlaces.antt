@@ -5,7 +5,7 @@ use Rattle.nq_base.specs.declared.Entry.{Entry}
 use Rattle.nq_base.specs.declared.Entry.TheVariants.{L, A}
 use Rattle.nq_base.specs.declared.Loss.{Loss}
 use Rattle.nq_base.specs.declared.Said.{Said}
-use Rattle.nq_base.specs.declared.Said.TheVariants.{Ok, OkValue, OkBy, Lost}
+use Rattle.nq_base.specs.declared.Said.TheVariants.{Ok, OkValue, OkBy, Lost, Busy}
 use Rattle.nq_base.specs.declared.Told.{Told}
 use Rattle.nq_base.specs.declared.Told.TheVariants.{Create, Lookup, Attr, Read, Fetch, Write, WriteSync, Sync, Resize, Remove}
 use Rattle.nq_base.specs.declared.Who.{Who}
@@ -13,6 +13,7 @@ use Rattle.walk_calls.proofs.Placed.{call-later, call-told}
 use Rattle.nq_model.proofs.Lists.{exists-map, each-map, exists-right}
 use Rattle.nq_model.specs.Journal.{Exists, Throughout, Somewhere, IsOpen, SpeaksOf, call_of, IsWriteBy, IsStored}
 use Rattle.nq_model.specs.Reported.{Names, loss_told}
+use Rattle.nq_promises.specs.BusyIsSaidAtOnce.{IsBusyCall, IsBusyAtOnce, BusyIsSaidAtOnce}
 use Rattle.nq_promises.specs.AnswersAreOfTheirCalls.{IsFormOf, IsAnswerOfCall, AnswersAreOfTheirCalls}
 use Rattle.nq_model.specs.Synchronized.{IsDelayedOn, IsNamedLoss, IsStoredOrTold, IsSettledResize, IsKept, IsKeptAt, IsSynchronized}
 
@@ -102,6 +103,7 @@ abbrev pub KeptHere : Entry → List Entry → Type 0
 KeptHere (A who q Ok) before = AnswersOpen before who q Ok × OkAt (A who q Ok) before who q
 KeptHere (A who q (OkValue value)) before = AnswersOpen before who q (OkValue value) × OkAt (A who q (OkValue value)) before who q
 KeptHere (A who q (OkBy value packet)) before = AnswersOpen before who q (OkBy value packet) × OkAt (A who q (OkBy value packet)) before who q
+KeptHere (A who q Busy) before = AnswersOpen before who q Busy × IsBusyCall who q before
 KeptHere (A who q said) before = AnswersOpen before who q said
 KeptHere other before = ⊤
 
@@ -130,9 +132,18 @@ answer-here : (entry : Entry) (before : List Entry) → KeptHere entry before �
 answer-here (A who q Ok) before h = (h.0.is_open, h.0.form)
 answer-here (A who q (OkValue value)) before h = (h.0.is_open, h.0.form)
 answer-here (A who q (OkBy value packet)) before h = (h.0.is_open, h.0.form)
+answer-here (A who q Busy) before h = (h.0.is_open, h.0.form)
 answer-here (A who q said) before h = (h.is_open, h.form)
 answer-here other before h = tt
 
 pub answers-are-of-calls : (journal : List Entry) → Throughout KeptHere journal → AnswersAreOfTheirCalls journal
 answers-are-of-calls [] h = tt
 answers-are-of-calls (entry ∷ before) h = (answer-here entry before h.0, answers-are-of-calls before h.1)
+
+busy-here : (entry : Entry) (before : List Entry) → KeptHere entry before → IsBusyAtOnce entry before
+busy-here (A who q Busy) before h = h.1
+busy-here other before h = tt
+
+pub busy-at-once : (journal : List Entry) → Throughout KeptHere journal → BusyIsSaidAtOnce journal
+busy-at-once [] h = tt
+busy-at-once (entry ∷ before) h = (busy-here entry before h.0, busy-at-once before h.1)

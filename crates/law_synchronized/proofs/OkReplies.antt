@@ -26,7 +26,7 @@ use Rattle.walk_fates.proofs.ServerTells.{Tells, later, decided}
 use Rattle.nq_model.specs.Client.{Client, ClientStep, for_call, Ticket, UnderWay, Notice, begun, notice_on}
 use Rattle.nq_model.specs.ClientStep.{told}
 use Rattle.nq_model.specs.Decide.{verdict_reply}
-use Rattle.nq_model.specs.Hear.{vacates_lease, vacates_noticed, loses, reports, without_lease, push_refused, breaks_chain, if_broken, holds, takes_grant, takes_optional, answers_call, caches_block, purges, knows_revision, then_caches, read_done, marks_through, lease_done, caches_write, write_done, ends_push, caches_push, push_done, answer_of, spends, attached, pauses, replied, reply_counts, waits_for, cancels, notes_notice, evicted}
+use Rattle.nq_model.specs.Hear.{vacates_lease, vacates_noticed, loses, reports, without_lease, push_refused, breaks_chain, if_broken, holds, takes_grant, takes_optional, answers_call, caches_block, purges, knows_revision, then_caches, read_done, marks_through, lease_done, caches_write, write_done, ends_push, caches_push, push_done, answer_of, spends, attached, pauses, replied, reply_counts, waits_for, counts_for_call, is_put_off, cancels, notes_notice, evicted}
 use Rattle.nq_model.specs.Journal.{Somewhere}
 use Rattle.nq_model.specs.Message.{sequence_of}
 use Rattle.nq_model.specs.Settle.{said, answers, names_losses}
@@ -145,17 +145,28 @@ told-done : (line : HostRow) (who : Who) (n : ℕ) (asks : Request) (r : Reply) 
 told-done line who n asks r done (later status is off) = let bad : true ≡ false = ap is_refused (sym is) ∙ done in absurd (cc)
 told-done line who n asks r done (decided inc seq is) = record { inc = inc; decided = seq; told = verdict-done who.inc line.verdict line.value asks (ap is_refused (sym is) ∙ done) }
 
--- a refusal is no ok
-refused-here : (who : Who) (u : UnderWay) (status : Refusal) (before : List Entry) → IsOpenAs who u before → KeptHere (A who u.q (said (answer_of status) None)) before
-refused-here who u Refusal.NoEnt before h = answers-open who u Said.NoEntry before h tt
-refused-here who u Refusal.Exist before h = answers-open who u Said.Exists before h tt
-refused-here who u Refusal.Inval before h = answers-open who u Said.Range before h tt
-refused-here who u Refusal.NoSpc before h = answers-open who u Said.NoSpace before h tt
-refused-here who u Refusal.Stale before h = answers-open who u Said.Stale before h tt
-refused-here who u Refusal.TryLater before h = answers-open who u Said.Busy before h tt
-refused-here who u Refusal.Fenced before h = answers-open who u Said.Busy before h tt
-refused-here who u Refusal.NotAttached before h = answers-open who u Said.Busy before h tt
-refused-here who u Refusal.Old before h = answers-open who u Said.Busy before h tt
+-- a refusal that counts and puts nothing off is no ok, and no `busy`
+refused-here : (who : Who) (u : UnderWay) (status : Refusal) (request : Request) (before : List Entry) → counts_for_call status request ≡ true → is_put_off status ≡ false → IsOpenAs who u before → KeptHere (A who u.q (said (answer_of status) None)) before
+refused-here who u Refusal.NoEnt request before counted final h = answers-open who u Said.NoEntry before h tt
+refused-here who u Refusal.Exist request before counted final h = answers-open who u Said.Exists before h tt
+refused-here who u Refusal.Inval request before counted final h = answers-open who u Said.Range before h tt
+refused-here who u Refusal.NoSpc request before counted final h = answers-open who u Said.NoSpace before h tt
+refused-here who u Refusal.Stale request before counted final h = answers-open who u Said.Stale before h tt
+refused-here who u Refusal.TryLater request before counted final h = absurd (cc)
+refused-here who u Refusal.NotAttached request before counted final h = absurd (cc)
+refused-here who u Refusal.Old request before counted final h = absurd (cc)
+refused-here who u Refusal.Fenced request before counted final h = absurd (uncounted request counted)
+  where
+    uncounted : (r : Request) → counts_for_call Refusal.Fenced r ≡ true → ⊥
+    uncounted (Request.Lookup w name) e = cc
+    uncounted (Request.Create w seq name blocks) e = cc
+    uncounted (Request.GetAttr w file) e = cc
+    uncounted (Request.Read w q file block want) e = cc
+    uncounted (Request.Write w seq file block first last push body) e = cc
+    uncounted (Request.GetLease w file want) e = cc
+    uncounted (Request.Resize w seq q file blocks) e = cc
+    uncounted (Request.Remove w seq q file) e = cc
+    uncounted other e = cc
 
 -- ---- the outcomes
 
@@ -299,8 +310,8 @@ module _ (line : HostRow) (journal : List Entry) (c : Client) (number : ℕ) (ti
       let cached : Spent c.call All line journal (caches_push (knows_revision (ends_push (spends (begun c))) file rev) file block body) = caches-push-cases _ file block body (Spent c.call All line journal) (λ e. k) (λ e. spent-caches _ file block body k) in
       vacates-if-clean-cases _ file (λ z. Mid All line journal (book_of z)) cached.mid (λ n clean e. (spent-vacates _ file n.tag cached).mid)
 
-  refusing : (status : Refusal) → Mid All line journal (book_of (answers_call (spends (begun c)) (answer_of status) None))
-  refusing status = answers-call-cases (spends (begun c)) (answer_of status) None (λ z. Mid All line journal (book_of z)) (λ e. spent.mid) (λ u e. mid-answers (spends (begun c)) u.q (answer_of status) None (refused-here _ u status _ (spent.mid.keeps.is_open u e)) spent.mid)
+  refusing : (status : Refusal) → counts_for_call status ticket.request ≡ true → is_put_off status ≡ false → Mid All line journal (book_of (answers_call (spends (begun c)) (answer_of status) None))
+  refusing status counted final = answers-call-cases (spends (begun c)) (answer_of status) None (λ z. Mid All line journal (book_of z)) (λ e. spent.mid) (λ u e. mid-answers (spends (begun c)) u.q (answer_of status) None (refused-here _ u status ticket.request _ counted final (spent.mid.keeps.is_open u e)) spent.mid)
 
   push-refused : (file : ℕ) → Mid All line journal (book_of (push_refused (spends (begun c)) file))
   push-refused file = (spent-reports _ file (spent-vacates-noticed _ file _ (spent-without _ file (spent-loses (spends (begun c)) file spent)))).mid
@@ -317,7 +328,7 @@ module _ (line : HostRow) (journal : List Entry) (c : Client) (number : ℕ) (ti
     renewing = λ who file want inc grant job asks told. (spent-takes-optional (spends (begun c)) file grant ticket.first spent).mid;
     pushed = λ who seq file block first last base body inc rev job asks told. pushed file block body rev;
     putting_off = λ inc status job told off. spent-pauses _ spent;
-    refusing = λ inc status job told counted final. refusing status;
+    refusing = λ inc status job told counted final. refusing status counted final;
     renewal_refused = λ inc status job told final. spent.mid;
     push_refused = λ who seq file block first last base body inc status job asks told final. push-refused file;
   })

@@ -14,7 +14,7 @@ use Rattle.nq_base.specs.declared.Value.{Value}
 use Rattle.nq_base.specs.declared.Who.{Who}
 use Rattle.walk_calls.proofs.CallsFit.{entry_who}
 use Rattle.walk_client.proofs.SendCases.{pushed, send-cases}
-use Rattle.walk_client.proofs.SettleCases.{IsSettling, IsRead, IsSync, of_sync, of_put, settle-cases}
+use Rattle.walk_client.proofs.SettleCases.{IsSettling, IsRead, IsWrite, IsSync, of_sync, of_put, settle-cases}
 use Rattle.walk_client.proofs.ClientMoves.{some-same, none-some}
 use Rattle.nq_model.specs.Client.{ClientStep, Job, for_call, renewing, Ticket, UnderWay, first_dirty, drop_dirty, is_clean, is_push_of}
 use Rattle.nq_model.specs.ClientStep.{told}
@@ -23,7 +23,7 @@ use Rattle.nq_model.specs.Legal.{IsReading}
 use Rattle.nq_model.specs.Message.{sequence_of}
 use Rattle.nq_model.specs.Send.{sends_request, after_seq, after_number, takes_push, sends_write, gives_up, send_next}
 use Rattle.nq_model.specs.Settle.{said, answers, names_losses, reads_cached, after_read, delays, after_write, marks_written, settle, ticket_is_for_call}
-use Rattle.nq_promises.specs.AnswersAreOfTheirCalls.{IsChanging}
+use Rattle.nq_promises.specs.AnswersAreOfTheirCalls.{IsChanging, IsWriting}
 use Rattle.nq_promises.specs.LossesAreReported.{cleans}
 use Rattle.walk_run.proofs.Members.{in-filtered, find-in}
 use Rattle.walk_run.proofs.Packets.{In}
@@ -63,6 +63,10 @@ mid-names t q file is_open form m = record {
 -- what a call of this form asks
 pub changing-form : (u : UnderWay) (op : Call) → u.call ≡ op → IsChanging (Some (told op)) → IsChanging (Some (told u.call))
 changing-form u op e h = subst (λ o. IsChanging (Some (told o))) (sym e) h
+
+pub writing-form : (u : UnderWay) (sync : Bool) (file block : ℕ) (body : List ℕ) → IsWrite u sync file block body → IsWriting (Some (told u.call))
+writing-form u true file block body e = subst (λ o. IsWriting (Some (told o))) (sym e.0) tt
+writing-form u false file block body e = subst (λ o. IsWriting (Some (told o))) (sym e) tt
 
 pub reading-form : (u : UnderWay) (file block : ℕ) → IsRead u.call file block → IsReading (Some (told u.call))
 reading-form u file block (inl e) = subst (λ o. IsReading (Some (told o))) (sym e) tt
@@ -202,7 +206,7 @@ module _ {line : HostRow} {journal : List Entry} (t : ClientStep) (m : Mid All l
     reading = λ u file block lease body is read can below has a. mid-cached u file block body is.called read;
     read_waits = λ u file block is read waits a. m;
     write_out = λ u sync file block body lease is write can out a. mid-answers t u.q Answer.Range None (answers-open t.client.who u Said.Range (t.entries ++ journal) (open-now u is.called) tt) m;
-    write_full = λ u sync file block body lease is write can below full a. mid-answers t u.q Answer.DirtyFull None (answers-open t.client.who u Said.DirtyFull (t.entries ++ journal) (open-now u is.called) tt) m;
+    write_full = λ u sync file block body lease is write can below full a. mid-answers t u.q Answer.DirtyFull None (answers-open t.client.who u Said.DirtyFull (t.entries ++ journal) (open-now u is.called) (writing-form u sync file block body write)) m;
     writing = λ u file block body lease is write can below room a. mid-writes u file block body is write;
     putting = λ u file block body lease is put written can below room a. mid-puts u file block body is put;
     write_waits = λ u sync file block body is write waits a. m;

@@ -4,4 +4,7 @@
 
 mod oks;
 
-pub use oks::{answers_are_of_their_calls_in_every_run, oks_are_kept_in_every_run, oks_are_met};
+pub use oks::{
+    answers_are_of_their_calls_in_every_run, busy_is_said_at_once_in_every_run,
+    oks_are_kept_in_every_run, oks_are_met,
+};

@@ -40,8 +40,10 @@ pub use law_requests::{
     one_request_is_open, one_request_per_sequence, replies_come_after, requests_are_met,
 };
 pub use law_servers::{recoveries_are_met, recovery_waits, rows_stand_apart};
+pub use law_steps::{steps_are_of_one_host, steps_rest_on_their_host};
 pub use law_synchronized::{
-    answers_are_of_their_calls_in_every_run, oks_are_kept_in_every_run, oks_are_met,
+    answers_are_of_their_calls_in_every_run, busy_is_said_at_once_in_every_run,
+    oks_are_kept_in_every_run, oks_are_met,
 };
 pub use law_tags::{
     standing_table_grows, tags_are_drawn_in_order, vacated_tags_are_met, vacated_tags_are_past,

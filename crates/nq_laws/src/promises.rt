@@ -1,6 +1,7 @@
 //! The headline.
 
 ghost use Rattle.nq_promises.specs.AnswersAreOfTheirCalls.{AnswersAreOfTheirCallsInEveryRun};
+ghost use Rattle.nq_promises.specs.BusyIsSaidAtOnce.{BusyIsSaidAtOnceInEveryRun};
 ghost use Rattle.nq_promises.specs.OksHaveTheirDeeds.{OksHaveTheirDeedsInEveryRun};
 ghost use Rattle.nq_promises.specs.CallsAreOrdered.{OrderedInEveryRun, ReadsAreOfTheirCallInEveryRun};
 ghost use Rattle.nq_promises.specs.LossesAreExcused.{LossesAreExcused};
@@ -23,6 +24,7 @@ pub fn headline()
     ensures of_their_call { ReadsAreOfTheirCallInEveryRun }
     ensures answered { AnswersAreOfTheirCallsInEveryRun }
     ensures done { OksHaveTheirDeedsInEveryRun }
+    ensures busy { BusyIsSaidAtOnceInEveryRun }
     ensures legal { ReadsAreLegalInEveryRun }
     ensures accounted { AccountedInEveryRun }
     ensures waiting { WaitingAreUnsavedInEveryRun }

@@ -3,7 +3,7 @@ use Rattle.std.specs.Prelude.{◌⊎◌, List, Option, Some, ⊤}
 use Rattle.nq_base.specs.declared.Entry.{Entry}
 use Rattle.nq_base.specs.declared.Entry.TheVariants.{A}
 use Rattle.nq_base.specs.declared.Said.{Said}
-use Rattle.nq_base.specs.declared.Said.TheVariants.{Ok, OkValue, OkBy, Lost}
+use Rattle.nq_base.specs.declared.Said.TheVariants.{Ok, OkValue, OkBy, Lost, DirtyFull}
 use Rattle.nq_base.specs.declared.Told.{Told}
 use Rattle.nq_base.specs.declared.Told.TheVariants.{Create, Lookup, Attr, Write, WriteSync, Sync, Resize, Remove}
 use Rattle.nq_promises.specs.Bounds.{InEveryRun}
@@ -27,13 +27,20 @@ IsChanging (Some (Resize file blocks)) = ⊤
 IsChanging (Some (Remove file)) = ⊤
 IsChanging other = ⊥
 
+-- the call is a `write` or `put`
+abbrev pub IsWriting : Option Told → Type 0
+IsWriting (Some (Write file block value)) = ⊤
+IsWriting (Some (WriteSync file block value)) = ⊤
+IsWriting other = ⊥
+
 -- the form of an answer is one that the call can have: `ok` alone and `lost` to a call that changes or syncs a file, `ok` with a
--- value to one that names or reads, and `ok` by a packet to one that reads
+-- value to one that names or reads, `ok` by a packet to one that reads, and `dirtyfull` to one that writes
 abbrev pub IsFormOf : Said → Option Told → Type 0
 IsFormOf Ok call = IsChanging call
 IsFormOf (OkValue value) call = IsNaming call ⊎ IsReading call
 IsFormOf (OkBy value packet) call = IsReading call
 IsFormOf (Lost spans) call = IsChanging call
+IsFormOf DirtyFull call = IsWriting call
 IsFormOf other call = ⊤
 
 -- what is asked of an A at its place: its call is open, so that its C stands before it and no other A of the call does, and its

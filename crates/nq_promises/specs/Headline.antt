@@ -4,6 +4,7 @@ use Rattle.nq_base.specs.declared.Call.{Call}
 use Rattle.nq_base.specs.declared.Entry.{Entry}
 use Rattle.nq_base.specs.declared.Event.{Event}
 use Rattle.nq_promises.specs.AnswersAreOfTheirCalls.{AnswersAreOfTheirCalls}
+use Rattle.nq_promises.specs.BusyIsSaidAtOnce.{BusyIsSaidAtOnce}
 use Rattle.nq_promises.specs.OksHaveTheirDeeds.{OksHaveTheirDeeds}
 use Rattle.nq_promises.specs.WritesAreAccounted.{WaitingAreUnsaved, EachHasItsFate}
 use Rattle.nq_promises.specs.BlocksAreHeld.{KeptBlocksAreHeld}
@@ -40,6 +41,8 @@ pub record HeadlineHolds (w : World) : Type 0 where
   -- each answer is of its call, and the deed of each ok stands before it
   pub answered : AnswersAreOfTheirCalls w.journal
   pub done : OksHaveTheirDeeds w.journal
+  -- busy is said at once, and for a cause
+  pub busy : BusyIsSaidAtOnce w.journal
   -- every successful read gives the latest standing write before it
   pub legal : IsLegal w.journal
   -- missing are only delayed writes that are lost, or whose host started again after them: each other one is stored, or is

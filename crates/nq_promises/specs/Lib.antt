@@ -13,6 +13,7 @@ pub mod Headline
 pub mod CallsAreOrdered
 pub mod AnswersAreOfTheirCalls
 pub mod OksHaveTheirDeeds
+pub mod BusyIsSaidAtOnce
 pub mod ReadsAreLegal
 pub mod WritesAreAccounted
 pub mod LossesAreExcused

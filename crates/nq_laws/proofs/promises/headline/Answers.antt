@@ -10,7 +10,7 @@ use Rattle.nq_laws.proofs.HeadlineParts.{at-every-moment}
 use Rattle.nq_laws.proofs.promises.headline.Goals as goal
 use Rattle.law_legal.proofs.LegalLaws.{legal-in-every-run}
 use Rattle.law_reports.proofs.ReportedRuns.{reported-in-every-run}
-use Rattle.law_synchronized.proofs.Standings.{synchronized-in-every-run, answers-in-every-run}
+use Rattle.law_synchronized.proofs.Standings.{synchronized-in-every-run, answers-in-every-run, busy-in-every-run}
 
 pub returns-clause-ordered : goal.returns-clause-ordered
 returns-clause-ordered c = ordered-in-every-run
@@ -23,6 +23,9 @@ returns-clause-answered c = answers-in-every-run
 
 pub returns-clause-done : goal.returns-clause-done
 returns-clause-done c = deeds-in-every-run
+
+pub returns-clause-busy : goal.returns-clause-busy
+returns-clause-busy c = busy-in-every-run
 
 pub returns-clause-legal : goal.returns-clause-legal
 returns-clause-legal c = legal-in-every-run
