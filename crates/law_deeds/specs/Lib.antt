@@ -1,2 +1,1 @@
 pub mod Met
-pub mod Refused

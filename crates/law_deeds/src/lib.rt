@@ -4,6 +4,4 @@
 
 mod deeds;
 
-pub use deeds::{
-    deeds_are_met, oks_have_their_deeds_in_every_run, only_calls_refuse, only_deeds_refuse,
-};
+pub use deeds::{deeds_are_met, oks_have_their_deeds_in_every_run};

@@ -13,7 +13,7 @@ use Rattle.nq_base.specs.declared.Tag.{Tag}
 use Rattle.nq_base.specs.declared.Verdict.{Verdict}
 use Rattle.nq_base.specs.declared.Want.{Want}
 use Rattle.nq_base.specs.declared.Who.{Who}
-use Rattle.law_owed.specs.RepliesAreOwed.{has_reply, owes_incarnation, owes_request, owes, CanBe, IsReply, brings_result, brings_error, IsReplied, AnswersAsOwed, RepliesAreOwed}
+use Rattle.nq_promises.specs.RepliesAreOwed.{has_reply, owes_incarnation, owes_request, owes, CanBe, IsReply, brings_result, brings_error, IsReplied, AnswersAsOwed, RepliesAreOwed}
 use Rattle.nq_model.specs.Decide.{Decision, decide, decides, creates, writes_through, stores, stores_recovering, resizes, removes, puts_off, verdict_reply, commits, decided_once}
 use Rattle.nq_model.specs.Kept.{File, find_file, find_name, host_row}
 use Rattle.nq_model.specs.Message.{Message, reply, Packet, Datagram, too_long, no_message, no_call, other_rpc, other_program, other_version, unknown_procedure, garbage_vacated, garbage, request, Reason, wrong_host, asker}

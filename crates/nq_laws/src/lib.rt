@@ -16,9 +16,7 @@ pub use law_contents::{
     done_requests_are_changes_in_every_run, files_are_their_history_in_every_run,
     pushes_carry_their_last_write_in_every_run,
 };
-pub use law_deeds::{
-    deeds_are_met, oks_have_their_deeds_in_every_run, only_calls_refuse, only_deeds_refuse,
-};
+pub use law_deeds::{deeds_are_met, oks_have_their_deeds_in_every_run};
 pub use law_endings::{
     endings_are_met, endings_come_late_in_every_run, excuses_are_met,
     losses_are_excused_in_every_run, unsaved_files_are_bound_or_excused_in_every_run,
@@ -33,6 +31,8 @@ pub use law_leases::{
     lease_interval_in_every_run, lease_interval_is_met, lease_interval_is_met_in_recovery,
 };
 pub use law_legal::{reads_are_legal_in_every_run, reads_are_met};
+pub use law_owed::replies_are_owed;
+pub use law_refused::{only_busy_refuses, only_calls_refuse, only_deeds_refuse};
 pub use law_reports::{
     losses_are_kept_until_named, losses_are_met, losses_are_reported_in_every_run,
 };

@@ -34,6 +34,7 @@ pub mod CachedReadsChangeLittle
 pub mod TagsAreInOrder
 pub mod OneRequestPerSequence
 pub mod RowsStandApart
+pub mod RepliesAreOwed
 pub mod RecoveriesWait
 -- tests of entries, by which schedules are shown to lead to what the laws speak of
 pub mod Witnesses

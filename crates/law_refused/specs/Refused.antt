@@ -11,6 +11,7 @@ use Rattle.nq_model.specs.OrderedTest.{is_ordered}
 use Rattle.nq_model.specs.ReportedTest.{is_reported}
 use Rattle.nq_model.specs.SynchronizedTest.{is_synchronized}
 use Rattle.nq_promises.specs.AnswersAreOfTheirCalls.{AnswersAreOfTheirCalls}
+use Rattle.nq_promises.specs.BusyIsSaidAtOnce.{BusyIsSaidAtOnce}
 use Rattle.nq_promises.specs.OksHaveTheirDeeds.{OksHaveTheirDeeds}
 
 -- whether a journal passes the tests of all other laws of journals
@@ -40,3 +41,16 @@ pub record OnlyCallsRefuse : Type 0 where
   pub others : IsTrue (passes an_answer_to_no_call)
   pub done : OksHaveTheirDeeds an_answer_to_no_call
   pub refused : ¬ AnswersAreOfTheirCalls an_answer_to_no_call
+
+-- a call is answered busy, but not at once
+abbrev pub a_late_busy : List Entry
+a_late_busy =
+    Entry.A (record { host = 0; inc = 1 }) 1 Said.Busy ∷ Entry.C (record { host = 1; inc = 1 }) 1 (Told.Sync 1) ∷
+    Entry.C (record { host = 0; inc = 1 }) 1 (Told.Sync 1) ∷ []
+
+-- the late busy is refused since busy is said at once, and for nothing else
+pub record OnlyBusyRefuses : Type 0 where
+  pub others : IsTrue (passes a_late_busy)
+  pub answered : AnswersAreOfTheirCalls a_late_busy
+  pub done : OksHaveTheirDeeds a_late_busy
+  pub refused : ¬ BusyIsSaidAtOnce a_late_busy

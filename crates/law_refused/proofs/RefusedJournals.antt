@@ -1,16 +1,20 @@
 -- Journals that only these laws refuse.
-use Rattle.std.proofs.Common.{◌≡◌, ◌⊎◌, ℕ, List, refl, arith, inl, inr}
+use Rattle.std.proofs.Common.{◌≡◌, ◌⊎◌, ℕ, List, refl, ap, arith, inl, inr}
 use Rattle.std.specs.Prelude.{IsTrue}
 use Rattle.nq_base.specs.declared.Who.{Who}
 use Rattle.nq_promises.specs.AnswersAreOfTheirCalls.{AnswersAreOfTheirCalls}
+use Rattle.nq_promises.specs.BusyIsSaidAtOnce.{BusyIsSaidAtOnce}
 use Rattle.nq_promises.specs.OksHaveTheirDeeds.{OksHaveTheirDeeds}
-use Rattle.law_deeds.specs.Refused.{passes, a_vanished_write, an_answer_to_no_call, OnlyDeedsRefuse, OnlyCallsRefuse}
+use Rattle.law_refused.specs.Refused.{passes, a_vanished_write, an_answer_to_no_call, a_late_busy, OnlyDeedsRefuse, OnlyCallsRefuse, OnlyBusyRefuses}
 
 abbrev first-host : Who
 first-host = record { host = 0; inc = 1 }
 
 abbrev first-call : ℕ
 first-call = 1
+
+abbrev no-call : ℕ
+no-call = 0
 
 abbrev second-call : ℕ
 second-call = 2
@@ -35,3 +39,19 @@ only-deeds-refuse = record { others = refl; answered = of-calls; refused = λ h.
 
 pub only-calls-refuse : OnlyCallsRefuse
 only-calls-refuse = record { others = refl; done = (tt, tt); refused = λ h. h.0.0.0 }
+
+no-answer : ⊥ ⊎ ⊥ ⊎ ⊥ → ⊥
+no-answer (inl bad) = bad
+no-answer (inr (inl bad)) = bad
+no-answer (inr (inr bad)) = bad
+
+late : BusyIsSaidAtOnce a_late_busy → ⊥
+late h = let other : first-call ≡ no-call = ap (λ w. w.host) h.0.0 in omega arith
+
+pub only-busy-refuses : OnlyBusyRefuses
+only-busy-refuses = record {
+  others = refl;
+  answered = (((inr (inl (refl, refl)), λ a. no-answer a), tt), (tt, (tt, tt)));
+  done = (tt, (tt, (tt, tt)));
+  refused = λ h. late h;
+}
