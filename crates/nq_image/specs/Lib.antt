@@ -1,0 +1,6 @@
+pub mod Check
+pub mod Hosts
+pub mod Layout
+pub mod Reading
+pub mod Rows
+pub mod Tables

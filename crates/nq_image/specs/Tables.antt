@@ -1,0 +1,65 @@
+-- The tables of an image of version 2: for each row the physical numbers of its file's blocks, and behind them the ids.
+use Rattle.std.specs.Prelude.{ℕ, ◌+◌, ◌-◌, ◌*◌, ◌==◌, Bool, true, false, slice_index_or, slice_set, ◌&&◌, not, List, [], ◌∷◌, ◌++◌, Option, Some, None, drop, nat_lt, nat_le, zero, suc, if◌then◌else◌}
+use Rattle.std.specs.List.{list_any}
+use Rattle.nq_image.specs.declared.rows.Slot.{Slot}
+use Rattle.nq_image.specs.Check.{Check, check}
+use Rattle.nq_image.specs.Layout.{word_in, are_zeros}
+
+-- how many physical blocks there are: those of all files, and those of the tables
+abbrev pub most_physical : ℕ
+most_physical = 16641
+
+-- how many blocks the tables have: one for each row, and one for the ids
+abbrev pub table_blocks : ℕ
+table_blocks = 257
+
+-- whether a physical block is one of the tables'
+abbrev pub is_of_tables : (tables block : ℕ) → Bool
+is_of_tables tables block = nat_le tables block && nat_lt block (tables + table_blocks)
+
+-- whether a block was given to a file, by the marks of the physical blocks
+abbrev pub is_marked : (marks : List Bool) (block : ℕ) → Bool
+is_marked marks block = slice_index_or marks block false
+
+-- an entry of a table is one above a physical number: there is one, it is none of the tables', and it was not given before
+unfoldable pub is_entry : (tables : ℕ) (marks : List Bool) (entry : ℕ) → Bool
+is_entry tables marks entry =
+    nat_le 1 entry && nat_le entry most_physical && not (is_of_tables tables (entry - 1)) && not (is_marked marks (entry - 1))
+
+-- the marks once the block of an entry is given
+abbrev pub marked : (marks : List Bool) (entry : ℕ) → List Bool
+marked marks entry = slice_set marks (entry - 1) true
+
+-- what the rest of a table has to be, with so many entries left, by the marks of the blocks that were given before
+unfoldable pub table_checks : (count tables place : ℕ) (marks : List Bool) (rest : List ℕ) → List Check
+table_checks zero tables place marks rest = check place (are_zeros rest) ∷ []
+table_checks (suc count) tables place marks rest =
+    check place (is_entry tables marks (word_in 0 rest))
+    ∷ table_checks count tables (place + 4) (marked marks (word_in 0 rest)) (drop 4 rest)
+
+-- the marks behind the rest of a table
+unfoldable pub marks_behind : (count : ℕ) (marks : List Bool) (rest : List ℕ) → List Bool
+marks_behind zero marks rest = marks
+marks_behind (suc count) marks rest = marks_behind count (marked marks (word_in 0 rest)) (drop 4 rest)
+
+-- the physical numbers in the rest of a table
+unfoldable pub table_of : (count : ℕ) (rest : List ℕ) → List ℕ
+table_of zero rest = []
+table_of (suc count) rest = (word_in 0 rest - 1) ∷ table_of count (drop 4 rest)
+
+-- the id of a used row is at least 1, below the next one, and none of these; that of an unused row is 0
+unfoldable pub is_id : (next : ℕ) (ids : List ℕ) → Option Slot → (id : ℕ) → Bool
+is_id next ids None id = id == 0
+is_id next ids (Some slot) id = nat_le 1 id && nat_lt id next && not (list_any (λ known. known == id) ids)
+
+-- what the block of the ids has to be, for these rows, behind these ids
+unfoldable pub ids_checks : (next place : ℕ) (ids : List ℕ) (slots : List (Option Slot)) (rest : List ℕ) → List Check
+ids_checks next place ids [] rest = check place (are_zeros rest) ∷ []
+ids_checks next place ids (slot ∷ slots) rest =
+    check place (is_id next ids slot (word_in 0 rest))
+    ∷ ids_checks next (place + 4) (ids ++ word_in 0 rest ∷ []) slots (drop 4 rest)
+
+-- the ids of these rows
+unfoldable pub ids_of : (slots : List (Option Slot)) (rest : List ℕ) → List ℕ
+ids_of [] rest = []
+ids_of (slot ∷ slots) rest = word_in 0 rest ∷ ids_of slots (drop 4 rest)

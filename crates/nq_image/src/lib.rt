@@ -1,0 +1,14 @@
+//! The image of what a server keeps, as a disk has it: which bytes are one, which field is wrong where they are not, and
+//! for what they stand. No disk is in it: each function reads one part of an image from bytes that it is given.
+#![tactic(auto)]
+
+mod fault;
+mod fields;
+mod hosts;
+mod rows;
+mod tables;
+
+pub use fault::{ImageFault, WrongField};
+pub use hosts::{check_hosts, read_host};
+pub use rows::{Slot, Version, read_row, read_rows};
+pub use tables::{PHYSICAL_BLOCKS, TABLE_BLOCKS, read_table};
