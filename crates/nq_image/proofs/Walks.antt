@@ -1,8 +1,9 @@
 -- Walks over the rows of an image, one row at a time.
-use Rattle.std.proofs.Common.{◌≡◌, ◌<◌, ◌≤◌, ◌+◌, ◌-◌, ℕ, suc, Bool, true, false, List, [], ◌∷◌, ◌++◌, Option, Result, Ok, Err, take, drop, if◌then◌else◌, refl, sym, subst, ◌∙◌, arith}
-use Rattle.std.proofs.lemmas.List.{append_assoc, append-nil}
+use Rattle.std.proofs.Common.{◌≡◌, ◌<◌, ◌≤◌, ◌+◌, ◌-◌, ℕ, suc, Bool, true, false, List, [], ◌∷◌, ◌++◌, Option, Result, Ok, Err, take, drop, get_or, length, if◌then◌else◌, refl, sym, subst, ◌∙◌, arith}
+use Rattle.std.proofs.lemmas.List.{append_assoc, append-nil, length-drop}
 use Rattle.std.proofs.lemmas.List.Sums.{sum_by-append}
 use Rattle.std.specs.List.{sum_by}
+use Rattle.std.proofs.Math.Seq.{drop-cons}
 use Rattle.nq_base.specs.declared.HostRow.{HostRow}
 use Rattle.nq_image.specs.Check.{tested, judged}
 use Rattle.nq_image.specs.Hosts.{host_checks, host_of, hosts_checks}
@@ -144,3 +145,50 @@ no-mark-left count i marks rest last le same =
     let P : ℕ → Type 0 = λ m. marks_behind m marks rest ≡ last in
     let none : count - i ≡ 0 = omega arith in
     subst P none same
+
+-- ---- ids
+
+one-more : {X : Type 0} (xs : List X) (i : ℕ) (x : X) → i < length xs → x ≡ get_or xs i x → drop i xs ≡ x ∷ drop (i + 1) xs
+one-more xs i x lt is =
+    let e : drop i xs ≡ get_or xs i x ∷ drop (suc i) xs = drop-cons xs i x lt in
+    let f : suc i ≡ i + 1 = omega arith in
+    cc
+
+pub id-passes : (next at i : ℕ) (ids rest : List ℕ) (slots : List (Option Slot)) (slot : Option Slot) (whole : Result (List ℕ) ℕ) → i < length slots → slot ≡ get_or slots i slot → is_id next ids slot (word_in 0 rest) ≡ true → tested (ids_checks next at ids (drop i slots) rest) (ids ++ ids_of (drop i slots) rest) ≡ whole → tested (ids_checks next (at + 4) (ids ++ word_in 0 rest ∷ []) (drop (i + 1) slots) (drop 4 rest)) ((ids ++ word_in 0 rest ∷ []) ++ ids_of (drop (i + 1) slots) (drop 4 rest)) ≡ whole
+unfolding ids_checks ids_of
+id-passes next at i ids rest slots slot whole lt is right same =
+    let P : List (Option Slot) → Type 0 = λ left. tested (ids_checks next at ids left rest) (ids ++ ids_of left rest) ≡ whole in
+    let s = subst P (one-more slots i slot lt is) same in
+    let behind = ids_checks next (at + 4) (ids ++ word_in 0 rest ∷ []) (drop (i + 1) slots) (drop 4 rest) in
+    let R : List ℕ → Type 0 = λ v. tested behind v ≡ whole in
+    subst R (sym (append_assoc ids (word_in 0 rest ∷ []) (ids_of (drop (i + 1) slots) (drop 4 rest))))
+    (then-true (is_id next ids slot (word_in 0 rest)) (tested behind (ids ++ word_in 0 rest ∷ ids_of (drop (i + 1) slots) (drop 4 rest))) (Err at) whole right s)
+
+pub id-fails : (next at i : ℕ) (ids rest : List ℕ) (slots : List (Option Slot)) (slot : Option Slot) (whole : Result (List ℕ) ℕ) → i < length slots → slot ≡ get_or slots i slot → is_id next ids slot (word_in 0 rest) ≡ false → tested (ids_checks next at ids (drop i slots) rest) (ids ++ ids_of (drop i slots) rest) ≡ whole → whole ≡ Err at
+unfolding ids_checks ids_of
+id-fails next at i ids rest slots slot whole lt is wrong same =
+    let P : List (Option Slot) → Type 0 = λ left. tested (ids_checks next at ids left rest) (ids ++ ids_of left rest) ≡ whole in
+    let s = subst P (one-more slots i slot lt is) same in
+    let behind = ids_checks next (at + 4) (ids ++ word_in 0 rest ∷ []) (drop (i + 1) slots) (drop 4 rest) in
+    sym (then-false (is_id next ids slot (word_in 0 rest)) (tested behind (ids ++ word_in 0 rest ∷ ids_of (drop (i + 1) slots) (drop 4 rest))) (Err at) whole wrong s)
+
+length-zero : {X : Type 0} (xs : List X) → length xs ≡ 0 → xs ≡ []
+length-zero [] e = refl
+length-zero (x ∷ xs) e = absurd (omega arith)
+
+drop-all : {X : Type 0} (xs : List X) (i : ℕ) → length xs ≤ i → drop i xs ≡ []
+drop-all xs i le = length-zero (drop i xs) (omega (arith, length-drop i xs))
+
+pub no-id-left : (next at i : ℕ) (ids rest : List ℕ) (slots : List (Option Slot)) (whole : Result (List ℕ) ℕ) → length slots ≤ i → are_zeros rest ≡ true → tested (ids_checks next at ids (drop i slots) rest) (ids ++ ids_of (drop i slots) rest) ≡ whole → whole ≡ Ok ids
+unfolding ids_checks ids_of
+no-id-left next at i ids rest slots whole le zeros same =
+    let P : List (Option Slot) → Type 0 = λ left. tested (ids_checks next at ids left rest) (ids ++ ids_of left rest) ≡ whole in
+    let s = then-true (are_zeros rest) (Ok (ids ++ [])) (Err at) whole zeros (subst P (drop-all slots i le) same) in
+    let Q : List ℕ → Type 0 = λ v. whole ≡ Ok v in
+    subst Q (append-nil ids) (sym s)
+
+pub rest-behind-ids : (next at i : ℕ) (ids rest : List ℕ) (slots : List (Option Slot)) (whole : Result (List ℕ) ℕ) → length slots ≤ i → are_zeros rest ≡ false → tested (ids_checks next at ids (drop i slots) rest) (ids ++ ids_of (drop i slots) rest) ≡ whole → whole ≡ Err at
+unfolding ids_checks ids_of
+rest-behind-ids next at i ids rest slots whole le wrong same =
+    let P : List (Option Slot) → Type 0 = λ left. tested (ids_checks next at ids left rest) (ids ++ ids_of left rest) ≡ whole in
+    sym (then-false (are_zeros rest) (Ok (ids ++ [])) (Err at) whole wrong (subst P (drop-all slots i le) same))

@@ -1,4 +1,5 @@
 pub mod Check
+pub mod Heads
 pub mod Hosts
 pub mod Layout
 pub mod Reading

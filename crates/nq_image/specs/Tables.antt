@@ -1,9 +1,9 @@
 -- The tables of an image of version 2: for each row the physical numbers of its file's blocks, and behind them the ids.
-use Rattle.std.specs.Prelude.{ℕ, ◌+◌, ◌-◌, ◌*◌, ◌==◌, Bool, true, false, slice_index_or, slice_set, ◌&&◌, not, List, [], ◌∷◌, ◌++◌, Option, Some, None, drop, nat_lt, nat_le, zero, suc, if◌then◌else◌}
+use Rattle.std.specs.Prelude.{ℕ, ◌+◌, ◌-◌, ◌*◌, ◌==◌, Bool, true, false, Result, Ok, Err, position, min, length, slice_index_or, slice_set, ◌&&◌, not, List, [], ◌∷◌, ◌++◌, Option, Some, None, drop, nat_lt, nat_le, zero, suc, if◌then◌else◌}
 use Rattle.std.specs.List.{list_any}
 use Rattle.nq_image.specs.declared.rows.Slot.{Slot}
 use Rattle.nq_image.specs.Check.{Check, check}
-use Rattle.nq_image.specs.Layout.{word_in, are_zeros}
+use Rattle.nq_image.specs.Layout.{word_in, are_zeros, whole_blocks}
 
 -- how many physical blocks there are: those of all files, and those of the tables
 abbrev pub most_physical : ℕ
@@ -63,3 +63,18 @@ ids_checks next place ids (slot ∷ slots) rest =
 unfoldable pub ids_of : (slots : List (Option Slot)) (rest : List ℕ) → List ℕ
 ids_of [] rest = []
 ids_of (slot ∷ slots) rest = word_in 0 rest ∷ ids_of slots (drop 4 rest)
+
+-- the least physical block from this one on that has a mark
+abbrev pub marked_from : (block : ℕ) (marks : List Bool) → Option ℕ
+marked_from block marks = position (λ mark. mark) (drop block marks)
+
+-- every block that a mark names is held, or the place of the least that is not
+abbrev pub held_from : (block : ℕ) → Option ℕ → Result Unit ℕ
+held_from block None = Ok tt
+held_from block (Some behind) = Err (40960 + 4096 * (block + behind))
+
+-- a disk of so many bytes holds every block that has a mark whole, or the place of the least that it does not
+unfoldable pub held : (size : ℕ) (marks : List Bool) → Result Unit ℕ
+held size marks =
+    let whole = min (whole_blocks size) (length marks) in
+    held_from whole (marked_from whole marks)

@@ -4,11 +4,15 @@
 
 mod fault;
 mod fields;
+mod heads;
 mod hosts;
+mod ids;
 mod rows;
 mod tables;
 
 pub use fault::{ImageFault, WrongField};
+pub use heads::{Boots, Front, read_boots, read_front, version_of};
 pub use hosts::{check_hosts, read_host};
+pub use ids::{check_held, read_ids, whole_blocks};
 pub use rows::{Slot, Version, read_row, read_rows};
 pub use tables::{PHYSICAL_BLOCKS, TABLE_BLOCKS, read_table};
