@@ -1,17 +1,18 @@
 -- Walks over the rows of an image, one row at a time.
-use Rattle.std.proofs.Common.{◌≡◌, ◌<◌, ◌≤◌, ◌+◌, ◌-◌, ℕ, suc, Bool, true, false, List, [], ◌∷◌, ◌++◌, Option, Result, Ok, Err, take, drop, get_or, length, if◌then◌else◌, refl, sym, subst, ◌∙◌, arith}
+use Rattle.std.proofs.Common.{◌≡◌, ◌<◌, ◌≤◌, ◌+◌, ◌-◌, ℕ, suc, nat_le, Bool, true, false, List, [], ◌∷◌, ◌++◌, Option, Result, Ok, Err, take, drop, get_or, length, if◌then◌else◌, refl, sym, subst, ◌∙◌, arith}
 use Rattle.std.proofs.lemmas.List.{append_assoc, append-nil, length-drop}
 use Rattle.std.proofs.lemmas.List.Sums.{sum_by-append}
-use Rattle.std.specs.List.{sum_by}
+use Rattle.std.specs.List.{sum_by, All}
+use Rattle.std.proofs.lemmas.Bool.Decides.{nat_tests}
 use Rattle.std.proofs.Math.Seq.{drop-cons}
 use Rattle.nq_base.specs.declared.HostRow.{HostRow}
 use Rattle.nq_image.specs.Check.{tested, judged}
 use Rattle.nq_image.specs.Hosts.{host_checks, host_of, hosts_checks}
-use Rattle.nq_image.specs.Layout.{word_in, are_zeros}
+use Rattle.nq_image.specs.Layout.{piece, word_in, are_zeros}
 use Rattle.nq_image.specs.Rows.{blocks_of, row_checks, rows_checks, slot_of, slots_of}
-use Rattle.nq_image.specs.Tables.{is_entry, marked, marks_behind, table_checks, table_of, is_id, ids_checks, ids_of}
+use Rattle.nq_image.specs.Tables.{is_entry, marked, marks_behind, table_checks, table_of, is_id, ids_checks, ids_of, slot_checks, slot_table, slot_marks, tables_checks, tables_blocks, tables_marks}
 use Rattle.nq_image.specs.declared.fault.ImageFault.{ImageFault}
-use Rattle.nq_image.specs.declared.fault.ImageFault.TheVariants.{BadField, Memory}
+use Rattle.nq_image.specs.declared.fault.ImageFault.TheVariants.{NotAnImage, BadField, Memory}
 use Rattle.nq_image.specs.declared.rows.Slot.{Slot}
 use Rattle.nq_image.specs.declared.rows.Version.{Version}
 use Rattle.nq_image.specs.Reading.{Reads}
@@ -49,6 +50,11 @@ reads-wrong view answer p told is same = let P : Result _ ImageFault → Type 0 
 
 pub reads-nothing : {X Y : Type 0} (view : X → Y) (answer : Result X ImageFault) (told : Result Y ℕ) → answer ≡ Err Memory → Reads view answer told
 reads-nothing view answer told is = let P : Result _ ImageFault → Type 0 = λ a. Reads view a told in subst P (sym is) tt
+
+pub reads-on : {X Y Z W : Type 0} (first : X → Y) (second : Z → W) (answer : Result Z ImageFault) (fault : ImageFault) (told : Result Y ℕ) (whole : Result W ℕ) → answer ≡ Err fault → Reads first (Err fault) told → ((p : ℕ) → told ≡ Err p → Err p ≡ whole) → Reads second answer whole
+reads-on first second answer NotAnImage told whole is read on = absurd read
+reads-on first second answer (BadField p) told whole is read on = reads-wrong second answer p whole is (on p read)
+reads-on first second answer Memory told whole is read on = reads-nothing second answer whole is
 
 pub then-true : {X : Type 0} (b : Bool) (x y z : X) → b ≡ true → (if b then x else y) ≡ z → x ≡ z
 then-true true x y z e h = h
@@ -192,3 +198,73 @@ unfolding ids_checks ids_of
 rest-behind-ids next at i ids rest slots whole le wrong same =
     let P : List (Option Slot) → Type 0 = λ left. tested (ids_checks next at ids left rest) (ids ++ ids_of left rest) ≡ whole in
     sym (then-false (are_zeros rest) (Ok (ids ++ [])) (Err at) whole wrong (subst P (drop-all slots i le) same))
+
+-- ---- tables
+
+same-blocks : (given own found behind : List ℕ) → found ≡ own → given ++ (found ++ behind) ≡ (given ++ own) ++ behind
+same-blocks given own found behind e = rw e (sym (append_assoc given own behind))
+
+pub table-passes : (tables at i : ℕ) (slots : List (Option Slot)) (slot : Option Slot) (marks : List Bool) (bytes given own : List ℕ) (whole : Result (List ℕ) ℕ) → i < length slots → slot ≡ get_or slots i slot → nat_le (at + 4096) (length bytes) ≡ true → tested (slot_checks tables at slot marks (piece at 4096 bytes)) (slot_table slot (piece at 4096 bytes)) ≡ Ok own → tested (tables_checks tables at (drop i slots) marks bytes) (given ++ tables_blocks at (drop i slots) bytes) ≡ whole → tested (tables_checks tables (at + 4096) (drop (i + 1) slots) (slot_marks slot marks (piece at 4096 bytes)) bytes) ((given ++ own) ++ tables_blocks (at + 4096) (drop (i + 1) slots) bytes) ≡ whole
+unfolding tables_checks tables_blocks
+table-passes tables at i slots slot marks bytes given own whole lt is held right same =
+    let P : List (Option Slot) → Type 0 = λ left. tested (tables_checks tables at left marks bytes) (given ++ tables_blocks at left bytes) ≡ whole in
+    let s = subst P (one-more slots i slot lt is) same in
+    let found = slot_table slot (piece at 4096 bytes) in
+    let front = slot_checks tables at slot marks (piece at 4096 bytes) in
+    let behind = tables_checks tables (at + 4096) (drop (i + 1) slots) (slot_marks slot marks (piece at 4096 bytes)) bytes in
+    let last = tables_blocks (at + 4096) (drop (i + 1) slots) bytes in
+    let value = given ++ (found ++ last) in
+    let t = then-true (nat_le (at + 4096) (length bytes)) (tested (front ++ behind) value) (Err at) whole held s in
+    let R : List ℕ → Type 0 = λ v. tested behind v ≡ whole in
+    subst R (same-blocks given own found last (tested-value front found own right)) (sym (passes front behind found own value right) ∙ t)
+
+pub table-fails : (tables at i : ℕ) (slots : List (Option Slot)) (slot : Option Slot) (marks : List Bool) (bytes given : List ℕ) (p : ℕ) (whole : Result (List ℕ) ℕ) → i < length slots → slot ≡ get_or slots i slot → nat_le (at + 4096) (length bytes) ≡ true → tested (slot_checks tables at slot marks (piece at 4096 bytes)) (slot_table slot (piece at 4096 bytes)) ≡ Err p → tested (tables_checks tables at (drop i slots) marks bytes) (given ++ tables_blocks at (drop i slots) bytes) ≡ whole → Err p ≡ whole
+unfolding tables_checks tables_blocks
+table-fails tables at i slots slot marks bytes given p whole lt is held wrong same =
+    let P : List (Option Slot) → Type 0 = λ left. tested (tables_checks tables at left marks bytes) (given ++ tables_blocks at left bytes) ≡ whole in
+    let s = subst P (one-more slots i slot lt is) same in
+    let found = slot_table slot (piece at 4096 bytes) in
+    let front = slot_checks tables at slot marks (piece at 4096 bytes) in
+    let behind = tables_checks tables (at + 4096) (drop (i + 1) slots) (slot_marks slot marks (piece at 4096 bytes)) bytes in
+    let value = given ++ (found ++ tables_blocks (at + 4096) (drop (i + 1) slots) bytes) in
+    sym (fails front behind found value p wrong) ∙ then-true (nat_le (at + 4096) (length bytes)) (tested (front ++ behind) value) (Err at) whole held s
+
+pub table-is-missing : (tables at i : ℕ) (slots : List (Option Slot)) (slot : Option Slot) (marks : List Bool) (bytes given : List ℕ) (whole : Result (List ℕ) ℕ) → i < length slots → slot ≡ get_or slots i slot → nat_le (at + 4096) (length bytes) ≡ false → tested (tables_checks tables at (drop i slots) marks bytes) (given ++ tables_blocks at (drop i slots) bytes) ≡ whole → whole ≡ Err at
+unfolding tables_checks tables_blocks
+table-is-missing tables at i slots slot marks bytes given whole lt is missing same =
+    let P : List (Option Slot) → Type 0 = λ left. tested (tables_checks tables at left marks bytes) (given ++ tables_blocks at left bytes) ≡ whole in
+    let s = subst P (one-more slots i slot lt is) same in
+    let found = slot_table slot (piece at 4096 bytes) in
+    let front = slot_checks tables at slot marks (piece at 4096 bytes) in
+    let behind = tables_checks tables (at + 4096) (drop (i + 1) slots) (slot_marks slot marks (piece at 4096 bytes)) bytes in
+    let value = given ++ (found ++ tables_blocks (at + 4096) (drop (i + 1) slots) bytes) in
+    sym (then-false (nat_le (at + 4096) (length bytes)) (tested (front ++ behind) value) (Err at) whole missing s)
+
+pub table-marks : (at i : ℕ) (slots : List (Option Slot)) (slot : Option Slot) (marks : List Bool) (bytes : List ℕ) (last : List Bool) → i < length slots → slot ≡ get_or slots i slot → tables_marks at (drop i slots) marks bytes ≡ last → tables_marks (at + 4096) (drop (i + 1) slots) (slot_marks slot marks (piece at 4096 bytes)) bytes ≡ last
+unfolding tables_marks
+table-marks at i slots slot marks bytes last lt is same =
+    let P : List (Option Slot) → Type 0 = λ left. tables_marks at left marks bytes ≡ last in
+    subst P (one-more slots i slot lt is) same
+
+pub no-table-left : (tables at i : ℕ) (slots : List (Option Slot)) (marks : List Bool) (bytes given : List ℕ) (whole : Result (List ℕ) ℕ) → length slots ≤ i → tested (tables_checks tables at (drop i slots) marks bytes) (given ++ tables_blocks at (drop i slots) bytes) ≡ whole → whole ≡ Ok given
+unfolding tables_checks tables_blocks
+no-table-left tables at i slots marks bytes given whole le same =
+    let P : List (Option Slot) → Type 0 = λ left. tested (tables_checks tables at left marks bytes) (given ++ tables_blocks at left bytes) ≡ whole in
+    let s : Ok (given ++ []) ≡ whole = subst P (drop-all slots i le) same in
+    let Q : List ℕ → Type 0 = λ v. whole ≡ Ok v in
+    subst Q (append-nil given) (sym s)
+
+pub no-marks-left : (at i : ℕ) (slots : List (Option Slot)) (marks : List Bool) (bytes : List ℕ) (last : List Bool) → length slots ≤ i → tables_marks at (drop i slots) marks bytes ≡ last → marks ≡ last
+unfolding tables_marks
+no-marks-left at i slots marks bytes last le same =
+    let P : List (Option Slot) → Type 0 = λ left. tables_marks at left marks bytes ≡ last in
+    subst P (drop-all slots i le) same
+
+pub slot-is-short : (slots : List (Option Slot)) (i : ℕ) (slot : Option Slot) → i < length slots → slot ≡ get_or slots i slot → All (λ s. blocks_of s ≤ 1024) slots → blocks_of slot ≤ 1024
+slot-is-short slots i slot lt is all = let P : Option Slot → Type 0 = λ s. blocks_of s ≤ 1024 in subst P (sym is) (all i slot lt)
+
+pub is-held : (place size : ℕ) → place + 4096 ≤ size → nat_le (place + 4096) size ≡ true
+is-held place size h = grind (arith, nat_tests)
+
+pub is-missing : (place size : ℕ) → size < place + 4096 → nat_le (place + 4096) size ≡ false
+is-missing place size h = grind (arith, nat_tests)

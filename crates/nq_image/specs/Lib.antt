@@ -1,6 +1,7 @@
 pub mod Check
 pub mod Heads
 pub mod Hosts
+pub mod Image
 pub mod Layout
 pub mod Reading
 pub mod Rows

@@ -3,7 +3,7 @@ use Rattle.std.specs.Prelude.{ℕ, ◌+◌, ◌-◌, ◌*◌, ◌==◌, Bool, tr
 use Rattle.std.specs.List.{list_any}
 use Rattle.nq_image.specs.declared.rows.Slot.{Slot}
 use Rattle.nq_image.specs.Check.{Check, check}
-use Rattle.nq_image.specs.Layout.{word_in, are_zeros, whole_blocks}
+use Rattle.nq_image.specs.Layout.{piece, word_in, are_zeros, whole_blocks}
 
 -- how many physical blocks there are: those of all files, and those of the tables
 abbrev pub most_physical : ℕ
@@ -46,6 +46,40 @@ marks_behind (suc count) marks rest = marks_behind count (marked marks (word_in 
 unfoldable pub table_of : (count : ℕ) (rest : List ℕ) → List ℕ
 table_of zero rest = []
 table_of (suc count) rest = (word_in 0 rest - 1) ∷ table_of count (drop 4 rest)
+
+-- what the table of a row has to be: that of an unused row may be any
+unfoldable pub slot_checks : (tables place : ℕ) (slot : Option Slot) (marks : List Bool) (table : List ℕ) → List Check
+slot_checks tables place None marks table = []
+slot_checks tables place (Some slot) marks table = table_checks slot.blocks tables place marks table
+
+-- the physical blocks of a row
+unfoldable pub slot_table : (slot : Option Slot) (table : List ℕ) → List ℕ
+slot_table None table = []
+slot_table (Some slot) table = table_of slot.blocks table
+
+-- the marks behind the table of a row
+unfoldable pub slot_marks : (slot : Option Slot) (marks : List Bool) (table : List ℕ) → List Bool
+slot_marks None marks table = marks
+slot_marks (Some slot) marks table = marks_behind slot.blocks marks table
+
+-- what the tables of these rows have to be, of which the first stands at a place: each is held whole, and each is as its row
+-- asks
+unfoldable pub tables_checks : (tables place : ℕ) (slots : List (Option Slot)) (marks : List Bool) (bytes : List ℕ) → List Check
+tables_checks tables place [] marks bytes = []
+tables_checks tables place (slot ∷ slots) marks bytes =
+    check place (nat_le (place + 4096) (length bytes))
+    ∷ (slot_checks tables place slot marks (piece place 4096 bytes)
+    ++ tables_checks tables (place + 4096) slots (slot_marks slot marks (piece place 4096 bytes)) bytes)
+
+-- the physical blocks of these rows, row after row
+unfoldable pub tables_blocks : (place : ℕ) (slots : List (Option Slot)) (bytes : List ℕ) → List ℕ
+tables_blocks place [] bytes = []
+tables_blocks place (slot ∷ slots) bytes = slot_table slot (piece place 4096 bytes) ++ tables_blocks (place + 4096) slots bytes
+
+-- the marks behind the tables of these rows
+unfoldable pub tables_marks : (place : ℕ) (slots : List (Option Slot)) (marks : List Bool) (bytes : List ℕ) → List Bool
+tables_marks place [] marks bytes = marks
+tables_marks place (slot ∷ slots) marks bytes = tables_marks (place + 4096) slots (slot_marks slot marks (piece place 4096 bytes)) bytes
 
 -- the id of a used row is at least 1, below the next one, and none of these; that of an unused row is 0
 unfoldable pub is_id : (next : ℕ) (ids : List ℕ) → Option Slot → (id : ℕ) → Bool

@@ -1,7 +1,7 @@
 //! Numbers and zeros in the bytes of an image.
 
 ghost use Rattle.std.specs.Prelude.{◌≡◌, ◌≤◌, ◌+◌, length};
-ghost use Rattle.nq_image.specs.Layout.{word_in as word_at, hyper_in as hyper_at, are_zeros as all_zeros};
+ghost use Rattle.nq_image.specs.Layout.{piece as piece_at, word_in as word_at, hyper_in as hyper_at, are_zeros as all_zeros};
 
 use byteorder::{BigEndian, ByteOrder};
 
@@ -30,4 +30,14 @@ pub(crate) fn are_zeros(bytes: &[u8]) -> bool
     ensures { result ≡ all_zeros bytes.now }
 {
     bytes.iter().all(|byte| *byte == 0)
+}
+
+/// So many bytes from a place on.
+#[tactic(auto, unfolding(crate::specs::Layout::piece))]
+pub(crate) fn piece(bytes: &[u8], place: usize, size: usize) -> &[u8]
+    requires { place + size ≤ length bytes.now }
+    ensures bytes { result.now ≡ piece_at place size bytes.now }
+    ensures size { length result.now ≡ size }
+{
+    &bytes[place..place + size]
 }

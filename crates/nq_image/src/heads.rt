@@ -1,6 +1,6 @@
 //! The first 64 bytes of an image.
 
-ghost use Rattle.std.specs.Prelude.{◌≡◌, length};
+ghost use Rattle.std.specs.Prelude.{◌≡◌, ◌≤◌, IfOk, length};
 ghost use Rattle.nq_image.specs.Check.{tested};
 ghost use Rattle.nq_image.specs.Heads.{boots_checks, boots_of, front_checks, front_of, version_of as version_at};
 
@@ -76,7 +76,8 @@ pub fn read_boots(front: &[u8]) -> Result<Boots, WrongField>
 #[tactic(auto, unfolding(crate::specs::Heads::front_of, crate::specs::Layout::piece))]
 pub fn read_front(front: &[u8]) -> Result<Front, WrongField>
     requires { length front.now ≡ 64 }
-    ensures { result ≡ tested (front_checks front.now) (front_of front.now) }
+    ensures told { result ≡ tested (front_checks front.now) (front_of front.now) }
+    ensures near { IfOk result (λ front. front.tables ≤ 16384) }
 {
     let boot = word_in(front, 8);
     if boot >= 0x8000_0000 {

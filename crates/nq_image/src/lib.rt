@@ -7,6 +7,7 @@ mod fields;
 mod heads;
 mod hosts;
 mod ids;
+mod image;
 mod rows;
 mod tables;
 
@@ -14,5 +15,6 @@ pub use fault::{ImageFault, WrongField};
 pub use heads::{Boots, Front, read_boots, read_front, version_of};
 pub use hosts::{check_hosts, read_host};
 pub use ids::{check_held, read_ids, whole_blocks};
+pub use image::{ImageOne, ImageTwo, Tables, read_one, read_two};
 pub use rows::{Slot, Version, read_row, read_rows};
-pub use tables::{PHYSICAL_BLOCKS, TABLE_BLOCKS, read_table};
+pub use tables::{PHYSICAL_BLOCKS, TABLE_BLOCKS, read_table, read_tables};

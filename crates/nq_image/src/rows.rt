@@ -1,6 +1,6 @@
 //! The rows of the files.
 
-ghost use Rattle.std.specs.Prelude.{◌≡◌, ◌<◌, is_some, not, ◌&&◌, [], IfSome, IfOk, ◌≤◌, ◌+◌, ◌^◌, ◌*◌, length, sum_by};
+ghost use Rattle.std.specs.Prelude.{◌≡◌, ◌<◌, is_some, not, ◌&&◌, [], IfSome, IfOk, All, ◌≤◌, ◌+◌, ◌^◌, ◌*◌, length, sum_by};
 ghost use Rattle.std.specs.List.{list_any};
 ghost use Rattle.nq_image.specs.Check.{tested};
 ghost use Rattle.nq_image.specs.Layout.{word_in as word_at, are_zeros as all_zeros};
@@ -74,7 +74,7 @@ fn is_named(slots: &[Option<Slot>], name: &Name) -> bool
     slots.iter().any(|slot| has_name(slot, name))
 }
 
-fn blocks_before(slots: &[Option<Slot>]) -> u32
+pub(crate) fn blocks_before(slots: &[Option<Slot>]) -> u32
     requires { sum_by blocks_at slots.now ≤ 16384 }
     ensures { result ≡ sum_by blocks_at slots.now }
 {
@@ -193,6 +193,7 @@ fn read_used(
     requires few { sum_by blocks_at slots.now ≤ 16384 }
     ensures told { result ≡ tested (used_checks version place slots.now row.now) (used_slot row.now) }
     ensures few { IfOk result (λ slot. sum_by blocks_at slots.now + slot.blocks ≤ 16384) }
+    ensures short { IfOk result (λ slot. slot.blocks ≤ 1024) }
 {
     let length = word_in(row, 0);
     if !(1..=64).contains(&length) {
@@ -241,6 +242,7 @@ pub fn read_row(
     requires few { sum_by blocks_at slots.now ≤ 16384 }
     ensures told { result ≡ tested (row_checks version place slots.now row.now) (slot_of row.now) }
     ensures few { IfOk result (λ slot. sum_by blocks_at slots.now + blocks_at slot ≤ 16384) }
+    ensures short { IfOk result (λ slot. blocks_at slot ≤ 1024) }
 {
     if are_zeros(row) {
         return Ok(None);
@@ -266,7 +268,10 @@ pub fn read_rows(
 ) -> Result<Vec<Option<Slot>>, ImageFault>
     requires size { length rows.now ≡ 96 * count }
     requires room { place + 96 * count < 2 ^ 64 }
-    ensures { Reads (λ slots. slots.items) result (tested (rows_checks version count place [] rows.now) (slots_of count rows.now)) }
+    ensures told { Reads (λ slots. slots.items) result (tested (rows_checks version count place [] rows.now) (slots_of count rows.now)) }
+    ensures all { IfOk result (λ slots. length slots.items ≡ count) }
+    ensures few { IfOk result (λ slots. sum_by blocks_at slots.items ≤ 16384) }
+    ensures short { IfOk result (λ slots. All (λ slot. blocks_at slot ≤ 1024) slots.items) }
 {
     let mut slots = Vec::new(alloc);
     let mut rest = rows;
