@@ -49,8 +49,10 @@ module _ (place size bound : ℕ) where
     where
       size-of : (d : List ℕ) → Long d → length (take size (drop place d)) ≡ size
       size-of d long = length-take-le size (drop place d) (omega (arith, length-drop place d))
+
       at-record : (d : List ℕ) (k : ℕ) → k < size → get_or (take size (drop place d)) k 0 ≡ get_or d (place + k) 0
       at-record d k lt = get_or-take size (drop place d) k 0 lt ∙ get_or-drop place d k 0
+
       past : (d : List ℕ) (k : ℕ) → Long d → size ≤ k → get_or (take size (drop place d)) k 0 ≡ 0
       past d k long le = get_or_past (take size (drop place d)) k 0 (omega (arith, size-of d long))
 
@@ -99,9 +101,12 @@ module _ (place size bound : ℕ) where
         | inl lt ↦ torn.outside k lt out
         | inr le ↦ get_or_past new k 0 (omega arith) ∙ sym (get_or_past old k 0 le)
       ]
+
       long-written : length new ≡ length old → length (written place (1 ∷ []) old) ≡ length old
       long-written len = omega (arith, length-written place (1 ∷ []) old (inl (omega arith)))
+
       only : (k : ℕ) → place ≤ k → k < place + 1 → k ≡ place
       only k le lt = omega arith
+
       first : (k : ℕ) → place ≤ k → k < place + 1 → k - place ≡ 0
       first k le lt = omega arith

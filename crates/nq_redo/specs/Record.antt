@@ -67,11 +67,11 @@ wrong_field start size bound len bytes =
     if not (are_zeros (take 7 (drop 1 bytes)))
     then Some (start + 1)
     else (
-      if nat_lt 8 (word (drop 8 bytes))
-      then Some (start + 8)
-      else (
-        if not (are_zeros (take 4 (drop 12 bytes))) then Some (start + 12) else wrong_range start size bound len (word (drop 8 bytes)) (start + 16) (drop 16 bytes)
-      )
+    if nat_lt 8 (word (drop 8 bytes))
+    then Some (start + 8)
+    else (
+    if not (are_zeros (take 4 (drop 12 bytes))) then Some (start + 12) else wrong_range start size bound len (word (drop 8 bytes)) (start + 16) (drop 16 bytes)
+    )
     )
 
 -- the ranges of a record

@@ -11,11 +11,7 @@ ghost use Rattle.nq_redo.specs.Saying.{Each, Only, TellsOn};
 use nq_disk::{Disk, DiskFault};
 
 /// Writes bytes, and syncs.
-pub fn write_synced<D: Disk>(
-    disk: &mut D,
-    place: u64,
-    bytes: &[u8],
-) -> Result<(), DiskFault>
+pub fn write_synced<D: Disk>(disk: &mut D, place: u64, bytes: &[u8]) -> Result<(), DiskFault>
     ensures writes { Writes result place bytes.now (D.told disk.old) (D.told disk.new) }
     ensures settles { OnOk result (IsAllThatIsLeft (D.told disk.new) (D.may_leave disk.new)) }
     ensures cause { Counts result (D.faults disk.old) (D.faults disk.new) }
@@ -43,11 +39,7 @@ pub fn front_range(bytes: &[u8]) -> Option<(u64, &[u8], &[u8])>
 }
 
 /// Writes so many ranges, which stand at the front of these bytes.
-pub fn put_ranges<D: Disk>(
-    disk: &mut D,
-    count: u32,
-    bytes: &[u8],
-) -> Result<(), DiskFault>
+pub fn put_ranges<D: Disk>(disk: &mut D, count: u32, bytes: &[u8]) -> Result<(), DiskFault>
     ensures written { OnOk result (ForSome (D.told disk.old) (λ old. D.told disk.new ≡ Some (applied (ranges_in count bytes.now) old))) }
     ensures tells { TellsOn (D.told disk.old) (D.told disk.new) }
     ensures cause { Counts result (D.faults disk.old) (D.faults disk.new) }

@@ -12,14 +12,14 @@ pub loop-turn-init : goal.loop-turn-init
 loop-turn-init g c =
     let all : c.args.count - 0 ≡ c.args.count = omega arith in
     record {
-  follows = g.met.D.Disk.follows_itself c.args.disk.now;
-  faults = refl;
-  leaves = λ old told only image left.
-      subst (λ (i : List ℕ). Settling (ranges_in c.args.count c.args.bytes.now) old i) (sym (only image (g.met.D.Disk.leaves_now c.args.disk.now image left)))
-      (settling-none (ranges_in c.args.count c.args.bytes.now) old);
-  told = λ old told. (old, told, ap (λ (n : ℕ). applied (ranges_in n c.args.bytes.now) old) all);
-  among = λ range here. subst (λ (n : ℕ). Among (ranges_in n c.args.bytes.now) range) all here;
-}
+      follows = g.met.D.Disk.follows_itself c.args.disk.now;
+      faults = refl;
+      leaves = λ old told only image left.
+          subst (λ (i : List ℕ). Settling (ranges_in c.args.count c.args.bytes.now) old i) (sym (only image (g.met.D.Disk.leaves_now c.args.disk.now image left)))
+          (settling-none (ranges_in c.args.count c.args.bytes.now) old);
+      told = λ old told. (old, told, ap (λ (n : ℕ). applied (ranges_in n c.args.bytes.now) old) all);
+      among = λ range here. subst (λ (n : ℕ). Among (ranges_in n c.args.bytes.now) range) all here;
+    }
 
 pub loop-turn-preserved : goal.loop-turn-preserved
 loop-turn-preserved g c =
@@ -56,13 +56,13 @@ returns-in_err-write_at-in-Some-clause-leaves g c =
     let step : ranges_in (c.args.count - c.loop-turn._turn) c.loop-turn.rest.now ≡ range ∷ ranges_in (c.args.count - (c.loop-turn._turn + 1)) c.in-Some.behind.now =
     ranges-step (c.args.count - c.loop-turn._turn) (c.args.count - (c.loop-turn._turn + 1)) c.loop-turn.rest.now (front_of c.in-Some.place c.in-Some.body.now c.in-Some.behind.now) next c.in-Some.ensures in
     λ old told only image left.
-        through (Settling (ranges_in c.args.count c.args.bytes.now) old) _ _ image
-        (g.met.D.Disk.parts c.args.disk.now c.loop-turn.disk c.write_at.new.self image so.follows c.write_at.ensures.follows left)
-        (so.leaves old told only image)
-        (step-settles (ranges_in c.args.count c.args.bytes.now) range old (g.D.Disk.may_leave c.loop-turn.disk) (g.D.Disk.leaves c.loop-turn.disk c.write_at.new.self)
-        (so.among range (subst (λ (l : List Range). Among l range) (sym step) (inl refl)))
-        (λ i may. so.leaves old told only i (g.met.D.Disk.leaves_ends c.args.disk.now c.loop-turn.disk i so.follows (inr may)))
-        c.write_at.ensures.leaves image)
+    through (Settling (ranges_in c.args.count c.args.bytes.now) old) _ _ image
+    (g.met.D.Disk.parts c.args.disk.now c.loop-turn.disk c.write_at.new.self image so.follows c.write_at.ensures.follows left)
+    (so.leaves old told only image)
+    (step-settles (ranges_in c.args.count c.args.bytes.now) range old (g.D.Disk.may_leave c.loop-turn.disk) (g.D.Disk.leaves c.loop-turn.disk c.write_at.new.self)
+    (so.among range (subst (λ (l : List Range). Among l range) (sym step) (inl refl)))
+    (λ i may. so.leaves old told only i (g.met.D.Disk.leaves_ends c.args.disk.now c.loop-turn.disk i so.follows (inr may)))
+    c.write_at.ensures.leaves image)
 
 pub returns-in-None-clause-written : goal.returns-in-None-clause-written
 returns-in-None-clause-written g c = λ old told.
