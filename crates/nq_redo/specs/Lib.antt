@@ -1,0 +1,3 @@
+pub mod Record
+pub mod Saying
+pub mod Ranges
