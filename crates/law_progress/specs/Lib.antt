@@ -1,0 +1,4 @@
+pub mod CalmRound
+pub mod DeliveryEnds
+pub mod CallsAreAnswered
+pub mod EverythingIsStored
