@@ -1,4 +1,6 @@
 pub mod CalmRound
+pub mod CalmRoundsAreLawful
 pub mod DeliveryEnds
 pub mod CallsAreAnswered
+pub mod AnswersStay
 pub mod EverythingIsStored

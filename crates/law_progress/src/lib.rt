@@ -1,3 +1,16 @@
 //! Progress: once the network is calm, delivery ends, every call is answered and every delayed write is stored. The statements stand
-//! in `specs/`; `docs/progress.md` tells what is proved of them.
+//! in `specs/`; those that are proved stand on functions with empty bodies, whose proofs stand in `proofs/`.
 #![tactic(auto)]
+
+ghost use Rattle.law_progress.specs.AnswersStay.{AnswersStay};
+ghost use Rattle.law_progress.specs.CalmRoundsAreLawful.{CalmRoundsAreLawful};
+
+/// Calm rounds keep a schedule within its bounds and within skew.
+pub fn calm_rounds_are_lawful()
+    ensures { CalmRoundsAreLawful }
+{}
+
+/// Calm rounds open no call: where all clients are attached and have no open call, it stays so.
+pub fn answers_stay()
+    ensures { AnswersStay }
+{}

@@ -1,0 +1,5 @@
+pub mod Skewed
+pub mod ClientCount
+pub mod CalmIsLawful
+pub mod IdleSteps
+pub mod IdleWorlds
