@@ -16,7 +16,7 @@ use Rattle.law_progress.specs.CallsAreAnswered.{IsAnswered}
 use Rattle.law_progress.specs.CalmRound.{calm_round, calm_rounds, most_deliveries}
 use Rattle.law_progress.proofs.IdleSteps.{tick-idles, hear-idles}
 
-AllIdle : World → Type 0
+abbrev AllIdle : World → Type 0
 AllIdle w = All IsAnswered w.clients
 
 all-get : {A : Type 0} (P : A → Type 0) (xs : List A) (i : ℕ) (x : A) → slice_get xs i ≡ Some x → All P xs → P x

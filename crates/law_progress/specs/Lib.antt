@@ -4,3 +4,4 @@ pub mod DeliveryEnds
 pub mod CallsAreAnswered
 pub mod AnswersStay
 pub mod EverythingIsStored
+pub mod SomeNeedHalf

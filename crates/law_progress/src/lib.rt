@@ -4,6 +4,7 @@
 
 ghost use Rattle.law_progress.specs.AnswersStay.{AnswersStay};
 ghost use Rattle.law_progress.specs.CalmRoundsAreLawful.{CalmRoundsAreLawful};
+ghost use Rattle.law_progress.specs.SomeNeedHalf.{NeedsHalf};
 
 /// Calm rounds keep a schedule within its bounds and within skew.
 pub fn calm_rounds_are_lawful()
@@ -13,4 +14,9 @@ pub fn calm_rounds_are_lawful()
 /// Calm rounds open no call: where all clients are attached and have no open call, it stays so.
 pub fn answers_stay()
     ensures { AnswersStay }
+{}
+
+/// After some schedule half of the rounds that are enough are needed: five events, a recovery among them.
+pub fn some_need_half()
+    ensures { NeedsHalf }
 {}
