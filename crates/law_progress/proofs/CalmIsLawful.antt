@@ -32,7 +32,7 @@ module _ (most : ℕ) (head : Head) where
   first-flows [] p l = l
   first-flows (k ∷ fresh) p l = played-quiet p (Event.Deliver k) tt refl l
 
-  flows : (fuel : ℕ) (p : Play) → IsLawful most head p → IsLawful most head (play_flow fuel p)
+  pub flows : (fuel : ℕ) (p : Play) → IsLawful most head p → IsLawful most head (play_flow fuel p)
   flows zero p l = l
   flows (suc fuel) p l = flows fuel (flow_first p.fresh p) (first-flows p.fresh p l)
 
@@ -55,7 +55,7 @@ module _ (most : ℕ) (head : Head) where
   ticked-hosts zero host upto p sum few t = let same : host ≡ upto = omega arith in subst (λ n. Ticked n p) same t
   ticked-hosts (suc count) host upto p sum few t = ticked-hosts count (host + 1) upto (play p (Event.ClientTick host)) (omega arith) few (ticked-one host p (omega arith) t)
 
-  round : (p : Play) → IsLawful most head p → IsLawful most head (play_rounds 1 p)
+  pub round : (p : Play) → IsLawful most head p → IsLawful most head (play_rounds 1 p)
   round p l =
       let all : length p.world.clients ≡ head.hosts = ap (λ w. length w.clients) l.is_run ∙ client-count head p.events in
       let before : Ticked 0 p = record { lawful = l; may = λ h none. absurd (omega arith) } in

@@ -28,6 +28,6 @@ is_open (Some c) = is_some c.call
 -- the put is open after 18 calm rounds, and answered after 19: half of those that are enough
 pub record NeedsHalf : Type 0 where
   pub within : is_within_skew 3 6 late_events ≡ true
-  pub open : is_open (slice_get (calm_rounds 18 (calmed late_head late_events [])).world.clients 2) ≡ true
+  pub unanswered : is_open (slice_get (calm_rounds 18 (calmed late_head late_events [])).world.clients 2) ≡ true
   pub answered : is_open (slice_get (calm_rounds 19 (calmed late_head late_events [])).world.clients 2) ≡ false
   pub half : 19 + 19 ≡ rounds_enough 6
