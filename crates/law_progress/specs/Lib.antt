@@ -1,6 +1,5 @@
 pub mod CalmRound
 pub mod CalmRoundsAreLawful
-pub mod ClocksTickOnce
 pub mod DeliveryEnds
 pub mod CallsAreAnswered
 pub mod EverythingIsStored
