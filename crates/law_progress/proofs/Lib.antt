@@ -3,3 +3,4 @@ pub mod ClientCount
 pub mod CalmIsLawful
 pub mod IdleSteps
 pub mod IdleWorlds
+pub mod CalmClocks

@@ -1,5 +1,6 @@
 pub mod CalmRound
 pub mod CalmRoundsAreLawful
+pub mod ClocksTickOnce
 pub mod DeliveryEnds
 pub mod CallsAreAnswered
 pub mod EverythingIsStored

@@ -4,6 +4,7 @@
 
 ghost use Rattle.law_progress.specs.AnswersStay.{AnswersStay, StoresStay};
 ghost use Rattle.law_progress.specs.CalmRoundsAreLawful.{CalmRoundsAreLawful};
+ghost use Rattle.law_progress.specs.ClocksTickOnce.{ClocksTickOnce};
 ghost use Rattle.law_progress.specs.SomeNeedHalf.{NeedsHalf};
 
 /// Calm rounds keep a schedule within its bounds and within skew.
@@ -24,4 +25,9 @@ pub fn stores_stay()
 /// After some schedule half of the rounds that are enough are needed: five events, a recovery among them.
 pub fn some_need_half()
     ensures { NeedsHalf }
+{}
+
+/// Each calm round is one tick of each clock.
+pub fn clocks_tick_once()
+    ensures { ClocksTickOnce }
 {}
