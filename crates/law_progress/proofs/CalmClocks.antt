@@ -1,19 +1,16 @@
 -- A calm round is one tick of each clock: deliveries are none, and the clocks of the hosts tick in order, each once.
-use Rattle.std.proofs.Common.{◌≡◌, ◌≢◌, ◌<◌, ◌≤◌, ℕ, ◌+◌, ◌==◌, Bool, true, false, zero, suc, List, [], ◌∷◌, if◌then◌else◌, length, refl, sym, subst, ap, ◌∙◌, arith}
+use Rattle.std.proofs.Common.{◌≡◌, ◌<◌, ◌≤◌, ℕ, ◌+◌, ◌==◌, Bool, true, false, zero, suc, List, [], ◌∷◌, if◌then◌else◌, length, refl, sym, subst, ap, ◌∙◌, arith}
 use Rattle.std.proofs.lemmas.Bool.Decides.{nat_tests}
 use Rattle.std.proofs.lemmas.Option.{slice_get_within}
-use Rattle.std.specs.Prelude.{slice_get, Some}
 use Rattle.nq_base.specs.declared.Event.{Event}
-use Rattle.nq_promises.specs.Bounds.{KeepsBounds}
-use Rattle.nq_model.specs.Client.{Client}
-use Rattle.nq_model.specs.Lines.{Play, play, play_flow, flow_first, play_hosts, play_rounds}
-use Rattle.nq_model.specs.Skew.{server_ticks, ticks_of, is_tick_of, IsWithinSkew}
-use Rattle.nq_model.specs.World.{Head, World, run}
+use Rattle.nq_model.specs.Lines.{Play, play, play_flow, flow_first, play_hosts}
+use Rattle.nq_model.specs.Skew.{server_ticks, ticks_of, is_tick_of}
+use Rattle.nq_model.specs.World.{Head, run}
 use Rattle.walk_leases.proofs.WorldClocks.{Clocked, run-clocked}
 use Rattle.law_progress.specs.CalmRound.{calmed, calm_round, calm_rounds, most_deliveries}
 use Rattle.law_progress.specs.CalmRoundsAreLawful.{IsLawful}
-use Rattle.law_progress.specs.ClocksTickOnce.{IsLater, ClocksTickOnce}
-use Rattle.law_progress.proofs.CalmIsLawful.{flows, rounds, round, calm-is-lawful}
+use Rattle.law_progress.specs.ClocksTickOnce.{ClocksTickOnce}
+use Rattle.law_progress.proofs.CalmIsLawful.{flows, round, calm-is-lawful}
 use Rattle.law_progress.proofs.ClientCount.{client-count}
 
 -- ---- deliveries

@@ -5,7 +5,7 @@ use Rattle.nq_base.specs.declared.Event.{Event}
 use Rattle.nq_promises.specs.Bounds.{KeepsBounds, BootsWithin}
 use Rattle.nq_model.specs.Lines.{Play, play, play_flow, flow_first, play_hosts, play_rounds}
 use Rattle.nq_model.specs.Skew.{is_server_tick, IsWithinSkew}
-use Rattle.nq_model.specs.World.{Head, run, step}
+use Rattle.nq_model.specs.World.{Head, step}
 use Rattle.walk_run.proofs.NoCrash.{one-first}
 use Rattle.walk_server.proofs.Rows.{same-number}
 use Rattle.law_progress.specs.CalmRound.{calmed, calm_round, calm_rounds, most_deliveries}

@@ -1,6 +1,6 @@
 -- A client that is attached and has no open call is so after each of its steps but a call and a restart; and where it has no delayed
 -- writes it gets none.
-use Rattle.std.proofs.Common.{◌≡◌, ℕ, ◌+◌, Bool, true, false, not, ◌&&◌, List, [], ◌∷◌, Option, Some, None, refl, sym, subst, ap, ◌∙◌}
+use Rattle.std.proofs.Common.{◌≡◌, ℕ, Bool, true, false, not, ◌&&◌, List, [], Option, Some, None, refl, sym, subst, ap, ◌∙◌}
 use Rattle.std.specs.Prelude.{is_some}
 use Rattle.nq_base.specs.declared.Answer.{Answer}
 use Rattle.nq_base.specs.declared.Grant.{Grant}
@@ -11,7 +11,7 @@ use Rattle.nq_base.specs.declared.Request.{Request}
 use Rattle.nq_base.specs.declared.Tag.{Tag}
 use Rattle.nq_model.specs.Client.{Client, ClientStep, lease_on, notice_on, first_dirty, dirty_at, drop_dirty, other_dirty, is_clean, revision_of, is_revision_before, Job, attaching, for_call, renewing, pushing, Notice, Ticket, UnderWay, begun}
 use Rattle.nq_model.specs.ClientStep.{client_tick, sends_again, at_time}
-use Rattle.nq_model.specs.Hear.{hear, waits_for, breaks, grant_caches, holds_caching, is_put_off, answer_of, answers_call, vacates_lease, vacates_noticed, other_push, loses, reports_to, without_lease, push_refused, breaks_chain, if_broken, holds, takes_grant, takes_optional, answers_call_of, caches_block, purges, knows_revision, then_caches, read_done, with_through, marks_through, lease_done, caches_write, write_done, ends_push, caches_push, vacates_if_clean, push_done, spends, attached, pauses, done_for_call, done_renewal, done_push, done, refused_push, refused, replied, cancels, notes_notice, evicted, goes_on}
+use Rattle.nq_model.specs.Hear.{hear, waits_for, breaks, grant_caches, holds_caching, is_put_off, answer_of, answers_call, vacates_lease, vacates_noticed, other_push, loses, reports_to, without_lease, push_refused, breaks_chain, if_broken, holds, takes_grant, takes_optional, answers_call_of, caches_block, purges, knows_revision, then_caches, read_done, with_through, marks_through, lease_done, caches_write, write_done, ends_push, caches_push, push_done, spends, attached, pauses, done_for_call, done_renewal, done_push, done, refused_push, refused, replied, cancels, notes_notice, evicted}
 use Rattle.nq_model.specs.Message.{Message}
 use Rattle.nq_model.specs.Send.{sends_request, after_seq, after_number, takes_push, gives_up, send_next}
 use Rattle.nq_model.specs.Settle.{answers, names_losses, settle}

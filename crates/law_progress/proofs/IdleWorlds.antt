@@ -8,7 +8,7 @@ use Rattle.nq_base.specs.declared.Party.{Party}
 use Rattle.nq_model.specs.Client.{Client, ClientStep}
 use Rattle.nq_model.specs.ClientStep.{client_tick}
 use Rattle.nq_model.specs.Hear.{hear}
-use Rattle.nq_model.specs.Lines.{Play, play, play_flow, flow_first, play_hosts, play_rounds}
+use Rattle.nq_model.specs.Lines.{Play, play, play_flow, flow_first, play_hosts}
 use Rattle.nq_model.specs.Message.{Message, Packet}
 use Rattle.nq_model.specs.World.{World, after_client, after_server, after_hearing, at_client, deliver, deliver_to, deliver_to_client, step}
 use Rattle.walk_client.proofs.ClientMoves.{some-same, none-some}

@@ -5,7 +5,7 @@ use Rattle.nq_promises.specs.Bounds.{KeepsBounds}
 use Rattle.nq_model.specs.Client.{Client}
 use Rattle.nq_model.specs.Profile.{skew, write_slack, patience}
 use Rattle.nq_model.specs.Skew.{IsWithinSkew}
-use Rattle.nq_model.specs.World.{Head, World, run}
+use Rattle.nq_model.specs.World.{Head, run}
 use Rattle.law_progress.specs.CalmRound.{AreUnderWay, calmed, calm_rounds}
 
 -- a recovery by the longest term of all boots, with skew and write slack; then two pauses, and one round more. Some schedules need

@@ -1,10 +1,10 @@
 -- A calm round: all that is under way arrives, and all that this sends; then each clock ticks once.
-use Rattle.std.specs.Prelude.{◌<◌, ℕ, ◌+◌, ◌*◌, Option, Some, None, List, [], ◌∷◌, All, length, sum_by, is_some, if◌then◌else◌, zero, suc}
+use Rattle.std.specs.Prelude.{◌<◌, ℕ, ◌+◌, ◌*◌, List, [], ◌∷◌, All, length, sum_by, zero, suc}
 use Rattle.nq_base.specs.declared.Event.{Event}
 use Rattle.nq_model.specs.Client.{Client}
 use Rattle.nq_model.specs.Lines.{Play, play_flow, play_rounds}
 use Rattle.nq_model.specs.Settle.{pending}
-use Rattle.nq_model.specs.World.{Head, World, run}
+use Rattle.nq_model.specs.World.{Head, run}
 
 -- the numbers of packets that are under way stand in order, and each was sent
 abbrev pub AreUnderWay : (sent : ℕ) → List ℕ → Type 0

@@ -1,9 +1,8 @@
 -- Each calm round is one tick of each clock.
 use Rattle.std.specs.Prelude.{◌≡◌, ℕ, ◌+◌, Some, List, slice_get}
-use Rattle.nq_base.specs.declared.Event.{Event}
 use Rattle.nq_promises.specs.Bounds.{InEveryRun}
 use Rattle.nq_model.specs.Client.{Client}
-use Rattle.nq_model.specs.World.{Head, World, run}
+use Rattle.nq_model.specs.World.{World, run}
 use Rattle.law_progress.specs.CalmRound.{calmed, calm_rounds}
 
 -- so many ticks lie between two worlds, by each clock

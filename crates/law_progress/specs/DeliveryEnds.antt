@@ -1,9 +1,8 @@
 -- Delivery ends: what is under way leads to no more packets than a formula tells, in every run.
 use Rattle.std.specs.Prelude.{◌≡◌, ℕ, List, [], length}
-use Rattle.nq_base.specs.declared.Event.{Event}
 use Rattle.nq_promises.specs.Bounds.{InEveryRun}
 use Rattle.nq_model.specs.Lines.{Play, play_flow}
-use Rattle.nq_model.specs.World.{Head, run}
+use Rattle.nq_model.specs.World.{run}
 use Rattle.law_progress.specs.CalmRound.{AreUnderWay, calmed, calm_rounds, most_deliveries}
 
 -- after so many deliveries nothing is under way

@@ -4,9 +4,9 @@ use Rattle.nq_base.specs.declared.Call.{Call}
 use Rattle.nq_base.specs.declared.Event.{Event}
 use Rattle.nq_promises.specs.Bounds.{KeepsBounds}
 use Rattle.nq_model.specs.Client.{Client}
-use Rattle.nq_model.specs.Lines.{Play, play}
+use Rattle.nq_model.specs.Lines.{play}
 use Rattle.nq_model.specs.Skew.{IsWithinSkew}
-use Rattle.nq_model.specs.World.{Head, World, run}
+use Rattle.nq_model.specs.World.{Head, run}
 use Rattle.law_progress.specs.CalmRound.{AreUnderWay, calmed, calm_rounds}
 use Rattle.law_progress.specs.CallsAreAnswered.{IsAnswered, rounds_enough}
 
