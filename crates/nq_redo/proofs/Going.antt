@@ -1,7 +1,9 @@
 -- Steps of a change, one call after another.
 use Rattle.std.proofs.Common.{◌≡◌, ◌⊎◌, ℕ, zero, suc, ◌+◌, ◌-◌, ◌<◌, ◌≤◌, List, [], ◌∷◌, length, Option, Some, None, refl, sym, ap, subst, ◌∙◌, inl, inr, ⊎_elim, arith}
 use Rattle.nq_disk.specs.Bytes.{Torn}
-use Rattle.nq_disk.specs.Calling.{LeavesTorn, Tears, told_after}
+use Rattle.std.specs.Prelude.{Result, Ok, Err, OnOk}
+use Rattle.nq_disk.specs.Calling.{LeavesTorn, Tears, Writes, told_after}
+use Rattle.nq_disk.specs.declared.DiskFault.{DiskFault}
 use Rattle.nq_disk.specs.Bytes.{written}
 use Rattle.nq_redo.specs.Ranges.{Range, Among, Settling, applied}
 use Rattle.nq_redo.specs.Record.{Front, front_range, ranges_in, then_ranges}
@@ -38,3 +40,16 @@ told-step ranges rest range old now all is same = subst (λ (l : List Range). ap
 -- no range is left
 pub told-end : (ranges : List Range) (old now : List ℕ) (all : List Range) → ranges ≡ [] → applied ranges now ≡ applied all old → now ≡ applied all old
 told-end ranges old now all is same = subst (λ (l : List Range). applied l now ≡ applied all old) is same
+
+-- what is so where a call answered Ok
+pub on-ok : (result : Result Unit DiskFault) (P : Type 0) → (result ≡ Ok tt → P) → OnOk result P
+on-ok (Ok tt) P f = f refl
+on-ok (Err fault) P f = tt
+
+-- and what is known where it did
+pub then-ok : (result : Result Unit DiskFault) (P : Type 0) → result ≡ Ok tt → OnOk result P → P
+then-ok result P is known = subst (λ (r : Result Unit DiskFault). OnOk r P) is known
+
+pub then-writes : (result : Result Unit DiskFault) (place : ℕ) (bytes : List ℕ) (told tells : Option (List ℕ)) (old : List ℕ) → result ≡ Ok tt → Writes result place bytes told tells → told ≡ Some old → tells ≡ Some (written place bytes old)
+then-writes result place bytes told tells old is writes tell =
+    subst (λ (r : Result Unit DiskFault). Writes r place bytes told tells) is writes ∙ ap (told_after place bytes) tell

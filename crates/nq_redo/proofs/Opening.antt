@@ -20,11 +20,11 @@ module _ (place size bound : ℕ) where
   length-blanked disk long =
       omega (arith, length-written place (replicate size 0) disk (inl (omega arith)), length-replicate {A = ℕ} size 0)
 
-  blanked-outside : (disk : List ℕ) (k : ℕ) → Outside k place size → get_or (blanked place size disk) k 0 ≡ get_or disk k 0
+  pub blanked-outside : (disk : List ℕ) (k : ℕ) → Outside k place size → get_or (blanked place size disk) k 0 ≡ get_or disk k 0
   unfolding blanked
   blanked-outside disk k out = written-outside place (replicate size 0) disk k (subst (λ (n : ℕ). Outside k place n) (sym (length-replicate {A = ℕ} size 0)) out)
 
-  blanked-within : (disk : List ℕ) (k : ℕ) → place ≤ k → k < place + size → get_or (blanked place size disk) k 0 ≡ 0
+  pub blanked-within : (disk : List ℕ) (k : ℕ) → place ≤ k → k < place + size → get_or (blanked place size disk) k 0 ≡ 0
   unfolding blanked
   blanked-within disk k le lt =
       written-within place (replicate size 0) disk k le (omega (arith, length-replicate {A = ℕ} size 0)) ∙ get_or-replicate size (k - place) 0 0 (omega arith)

@@ -15,14 +15,14 @@ in-or-out k place n = elim (cases_lt k place) [
   | inr le ↦ elim (cases_lt k (place + n)) [ inl within ↦ inr (le, within) | inr past ↦ inl (inr past) ]
 ]
 
--- ranges written over disks that agree outside of them leave disks that agree
-pub applied-agree : (ranges : List Range) (a b : List ℕ) → ((k : ℕ) → OutsideAll k ranges → get_or a k 0 ≡ get_or b k 0) → (k : ℕ) → get_or (applied ranges a) k 0 ≡ get_or (applied ranges b) k 0
-applied-agree [] a b same k = same k tt
-applied-agree (range ∷ ranges) a b same k = applied-agree ranges (written range.place range.bytes a) (written range.place range.bytes b) step k
+-- ranges written over disks that agree at a place outside of them leave disks that agree there
+pub applied-agree : (ranges : List Range) (a b : List ℕ) (k : ℕ) → (OutsideAll k ranges → get_or a k 0 ≡ get_or b k 0) → get_or (applied ranges a) k 0 ≡ get_or (applied ranges b) k 0
+applied-agree [] a b k same = same tt
+applied-agree (range ∷ ranges) a b k same = applied-agree ranges (written range.place range.bytes a) (written range.place range.bytes b) k step
   where
-    step : (k : ℕ) → OutsideAll k ranges → get_or (written range.place range.bytes a) k 0 ≡ get_or (written range.place range.bytes b) k 0
-    step k out = elim (in-or-out k range.place (length range.bytes)) [
-      | inl o ↦ written-outside range.place range.bytes a k o ∙ same k (o, out) ∙ sym (written-outside range.place range.bytes b k o)
+    step : OutsideAll k ranges → get_or (written range.place range.bytes a) k 0 ≡ get_or (written range.place range.bytes b) k 0
+    step out = elim (in-or-out k range.place (length range.bytes)) [
+      | inl o ↦ written-outside range.place range.bytes a k o ∙ same (o, out) ∙ sym (written-outside range.place range.bytes b k o)
       | inr i ↦ written-within range.place range.bytes a k i.0 i.1 ∙ sym (written-within range.place range.bytes b k i.0 i.1)
     ]
 
