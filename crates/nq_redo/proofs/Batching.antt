@@ -7,7 +7,7 @@ use Rattle.nq_disk.specs.BytesLaws.{length-written, written-outside, written-wit
 use Rattle.nq_redo.specs.Batch.{AreSpellable, IsFit, body_of}
 use Rattle.nq_redo.specs.Ranges.{Range, applied, Outside}
 use Rattle.nq_redo.specs.Record.{blanked, ranges_in, ranges_of, record_at, wrong_field}
-use Rattle.nq_redo.specs.Whole.{IsArea, IsClosed, IsOpen, found, record_of, staged}
+use Rattle.nq_redo.specs.Whole.{IsArea, IsClosed, IsOpen, after, found, record_of, staged}
 use Rattle.nq_redo.specs.declared.area.Area.{Area}
 use Rattle.nq_redo.proofs.Encoding.{ranges-of-body, right-body}
 use Rattle.nq_redo.proofs.Opening.{blanked-same}
@@ -116,3 +116,14 @@ module _ (area : Area) (is_area : IsArea area) (rs : List Range) (spell : AreSpe
       opened-right area is_area (staged area (body_of rs) old) staged-open
       ∙ ap (λ (l : List Range). Ok (applied l (blanked area.place area.size (staged area (body_of rs) old)))) is-ranges
       ∙ ap (λ (d : List ℕ). Ok (applied rs d)) (blanked-staged area is_area (body_of rs) fit.short old closed)
+
+  -- the same, of a record that spells the batch
+  module _ (body : List ℕ) (is : body ≡ body_of rs) where
+    pub as-open : IsOpen area (staged area body old)
+    as-open = subst (λ (b : List ℕ). IsOpen area (staged area b old)) (sym is) staged-open
+
+    pub as-ranges : (count : ℕ) (bytes : List ℕ) → ranges_in count bytes ≡ rs → ranges_in count bytes ≡ ranges_of (record_of area (staged area body old))
+    as-ranges count bytes same = same ∙ subst (λ (b : List ℕ). rs ≡ ranges_of (record_of area (staged area b old))) (sym is) staged-ranges
+
+    pub as-after : found area (staged area body old) ≡ after area rs old
+    as-after = subst (λ (b : List ℕ). found area (staged area b old) ≡ after area rs old) (sym is) opened-staged

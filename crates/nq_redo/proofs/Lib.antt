@@ -6,3 +6,7 @@ mod Settled
 mod Changing
 mod Encoding
 mod Batching
+mod Adding
+mod Fielding
+mod Reading
+mod Replaying

@@ -1,8 +1,8 @@
 -- What a change through a redo record leaves: the state before it or the state after it.
 use Rattle.std.specs.Prelude.{◌≡◌, ◌≢◌, ◌⊎◌, ℕ, ◌+◌, ◌≤◌, List, [], ◌∷◌, Option, Some, None, Result, Ok, length, slice_index}
 use Rattle.nq_disk.specs.Bytes.{written}
-use Rattle.nq_redo.specs.Ranges.{Range}
-use Rattle.nq_redo.specs.Record.{opened, ranges_of, record_at, wrong_field}
+use Rattle.nq_redo.specs.Ranges.{Range, applied}
+use Rattle.nq_redo.specs.Record.{blanked, opened, ranges_of, record_at, wrong_field}
 use Rattle.nq_redo.specs.Saying.{Only}
 use Rattle.nq_redo.specs.declared.area.Area.{Area}
 
@@ -29,6 +29,10 @@ pub record IsOpen (area : Area) (disk : List ℕ) : Type 0 where
   pub long : area.place + area.size ≤ length disk
   pub gate : slice_index disk area.place ≡ 1
   pub right : wrong_field area.place area.size area.bound (length disk) (record_of area disk) ≡ None
+
+-- what an open gives after these ranges were written
+abbrev pub after : Area → List Range → List ℕ → Result (List ℕ) ℕ
+after area ranges disk = Ok (applied ranges (blanked area.place area.size disk))
 
 -- an image opens as one of these disks
 abbrev pub OpensAsOne : Area → (List ℕ → Type 0) → List ℕ → Type 0

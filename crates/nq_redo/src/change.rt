@@ -43,13 +43,12 @@ pub(crate) fn settle<D: Disk>(
 
 /// Writes a record behind a closed gate, and opens the gate.
 pub(crate) fn stage<D: Disk>(disk: &mut D, area: Area, body: &[u8]) -> Result<(), DiskFault>
-    requires area { IsArea area }
-    requires short { length body.now + 1 ≤ area.size }
+    requires { IsArea area }
     ensures staged { OnOk result (ForSome (D.told disk.old) (λ old. D.told disk.new ≡ Some (staged area body.now old))) }
     ensures settles { OnOk result (IsAllThatIsLeft (D.told disk.new) (D.may_leave disk.new)) }
     ensures cause { Counts result (D.faults disk.old) (D.faults disk.new) }
     ensures follows { D.follows disk.old disk.new }
-    ensures leaves { ForSome (D.told disk.old) (λ old. Each (D.may_leave disk.old) (IsClosed area) → Each (D.leaves disk.old disk.new) (λ image. OpensAsOne area (D.may_leave disk.old) image ⊎ (found area image ≡ found area (staged area body.now old)))) }
+    ensures leaves { ForSome (D.told disk.old) (λ old. length body.now + 1 ≤ area.size → Each (D.may_leave disk.old) (IsClosed area) → Each (D.leaves disk.old disk.new) (λ image. OpensAsOne area (D.may_leave disk.old) image ⊎ (found area image ≡ found area (staged area body.now old)))) }
 {
     write_synced(disk, area.place + 1, body)?;
     write_synced(disk, area.place, &[1])
@@ -63,12 +62,11 @@ pub(crate) fn change<D: Disk>(
     count: u32,
     bytes: &[u8],
 ) -> Result<(), DiskFault>
-    requires area { IsArea area }
-    requires short { length body.now + 1 ≤ area.size }
+    requires { IsArea area }
     ensures settled { OnOk result (ForSome (D.told disk.old) (λ old. IsOpen area (staged area body.now old) → ranges_in count bytes.now ≡ ranges_of (record_of area (staged area body.now old)) → Settled area (found area (staged area body.now old)) (D.told disk.new) (D.may_leave disk.new))) }
     ensures cause { Counts result (D.faults disk.old) (D.faults disk.new) }
     ensures follows { D.follows disk.old disk.new }
-    ensures leaves { ForSome (D.told disk.old) (λ old. Each (D.may_leave disk.old) (IsClosed area) → IsOpen area (staged area body.now old) → ranges_in count bytes.now ≡ ranges_of (record_of area (staged area body.now old)) → Each (D.leaves disk.old disk.new) (λ image. OpensAsOne area (D.may_leave disk.old) image ⊎ (found area image ≡ found area (staged area body.now old)))) }
+    ensures leaves { ForSome (D.told disk.old) (λ old. length body.now + 1 ≤ area.size → Each (D.may_leave disk.old) (IsClosed area) → IsOpen area (staged area body.now old) → ranges_in count bytes.now ≡ ranges_of (record_of area (staged area body.now old)) → Each (D.leaves disk.old disk.new) (λ image. OpensAsOne area (D.may_leave disk.old) image ⊎ (found area image ≡ found area (staged area body.now old)))) }
 {
     stage(disk, area, body)?;
     settle(disk, area, count, bytes)

@@ -2,9 +2,13 @@
 #![tactic(auto)]
 
 mod area;
+mod batch;
 mod change;
+mod redo;
 mod steps;
 
 pub use area::Area;
+pub use batch::Batch;
 pub use nq_disk::{Disk, DiskFault};
-pub use steps::{front_range, put_ranges, write_synced};
+pub use nq_memory::NoMemory;
+pub use redo::Redo;

@@ -11,7 +11,7 @@ ghost use Rattle.nq_redo.specs.Saying.{Each, Only, TellsOn};
 use nq_disk::{Disk, DiskFault};
 
 /// Writes bytes, and syncs.
-pub fn write_synced<D: Disk>(disk: &mut D, place: u64, bytes: &[u8]) -> Result<(), DiskFault>
+pub(crate) fn write_synced<D: Disk>(disk: &mut D, place: u64, bytes: &[u8]) -> Result<(), DiskFault>
     ensures writes { Writes result place bytes.now (D.told disk.old) (D.told disk.new) }
     ensures settles { OnOk result (IsAllThatIsLeft (D.told disk.new) (D.may_leave disk.new)) }
     ensures cause { Counts result (D.faults disk.old) (D.faults disk.new) }
@@ -23,7 +23,7 @@ pub fn write_synced<D: Disk>(disk: &mut D, place: u64, bytes: &[u8]) -> Result<(
 }
 
 /// The range at the front of these bytes, as its place and its bytes, and the bytes behind it; None where it does not fit.
-pub fn front_range(bytes: &[u8]) -> Option<(u64, &[u8], &[u8])>
+pub(crate) fn front_range(bytes: &[u8]) -> Option<(u64, &[u8], &[u8])>
     ensures { option_map (λ x. front_of x.0 x.1.now x.2.now) result ≡ front_range bytes.now }
 {
     let [a, b, c, d, e, f, g, h, i, j, k, l, rest @ ..] = bytes else {
@@ -39,7 +39,7 @@ pub fn front_range(bytes: &[u8]) -> Option<(u64, &[u8], &[u8])>
 }
 
 /// Writes so many ranges, which stand at the front of these bytes.
-pub fn put_ranges<D: Disk>(disk: &mut D, count: u32, bytes: &[u8]) -> Result<(), DiskFault>
+pub(crate) fn put_ranges<D: Disk>(disk: &mut D, count: u32, bytes: &[u8]) -> Result<(), DiskFault>
     ensures written { OnOk result (ForSome (D.told disk.old) (λ old. D.told disk.new ≡ Some (applied (ranges_in count bytes.now) old))) }
     ensures tells { TellsOn (D.told disk.old) (D.told disk.new) }
     ensures cause { Counts result (D.faults disk.old) (D.faults disk.new) }
