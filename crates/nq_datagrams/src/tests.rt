@@ -108,7 +108,7 @@ fn heard(
 ) -> Result<Option<u32>, Fail> {
     let datagram = bytes_of(alloc, words)?;
     let awaited = Awaited { xid, procedure };
-    Ok(read_heard(alloc, Some(awaited), &datagram).and_then(file_in))
+    Ok(read_heard(Some(awaited), &datagram, &mut room).and_then(file_in))
 }
 
 #[test]
@@ -118,10 +118,10 @@ fn each_prefix_of_a_call_has_its_class(rt: HostRuntime) -> Result<(), Fail> {
     for size in 0..56 {
         if let Some(prefix) = call.get(..size) {
             let want = if size < 40 { 's' } else { 'g' };
-            assert!(rt; class_of(&read_incoming(alloc, prefix)) == want, "{size}");
+            assert!(rt; class_of(&read_incoming(prefix, &mut room)) == want, "{size}");
         }
     }
-    assert_eq!(rt; looker(read_incoming(alloc, &call)), Some(1));
+    assert_eq!(rt; looker(read_incoming(&call, &mut room)), Some(1));
     Ok(())
 }
 
@@ -143,13 +143,13 @@ fn datagrams_have_their_classes(rt: HostRuntime) -> Result<(), Fail> {
     ] {
         let datagram = lookup_with(alloc, place, word)?;
         assert!(rt;
-            class_of(&read_incoming(alloc, &datagram)) == want,
+            class_of(&read_incoming(&datagram, &mut room)) == want,
             "{place} {word}"
         );
     }
-    assert!(rt; class_of(&read_incoming(alloc, &bytes_of(alloc, &FOUND)?)) == 'n');
-    assert!(rt; class_of(&read_incoming(alloc, &[0; 4400])) == 'r');
-    assert!(rt; class_of(&read_incoming(alloc, &[0; 4401])) == 'l');
+    assert!(rt; class_of(&read_incoming(&bytes_of(alloc, &FOUND)?, &mut room)) == 'n');
+    assert!(rt; class_of(&read_incoming(&[0; 4400], &mut room)) == 'r');
+    assert!(rt; class_of(&read_incoming(&[0; 4401], &mut room)) == 'l');
     Ok(())
 }
 
