@@ -30,8 +30,7 @@ pub(crate) struct Caller {
     pub(crate) xid: u32,
 }
 
-/// Adds a reply to a host. Where memory is wanting the datagrams are as before. It is inlined, as what it calls is.
-#[inline(always)]
+/// Adds a reply to a host. Where memory is wanting the datagrams are as before.
 fn reply(
     alloc: Global,
     host: Host,
@@ -46,8 +45,7 @@ fn reply(
     out.push(Party::Client(host), bytes)
 }
 
-/// Answers a request with a reply, and does nothing else. It is inlined, as what it calls is.
-#[inline(always)]
+/// Answers a request with a reply, and does nothing else.
 pub(crate) fn answer(
     alloc: Global,
     host: Host,
@@ -111,9 +109,7 @@ fn push_error(
     out.push(Party::Client(host), bytes)
 }
 
-/// Ends a reply to a host, for which there is room. It takes no memory. It is inlined, so that a caller's reply that has no block
-/// needs no room for one.
-#[inline(always)]
+/// Ends a reply to a host, for which there is room. It takes no memory.
 pub(crate) fn end_reply(host: Host, begun: BegunReply, said: &Reply, out: &mut Outbox)
     requires room { results_len said.now ≤ begun.room }
     requires datagram { 1 ≤ out.old.spare }
