@@ -148,6 +148,25 @@ impl Block {
         }
         Ok(Some(boxed(alloc, bytes)?))
     }
+
+    /// The block of these bytes, in room that was taken ahead; None where there are not 4096.
+    pub fn from_bytes_in(bytes: &[u8], spare: &mut Spare) -> Option<Block>
+        requires { spare.old ≡ true }
+        ensures size { IsSome result ↔ (length bytes.now ≡ 4096) }
+        ensures block { IfSome result (λ b. b ≡ bytes.now) }
+    {
+        if bytes.len() != Block::SIZE {
+            return None;
+        }
+        if repeats(bytes) {
+            return Some(Block::fill(first_word(bytes)));
+        }
+        let mut room = spare.room.take().unwrap();
+        room.copy_from_slice(bytes);
+        Some(Block {
+            content: Content::Bytes(room),
+        })
+    }
 }
 
 impl Spare {

@@ -1,6 +1,6 @@
 use Rattle.std.proofs.Common.{◌≡◌, length}
-use Rattle.nq_net.proofs.Repeating.{many-all, first_word}
-use Rattle.nq_net.proofs.runs.many_of.Goals as goal
+use Rattle.nq_xdr.proofs.Repeats.{many-all, first_word}
+use Rattle.nq_xdr.proofs.words.many_of.Goals as goal
 
 pub returns : goal.returns
 returns c =

@@ -1,6 +1,6 @@
 use Rattle.std.proofs.Common.{◌≡◌, ◌+◌, ◌*◌, ◌/◌, ◌≤◌, ◌++◌, vec_len, vec_capacity}
-use Rattle.nq_net.specs.Runs.{repeats}
-use Rattle.nq_net.proofs.runs.push_words.Given as goal
+use Rattle.nq_xdr.specs.Words.{repeats}
+use Rattle.nq_xdr.proofs.words.push_words.Given as goal
 
 abbrev pub invariant-loop-round : goal.invariant-loop-round
 invariant-loop-round l = (l.out.items ≡ l.fn.out.items ++ repeats (64 * l._round) l.fn.word)
