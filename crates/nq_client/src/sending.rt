@@ -93,12 +93,15 @@ impl Step {
         ensures quiet { result ≡ false → self.new ≡ self.old }
         ensures kept { result ≡ false → room.new ≡ room.old }
     {
-        if !self.state.dirty.next(file) {
-            return false;
+        self.state.dirty.next(file);
+        match self.state.dirty.under_way() {
+            Some(push) => {
+                let push = copied(push, room);
+                self.sends_push(push);
+                true
+            }
+            None => false,
         }
-        let push = copied(self.state.dirty.under_way().unwrap(), room);
-        self.sends_push(push);
-        true
     }
 
     /// Sends delayed writes that are under way.
