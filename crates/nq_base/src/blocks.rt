@@ -90,6 +90,7 @@ impl Block {
     pub fn seen(&self) -> Seen<'_>
         ensures bytes { seen_bytes result ≡ self.now }
         ensures size { length self.now ≡ 4096 }
+        ensures light { (v : ℕ) → self.now ≡ filled v → result ≡ Seen.Filled v }
     {
         match &self.content {
             Content::Filled(value) => Seen::Filled(*value),

@@ -1,5 +1,5 @@
 use super::*;
-use nq_base::{FileId, Host, Inc, Reply, Request, Tag, Who};
+use nq_base::{FileId, Host, Inc, Reply, Request, Spare, Tag, Who};
 use nq_rpc::RpcFault;
 use nq_wire::Procedure;
 use std::alloc::{AllocError, Global};
@@ -66,6 +66,13 @@ fn class_of(incoming: &Incoming) -> char {
     }
 }
 
+/// The letter of a datagram.
+fn class_read(alloc: Global, datagram: &[u8]) -> Result<char, Fail> {
+    let mut room = Spare::none();
+    room.reserve(alloc)?;
+    Ok(class_of(&read_incoming(datagram, &mut room)))
+}
+
 /// The host of a LOOKUP.
 fn looker(incoming: Incoming) -> Option<u32> {
     let Incoming::Request { request, .. } = incoming else {
@@ -108,7 +115,9 @@ fn heard(
 ) -> Result<Option<u32>, Fail> {
     let datagram = bytes_of(alloc, words)?;
     let awaited = Awaited { xid, procedure };
-    Ok(read_heard(alloc, Some(awaited), &datagram).and_then(file_in))
+    let mut room = Spare::none();
+    room.reserve(alloc)?;
+    Ok(read_heard(Some(awaited), &datagram, &mut room).and_then(file_in))
 }
 
 #[test]
@@ -118,10 +127,12 @@ fn each_prefix_of_a_call_has_its_class(rt: HostRuntime) -> Result<(), Fail> {
     for size in 0..56 {
         if let Some(prefix) = call.get(..size) {
             let want = if size < 40 { 's' } else { 'g' };
-            assert!(rt; class_of(&read_incoming(alloc, prefix)) == want, "{size}");
+            assert!(rt; class_read(alloc, prefix)? == want, "{size}");
         }
     }
-    assert_eq!(rt; looker(read_incoming(alloc, &call)), Some(1));
+    let mut room = Spare::none();
+    room.reserve(alloc)?;
+    assert_eq!(rt; looker(read_incoming(&call, &mut room)), Some(1));
     Ok(())
 }
 
@@ -142,14 +153,11 @@ fn datagrams_have_their_classes(rt: HostRuntime) -> Result<(), Fail> {
         (1, 2, 'm'),
     ] {
         let datagram = lookup_with(alloc, place, word)?;
-        assert!(rt;
-            class_of(&read_incoming(alloc, &datagram)) == want,
-            "{place} {word}"
-        );
+        assert!(rt; class_read(alloc, &datagram)? == want, "{place} {word}");
     }
-    assert!(rt; class_of(&read_incoming(alloc, &bytes_of(alloc, &FOUND)?)) == 'n');
-    assert!(rt; class_of(&read_incoming(alloc, &[0; 4400])) == 'r');
-    assert!(rt; class_of(&read_incoming(alloc, &[0; 4401])) == 'l');
+    assert!(rt; class_read(alloc, &bytes_of(alloc, &FOUND)?)? == 'n');
+    assert!(rt; class_read(alloc, &[0; 4400])? == 'r');
+    assert!(rt; class_read(alloc, &[0; 4401])? == 'l');
     Ok(())
 }
 

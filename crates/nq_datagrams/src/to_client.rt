@@ -31,11 +31,7 @@ pub enum Heard {
 /// Reads a datagram that came to a client; None where it is neither a notice nor the reply for which it waits. A body
 /// goes into `room`, so no memory is wanted.
 #[tactic(auto, unfolding(crate::specs::Incoming::heard_for))]
-pub fn read_heard(
-    awaited: Option<Awaited>,
-    datagram: &[u8],
-    room: &mut Spare,
-) -> Option<Heard>
+pub fn read_heard(awaited: Option<Awaited>, datagram: &[u8], room: &mut Spare) -> Option<Heard>
     requires { room.old ≡ true }
     ensures { told_client result ≡ heard_for awaited datagram.now }
 {

@@ -126,7 +126,7 @@ fn a_notice_is_answered_once_its_file_is_clean(rt: HostRuntime) -> Result<(), Fa
     let file = FileId(1);
     let tag = |boot, number| Tag { boot, number };
     let mut dirty = Dirty::new(rt.alloc())?;
-    dirty.write(file, BlockNo(0), Number(1), &Block::fill(7))?;
+    dirty.write(file, BlockNo(0), Number(1), Block::fill(7))?;
     assert!(rt; dirty.clean(file).is_none());
     assert!(rt; dirty.next(file).is_some());
     assert!(rt; dirty.clean(file).is_none());

@@ -38,7 +38,7 @@ pub(crate) fn give<K: Keeper, L: Link>(
 {
     let sent = world.packets().len();
     match keep(state, ran, sent as usize, event) {
-        Ok(event) => give_last(alloc, world, links, state, ran, &event, sent),
+        Ok(()) => give_last(alloc, world, links, state, ran, sent),
         Err(_) => Err(Halt::Memory),
     }
 }
@@ -49,20 +49,15 @@ fn keep(
     ran: &mut Schedule,
     sent: usize,
     event: Event,
-) -> Result<Event, NoMemory>
-    ensures kept { IfOk result (λ kept. (kept ≡ event) × (ran.new ≡ ran.old ++ event ∷ [])) }
+) -> Result<(), NoMemory>
+    ensures kept { OnOk result (ran.new ≡ ran.old ++ event ∷ []) }
     ensures refused { OnErr result (ran.new ≡ ran.old) }
     ensures same { (events : List Event) → Marks state.old.flags events → Marks state.new.flags events }
     ensures begun { state.new.begun ≡ state.old.begun }
     ensures reached { OnOk result (sent ≤ length state.new.flags) }
 {
     state.reach(sent)?;
-    let place = ran.len();
-    ran.push(event)?;
-    match ran.get(place) {
-        Some(event) => Ok(event),
-        None => unreachable!(),
-    }
+    ran.push(event)
 }
 
 /// Gives the event at the end of `ran` to the world, where so many packets were sent. Where the world does not take it in, it is dropped
@@ -73,7 +68,6 @@ fn give_last<K: Keeper, L: Link>(
     links: &mut [L],
     state: &mut LoopState,
     ran: &mut Schedule,
-    event: &Event,
     sent: u64,
 ) -> Result<bool, Halt>
     requires hosts { length world.old.clients ≡ length state.old.begun }
@@ -88,6 +82,9 @@ fn give_last<K: Keeper, L: Link>(
     ensures keeps { Keeps result (K.faults world.old.server.keeper) (K.faults world.new.server.keeper)
         (length world.old.clients) (length world.new.clients) (length state.old.begun) (length state.new.begun) }
 {
+    let Some(event) = ran.get(ran.len() - 1) else {
+        unreachable!()
+    };
     match world.step(event) {
         Stepped::Done => {
             state.note(event);

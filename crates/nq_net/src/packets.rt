@@ -4,6 +4,7 @@ ghost use Rattle.std.specs.Prelude.{◌≡◌, ◌+◌, ◌≤◌, [], ◌∷◌
 
 use crate::runs::Run;
 use crate::{NoMemory, Party};
+use nq_xdr::push_words;
 use std::alloc::Global;
 use std::marker::Model;
 

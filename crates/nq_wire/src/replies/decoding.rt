@@ -56,12 +56,7 @@ fn attributes(inc: Inc, reader: &mut Reader, into: &mut Reply) -> Result<(), Gar
 }
 
 #[tactic(auto, unfolding(crate::specs::Reading::block_at, crate::specs::Reply::results))]
-fn block(
-    inc: Inc,
-    reader: &mut Reader,
-    room: &mut Spare,
-    into: &mut Reply,
-) -> Result<(), Garbage>
+fn block(inc: Inc, reader: &mut Reader, room: &mut Spare, into: &mut Reply) -> Result<(), Garbage>
     requires { room.old ≡ true }
     ensures found { ReadsResults Procedure.Read inc reader.old reader.new (left_in into.new result) }
     ensures step { Gives (λ r. (r, reader.new)) (left_in into.new result) (block_at inc reader.old) }
@@ -228,11 +223,7 @@ pub fn decode_reply_into(
 ///
 /// `NoSuchProc` exactly where the number is above 11, else `Garbage` exactly where the bytes are not the
 /// procedure's results, as always of VACATED and EVICTED, which have no reply.
-pub fn decode_reply(
-    procedure: u32,
-    bytes: &[u8],
-    room: &mut Spare,
-) -> Result<Reply, WireFault>
+pub fn decode_reply(procedure: u32, bytes: &[u8], room: &mut Spare) -> Result<Reply, WireFault>
     requires { room.old ≡ true }
 
     // What is read is spelled so, and what is spelled so is read.

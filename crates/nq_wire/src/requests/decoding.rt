@@ -288,11 +288,7 @@ pub fn decode_request_into(
 ///
 /// `NoSuchProc` exactly where the number is above 11, else `Garbage` exactly where the bytes are not the
 /// procedure's arguments.
-pub fn decode_request(
-    procedure: u32,
-    bytes: &[u8],
-    room: &mut Spare,
-) -> Result<Request, WireFault>
+pub fn decode_request(procedure: u32, bytes: &[u8], room: &mut Spare) -> Result<Request, WireFault>
     requires { room.old ≡ true }
 
     // What is read is spelled so, and what is spelled so is read.
