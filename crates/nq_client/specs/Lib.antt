@@ -6,7 +6,6 @@ pub mod Calling
 pub mod Counted
 pub mod Entries
 pub mod Finishing
-pub mod Given
 pub mod Granting
 pub mod Hearing
 pub mod Leases

@@ -1,6 +1,6 @@
 //! Datagrams that come to a client, and which of them count.
 
-ghost use Rattle.std.specs.Prelude.{◌≡◌, ℕ, IsTrue, if◌then◌else◌};
+ghost use Rattle.std.specs.Prelude.{◌≡◌, ℕ, true, IsTrue, if◌then◌else◌};
 ghost use Rattle.nq_datagrams.specs.Incoming.{awaited_of, hears, hears_in};
 ghost use Rattle.nq_datagrams.specs.Told.{told_client, told_message};
 ghost use Rattle.nq_model.specs.Hear.{hear, hear_call};
@@ -11,7 +11,7 @@ use crate::asked::Asked;
 use crate::counting::{holds_later, inc_of, reply_counts};
 use crate::hearing::is_same;
 use crate::state::State;
-use nq_base::{FileId, Reply, Request};
+use nq_base::{FileId, Reply, Request, Spare};
 use nq_datagrams::{Awaited, Heard, read_heard};
 use nq_wire::Procedure;
 
@@ -63,11 +63,13 @@ pub(crate) fn heeds(state: &State, heard: &Heard) -> bool
     }
 }
 
-/// Reads a datagram; None where it is neither a notice nor the reply for which the client waits. It takes no memory.
-pub(crate) fn read(state: &State, datagram: &[u8]) -> Option<Heard>
+/// Reads a datagram; None where it is neither a notice nor the reply for which the client waits. A body goes into room that
+/// is there, so it takes no memory.
+pub(crate) fn read(state: &State, datagram: &[u8], room: &mut Spare) -> Option<Heard>
+    requires { room.old ≡ true }
     ensures { (number : ℕ) → hears (client_of state.now) number (told_client result) ≡ hears_in (client_of state.now) number datagram.now }
 {
-    read_heard(state.alloc, awaited(&state.asked), datagram)
+    read_heard(awaited(&state.asked), datagram, room)
 }
 
 /// The file whose delayed writes the reply to a request may lose, or 0.
