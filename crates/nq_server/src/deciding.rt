@@ -279,6 +279,48 @@ fn without_body(request: &Request) -> Request
     }
 }
 
+/// Decides a request, and answers it by what is told of it.
+fn decide_told<K: Keeper>(
+    alloc: Global,
+    keeper: &mut K,
+    state: &mut State,
+    caller: Caller,
+    request: Request,
+    told: &Request,
+    out: &mut Outbox,
+    log: &mut Journal,
+) -> Result<Taken, Halt>
+    requires sound { IsSound state.old }
+    requires once { is_decided_once request ≡ true }
+    requires host { IsOfHost request }
+    requires told { told.now ≡ as_told request }
+    ensures takes { Takes (λ kept. decided_step (server_of (beside_of state.old) kept) caller.who caller.xid request (decided_of kept (gate_of (server_of (beside_of state.old) kept) caller.who request) request)) result (K.content keeper.old) (K.content keeper.new) (K.faults keeper.old) (K.faults keeper.new) (beside_of state.old) (beside_of state.new) out.old out.new log.old log.new }
+    ensures sound { IsSound state.new }
+    ensures drawn { state.new.table.drawn ≡ state.old.table.drawn }
+    ensures follows { K.follows keeper.old keeper.new }
+    ensures leaves { LeavesStep (λ kept. decided_step (server_of (beside_of state.old) kept) caller.who caller.xid request (decided_of kept (gate_of (server_of (beside_of state.old) kept) caller.who request) request)) (K.content keeper.old) (K.leaves keeper.old keeper.new) }
+{
+    let before = read_before(keeper, told)?;
+    let gate = gate(state, &before.heads, &caller.who, file_to_change(&request));
+    let ready = match prepare(alloc, state, caller, told, out, log) {
+        Ok(ready) => ready,
+        Err(NoMemory::Memory) => return Err(Halt::Memory),
+    };
+    match decide(keeper, request, gate) {
+        Err(fault) => Err(give_up(fault, ready.len, out)),
+        Ok(decided) => Ok(conclude(
+            state,
+            caller,
+            told,
+            &decided,
+            ready,
+            before.length,
+            out,
+            log,
+        )),
+    }
+}
+
 /// Decides a request that is decided once, and answers it. At most one change is kept, and all memory is taken before it.
 pub(crate) fn decide_once<K: Keeper>(
     alloc: Global,
@@ -299,23 +341,5 @@ pub(crate) fn decide_once<K: Keeper>(
     ensures leaves { LeavesStep (λ kept. decided_step (server_of (beside_of state.old) kept) caller.who caller.xid request (decided_of kept (gate_of (server_of (beside_of state.old) kept) caller.who request) request)) (K.content keeper.old) (K.leaves keeper.old keeper.new) }
 {
     let told = without_body(&request);
-    let before = read_before(keeper, &told)?;
-    let gate = gate(state, &before.heads, &caller.who, file_to_change(&request));
-    let ready = match prepare(alloc, state, caller, &told, out, log) {
-        Ok(ready) => ready,
-        Err(NoMemory::Memory) => return Err(Halt::Memory),
-    };
-    match decide(keeper, request, gate) {
-        Err(fault) => Err(give_up(fault, ready.len, out)),
-        Ok(decided) => Ok(conclude(
-            state,
-            caller,
-            &told,
-            &decided,
-            ready,
-            before.length,
-            out,
-            log,
-        )),
-    }
+    decide_told(alloc, keeper, state, caller, request, &told, out, log)
 }

@@ -119,6 +119,18 @@ pub(crate) fn end_reply(host: Host, begun: BegunReply, said: &Reply, out: &mut O
     out.push(Party::Client(host), bytes).unwrap();
 }
 
+/// Adds the refusal of a request that is put off. Where memory is wanting the datagrams are as before.
+fn reply_later(alloc: Global, who: Who, xid: u32, out: &mut Outbox) -> Result<(), NoMemory>
+    ensures sends { OnOk result (Sends (to_host who.host (reply_to xid (Answer.Refused who.inc Status.TryLater)) ∷ []) out.old out.new) }
+    ensures refused { OnErr result (IsSilent out.old out.new) }
+{
+    let said = Reply::Refused {
+        inc: who.inc,
+        status: Refusal::TryLater,
+    };
+    reply(alloc, who.host, xid, &said, out)
+}
+
 /// Puts a request about a file off: notices to the holders of its rows, with numbers from `notice` on, and then the
 /// refusal. Where memory is wanting the datagrams and the number are as before.
 pub(crate) fn put_off(
@@ -139,11 +151,7 @@ pub(crate) fn put_off(
     let before = *notice;
     let len = out.len();
     notices(alloc, table, file, to, notice, out)?;
-    let said = Reply::Refused {
-        inc: who.inc,
-        status: Refusal::TryLater,
-    };
-    match reply(alloc, who.host, xid, &said, out) {
+    match reply_later(alloc, who, xid, out) {
         Ok(()) => Ok(()),
         Err(fault) => {
             out.cut(len);

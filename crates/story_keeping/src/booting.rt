@@ -1,3 +1,5 @@
+//! Boots over a keeper in memory.
+
 use nq_base::Ticks;
 use nq_boot::{Finish, Recovering, Serving, StartFault, Started, start};
 use nq_keeper::{Keeper, ListKeeper};

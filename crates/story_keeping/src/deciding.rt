@@ -1,3 +1,5 @@
+//! Requests that are decided once, and what is read of a block.
+
 use crate::session::{
     HINDERED, HOLDING, RECOVERING, SERVING, Session, WHO, again, base, begun, fresh,
 };

@@ -1,3 +1,5 @@
+//! The ends of leases.
+
 use crate::session::{WHO, begun};
 use nq_base::{FileId, Mode, Rev, Row, Tag, Ticks};
 use nq_expire::{due, end_reading, end_writing};

@@ -1,3 +1,5 @@
+//! What a keeper in memory keeps, and calls of it that fail.
+
 use crate::session::begun;
 use nq_base::{FileId, Heads, Host, Inc, Name, Rev, Seq, Space};
 use nq_files::{getattr, lookup};

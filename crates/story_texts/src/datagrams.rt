@@ -1,9 +1,11 @@
 //! Tests of arguments and results.
 
-ghost use Rattle.nq_wire.specs.Request.{HasSpelling};
+ghost use Rattle.std.specs.Prelude.{IfOk};
+ghost use Rattle.nq_wire.specs.Request.{HasSpelling, IsArguments};
 
 use nq_base::{
-    Block, BlockNo, FileId, Grant, Host, Inc, Mode, Name, Number, Rev, Seq, Tag, Want, Who,
+    Block, BlockNo, FileId, Grant, Host, Inc, Mode, Name, Number, Rev, Seq, Spare, Tag, Want,
+    Who,
 };
 use nq_wire::{
     LONGEST_ARGUMENTS, LONGEST_RESULTS, Outbox, Party, Procedure, PushBase, Refusal, Reply,
@@ -43,6 +45,26 @@ fn bytes_with_body(alloc: Global, front: &[u32], back: &[u32]) -> Result<Vec<u8>
     Ok(bytes)
 }
 
+/// The request that these bytes are read as.
+fn read_request(alloc: Global, procedure: u32, bytes: &[u8]) -> Result<Request, WireFault>
+    ensures { IfOk result (λ request. IsArguments procedure request bytes.now) }
+{
+    let mut room = Spare::none();
+    match room.reserve(alloc) {
+        Ok(()) => decode_request(procedure, bytes, &mut room),
+        Err(_) => Err(WireFault::Memory),
+    }
+}
+
+/// The reply that these bytes are read as.
+fn read_reply(alloc: Global, procedure: u32, bytes: &[u8]) -> Result<Reply, WireFault> {
+    let mut room = Spare::none();
+    match room.reserve(alloc) {
+        Ok(()) => decode_reply(procedure, bytes, &mut room),
+        Err(_) => Err(WireFault::Memory),
+    }
+}
+
 fn name_of(bytes: &[u8]) -> Result<Name, &'static str> {
     Name::new(bytes).ok_or("a name was expected")
 }
@@ -52,7 +74,7 @@ fn is_request(alloc: Global, request: &Request, bytes: &[u8]) -> Result<bool, Fa
     requires { HasSpelling request.now }
 {
     let written = encode_request(alloc, request)?;
-    match decode_request(alloc, Procedure::of(request).number(), bytes) {
+    match read_request(alloc, Procedure::of(request).number(), bytes) {
         Ok(read) => {
             let again = encode_request(alloc, &read)?;
             Ok(written.as_slice() == bytes && again.as_slice() == bytes)
@@ -69,7 +91,7 @@ fn is_reply(
     bytes: &[u8],
 ) -> Result<bool, Fail> {
     let written = encode_reply(alloc, reply)?;
-    match decode_reply(alloc, procedure.number(), bytes) {
+    match read_reply(alloc, procedure.number(), bytes) {
         Ok(read) => {
             let again = encode_reply(alloc, &read)?;
             Ok(written.as_slice() == bytes && again.as_slice() == bytes)
@@ -99,7 +121,7 @@ fn is_file_1_of_1_block(reply: &Reply) -> bool {
 fn a_lookup_and_its_reply(rt: HostRuntime) -> Result<(), Fail> {
     let alloc = rt.alloc();
     let bytes = bytes_of(alloc, &[1, 1, 1, 0x6100_0000])?;
-    match decode_request(alloc, 2, &bytes) {
+    match read_request(alloc, 2, &bytes) {
         Ok(request) => {
             assert!(rt; is_lookup_of_a(&request));
             assert!(rt; is_request(alloc, &request, &bytes)?);
@@ -107,7 +129,7 @@ fn a_lookup_and_its_reply(rt: HostRuntime) -> Result<(), Fail> {
         Err(_fault) => assert!(rt; false),
     }
     let bytes = bytes_of(alloc, &[1, 0, 1, 1])?;
-    match decode_reply(alloc, 2, &bytes) {
+    match read_reply(alloc, 2, &bytes) {
         Ok(reply) => {
             assert!(rt; is_file_1_of_1_block(&reply));
             assert!(rt; is_reply(alloc, Procedure::Lookup, &reply, &bytes)?);
@@ -385,18 +407,18 @@ fn hostile_arguments_are_garbage(rt: HostRuntime) -> Result<(), Fail> {
         let bytes = bytes_of(alloc, words)?;
         assert!(rt;
             matches!(
-                decode_request(alloc, procedure, &bytes),
+                read_request(alloc, procedure, &bytes),
                 Err(WireFault::Garbage)
             )
         );
     }
     let two = [1, 2, 0, 3, 5, 7, 0, 8, 0, 9, 0, 4096];
     let bytes = bytes_with_body(alloc, &two, &[])?;
-    assert!(rt; matches!(decode_request(alloc, 6, &bytes), Err(WireFault::Garbage)));
-    assert!(rt; matches!(decode_request(alloc, 12, &[]), Err(WireFault::NoSuchProc)));
+    assert!(rt; matches!(read_request(alloc, 6, &bytes), Err(WireFault::Garbage)));
+    assert!(rt; matches!(read_request(alloc, 12, &[]), Err(WireFault::NoSuchProc)));
     assert!(rt;
         matches!(
-            decode_request(alloc, u32::MAX, &[]),
+            read_request(alloc, u32::MAX, &[]),
             Err(WireFault::NoSuchProc)
         )
     );
@@ -411,11 +433,11 @@ fn names_have_at_most_64_bytes(rt: HostRuntime) -> Result<(), Fail> {
     words[1] = 2;
     words[2] = 64;
     let bytes = bytes_of(alloc, &words[..19])?;
-    assert!(rt; decode_request(alloc, 2, &bytes).is_ok());
+    assert!(rt; read_request(alloc, 2, &bytes).is_ok());
     words[2] = 65;
     words[19] = 0x6100_0000;
     let bytes = bytes_of(alloc, &words)?;
-    assert!(rt; matches!(decode_request(alloc, 2, &bytes), Err(WireFault::Garbage)));
+    assert!(rt; matches!(read_request(alloc, 2, &bytes), Err(WireFault::Garbage)));
     Ok(())
 }
 
@@ -439,12 +461,12 @@ fn hostile_results_are_garbage(rt: HostRuntime) -> Result<(), Fail> {
         let bytes = bytes_of(alloc, words)?;
         assert!(rt;
             matches!(
-                decode_reply(alloc, procedure, &bytes),
+                read_reply(alloc, procedure, &bytes),
                 Err(WireFault::Garbage)
             )
         );
     }
-    assert!(rt; matches!(decode_reply(alloc, 12, &[]), Err(WireFault::NoSuchProc)));
+    assert!(rt; matches!(read_reply(alloc, 12, &[]), Err(WireFault::NoSuchProc)));
     assert_eq!(rt; WireFault::Garbage.number(), 2);
     Ok(())
 }

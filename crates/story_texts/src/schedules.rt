@@ -3,7 +3,7 @@
 ghost use Rattle.std.specs.Prelude.{◌<◌, ◌^◌, length};
 ghost use Rattle.nq_script.specs.Schedule.{SpellsSchedule};
 
-use nq_base::{Block, BlockNo, Call, Event, FileId, Host, NoMemory};
+use nq_base::{Block, BlockNo, Call, Event, FileId, Host, NoMemory, Seen};
 use nq_script::{
     Head, Line, Schedule, Script, ScriptFault, each_text, lines_are_short, one_fault, one_reading,
     parse, parse_call, parse_head, parse_line, print_event, print_head, print_line, printed_again,
@@ -385,12 +385,9 @@ fn events_are_printed(rt: HostRuntime) -> Result<(), NoMemory> {
 
 /// A block that no number fills.
 fn odd_block(rt: &HostRuntime) -> Result<Block, NoMemory> {
-    let mut bytes = Vec::new(rt.alloc());
-    append(&mut bytes, Block::fill(7).as_bytes())?;
-    if let Some(last) = bytes.last_mut() {
-        *last = 8;
-    }
-    match Block::from_bytes(&bytes) {
+    let mut bytes = [7; Block::SIZE];
+    bytes[Block::SIZE - 1] = 8;
+    match Block::from_bytes(rt.alloc(), &bytes)? {
         Some(block) => Ok(block),
         None => Err(NoMemory::Memory),
     }
@@ -409,10 +406,13 @@ fn write_of(body: Block) -> Event {
 }
 
 /// The last byte of the block that the event writes.
-fn last_written(event: Option<Event>) -> Option<u8> {
+fn last_written(event: Option<&Event>) -> Option<u8> {
     match event {
         Some(Event::Call { call, .. }) => match call {
-            Call::Write { body, .. } => body.as_bytes().last().copied(),
+            Call::Write { body, .. } => match body.seen() {
+                Seen::Filled(value) => Some((value % 256) as u8),
+                Seen::Bytes(bytes) => bytes.last().copied(),
+            },
             _ => None,
         },
         _ => None,
