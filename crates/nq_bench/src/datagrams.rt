@@ -87,7 +87,7 @@ fn encode_replies(alloc: Global, times: u64, said: &Reply) -> Option<u64> {
     Some(sum)
 }
 
-/// A number that stands on what the datagram asks.
+/// A number that stands on what the datagram asks, which is read with this room.
 fn request_in(alloc: Global, bytes: &[u8], room: &mut Spare) -> Option<u64> {
     room.reserve(alloc).ok()?;
     let LentMessage::Call(call) = decode_in_place(bytes).ok()? else {
@@ -106,13 +106,8 @@ fn request_in(alloc: Global, bytes: &[u8], room: &mut Spare) -> Option<u64> {
     }
 }
 
-/// A number that stands on what the datagram answers.
-fn reply_in(
-    alloc: Global,
-    procedure: Procedure,
-    bytes: &[u8],
-    room: &mut Spare,
-) -> Option<u64> {
+/// A number that stands on what the datagram answers, which is read with this room.
+fn reply_in(alloc: Global, procedure: Procedure, bytes: &[u8], room: &mut Spare) -> Option<u64> {
     room.reserve(alloc).ok()?;
     let LentMessage::Reply(reply) = decode_in_place(bytes).ok()? else {
         return None;

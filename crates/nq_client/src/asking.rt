@@ -360,7 +360,7 @@ impl Step {
         self.next_change(may_ask, file, request, room)
     }
 
-    /// The next request of the call under way, if there is one; whether one was sent. The call stays where it is: it is large.
+    /// The next request of the call under way, if there is one; whether one was sent.
     pub(crate) fn calls(&mut self, room: &mut Spare) -> bool
         requires block { room.old ≡ true }
         requires idle { self.old.state.asked ≡ None }

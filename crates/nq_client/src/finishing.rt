@@ -84,7 +84,7 @@ fn post_vacated(
     }
 }
 
-/// Sends this vacated message. It is apart, since a request is large, and most steps send none.
+/// Sends this vacated message.
 fn post_vacancy(letter: &mut Letter, alloc: Global, who: Who, vacated: &Vacated, out: &mut Outbox)
     requires bytes { longest_call ≤ letter.old }
     requires place { 1 ≤ out.old.spare }

@@ -147,8 +147,7 @@ impl Step {
         }
     }
 
-    /// What the call under way needs no packet for, where the request under way is not its own. The call stays where it is: it
-    /// is large.
+    /// What the call under way needs no packet for, where the request under way is not its own.
     fn settle_under_way(&mut self, room: &mut Spare)
         requires room { HasRoom self.old }
         requires block { room.old ≡ true }
