@@ -1,6 +1,6 @@
 //! Lines of a text.
 
-ghost use Rattle.std.specs.Prelude.{◌≡◌, ◌<◌, ◌^◌, ⊥, false, length, IsTrue};
+ghost use Rattle.std.specs.Prelude.{◌≡◌, ◌<◌, ◌^◌, true, false, length};
 ghost use Rattle.std.specs.Option.{option_map};
 ghost use Rattle.nq_base.specs.declared.Call.{Call};
 ghost use Rattle.nq_calls.specs.Lines.{StepsOver, Tells};
@@ -52,7 +52,7 @@ fn after_call(alloc: Global, text: &[u8]) -> Option<&[u8]>
 
 /// Whether a line spells a call.
 fn is_call(alloc: Global, line: &[u8]) -> bool
-    ensures yes { IsTrue result → (call : Call) × SpellsCall 1 call line.now }
+    ensures yes { result ≡ true → (call : Call) × SpellsCall 1 call line.now }
     ensures no { result ≡ false → (call : Call) → SpellsCall 1 call line.now → ⊥ }
 {
     parse_call(alloc, line, 1).is_ok()
