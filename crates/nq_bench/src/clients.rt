@@ -1,8 +1,8 @@
 //! A client that holds leases on so many files: its cached reads and its delayed writes.
 
 use nq_base::{
-    Answer, Block, BlockNo, Call, FileId, Grant, Host, Inc, Mode, Reply, Rev, Spare, Tag,
-    Ticks, Value,
+    Answer, Block, BlockNo, Call, FileId, Grant, Host, Inc, Mode, Reply, Rev, Spare, Tag, Ticks,
+    Value,
 };
 use nq_client::Client;
 use nq_datagrams::reply_bytes;

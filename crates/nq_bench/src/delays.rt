@@ -24,7 +24,9 @@ pub(crate) fn often(alloc: Global, way: &str, times: u64) -> Option<u64> {
 fn write_again_often(alloc: Global, blocks: u32, written: u32, times: u64) -> Option<u64> {
     let mut dirty = Dirty::new(alloc).ok()?;
     for block in 0..blocks {
-        dirty.write(FILE, BlockNo(block), Number(1), Block::fill(7)).ok()?;
+        dirty
+            .write(FILE, BlockNo(block), Number(1), Block::fill(7))
+            .ok()?;
     }
     let mut block: u32 = 0;
     for number in 0..times {

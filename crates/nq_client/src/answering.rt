@@ -67,10 +67,7 @@ impl Step {
         ensures left { Leaves 1 self.old self.new }
     {
         let value = body.value();
-        self.answers_as(
-            Answer::Ok(Value::Body(body)),
-            Said::OkBy { value, packet },
-        );
+        self.answers_as(Answer::Ok(Value::Body(body)), Said::OkBy { value, packet });
     }
 
     /// Answers the call under way with what a refusal means.

@@ -11,8 +11,8 @@ ghost use Rattle.nq_client.specs.Calling.{HasRoomToCall, IsNamedFor};
 ghost use Rattle.nq_client.specs.Tied.{Tied};
 
 use crate::losses::spans_of;
-use crate::state::{State, UnderWay};
 use crate::rooms::Rooms;
+use crate::state::{State, UnderWay};
 use crate::step::Step;
 use nq_base::{Answer, Call, Entry, FileId, Losses, NoMemory, Said, Spans, Told};
 use std::alloc::Global;

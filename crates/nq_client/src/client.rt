@@ -173,6 +173,7 @@ impl Client {
     ///
     /// `Spent` exactly where the client has taken in 2^30 calls, datagrams and ticks. After `Spent` and `Memory` the
     /// client, the outbox and the journal are as before.
+    #[tactic(auto, using(crate::proofs::Outcomes::refused_as))]
     pub fn receive(
         &mut self,
         packet: u64,

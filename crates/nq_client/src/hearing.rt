@@ -104,12 +104,7 @@ impl Step {
     }
 
     /// Takes a reply in that counts, in the packet of this number.
-    fn hears_reply(
-        &mut self,
-        packet: u64,
-        reply: &Reply,
-        rooms: &mut Rooms,
-    ) -> Result<(), NoMemory>
+    fn hears_reply(&mut self, packet: u64, reply: &Reply, rooms: &mut Rooms) -> Result<(), NoMemory>
         requires rooms { HasRooms rooms.old }
         requires begun { IsBegun self.old }
         requires prepared { IsPrepared (at_stake self.old.state.asked) self.old }

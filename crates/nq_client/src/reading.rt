@@ -43,12 +43,7 @@ pub(crate) fn read_held(
 }
 
 /// A copy of a clean block, in room that is there. It comes to the front.
-fn read_clean(
-    cache: &mut Cache,
-    file: FileId,
-    block: BlockNo,
-    room: &mut Spare,
-) -> Option<Block>
+fn read_clean(cache: &mut Cache, file: FileId, block: BlockNo, room: &mut Spare) -> Option<Block>
     requires { room.old ≡ true }
     ensures body { result ≡ clean_body (clean_at file block cache.old.clean) }
     ensures cache { cache.new ≡ record cache.old { clean = looked_up file block cache.old.clean } }

@@ -84,7 +84,11 @@ fn a_client_that_holds_nothing_reads_nothing(rt: HostRuntime) -> Result<(), Fail
     assert!(rt; client.is_attached());
     assert!(rt; client.time() == Ticks(7));
     assert!(rt; client.dirty().is_clean(FileId(1)));
-    assert!(rt; client.read_cached(FileId(1), BlockNo(0), &mut room).is_none());
+    assert!(rt;
+        client
+            .read_cached(FileId(1), BlockNo(0), &mut room)
+            .is_none()
+    );
     client.stop();
     Ok(())
 }
