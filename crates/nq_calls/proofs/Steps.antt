@@ -76,16 +76,16 @@ no-call text none line after here call = no-line text line after none here call.
 
 -- a line that is read as a call spells it
 pub spelled : (line : List ℕ) (read : Result Call ScriptFault) → is_ok read ≡ true → Answers read (λ call. SpellsCall 1 call line) (λ number. number ≡ 1) → (call : Call) × SpellsCall 1 call line
-spelled line (Ok call) yes found = (call, found)
-spelled line (Err why) yes found = absurd cc
+spelled line (Ok call) is found = (call, found)
+spelled line (Err why) is found = absurd cc
 
 -- and one that is not read as one spells none
 pub unspelled : (line : List ℕ) (read : Result Call ScriptFault) → is_ok read ≡ false → read ≢ Err Memory
     → ((call : Call) → SpellsCall 1 call line → Answers read (λ found. found ≡ call) (λ number. ⊥))
     → (call : Call) → SpellsCall 1 call line → ⊥
-unspelled line (Ok found) no other only call here = absurd cc
-unspelled line (Err (Bad number)) no other only call here = only call here
-unspelled line (Err Memory) no other only call here = other refl
+unspelled line (Ok found) is other only call here = absurd cc
+unspelled line (Err (Bad number)) is other only call here = only call here
+unspelled line (Err Memory) is other only call here = other refl
 
 -- a line that spells no call is not one that does
 pub other-line : (text found rest : List ℕ) → cut_at 10 text ≡ Some (found, rest) → ((call : Call) → SpellsCall 1 call found → ⊥)
