@@ -1,6 +1,6 @@
 //! Datagrams to a server.
 
-ghost use Rattle.std.specs.Prelude.{◌≡◌, true, ◌<◌, ◌≤◌, ◌+◌, ◌^◌};
+ghost use Rattle.std.specs.Prelude.{◌≡◌, ◌<◌, ◌≤◌, ◌+◌, ◌^◌};
 ghost use Rattle.nq_datagrams.specs.Incoming.{datagram_in};
 ghost use Rattle.nq_datagrams.specs.Told.{told_as};
 ghost use Rattle.nq_model.specs.ServerStep.{receive};
@@ -61,7 +61,7 @@ fn take<K: Keeper>(
     }
 }
 
-/// Reads a datagram from a host, and takes it in. A body goes into `room`.
+/// Reads a datagram from a host, and takes it in. A body goes into `room`, which is made first.
 pub(crate) fn take_in<K: Keeper>(
     alloc: Global,
     keeper: &mut K,
@@ -72,7 +72,6 @@ pub(crate) fn take_in<K: Keeper>(
     out: &mut Outbox,
     log: &mut Journal,
 ) -> Result<Taken, Halt>
-    requires room { room.old ≡ true }
     requires sound { IsSound state.old }
     requires drawn { state.old.table.drawn < 2 ^ 62 }
     ensures takes { Takes (λ kept. receive (server_of (beside_of state.old) kept) sender (next_of out.old) (datagram_in datagram.now)) result (K.content keeper.old) (K.content keeper.new) (K.faults keeper.old) (K.faults keeper.new) (beside_of state.old) (beside_of state.new) out.old out.new log.old log.new }
@@ -81,6 +80,9 @@ pub(crate) fn take_in<K: Keeper>(
     ensures follows { K.follows keeper.old keeper.new }
     ensures leaves { LeavesStep (λ kept. receive (server_of (beside_of state.old) kept) sender (next_of out.old) (datagram_in datagram.now)) (K.content keeper.old) (K.leaves keeper.old keeper.new) }
 {
+    let Ok(()) = room.reserve(alloc) else {
+        return Err(Halt::Memory);
+    };
     let mut request = Request::Null;
     let class = read_incoming_into(datagram, room, &mut request);
     take(alloc, keeper, state, sender, class, request, out, log)

@@ -152,9 +152,6 @@ impl<K: Keeper> Server<K> {
         if self.taken == MOST_TAKEN {
             return Received::Spent;
         }
-        if self.room.reserve(alloc).is_err() {
-            return Received::Memory;
-        }
         match take_in(
             alloc,
             &mut self.keeper,
