@@ -47,7 +47,11 @@ fn after_call(alloc: Global, text: &[u8]) -> Option<&[u8]>
     let Some((line, after)) = cut_line(text) else {
         return None;
     };
-    if is_call(alloc, line) { Some(after) } else { None }
+    if is_call(alloc, line) {
+        Some(after)
+    } else {
+        None
+    }
 }
 
 /// Whether a line spells a call.

@@ -4,8 +4,7 @@ ghost use Rattle.std.specs.Prelude.{IfOk};
 ghost use Rattle.nq_wire.specs.Request.{HasSpelling, IsArguments};
 
 use nq_base::{
-    Block, BlockNo, FileId, Grant, Host, Inc, Mode, Name, Number, Rev, Seq, Spare, Tag, Want,
-    Who,
+    Block, BlockNo, FileId, Grant, Host, Inc, Mode, Name, Number, Rev, Seq, Spare, Tag, Want, Who,
 };
 use nq_wire::{
     LONGEST_ARGUMENTS, LONGEST_RESULTS, Outbox, Party, Procedure, PushBase, Refusal, Reply,
