@@ -8,6 +8,7 @@ mod heads;
 mod hosts;
 mod ids;
 mod image;
+mod order;
 mod rows;
 mod tables;
 
@@ -16,5 +17,6 @@ pub use heads::{Boots, Front, read_boots, read_front, version_of};
 pub use hosts::{check_hosts, read_host};
 pub use ids::{check_held, read_ids, whole_blocks};
 pub use image::{ImageOne, ImageTwo, Tables, read_one, read_two};
+pub use order::{first_wrong_is_least, heads_are_in_order, rows_are_in_order, tables_are_in_order};
 pub use rows::{Slot, Version, read_row, read_rows};
 pub use tables::{PHYSICAL_BLOCKS, TABLE_BLOCKS, read_table, read_tables};
