@@ -115,9 +115,11 @@ table-in-order zero tables place marks rest = (omega arith, omega arith)
 table-in-order (suc count) tables place marks rest =
     let own = marked marks (word_in 0 rest) in
     let behind = table_checks count tables (place + 4) own (drop 4 rest) in
-    let end : (place + 4) + 4 * count ≡ place + 4 * suc count = omega arith in
-    (omega arith, wider place (place + 4) (place + 4 * suc count) behind (omega arith)
-    (ends-at (place + 4) ((place + 4) + 4 * count) (place + 4 * suc count) behind end (table-in-order count tables (place + 4) own (drop 4 rest))))
+    let end : (place + 4) + 4 * count ≡ place + 4 * suc count = omega arith in (
+      omega arith,
+      wider place (place + 4) (place + 4 * suc count) behind (omega arith)
+          (ends-at (place + 4) ((place + 4) + 4 * count) (place + 4 * suc count) behind end (table-in-order count tables (place + 4) own (drop 4 rest))),
+    )
 
 slot-in-order : (tables place : ℕ) (slot : Option Slot) (marks : List Bool) (table : List ℕ) → blocks_of slot ≤ 1024 → AreInOrder place (place + 4096) (slot_checks tables place slot marks table)
 unfolding slot_checks
@@ -133,11 +135,13 @@ tables-in-order tables place (slot ∷ slots) marks bytes short =
     let front = slot_checks tables place slot marks (piece place 4096 bytes) in
     let behind = tables_checks tables (place + 4096) slots own bytes in
     let end : (place + 4096) + 4096 * length slots ≡ place + 4096 * length (slot ∷ slots) = omega arith in
-    let first : blocks_of slot ≤ 1024 = short 0 slot (omega arith) in
-    (omega arith, joined place (place + 4096) (place + 4096 * length (slot ∷ slots)) front behind
-    (slot-in-order tables place slot marks (piece place 4096 bytes) first)
-    (ends-at (place + 4096) ((place + 4096) + 4096 * length slots) (place + 4096 * length (slot ∷ slots)) behind end
-    (tables-in-order tables (place + 4096) slots own bytes (All-tail (λ s. blocks_of s ≤ 1024) slot slots short))))
+    let first : blocks_of slot ≤ 1024 = short 0 slot (omega arith) in (
+      omega arith,
+      joined place (place + 4096) (place + 4096 * length (slot ∷ slots)) front behind
+          (slot-in-order tables place slot marks (piece place 4096 bytes) first)
+          (ends-at (place + 4096) ((place + 4096) + 4096 * length slots) (place + 4096 * length (slot ∷ slots)) behind end
+          (tables-in-order tables (place + 4096) slots own bytes (All-tail (λ s. blocks_of s ≤ 1024) slot slots short))),
+    )
 
 pub ids-in-order : (next place : ℕ) (ids : List ℕ) (slots : List (Option Slot)) (rest : List ℕ) → AreInOrder place (place + 4 * length slots) (ids_checks next place ids slots rest)
 unfolding ids_checks
@@ -145,9 +149,11 @@ ids-in-order next place ids [] rest = (omega arith, omega arith)
 ids-in-order next place ids (slot ∷ slots) rest =
     let more = ids ++ word_in 0 rest ∷ [] in
     let behind = ids_checks next (place + 4) more slots (drop 4 rest) in
-    let end : (place + 4) + 4 * length slots ≡ place + 4 * length (slot ∷ slots) = omega arith in
-    (omega arith, wider place (place + 4) (place + 4 * length (slot ∷ slots)) behind (omega arith)
-    (ends-at (place + 4) ((place + 4) + 4 * length slots) (place + 4 * length (slot ∷ slots)) behind end (ids-in-order next (place + 4) more slots (drop 4 rest))))
+    let end : (place + 4) + 4 * length slots ≡ place + 4 * length (slot ∷ slots) = omega arith in (
+      omega arith,
+      wider place (place + 4) (place + 4 * length (slot ∷ slots)) behind (omega arith)
+          (ends-at (place + 4) ((place + 4) + 4 * length slots) (place + 4 * length (slot ∷ slots)) behind end (ids-in-order next (place + 4) more slots (drop 4 rest))),
+    )
 
 pub boots-in-order : (front : List ℕ) → AreInOrder 8 64 (boots_checks front)
 boots-in-order front = (omega arith, (omega arith, (omega arith, omega arith)))

@@ -5,4 +5,6 @@ pub mod Image
 pub mod Layout
 pub mod Reading
 pub mod Rows
+pub mod Seen
 pub mod Tables
+pub mod Whole

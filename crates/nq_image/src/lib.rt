@@ -11,12 +11,14 @@ mod image;
 mod order;
 mod rows;
 mod tables;
+mod whole;
 
 pub use fault::{ImageFault, WrongField};
 pub use heads::{Boots, Front, read_boots, read_front, version_of};
-pub use hosts::{check_hosts, read_host};
+pub use hosts::{read_host, read_hosts};
 pub use ids::{check_held, read_ids, whole_blocks};
-pub use image::{ImageOne, ImageTwo, Tables, read_one, read_two};
+pub use image::{ImageOne, ImageTwo, Rows, Tables, read_one, read_two};
 pub use order::{first_wrong_is_least, heads_are_in_order, rows_are_in_order, tables_are_in_order};
 pub use rows::{Slot, Version, read_row, read_rows};
 pub use tables::{PHYSICAL_BLOCKS, TABLE_BLOCKS, read_table, read_tables};
+pub use whole::{Image, read_image};
