@@ -18,7 +18,7 @@ use Rattle.nq_image.specs.declared.rows.Version.{Version}
 use Rattle.nq_image.specs.Reading.{Reads}
 use Rattle.nq_image.proofs.Checks.{passes, fails, tested-value}
 
-one-less : (count i : ℕ) → i < count → count - i ≡ suc (count - (i + 1))
+pub one-less : (count i : ℕ) → i < count → count - i ≡ suc (count - (i + 1))
 one-less count i lt = omega arith
 
 -- a host row that is right leaves the answer to those behind it
@@ -166,7 +166,7 @@ no-mark-left count i marks rest last le same =
 
 -- ---- ids
 
-one-more : {X : Type 0} (xs : List X) (i : ℕ) (x : X) → i < length xs → x ≡ get_or xs i x → drop i xs ≡ x ∷ drop (i + 1) xs
+pub one-more : {X : Type 0} (xs : List X) (i : ℕ) (x : X) → i < length xs → x ≡ get_or xs i x → drop i xs ≡ x ∷ drop (i + 1) xs
 one-more xs i x lt is =
     let e : drop i xs ≡ get_or xs i x ∷ drop (suc i) xs = drop-cons xs i x lt in
     let f : suc i ≡ i + 1 = omega arith in
@@ -194,7 +194,7 @@ length-zero : {X : Type 0} (xs : List X) → length xs ≡ 0 → xs ≡ []
 length-zero [] e = refl
 length-zero (x ∷ xs) e = absurd (omega arith)
 
-drop-all : {X : Type 0} (xs : List X) (i : ℕ) → length xs ≤ i → drop i xs ≡ []
+pub drop-all : {X : Type 0} (xs : List X) (i : ℕ) → length xs ≤ i → drop i xs ≡ []
 drop-all xs i le = length-zero (drop i xs) (omega (arith, length-drop i xs))
 
 pub no-id-left : (next at i : ℕ) (ids rest : List ℕ) (slots : List (Option Slot)) (whole : Result (List ℕ) ℕ) → length slots ≤ i → are_zeros rest ≡ true → tested (ids_checks next at ids (drop i slots) rest) (ids ++ ids_of (drop i slots) rest) ≡ whole → whole ≡ Ok ids

@@ -2,6 +2,7 @@ pub mod Check
 pub mod Heads
 pub mod Hosts
 pub mod Image
+pub mod Kept
 pub mod Layout
 pub mod Reading
 pub mod Rows
