@@ -55,10 +55,10 @@ module _ (area : Area) (is_area : IsArea area) (body : List ℕ) (fits : length 
       let n = length-take-le (suc (length body)) (record_of area (staged area body old)) (omega (arith, length-record)) in
       same-bytes (take (suc (length body)) (record_of area (staged area body old))) (1 ∷ body) n (λ k. elim (cases_lt k (suc (length body))) [
         | inl lt ↦
-          get_or-take (suc (length body)) (record_of area (staged area body old)) k 0 lt
-          ∙ get_or-take area.size (drop area.place (staged area body old)) k 0 (omega arith)
-          ∙ get_or-drop area.place (staged area body old) k 0
-          ∙ at-staged k lt
+            get_or-take (suc (length body)) (record_of area (staged area body old)) k 0 lt
+            ∙ get_or-take area.size (drop area.place (staged area body old)) k 0 (omega arith)
+            ∙ get_or-drop area.place (staged area body old) k 0
+            ∙ at-staged k lt
         | inr le ↦ get_or_past (take (suc (length body)) (record_of area (staged area body old))) k 0 (omega arith) ∙ sym (get_or_past (1 ∷ body) k 0 le)
       ])
 
@@ -95,9 +95,9 @@ module _ (area : Area) (is_area : IsArea area) (rs : List Range) (spell : AreSpe
         long = let l = closed.long in omega arith;
         gate = gate-staged area is_area (body_of rs) fit.short old closed;
         right =
-          ap (λ (n : ℕ). wrong_field area.place area.size area.bound n (record_of area (staged area (body_of rs) old))) len
-          ∙ ap (wrong_field area.place area.size area.bound (length old)) (record-staged area is_area (body_of rs) fit.short old closed)
-          ∙ right-body rs rest fit.few spell area (length old) fit.allowed;
+            ap (λ (n : ℕ). wrong_field area.place area.size area.bound n (record_of area (staged area (body_of rs) old))) len
+            ∙ ap (wrong_field area.place area.size area.bound (length old)) (record-staged area is_area (body_of rs) fit.short old closed)
+            ∙ right-body rs rest fit.few spell area (length old) fit.allowed;
       }
 
   -- its ranges are the batch

@@ -80,9 +80,9 @@ module _ (area : Area) (is_area : IsArea area) where
         elim (gate-torn area.place area.size area.bound (behind old) image (omega arith) then_closed.long torn) [
           | inl is ↦ inr (ap (found area) is)
           | inr shut ↦ inl (
-            opened-closed area.place area.size area.bound image shut.0
-            ∙ ap Ok shut.1
-            ∙ sym (opened-closed area.place area.size area.bound (behind old) then_closed.shut)
-            ∙ while-staging old (behind old) closed (torn-written (area.place + 1) body old)
-          )
+              opened-closed area.place area.size area.bound image shut.0
+              ∙ ap Ok shut.1
+              ∙ sym (opened-closed area.place area.size area.bound (behind old) then_closed.shut)
+              ∙ while-staging old (behind old) closed (torn-written (area.place + 1) body old)
+              )
         ]

@@ -12,11 +12,14 @@ module _ (start size bound len more : ℕ) (longer : len ≤ more) where
   unfolding is_misplaced
   well-placed place n right =
       let a : nat_lt len place ≡ false = grind (arith, nat_tests) in
-      let b : place ≤ len = grind (arith, nat_tests) in
-      (grind (arith, nat_tests), b, elim (cases_lt start (place + n)) [
-        | inl lt ↦ inr (grind (arith, nat_tests))
-        | inr le ↦ inl le
-      ])
+      let b : place ≤ len = grind (arith, nat_tests) in (
+        grind (arith, nat_tests),
+        b,
+        elim (cases_lt start (place + n)) [
+          | inl lt ↦ inr (grind (arith, nat_tests))
+          | inr le ↦ inl le
+        ],
+      )
 
   abbrev Lawful : ℕ → ℕ → List ℕ → Type 0
   Lawful n at bytes = wrong_range start size bound len n at bytes ≡ None → (wrong_range start size bound more n at bytes ≡ None) × ArePlaced len start size (ranges_in n bytes)

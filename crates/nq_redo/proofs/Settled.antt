@@ -110,7 +110,7 @@ module _ (area : Area) (is_area : IsArea area) where
       elim (gate-torn area.place area.size area.bound (applied (ranges old) old) new some then_open.long torn) [
         | inl is ↦ ap (found area) (is ∙ written-again (applied (ranges old) old) then_open.long then_open.gate) ∙ opened-settled old (applied (ranges old) old) open_now so
         | inr shut ↦
-          opened-closed area.place area.size area.bound new shut.0
-          ∙ ap Ok (shut.1 ∙ blanked-applied (ranges old) old (placed-in old open_now) open_now.long)
-          ∙ sym (opened-right old open_now)
+            opened-closed area.place area.size area.bound new shut.0
+            ∙ ap Ok (shut.1 ∙ blanked-applied (ranges old) old (placed-in old open_now) open_now.long)
+            ∙ sym (opened-right old open_now)
       ]

@@ -35,7 +35,8 @@ fn push_range(body: &mut Vec<u8>, place: u64, bytes: &[u8])
     ensures { body.new.items ≡ body.old.items ++ spelled_range (record { place = place; bytes = bytes.now }) }
 {
     body.extend_from_slice(&place.to_be_bytes()).unwrap();
-    body.extend_from_slice(&(bytes.len() as u32).to_be_bytes()).unwrap();
+    body.extend_from_slice(&(bytes.len() as u32).to_be_bytes())
+        .unwrap();
     body.extend_from_slice(bytes).unwrap();
 }
 

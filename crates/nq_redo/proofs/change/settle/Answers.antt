@@ -30,6 +30,6 @@ returns-clause-leaves g c = λ old told only open_now same image left.
     (g.met.D.Disk.parts c.args.disk.now c.put_synced.new.disk c.write_synced.new.disk image c.put_synced.ensures.follows c.write_synced.ensures.follows left)
     (λ l. while-written c.args.area c.requires rs old open_now same image (so image l))
     (λ l.
-      let from = c.write_synced.ensures.leaves image l in
-      let is_applied = c.in_ok-put_synced.ensures.settles (applied rs old) told_then from.0 from.1 in
-      while-closing c.args.area c.requires rs old open_now same image end (subst (λ (i : List ℕ). Torn c.args.area.place 1 i image) is_applied from.2))
+    let from = c.write_synced.ensures.leaves image l in
+    let is_applied = c.in_ok-put_synced.ensures.settles (applied rs old) told_then from.0 from.1 in
+    while-closing c.args.area c.requires rs old open_now same image end (subst (λ (i : List ℕ). Torn c.args.area.place 1 i image) is_applied from.2))
