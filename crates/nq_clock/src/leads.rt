@@ -1,6 +1,6 @@
 //! By how much the server's clock leads one host's.
 
-ghost use Rattle.std.specs.Prelude.{◌≡◌, ◌≤◌, IfOk, IfSome, IfNone};
+ghost use Rattle.std.specs.Prelude.{◌≡◌, ◌≤◌, IfOk, IfSome};
 ghost use Rattle.nq_clock.specs.Counts.{no_counts, after_server_tick, after_host_tick, one_on};
 
 use circular_buffer::HeapCircularBuffer;

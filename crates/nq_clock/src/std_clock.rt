@@ -1,6 +1,6 @@
 //! The machine's clock.
 
-ghost use Rattle.std.specs.Prelude.{◌≡◌, ◌<◌, ◌≤◌, ◌^◌, ◌-◌, None};
+ghost use Rattle.std.specs.Prelude.{◌≡◌, ◌<◌, ◌^◌, ◌-◌, None};
 
 use crate::clock::Clock;
 use nq_base::Ticks;

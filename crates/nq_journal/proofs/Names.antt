@@ -1,5 +1,5 @@
 -- Whether a word is a name.
-use Rattle.std.proofs.Common.{◌≡◌, ℕ, List, Option, Some, None, refl, ap, sym, ◌∙◌, subst, inl, inr}
+use Rattle.std.proofs.Common.{◌≡◌, ℕ, List, Option, Some, None, refl, ap, sym, ◌∙◌, inl, inr}
 use Rattle.std.specs.Option.{IsSome, IfSome}
 use Rattle.nq_base.specs.Name.{IsName, is_name}
 use Rattle.nq_base.proofs.NameTests.{name_decides}
@@ -23,10 +23,4 @@ pub name_again : (word : List ℕ) → IsName word → name_of word ≡ Some wor
 unfolding name_of
 name_again word fits = let test = (name_decides word).1 fits in rw test refl
 
--- what is read is a name
-pub name_found : (word name : List ℕ) → name_of word ≡ Some name → (word ≡ name) × IsName name
-unfolding name_of
-name_found word name read = elim (chosen (is_name word) word) [
-  | inl is ↦ let same : word ≡ name = cc in (same, let P : List ℕ → Type 0 = IsName in subst P same ((name_decides word).0 is.0))
-  | inr isnt ↦ cc
 ]

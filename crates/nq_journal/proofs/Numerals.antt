@@ -9,7 +9,7 @@ use Rattle.std.proofs.lemmas.List.{drop_all}
 use Rattle.std.proofs.lemmas.Str.Parse.{IsNumeralModel, numerals_by_fold}
 use Rattle.nq_base.specs.Steps.{◌>>=◌}
 use Rattle.nq_base.proofs.Options.{bind_some}
-use Rattle.nq_journal.specs.Reading.{only_if, with_digit, digits_after, is_digit, is_plain, u64_of, u32_of}
+use Rattle.nq_journal.specs.Reading.{with_digit, digits_after, is_digit, is_plain, u64_of, u32_of}
 use Rattle.nq_journal.proofs.LineWords.{IsFree, IsWord}
 use Rattle.nq_journal.proofs.Options.{only_if_some}
 use Rattle.nq_journal.proofs.Cuts.{drop_at_place}
@@ -102,14 +102,6 @@ u64_again n small =
     let value = digits_value-decimal own n small in
     let plain = first_digit n small in
     rw plain (digits_again (decimal n) 0 digits (omega arith) ∙ ap Some value)
-
-pub u32_found : (word : List ℕ) (n : ℕ) → u32_of word ≡ Some n → (word ≡ decimal n) × (n < 2 ^ 32)
-unfolding u32_of
-u32_found word n read =
-    let step = bind_some (u64_of word) (λ k. only_if (nat_lt k (2 ^ 32)) k) n read in
-    let passed = only_if_some (nat_lt step.0 (2 ^ 32)) step.0 n step.2 in
-    let found = u64_found word step.0 step.1 in
-    (found.0 ∙ ap decimal passed.1, let below = ltb-true step.0 (2 ^ 32) passed.0 in omega arith)
 
 pub u32_again : (n : ℕ) → n < 2 ^ 32 → u32_of (decimal n) ≡ Some n
 unfolding u32_of

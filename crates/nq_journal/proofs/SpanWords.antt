@@ -38,11 +38,6 @@ abbrev pub with_spans : List Span → Option (List Span) → Option (List Span)
 with_spans front None = None
 with_spans front (Some spans) = Some (front ++ spans)
 
--- no span more
-pub spans_start : (spans : Option (List Span)) → with_spans [] spans ≡ spans
-spans_start None = refl
-spans_start (Some spans) = refl
-
 -- the first word taken is in front
 pub word_in_front : (words left : List (List ℕ)) (word : List ℕ) → word_at words ≡ Some (word, left) → words ≡ word ∷ left
 word_in_front [] left word taken = cc

@@ -5,10 +5,9 @@ use Rattle.std.specs.List.{AllByRecursion, flat_map}
 use Rattle.nq_base.specs.declared.Entry.{Entry}
 use Rattle.nq_journal.specs.Fault.{ended, IsJournal}
 use Rattle.nq_base.specs.Plain.{plain}
-use Rattle.nq_journal.specs.Parsing.{AreEntries}
 use Rattle.nq_journal.specs.Reading.{words_of}
 use Rattle.nq_journal.specs.ReadingEntries.{entry_of}
-use Rattle.nq_journal.specs.Text.{entry_line, head_line, end_line, journal_text, IsVersion, IsText}
+use Rattle.nq_journal.specs.Text.{entry_line, head_line, end_line, journal_text, IsVersion}
 use Rattle.nq_journal.proofs.Clean.{literal}
 use Rattle.nq_journal.proofs.LineWords.{IsFree, free_joined}
 use Rattle.nq_journal.proofs.Numerals.{word_decimal}
@@ -144,9 +143,6 @@ pub record IsTail (version : ℕ) (tail : List ℕ) : Type 0 where
   pub entries : List Entry
   pub are : AllByRecursion (IsEntry version) entries
   pub split : tail ≡ lines version entries ++ end_line
-
-abbrev pub entries_of : {version : ℕ} {entries : List Entry} {bytes : List ℕ} → IsText version entries bytes → AreEntries version entries
-entries_of text = record { has = text.has; fits = text.fits }
 
 pub journal_tail : (version : ℕ) (tail : List ℕ) → IsVersion version → IsJournal (ended (head version) ++ tail) → IsTail version tail
 journal_tail version tail is journal =

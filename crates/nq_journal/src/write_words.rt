@@ -1,10 +1,10 @@
 //! Writing the lines of a journal's text.
 
-ghost use Rattle.std.specs.Prelude.{◌≡◌, ◌<◌, ◌^◌, [], ◌∷◌, ◌++◌, All, map, codes, OnOk};
+ghost use Rattle.std.specs.Prelude.{◌≡◌, ◌<◌, ◌^◌, ◌++◌, All, map, OnOk};
 ghost use Rattle.std.specs.Fmt.{decimal};
 ghost use Rattle.std.specs.List.{AllByRecursion, flat_map};
 ghost use Rattle.nq_journal.specs.Words.{spaced};
-ghost use Rattle.nq_journal.specs.Text.{FitsSpan, FitsTold, FitsSaid, span_word, told_words, said_words, mode_word, way_word, source_words, entry_line, Has};
+ghost use Rattle.nq_journal.specs.Text.{FitsSpan, FitsTold, FitsSaid, span_word, told_words, said_words};
 
 use crate::NoMemory;
 use nq_base::{Said, Span, Spans, Told};

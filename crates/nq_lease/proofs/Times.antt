@@ -185,12 +185,6 @@ times-more time x xs = sum_by-cons (λ t. if t == time then 1 else 0) x xs
 
 -- ---- the least
 
-lesser-some : (x n m : ℕ) (o : Option ℕ) → Some (lesser x o) ≡ Some n → o ≡ Some m → (n ≤ x) × (n ≤ m) × ((n ≡ x) ⊎ (n ≡ m))
-lesser-some x n m o h e = let same : n ≡ min x m = cc in rw same (least-of-two x m)
-  where
-    least-of-two : (a b : ℕ) → (min a b ≤ a) × (min a b ≤ b) × ((min a b ≡ a) ⊎ (min a b ≡ b))
-    least-of-two a b = elim (compared a b) [ inl l ↦ (omega arith, omega arith, inl (omega arith)) | inr l ↦ (omega arith, omega arith, inr (omega arith)) ]
-
 -- a time that is among these, and above none of them, is the least
 pub record IsLeast (n : ℕ) (xs : List ℕ) : Type 0 where
   pub among : 1 ≤ times_of n xs

@@ -1,6 +1,6 @@
 //! What a link is.
 
-ghost use Rattle.std.specs.Prelude.{◌≡◌, ℕ, List, Option};
+ghost use Rattle.std.specs.Prelude.{◌≡◌, ℕ, Option};
 ghost use Rattle.nq_base.specs.declared.Party.{Party};
 ghost use Rattle.nq_link.specs.Link.{Letters, Sends, CountsSend, Comes, CountsReceive};
 

@@ -1,6 +1,6 @@
 //! A link in memory.
 
-ghost use Rattle.std.specs.Prelude.{◌≡◌, [], ◌∷◌, ◌++◌, List, length, take, drop, min, Some, IfOk, OnOk, OnErr};
+ghost use Rattle.std.specs.Prelude.{◌≡◌, [], ◌∷◌, ◌++◌, length, take, drop, min, Some, IfOk, OnOk, OnErr};
 ghost use Rattle.nq_base.specs.declared.Party.{Party};
 ghost use Rattle.nq_io.specs.Calls.{fresh};
 ghost use Rattle.nq_link.specs.Link.{Comes, CountsReceive, CountsSend, Sends};

@@ -1,6 +1,6 @@
 //! Reading messages.
 
-ghost use Rattle.std.specs.Prelude.{◌≡◌, ◌⊎◌, ℕ, List, IfOk, IsOkAnd, IfErr};
+ghost use Rattle.std.specs.Prelude.{◌≡◌, ◌⊎◌, IfOk, IsOkAnd, IfErr};
 ghost use Rattle.nq_rpc.specs.declared.fault.RpcFault.{RpcFault};
 ghost use Rattle.nq_rpc.specs.declared.message.Message.{Message};
 ghost use Rattle.nq_rpc.specs.Lent.{lent_message, lent_outcome};

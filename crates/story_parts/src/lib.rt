@@ -15,8 +15,6 @@ mod leases;
 #[cfg(test)]
 mod links;
 #[cfg(test)]
-mod notices;
-#[cfg(test)]
 mod packets;
 #[cfg(test)]
 mod questions;

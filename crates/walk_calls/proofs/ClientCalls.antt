@@ -13,7 +13,7 @@ use Rattle.nq_base.specs.declared.Who.{Who}
 use Rattle.walk_calls.proofs.CallFacts.{NoneDone}
 use Rattle.walk_calls.proofs.CallMoves.{NotForCall}
 use Rattle.walk_calls.proofs.ClientMoves as move
-use Rattle.walk_calls.proofs.ClientMoves.{Fits, Doing, own-more}
+use Rattle.walk_calls.proofs.ClientMoves.{Doing}
 use Rattle.walk_client.proofs.PartCases.{answers-call-cases, vacates-noticed-cases, reports-cases, if-broken-cases, takes-optional-cases, lease-done-cases, then-caches-cases, caches-write-cases, caches-push-cases, vacates-if-clean-cases}
 use Rattle.walk_client.proofs.RepliedCases.{replied-cases}
 use Rattle.walk_client.proofs.ClientFacts.{fits_job}

@@ -16,7 +16,7 @@ use Rattle.nq_base.specs.declared.Who.{Who}
 use Rattle.walk_calls.proofs.CallFacts.{NoneDone, IsPut, journal-more, spaced-more, calls-more, calls-raised, calls-marked, written-below}
 use Rattle.walk_calls.proofs.CallMoves.{NotForCall, calls-answered, pending-none, pending-written, asks-idle, asks-raised}
 use Rattle.walk_calls.proofs.ClientMoves as move
-use Rattle.walk_calls.proofs.ClientMoves.{Fits, Doing, own-more, own-bounded}
+use Rattle.walk_calls.proofs.ClientMoves.{Doing, own-more, own-bounded}
 use Rattle.walk_calls.proofs.Placed.{IsCachedBy}
 use Rattle.walk_calls.proofs.Quiet.{IsNoCall}
 use Rattle.walk_client.proofs.SendCases.{send-cases, pushed}

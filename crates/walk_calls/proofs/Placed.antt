@@ -67,11 +67,6 @@ by-answers who q packet (A by n (OkBy value k) ∷ entries) (inl h) = inl (h.0, 
 by-answers who q packet (e ∷ entries) (inl h) = absurd h
 by-answers who q packet (e ∷ entries) (inr h) = inr (by-answers who q packet entries h)
 
--- a served read of call q and this packet
-abbrev IsServedBy : (who : Who) (q packet : ℕ) → Entry → Type 0
-IsServedBy who q packet (R by n file block value (Some k)) = (by ≡ who) × (n ≡ q) × (k ≡ packet)
-IsServedBy who q packet other = ⊥
-
 -- the facts that an answer after a place brings
 record IsLaterBy (rest : List Entry) (who : Who) (q : ℕ) : Type 0 where
   unanswered : ¬ Exists (IsAnswer who q) rest

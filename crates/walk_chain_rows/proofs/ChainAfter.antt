@@ -51,9 +51,6 @@ not-below-itself a = grind (arith, nat_tests)
 between : (a b c : Tag) → tag_below a b ≡ false → tag_below a c ≡ true → tag_below b c ≡ true
 between a b c x y = grind (arith, nat_tests)
 
-no-later : (a b c : Tag) → tag_below a b ≡ false → tag_below b c ≡ false → tag_below a c ≡ false
-no-later a b c x y = grind (arith, nat_tests)
-
 at-least-same : (mode : Mode) → is_at_least mode mode ≡ true
 at-least-same NonCaching = refl
 at-least-same Reading = refl

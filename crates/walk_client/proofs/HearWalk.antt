@@ -126,10 +126,6 @@ granted-is : (now file : ℕ) (g : Grant) (sent : ℕ) → sent ≤ now → IsLe
 unfolding granted_lease
 granted-is now file g sent past = record { term = omega arith; past = omega arith }
 
-granted-file : (file : ℕ) (g : Grant) (sent : ℕ) → (granted_lease file g sent).file ≡ file
-unfolding granted_lease
-granted-file file g sent = refl
-
 holds-keeps : {Heard : ℕ → Tag → Type 0} {Given : ℕ → Grant → ℕ → Type 0} {P : Core → Type 0} → Closed Heard Given P → (t : ClientStep) (file : ℕ) (g : Grant) (sent : ℕ) → Given file g sent → sent ≤ t.client.now → IsFree t → notice_on file t.client.notices ≡ None → Both P t → Both P (holds t file g sent)
 unfolding holds
 holds-keeps closed t file g sent given past f none b = record {

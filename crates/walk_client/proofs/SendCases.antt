@@ -78,10 +78,6 @@ pub least-with-some : (n : ℕ) (o : Option ℕ) → least_with n o ≡ None →
 least-with-some n None h = cc
 least-with-some n (Some m) h = cc
 
-least-none : (ns : List ℕ) → least ns ≡ None → ns ≡ []
-least-none [] h = refl
-least-none (n ∷ ns) h = absurd (least-with-some n (least ns) h)
-
 pub least-with-one : (n : ℕ) (o : Option ℕ) (k : ℕ) → least_with n o ≡ Some k → (n ≡ k) ⊎ (o ≡ Some k)
 least-with-one n None k h = inl (some-same n k h)
 least-with-one n (Some m) k h = step (nat_lt m n) h

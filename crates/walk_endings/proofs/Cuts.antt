@@ -84,10 +84,6 @@ pub cut-more : (more journal : List Entry) → ArePlain more → AreCut journal 
 cut-more [] journal plain h = h
 cut-more (e ∷ more) journal plain h = (plain-ends e (more ++ journal) plain.0, plain-kept e (more ++ journal) plain.0, cut-more more journal plain.1 h)
 
--- a loss is no write
-loss-outside : (who w : Who) (f b x y file block first last : ℕ) → IsWithin w f b x y (Entry.L who file block first last) → ⊥
-loss-outside who w f b x y file block first last within = within
-
 -- one more loss, which is excused
 pub cut-loss : (who : Who) (p : Push) (journal : List Entry) → IsExcusedIn journal who p → AreCut journal → AreCut (loss_entry who p ∷ journal)
 cut-loss who p journal excused h = (excused, λ loss there loses. lost loss loses, h)

@@ -3,7 +3,6 @@ use Rattle.std.proofs.Common.{◌≤◌, ℕ, false, List, [], ◌∷◌, refl, 
 use Rattle.nq_base.specs.declared.Entry.{Entry}
 use Rattle.nq_base.specs.declared.Entry.TheVariants.{C, W, R, S, L, G, F, O, B, X, Z, A}
 use Rattle.nq_base.specs.declared.Who.{Who}
-use Rattle.walk_fates.proofs.ServerTells.{IsQuiet}
 use Rattle.walk_fates.proofs.WritesFit.{CoversNumber, IsClear, IsApart, JournalFits}
 use Rattle.nq_model.proofs.Lists.{each-of, exists-right}
 use Rattle.nq_model.specs.Fate.{IsFirstToCover, IsAccountedAt, IsAccounted}
@@ -16,20 +15,6 @@ abbrev pub IsNoCover : Entry → Type 0
 IsNoCover (S who file block first last now) = ⊥
 IsNoCover (L who file block first last) = ⊥
 IsNoCover other = Unit {0}
-
-pub quiet-no-cover : (e : Entry) → IsQuiet e → IsNoCover e
-quiet-no-cover (W who file block number value through) q = absurd q
-quiet-no-cover (S who file block first last now) q = q
-quiet-no-cover (L who file block first last) q = q
-quiet-no-cover (C who q' told) q = tt
-quiet-no-cover (R who q' file block value served) q = tt
-quiet-no-cover (G who file mode tag term now) q = tt
-quiet-no-cover (F who file until heard now) q = tt
-quiet-no-cover (O boot until heard now) q = tt
-quiet-no-cover (B who) q = tt
-quiet-no-cover (X boot now longest) q = tt
-quiet-no-cover (Z who q' file from to) q = tt
-quiet-no-cover (A who q' said) q = tt
 
 covers-none : (e : Entry) (who : Who) (file block n value : ℕ) → IsNoCover e → Covers e (W who file block n value false) → ⊥
 covers-none (S w f b x y now) who file block n value q c = q

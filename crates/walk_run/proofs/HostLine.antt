@@ -6,9 +6,7 @@ use Rattle.nq_base.specs.declared.Reply.{Reply}
 use Rattle.nq_base.specs.declared.Request.{Request}
 use Rattle.nq_base.specs.declared.Tag.{Tag}
 use Rattle.nq_base.specs.declared.Who.{Who}
-use Rattle.walk_client.proofs.ClientCases.{Core}
 use Rattle.walk_client.proofs.ClientMoves.{some-same, none-some}
-use Rattle.walk_run.proofs.Mail.{packets_with}
 use Rattle.walk_run.proofs.Packets.{In, in-last, Asked, Told, message-same, not-both, call-same, Mail}
 use Rattle.nq_model.specs.Client.{Ticket, Notice}
 use Rattle.nq_model.specs.Hear.{inc_of}
@@ -43,10 +41,6 @@ pub record LineFits (who : Who) (attached : Bool) (ticket : Option Ticket) (noti
   pub settled : line.inc ≡ who.inc → (x : ℕ) (r : Request) (w : Who) (n : ℕ) → Asked ps who.host x r → asker r ≡ Some w → w.inc ≡ who.inc → sequence_of r ≡ Some n → IsSettled ticket line.seq x n
   -- a reply to the one under way comes once it was decided
   pub answered : (x : ℕ) (a : Reply) → Told ps who.host (reply x a) → inc_of a ≡ who.inc → (t : Ticket) → ticket ≡ Some t → t.xid ≡ x → (n : ℕ) → sequence_of t.request ≡ Some n → IsDecidedBy who line n
-
--- in the middle of a client's step; `Heard` notices come only to attached clients
-abbrev pub LineIn : HostRow → List Packet → Core → Type 0
-LineIn line ps k = LineFits k.who k.attached k.ticket k.notices line (packets_with ps k.who.host k.sends)
 
 -- a request is sent by an attached client with none under way
 pub line-sends : {who : Who} {attached : Bool} {notices : List Notice} {line : HostRow} {ps : List Packet} (xid : ℕ) (t : Ticket) → t.xid ≡ xid → attached ≡ true → asker t.request ≡ Some who → Mail who xid None ps → LineFits who attached None notices line ps → LineFits who attached (Some t) notices line (ps ++ from_host who.host (call xid t.request) ∷ [])

@@ -11,7 +11,6 @@ use Rattle.nq_model.specs.ClientStep.{client_call, client_tick, restart}
 use Rattle.nq_model.specs.Hear.{hear}
 use Rattle.nq_model.specs.Message.{Packet, datagram_of}
 use Rattle.nq_model.specs.Profile.{shortest_term}
-use Rattle.nq_model.specs.Server.{ServerStep}
 use Rattle.nq_model.specs.ServerStep.{receive, tick, crash}
 use Rattle.nq_model.specs.Skew.{IsWithinSkew}
 use Rattle.nq_model.specs.World.{Head, World, after_server, after_client, at_client, after_hearing, sending_host, deliver_to_client, deliver_to, deliver, start, run, step}
@@ -95,8 +94,3 @@ clients-after F w host t own others other c is = case (other == host) refl
     case false differs =
         let apart : other ≢ host = λ same. let yes : (other == host) ≡ true = number-same other host same in absurd (cc) in
         others other c apart (sym (get-set-other w.clients host other t.client apart) ∙ is)
-
--- after a server's step the clients are the same
-pub server-clients : (w : World) (t : ServerStep) → (after_server w t).clients ≡ w.clients
-unfolding after_server
-server-clients w t = refl

@@ -17,9 +17,6 @@ use Rattle.walk_server.proofs.Tests.{is-other}
 abbrev pub line_at : List HostRow → ℕ → HostRow
 line_at hosts host = get_or hosts host fresh_row
 
-pub host-line : (kept : Kept) (host : ℕ) → host_row kept host ≡ line_at kept.hosts host
-host-line kept host = unwrap_or-slice_get kept.hosts host fresh_row
-
 -- a host's row after another's was put
 pub other-line : (kept : Kept) (host other : ℕ) (line : HostRow) → other ≢ host → host_row (with_row kept host line) other ≡ host_row kept other
 unfolding with_row
@@ -61,10 +58,6 @@ later-incs kept host line k later = line-as kept host k line (λ l. (host_row ke
 pub length-with-row : (kept : Kept) (host : ℕ) (line : HostRow) → length (with_row kept host line).hosts ≡ length kept.hosts
 unfolding with_row
 length-with-row kept host line = length-set kept.hosts host line
-
--- a file that took another's place
-swap : File → File → File
-swap file f = if f.id == file.id then file else f
 
 swap-id : (file f : File) (id : ℕ) → ((if f.id == file.id then file else f).id == id) ≡ (f.id == id)
 swap-id file f id = by (f.id == file.id) refl

@@ -7,9 +7,9 @@ use Rattle.nq_base.specs.declared.Access.{Access}
 use Rattle.nq_base.specs.declared.Row.{Row}
 use Rattle.nq_base.specs.declared.Tag.{Tag}
 use Rattle.nq_base.specs.declared.Who.{Who}
-use Rattle.nq_model.specs.Ask.{mode_conflicts, conflicts, shares, marked}
+use Rattle.nq_model.specs.Ask.{mode_conflicts, conflicts, marked}
 use Rattle.nq_model.specs.ServerStep.{vacated_rows}
-use Rattle.nq_model.specs.Table.{caches, same_tag, is_row_of, find_row, drop_row, drop_host, drop_rows_of, row_before, insert_row, put_row}
+use Rattle.nq_model.specs.Table.{same_tag, is_row_of, find_row, drop_row, drop_host, drop_rows_of, row_before, insert_row, put_row}
 use Rattle.walk_server.proofs.Rows.{same-number, number-same, find-passes, find-none, find-filter, find-dropped, find-map, insert-step}
 
 -- no two rows are of one file and host
@@ -255,18 +255,6 @@ find-not-vacated who file tag rows (Some row) f h other = by (row.who.inc == who
     by true = find-other-dropped file who.host f h rows other
     by false = refl
 
--- a row that stands after its holder gave a lease up has another tag, or another incarnation has it
-pub stands-vacated : (who : Who) (file : ℕ) (tag : Tag) (rows : List Row) (r : Row) → find_row file who.host (vacated_rows who file tag rows (find_row file who.host rows)) ≡ Some r → (find_row file who.host rows ≡ Some r) × ((r.who.inc == who.inc && same_tag r.tag tag) ≡ false)
-stands-vacated who file tag rows r e = by (find_row file who.host rows) refl e
-  where
-    gone : (row : Row) → find_row file who.host rows ≡ Some row → (b : Bool) → (row.who.inc == who.inc && same_tag row.tag tag) ≡ b → find_row file who.host (if b then drop_row file who.host rows else rows) ≡ Some r → (find_row file who.host rows ≡ Some r) × ((r.who.inc == who.inc && same_tag r.tag tag) ≡ false)
-    gone row f true g h = let none : find_row file who.host (drop_row file who.host rows) ≡ None = find-row-dropped file who.host rows in absurd (cc)
-    gone row f false g h = let same : row ≡ r = cc in (h, subst (λ x. (x.who.inc == who.inc && same_tag x.tag tag) ≡ false) same g)
-
-    by : (own : Option Row) → find_row file who.host rows ≡ own → find_row file who.host (vacated_rows who file tag rows own) ≡ Some r → (find_row file who.host rows ≡ Some r) × ((r.who.inc == who.inc && same_tag r.tag tag) ≡ false)
-    by None f h = absurd (cc)
-    by (Some row) f h = gone row f (row.who.inc == who.inc && same_tag row.tag tag) refl h
-
 pub unique-vacated : (who : Who) (file : ℕ) (tag : Tag) (rows : List Row) (own : Option Row) → HasUniqueKeys rows → HasUniqueKeys (vacated_rows who file tag rows own)
 unique-vacated who file tag rows None unique = unique
 unique-vacated who file tag rows (Some row) unique = by (row.who.inc == who.inc && same_tag row.tag tag)
@@ -337,15 +325,3 @@ any-none p (x ∷ xs) h = by (p x) (any-none p xs) h
     by : (b : Bool) → (list_any p xs ≡ false → find p xs ≡ None) → b || list_any p xs ≡ false → (if b then Some x else find p xs) ≡ None
     by true rest g = cc
     by false rest g = rest g
-
--- where a file is not shared, each other host's row of it caches and stays
-pub not-shared : (file host h : ℕ) (rows : List Row) (r : Row) → list_any (shares file host) rows ≡ false → find_row file h rows ≡ Some r → h ≢ host → (caches r.mode ≡ true) × (r.evicting ≡ false)
-not-shared file host h rows r none found other =
-    let out : shares file host r ≡ false = find-none (shares file host) (is_row_of file h) r rows (any-none (shares file host) rows none) found in
-    let k = of-key file h r (find-passes (is_row_of file h) r rows found) in
-    by (caches r.mode) r.evicting (third-false (r.file == file) (not (r.who.host == host)) (not (caches r.mode) || r.evicting) (number-same _ _ k.0) (not-holder r h host other k.1) out)
-  where
-    by : (a b : Bool) → (not a || b) ≡ false → (a ≡ true) × (b ≡ false)
-    by true false z = (refl, refl)
-    by true true z = absurd (cc)
-    by false b z = absurd (cc)

@@ -13,7 +13,7 @@ use Rattle.nq_base.specs.declared.Want.{Want}
 use Rattle.nq_model.specs.Ask.{mode_conflicts, conflicts, marked, term_of, sharing_row, caching_row, shared_again, renewed_row}
 use Rattle.nq_model.specs.Kept.{File, find_file}
 use Rattle.nq_model.specs.ServerStep.{access_of, access_of_mode}
-use Rattle.nq_model.specs.Table.{Table, next_tag, tag_below, caches, is_writing, greater_mode, is_row_of, find_row, put_row, with_rows, after_draw}
+use Rattle.nq_model.specs.Table.{Table, tag_below, caches, is_writing, greater_mode, is_row_of, find_row, put_row, with_rows, after_draw}
 use Rattle.walk_server.proofs.AskCases.{clash_in, with_marked, with_waiter, IsGranted, shares_again, begins_sharing, begins_caching, renews_row}
 use Rattle.walk_server.proofs.RowChanges.{HasUniqueKeys, of-key, found-put, unique-put, found-marked, mark, mark-is, unique-marked, no-clash}
 use Rattle.walk_server.proofs.Rows.{found-row}
@@ -40,13 +40,6 @@ tag-in-order files boot drawn row fits = ordered row.tag.boot row.tag.number row
   where
     ordered : (a m b n : ℕ) → a ≡ b → n ≤ m → nat_lt a b || (a == b && nat_lt m n) ≡ false
     ordered a m b n e h = grind (arith, nat_tests)
-
--- the tag that is drawn next is later than a row's
-pub tag-before-next : (files : List File) (table : Table) (row : Row) → RowFits files table.boot table.drawn row → tag_below row.tag (next_tag table) ≡ true
-tag-before-next files table row fits = later row.tag.boot row.tag.number table.boot table.drawn fits.tag_boot fits.drawn_before
-  where
-    later : (a m b n : ℕ) → a ≡ b → m ≤ n → nat_lt a b || (a == b && nat_lt m (n + 1)) ≡ true
-    later a m b n e h = grind (arith, nat_tests)
 
 -- a table without rows
 pub no-rows-fit : (files : List File) (boot drawn : ℕ) → TableFits files boot drawn []

@@ -1,23 +1,20 @@
 -- All facts about a server and the entries that tell a time, and each of its steps keeps them.
-use Rattle.std.proofs.Common.{◌≡◌, ◌<◌, ◌≤◌, ℕ, ◌+◌, ◌==◌, Bool, true, false, List, [], ◌∷◌, ◌++◌, Some, if◌then◌else◌, length, refl, sym, subst, arith}
+use Rattle.std.proofs.Common.{◌≡◌, ◌<◌, ◌≤◌, ℕ, ◌+◌, ◌==◌, Bool, true, false, List, [], ◌∷◌, ◌++◌, Some, if◌then◌else◌, length, refl, subst, arith}
 use Rattle.std.proofs.lemmas.List.{length-append, length-replicate}
 use Rattle.std.proofs.lemmas.List.Elements.{filter-append}
 use Rattle.nq_base.specs.declared.Entry.{Entry}
 use Rattle.nq_base.specs.declared.HostRow.{HostRow}
 use Rattle.nq_model.specs.Kept.{File, find_file, new_file}
-use Rattle.nq_model.specs.Message.{Datagram}
 use Rattle.nq_model.specs.Profile.{shortest_term, most_hosts}
 use Rattle.nq_model.specs.Server.{Server}
-use Rattle.nq_model.specs.ServerStep.{receive, tick, boot, crash}
-use Rattle.nq_model.specs.Table.{empty_table}
+use Rattle.nq_model.specs.ServerStep.{boot, crash}
 use Rattle.nq_model.specs.World.{Head, first_files, first_kept, start}
-use Rattle.walk_tables.proofs.LogGrants.{GrantsFitOf, grants-receive, grants-tick, grants-crash}
+use Rattle.walk_tables.proofs.LogGrants.{GrantsFitOf}
 use Rattle.walk_tables.proofs.LogMoves.{is_timed, timed}
-use Rattle.walk_tables.proofs.LogRows.{RowsGranted, granted-receive, granted-tick, granted-crash, RowsHear, hear-receive, hear-tick, hear-crash}
-use Rattle.walk_tables.proofs.LogTimes.{LogBy, by-receive, by-tick, by-crash, HeardAll, heard-receive, heard-tick, heard-crash, ToldBoot, told-receive, told-tick, told-crash}
+use Rattle.walk_tables.proofs.LogRows.{RowsGranted, RowsHear}
+use Rattle.walk_tables.proofs.LogTimes.{LogBy, HeardAll, ToldBoot}
 use Rattle.walk_server.proofs.Rows.{same-number}
-use Rattle.walk_tables.proofs.ServerFits.{ServerFits, none-fits, fits-boot}
-use Rattle.walk_server.proofs.ServerMoves.{receive-keeps, tick-keeps}
+use Rattle.walk_tables.proofs.ServerFits.{ServerFits, fits-boot}
 use Rattle.walk_tables.proofs.ServerNumbers.{IdsFit, LinesFit}
 
 -- the facts: the last boot was at this time
@@ -29,40 +26,9 @@ pub record LogFits (booted : ℕ) (s : Server) (log : List Entry) : Type 0 where
   pub granted : RowsGranted s.phase s.table log
   pub hear : RowsHear s.phase s.table log
 
-pub log-receive : (most booted : ℕ) (s : Server) (sender next : ℕ) (d : Datagram) (log : List Entry) → ServerFits most booted s → LogFits booted s log → LogFits booted (receive s sender next d).server (timed (receive s sender next d).entries ++ log)
-log-receive most booted s sender next d log f l = record {
-  by = subst (λ now. LogBy now (timed (receive s sender next d).entries ++ log)) (sym (receive-keeps s sender next d).1) (by-receive s sender next d log l.by);
-  heard = heard-receive s sender next d log l.by l.heard;
-  told = told-receive booted s sender next d log l.told;
-  grants = grants-receive most booted s sender next d log f l.grants;
-  granted = granted-receive s sender next d log f.stands f.incs l.granted;
-  hear = hear-receive s sender next d log f.stands l.by l.hear;
-}
-
-pub log-tick : (most booted : ℕ) (s : Server) (now : ℕ) (log : List Entry) → s.now ≤ now → ServerFits most booted s → LogFits booted s log → LogFits booted (tick s now).server (timed (tick s now).entries ++ log)
-log-tick most booted s now log later f l = record {
-  by = subst (λ time. LogBy time (timed (tick s now).entries ++ log)) (sym (tick-keeps s now).1) (by-tick s now log later l.by);
-  heard = heard-tick s now log l.heard;
-  told = told-tick booted s now log l.told;
-  grants = grants-tick s now log f.boots l.grants;
-  granted = granted-tick s now log (none-fits most booted s f) f.stands l.granted;
-  hear = hear-tick s now log (none-fits most booted s f) f.stands l.hear;
-}
-
 pub crash-now : (s : Server) (longest : ℕ) → (crash s longest).server.now ≡ s.now
 unfolding crash boot
 crash-now s longest = refl
-
--- after a crash the last boot was at the server's time
-pub log-crash : (most booted : ℕ) (s : Server) (longest : ℕ) (log : List Entry) → ServerFits most booted s → LogFits booted s log → LogFits s.now (crash s longest).server (timed (crash s longest).entries ++ log)
-log-crash most booted s longest log f l = record {
-  by = subst (λ now. LogBy now (timed (crash s longest).entries ++ log)) (sym (crash-now s longest)) (by-crash s longest log l.by);
-  heard = heard-crash s longest log l.by;
-  told = told-crash s longest log;
-  grants = grants-crash s longest log f.boots l.grants;
-  granted = granted-crash s longest log l.granted;
-  hear = hear-crash s longest log;
-}
 
 -- the timed entries of more entries
 pub timed-append : (more journal : List Entry) → timed (more ++ journal) ≡ timed more ++ timed journal
@@ -87,14 +53,3 @@ fits-start most head few long most_long = fits-boot most (first_kept head) head.
   where
     next : (head : Head) → 1 + length head.files ≡ (first_kept head).next
     next head = omega arith
-
-pub log-start : (head : Head) → LogFits 0 (start head).server []
-unfolding start boot empty_table
-log-start head = record {
-  by = tt;
-  heard = tt;
-  told = tt;
-  grants = tt;
-  granted = λ file host row found. absurd (cc);
-  hear = λ file host row found. absurd (cc);
-}

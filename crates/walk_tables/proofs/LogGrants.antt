@@ -1,5 +1,5 @@
 -- What the timed entries say of grants: their terms and tags, and the rows that stand by them.
-use Rattle.std.proofs.Common.{◌≡◌, ◌<◌, ◌≤◌, ℕ, ◌+◌, ◌==◌, Bool, true, false, List, ◌++◌, Option, Some, None, if◌then◌else◌, refl, sym, subst, ap, ◌∙◌, arith}
+use Rattle.std.proofs.Common.{◌≡◌, ◌<◌, ◌≤◌, ℕ, ◌+◌, List, Option, Some, None, refl, sym, subst, ap, ◌∙◌, arith}
 use Rattle.nq_base.specs.declared.Entry.{Entry}
 use Rattle.nq_base.specs.declared.Question.{Question}
 use Rattle.nq_base.specs.declared.Row.{Row}
@@ -7,18 +7,17 @@ use Rattle.nq_base.specs.declared.Want.{Want}
 use Rattle.nq_model.proofs.Lists.{each-map}
 use Rattle.nq_model.specs.Ask.{sharing_row, caching_row, shared_again, renewed_row}
 use Rattle.nq_model.specs.Journal.{Each}
-use Rattle.nq_model.specs.Kept.{File, Kept, find_file, with_files, with_new_file, with_row}
+use Rattle.nq_model.specs.Kept.{File, Kept, with_files, with_new_file, with_row}
 use Rattle.nq_model.specs.Message.{Datagram}
 use Rattle.nq_model.specs.Profile.{shortest_term}
-use Rattle.nq_model.specs.Server.{Phase, serving, recovering, Server, standing_in, standing, last_in}
-use Rattle.nq_model.specs.ServerStep.{to_read, receive, fence, tick, booted, boot, crash}
-use Rattle.nq_model.specs.Table.{Table, next_tag, put_row, with_rows, after_draw, empty_table}
-use Rattle.walk_tables.proofs.ServerNumbers.{fence-longest}
+use Rattle.nq_model.specs.Server.{Phase, serving, recovering, Server, standing_in}
+use Rattle.nq_model.specs.ServerStep.{to_read, fence, booted, boot}
+use Rattle.nq_model.specs.Table.{Table, next_tag, put_row, with_rows, after_draw}
 use Rattle.walk_server.proofs.AskCases.{IsGranted, shares_again, begins_sharing, begins_caching, renews_row}
-use Rattle.walk_tables.proofs.LogMoves.{timed, LogMoves, log-moves, tick-log-moves}
+use Rattle.walk_tables.proofs.LogMoves.{LogMoves}
 use Rattle.walk_tables.proofs.RowTimes.{RowRuns, EachRow, TimesFit, term-bounds}
 use Rattle.walk_tables.proofs.ServerFits.{ServerFits}
-use Rattle.walk_tables.proofs.ServerTables.{BootsFit, BootsFitOf, ServesBoot, RecoversBoot}
+use Rattle.walk_tables.proofs.ServerTables.{BootsFit, ServesBoot}
 
 -- a grant was of a boot that served; one of the boot that served last is for its longest term at most, and its tag is one
 -- that the standing table drew
@@ -101,42 +100,7 @@ module _ (most booted : ℕ) (s : Server) (d : Datagram) (log : List Entry) (f :
     removing = λ who h serves current found c. drawn-in s.kept.opened s.kept.longest s.phase s.table _ log g;
   }
 
--- the grants fit after a datagram
-pub grants-receive : (most booted : ℕ) (s : Server) (sender next : ℕ) (d : Datagram) (log : List Entry) → ServerFits most booted s → GrantsFitOf s log → GrantsFitOf (receive s sender next d).server (timed (receive s sender next d).entries ++ log)
-grants-receive most booted s sender next d log f g = log-moves s sender next d log GrantsFit (grants-moves most booted s d log f g)
-
 pub fence-opened : (kept : Kept) (o : Option File) → (fence kept o).opened ≡ kept.opened
 unfolding with_files
 fence-opened kept None = refl
 fence-opened kept (Some f) = refl
-
-grants-fenced : (kept : Kept) (o : Option File) (drawn : ℕ) (log : List Entry) → Each (IsOfGrants kept.opened kept.longest drawn) log → Each (IsOfGrants (fence kept o).opened (fence kept o).longest drawn) log
-grants-fenced kept o drawn log g = subst (λ opened. Each (IsOfGrants opened (fence kept o).longest drawn) log) (sym (fence-opened kept o)) (subst (λ longest. Each (IsOfGrants kept.opened longest drawn) log) (sym (fence-longest kept o)) g)
-
-grants-opened : (s : Server) (until heard : ℕ) (last : Option Table) (log : List Entry) → s.phase ≡ recovering until heard last → BootsFitOf s → GrantsFitOf s log → Each (IsOfGrants s.kept.boot s.longest s.table.drawn) log
-grants-opened s until heard last log p b g =
-    let r : RecoversBoot s.kept.boot s.kept.opened s.table last = subst (λ p. BootsFit s.kept.boot s.kept.opened p s.table) p b in
-    each-map (IsOfGrants s.kept.opened s.kept.longest (standing s).drawn) (IsOfGrants s.kept.boot s.longest s.table.drawn) log (later-opened s.kept.opened s.kept.longest (standing s).drawn s.kept.boot s.longest s.table.drawn r.opened_before) g
-
--- and after a tick
-pub grants-tick : (s : Server) (now : ℕ) (log : List Entry) → BootsFitOf s → GrantsFitOf s log → GrantsFitOf (tick s now).server (timed (tick s now).entries ++ log)
-unfolding with_rows
-grants-tick s now log b g = tick-log-moves s now log GrantsFit (record {
-  waits = λ until heard last p goes_on. g;
-  opening = λ until heard last p over. (tt, grants-opened s until heard last log p b g);
-  ends_reading = λ p. drawn-in s.kept.opened s.kept.longest s.phase s.table _ log g;
-  ending_writing = λ row p due. (tt, grants-fenced s.kept (find_file row.file s.kept.files) _ log (drawn-in s.kept.opened s.kept.longest s.phase s.table _ log g));
-})
-
--- and after a crash
-pub grants-crash : (s : Server) (longest : ℕ) (log : List Entry) → BootsFitOf s → GrantsFitOf s log → GrantsFitOf (crash s longest).server (timed (crash s longest).entries ++ log)
-unfolding crash boot empty_table
-grants-crash s longest log b g = (tt, in-phase (s.kept.opened == 0) refl)
-  where
-    opened-before : (phase : Phase) → BootsFit s.kept.boot s.kept.opened phase s.table → s.kept.opened < s.kept.boot + 1
-    opened-before serving b = omega (arith, b.opened_now)
-    opened-before (recovering until heard last) b = omega (arith, b.opened_before)
-
-    in-phase : (z : Bool) → (s.kept.opened == 0) ≡ z → GrantsFit (if z then record s.kept { boot = s.kept.boot + 1; opened = s.kept.boot + 1; longest = longest } else record s.kept { boot = s.kept.boot + 1 }) (if z then serving else recovering (s.now + s.kept.longest + 8) s.now (last_in s.phase s.table)) (empty_table (s.kept.boot + 1)) log
-    in-phase true e = each-map (IsOfGrants s.kept.opened s.kept.longest (standing s).drawn) (IsOfGrants (s.kept.boot + 1) longest 0) log (later-opened s.kept.opened s.kept.longest (standing s).drawn (s.kept.boot + 1) longest 0 (opened-before s.phase b)) g
-    in-phase false e = g

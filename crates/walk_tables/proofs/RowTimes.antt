@@ -10,13 +10,13 @@ use Rattle.nq_model.specs.Ask.{term_of, marked, sharing_row, caching_row, shared
 use Rattle.nq_model.specs.Kept.{Kept, with_files, with_new_file, with_row}
 use Rattle.nq_model.specs.Message.{Datagram, request}
 use Rattle.nq_model.specs.Profile.{shortest_term, granted_term}
-use Rattle.nq_model.specs.Server.{Phase, serving, recovering, Server, standing_in, last_table, last_in}
-use Rattle.nq_model.specs.ServerStep.{to_read, receive, is_over, end_reading, tick, boot, crash}
+use Rattle.nq_model.specs.Server.{Phase, serving, recovering, Server, last_table}
+use Rattle.nq_model.specs.ServerStep.{to_read, is_over, end_reading, boot}
 use Rattle.nq_model.specs.Table.{Table, caches, is_writing, greater_mode, is_row_of, find_row, drop_row, put_row, with_rows, after_draw, empty_table}
 use Rattle.walk_server.proofs.AskCases.{with_marked, IsGranted, shares_again, begins_sharing, begins_caching, renews_row}
 use Rattle.walk_server.proofs.Modes.{greater-caches}
 use Rattle.walk_server.proofs.RowChanges.{HasUniqueKeys, unique-filtered, found-put, found-kept, found-vacated, found-marked, mark-is}
-use Rattle.walk_server.proofs.ServerMoves.{ServerMoves, server-moves, receive-keeps, TickMoves, tick-moves, tick-keeps}
+use Rattle.walk_server.proofs.ServerMoves.{ServerMoves, TickMoves}
 use Rattle.walk_server.proofs.ServerOutcomes.{wanted_by}
 use Rattle.walk_tables.proofs.ServerTables.{NoneRecoveringOf, none-opened, StandingFits, StandingFitsOf}
 use Rattle.walk_server.proofs.TableFits.{TableFits}
@@ -135,14 +135,6 @@ module _ (s : Server) (d : Datagram) (wants : WantsCaching d) (long : shortest_t
     removing = λ who f' serves current found c. times-fewer s.longest s.now s.phase s.table _ (λ p file host row found. (found-kept (λ r. not (r.file == f'.id)) file host s.table.rows row (own-keys p) found).0) f;
   }
 
--- the times of rows fit after a datagram
-pub times-receive : (s : Server) (sender next : ℕ) (d : Datagram) → WantsCaching d → shortest_term ≤ s.longest → StandingFitsOf s → TimesFitOf s → TimesFitOf (receive s sender next d).server
-times-receive s sender next d wants long t f =
-    let k = receive-keeps s sender next d in
-    subst (λ longest. TimesFit longest (receive s sender next d).server.now (receive s sender next d).server.phase (receive s sender next d).server.table) (sym k.0)
-    (subst (λ now. TimesFit s.longest now (receive s sender next d).server.phase (receive s sender next d).server.table) (sym k.1)
-    (server-moves s sender next d (λ kept phase table. TimesFit s.longest s.now phase table) (times-moves s d wants long t f)))
-
 -- a row that a tick leaves
 left-runs : (longest before now : ℕ) (row : Row) → before ≤ now → not (is_over now row) ≡ true → RowRuns longest before row → RowRuns longest now row
 left-runs longest before now row later left r = record {
@@ -186,14 +178,6 @@ ticked s now later b t f = record {
     ended : s.phase ≡ serving → EachRow (RowRuns s.longest now) (end_reading now s.table.rows)
     ended p = times-ended s.longest s.now now s.table.rows (keys p) later (subst (λ p. TimesFit s.longest s.now p s.table) p f)
 
--- and after a tick
-pub times-tick : (s : Server) (now : ℕ) → s.now ≤ now → NoneRecoveringOf s → StandingFitsOf s → TimesFitOf s → TimesFitOf (tick s now).server
-times-tick s now later b t f =
-    let k = tick-keeps s now in
-    subst (λ longest. TimesFit longest (tick s now).server.now (tick s now).server.phase (tick s now).server.table) (sym k.0)
-    (subst (λ time. TimesFit s.longest time (tick s now).server.phase (tick s now).server.table) (sym k.1)
-    (tick-moves s now (λ kept phase table. TimesFit s.longest now phase table) (ticked s now later b t f)))
-
 -- and after a boot with a table in mind whose rows were heard by now
 pub times-boot : (kept : Kept) (longest now : ℕ) (last : Option Table) → EachRow (λ row. row.heard ≤ now) (last_table last).rows → TimesFitOf (boot kept longest now last)
 unfolding boot empty_table
@@ -202,12 +186,3 @@ times-boot kept longest now last f = by (kept.opened == 0)
     by : (b : Bool) → TimesFit longest now (if b then serving else recovering (now + kept.longest + 8) now last) (empty_table (kept.boot + 1))
     by true = λ file host row found. absurd (cc)
     by false = f
-
-standing-times : (longest now : ℕ) (phase : Phase) (table : Table) → TimesFit longest now phase table → EachRow (λ row. row.heard ≤ now) (standing_in phase table).rows
-standing-times longest now serving table f = λ file host row found. (f file host row found).heard_by_now
-standing-times longest now (recovering until heard last) table f = f
-
--- and after a crash
-pub times-crash : (s : Server) (longest : ℕ) → TimesFitOf s → TimesFitOf (crash s longest).server
-unfolding crash
-times-crash s longest f = times-boot s.kept longest s.now (last_in s.phase s.table) (standing-times s.longest s.now s.phase s.table f)
