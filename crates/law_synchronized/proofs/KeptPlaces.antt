@@ -1,17 +1,20 @@
--- What an ok says is said at its place: whatever the journal tells later, it stays true.
+-- What an answer says is said at its place: it is of its call, and what an ok says stays true whatever the journal tells later.
 use Rattle.std.proofs.Common.{◌≡◌, ◌⊎◌, ℕ, List, [], ◌∷◌, ◌++◌, Option, Some, None, refl, sym, subst, ◌∙◌, inl, inr, append_assoc}
 use Rattle.std.specs.Prelude.{⊤}
 use Rattle.nq_base.specs.declared.Entry.{Entry}
 use Rattle.nq_base.specs.declared.Entry.TheVariants.{L, A}
 use Rattle.nq_base.specs.declared.Loss.{Loss}
-use Rattle.nq_base.specs.declared.Said.TheVariants.{Ok, OkValue, OkBy, Lost}
+use Rattle.nq_base.specs.declared.Said.{Said}
+use Rattle.nq_base.specs.declared.Said.TheVariants.{Ok, OkValue, OkBy, Lost, Busy}
 use Rattle.nq_base.specs.declared.Told.{Told}
 use Rattle.nq_base.specs.declared.Told.TheVariants.{Create, Lookup, Attr, Read, Fetch, Write, WriteSync, Sync, Resize, Remove}
 use Rattle.nq_base.specs.declared.Who.{Who}
 use Rattle.walk_calls.proofs.Placed.{call-later, call-told}
 use Rattle.nq_model.proofs.Lists.{exists-map, each-map, exists-right}
-use Rattle.nq_model.specs.Journal.{Exists, Throughout, Somewhere, SpeaksOf, call_of, IsStored}
+use Rattle.nq_model.specs.Journal.{Exists, Throughout, Somewhere, IsOpen, SpeaksOf, call_of, IsWriteBy, IsStored}
 use Rattle.nq_model.specs.Reported.{Names, loss_told}
+use Rattle.nq_promises.specs.BusyIsSaidAtOnce.{IsBusyCall, IsBusyAtOnce, BusyIsSaidAtOnce}
+use Rattle.nq_promises.specs.AnswersAreOfTheirCalls.{IsFormOf, IsAnswerOfCall, AnswersAreOfTheirCalls}
 use Rattle.nq_model.specs.Synchronized.{IsDelayedOn, IsNamedLoss, IsStoredOrTold, IsSettledResize, IsKept, IsKeptAt, IsSynchronized}
 
 -- ---- lists
@@ -75,16 +78,33 @@ kept-later later journal before who q (Some (Fetch file block)) h = tt
 kept-later later journal before who q (Some (Write file block value)) h = tt
 kept-later later journal before who q None h = tt
 
+-- the entry is a write of an incarnation whose call is open before it
+abbrev pub IsMadeOpen : (who : Who) (q : ℕ) → Entry → List Entry → Type 0
+IsMadeOpen who q e before = IsWriteBy who e × IsOpen before who q
+
+-- a `write` that is answered ok has made a W
+abbrev pub HasWritten : (before : List Entry) (who : Who) (q : ℕ) → Told → Type 0
+HasWritten before who q (Write file block value) = Somewhere (IsMadeOpen who q) before
+HasWritten before who q other = ⊤
+
 -- an ok at its place: what the call asks is told before, and it is kept by what the journal tells up to there
 pub record OkAt (entry : Entry) (before : List Entry) (who : Who) (q : ℕ) : Type 0 where
   pub told : Told
   pub asks : call_of before who q ≡ Some told
   pub kept : IsKept (entry ∷ before) before who q (Some told)
+  pub wrote : HasWritten before who q told
+
+-- an answer at its place: its call is open, and its form is one that the call can have
+pub record AnswersOpen (before : List Entry) (who : Who) (q : ℕ) (said : Said) : Type 0 where
+  pub is_open : IsOpen before who q
+  pub form : IsFormOf said (call_of before who q)
 
 abbrev pub KeptHere : Entry → List Entry → Type 0
-KeptHere (A who q Ok) before = OkAt (A who q Ok) before who q
-KeptHere (A who q (OkValue value)) before = OkAt (A who q (OkValue value)) before who q
-KeptHere (A who q (OkBy value packet)) before = OkAt (A who q (OkBy value packet)) before who q
+KeptHere (A who q Ok) before = AnswersOpen before who q Ok × OkAt (A who q Ok) before who q
+KeptHere (A who q (OkValue value)) before = AnswersOpen before who q (OkValue value) × OkAt (A who q (OkValue value)) before who q
+KeptHere (A who q (OkBy value packet)) before = AnswersOpen before who q (OkBy value packet) × OkAt (A who q (OkBy value packet)) before who q
+KeptHere (A who q Busy) before = AnswersOpen before who q Busy × IsBusyCall who q before
+KeptHere (A who q said) before = AnswersOpen before who q said
 KeptHere other before = ⊤
 
 ok-later : (later before : List Entry) (entry : Entry) (who : Who) (q : ℕ) → OkAt entry before who q → IsKept (later ++ entry ∷ before) before who q (call_of (later ++ entry ∷ before) who q)
@@ -93,9 +113,9 @@ ok-later later before entry who q h =
     subst (IsKept (later ++ entry ∷ before) before who q) (sym asks) (kept-later later (entry ∷ before) before who q (Some h.told) h.kept)
 
 here-later : (later before : List Entry) (entry : Entry) → KeptHere entry before → IsKeptAt (later ++ entry ∷ before) entry before
-here-later later before (A who q Ok) h = ok-later later before (A who q Ok) who q h
-here-later later before (A who q (OkValue value)) h = ok-later later before (A who q (OkValue value)) who q h
-here-later later before (A who q (OkBy value packet)) h = ok-later later before (A who q (OkBy value packet)) who q h
+here-later later before (A who q Ok) h = ok-later later before (A who q Ok) who q h.1
+here-later later before (A who q (OkValue value)) h = ok-later later before (A who q (OkValue value)) who q h.1
+here-later later before (A who q (OkBy value packet)) h = ok-later later before (A who q (OkBy value packet)) who q h.1
 here-later later before other h = tt
 
 all-later : (later journal whole : List Entry) → whole ≡ later ++ journal → Throughout KeptHere journal → Throughout (IsKeptAt whole) journal
@@ -105,3 +125,25 @@ all-later later (entry ∷ before) whole e h = (subst (λ w. IsKeptAt w entry be
 -- a journal in which each ok is kept at its place is synchronized
 pub synchronized : (journal : List Entry) → Throughout KeptHere journal → IsSynchronized journal
 synchronized journal h = all-later [] journal journal refl h
+
+-- ---- answers
+
+answer-here : (entry : Entry) (before : List Entry) → KeptHere entry before → IsAnswerOfCall entry before
+answer-here (A who q Ok) before h = (h.0.is_open, h.0.form)
+answer-here (A who q (OkValue value)) before h = (h.0.is_open, h.0.form)
+answer-here (A who q (OkBy value packet)) before h = (h.0.is_open, h.0.form)
+answer-here (A who q Busy) before h = (h.0.is_open, h.0.form)
+answer-here (A who q said) before h = (h.is_open, h.form)
+answer-here other before h = tt
+
+pub answers-are-of-calls : (journal : List Entry) → Throughout KeptHere journal → AnswersAreOfTheirCalls journal
+answers-are-of-calls [] h = tt
+answers-are-of-calls (entry ∷ before) h = (answer-here entry before h.0, answers-are-of-calls before h.1)
+
+busy-here : (entry : Entry) (before : List Entry) → KeptHere entry before → IsBusyAtOnce entry before
+busy-here (A who q Busy) before h = h.1
+busy-here other before h = tt
+
+pub busy-at-once : (journal : List Entry) → Throughout KeptHere journal → BusyIsSaidAtOnce journal
+busy-at-once [] h = tt
+busy-at-once (entry ∷ before) h = (busy-here entry before h.0, busy-at-once before h.1)

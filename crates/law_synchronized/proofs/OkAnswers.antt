@@ -16,11 +16,12 @@ use Rattle.nq_model.specs.ClientStep.{told}
 use Rattle.nq_model.specs.Journal.{Each, Exists, Somewhere, Stores, IsStored}
 use Rattle.nq_model.specs.Reported.{Names, loss_told}
 use Rattle.nq_model.specs.Synchronized.{IsDelayedOn, IsNamedLoss, IsStoredOrTold, AreStoredOrTold, IsPutKept, IsKept}
+use Rattle.nq_promises.specs.AnswersAreOfTheirCalls.{IsFormOf}
 use Rattle.nq_promises.specs.LossesAreReported.{IsLossOf, IsOneOf}
 use Rattle.walk_run.proofs.Members.{each-in, in-exists}
 use Rattle.walk_run.proofs.Packets.{In}
 use Rattle.walk_server.proofs.Rows.{number-same}
-use Rattle.law_synchronized.proofs.KeptPlaces.{OkAt, somewhere-more}
+use Rattle.law_synchronized.proofs.KeptPlaces.{IsMadeOpen, HasWritten, OkAt, AnswersOpen, somewhere-more}
 use Rattle.law_synchronized.proofs.OkFacts.{CoversNumber, by_store, by_loss, LiesWithin, in_list, under_way, PutWaits, IsPutWrite, IsOpenAs}
 
 -- ---- calls of whose ok nothing is asked
@@ -31,7 +32,6 @@ is_plain (Call.Lookup name) = true
 is_plain (Call.Attr file) = true
 is_plain (Call.Read file block) = true
 is_plain (Call.Fetch file block) = true
-is_plain (Call.Write file block body) = true
 is_plain other = false
 
 plain-kept : (whole before : List Entry) (who : Who) (q : ℕ) (op : Call) → is_plain op ≡ true → IsKept whole before who q (Some (told op))
@@ -40,11 +40,27 @@ plain-kept whole before who q (Call.Lookup name) e = tt
 plain-kept whole before who q (Call.Attr file) e = tt
 plain-kept whole before who q (Call.Read file block) e = tt
 plain-kept whole before who q (Call.Fetch file block) e = tt
-plain-kept whole before who q (Call.Write file block body) e = tt
 plain-kept whole before who q other e = absurd (cc)
 
+plain-wrote : (before : List Entry) (who : Who) (q : ℕ) (op : Call) → is_plain op ≡ true → HasWritten before who q (told op)
+plain-wrote before who q (Call.Create name blocks) e = tt
+plain-wrote before who q (Call.Lookup name) e = tt
+plain-wrote before who q (Call.Attr file) e = tt
+plain-wrote before who q (Call.Read file block) e = tt
+plain-wrote before who q (Call.Fetch file block) e = tt
+plain-wrote before who q other e = absurd (cc)
+
 pub plain-ok : (entry : Entry) (who : Who) (u : UnderWay) (journal : List Entry) → IsOpenAs who u journal → is_plain u.call ≡ true → OkAt entry journal who u.q
-plain-ok entry who u journal h plain = record { told = told u.call; asks = h.tells; kept = plain-kept (entry ∷ journal) journal who u.q u.call plain }
+plain-ok entry who u journal h plain = record { told = told u.call; asks = h.tells; kept = plain-kept (entry ∷ journal) journal who u.q u.call plain; wrote = plain-wrote journal who u.q u.call plain }
+
+-- an ok to a `write`, which made a W
+pub write-ok : (who : Who) (u : UnderWay) (file block : ℕ) (body : List ℕ) (journal : List Entry) → IsOpenAs who u journal → u.call ≡ Call.Write file block body → Somewhere (IsMadeOpen who u.q) journal → OkAt (A who u.q Ok) journal who u.q
+write-ok who u file block body journal h is made = record { told = told (Call.Write file block body); asks = h.tells ∙ ap (λ op. Some (told op)) is; kept = tt; wrote = made }
+
+-- ---- an answer at its place
+
+pub answers-open : (who : Who) (u : UnderWay) (said : Said) (journal : List Entry) → IsOpenAs who u journal → IsFormOf said (Some (told u.call)) → AnswersOpen journal who u.q said
+answers-open who u said journal h form = record { is_open = h.is_open; form = subst (IsFormOf said) (sym h.tells) form }
 
 -- ---- a clean file
 
@@ -124,6 +140,7 @@ covers-before who by q file block n s journal (by_loss first last (inr i) from t
 pub sync-ok : (who : Who) (u : UnderWay) (file : ℕ) (journal : List Entry) (dirty : List Push) (push : Option Push) (losses : List Loss) → IsOpenAs who u journal → u.call ≡ Call.Sync file → is_clean_in file dirty push ≡ true → losses_of file losses ≡ [] → ((block n value : ℕ) → In (A who u.q Ok ∷ journal) (W who file block n value false) → CoversNumber (A who u.q Ok ∷ journal) who file block n ⊎ LiesWithin dirty push file block n) → ((loss : Loss) → Exists (IsLossOf who loss) (A who u.q Ok ∷ journal) → IsOneOf losses loss ⊎ Exists (Names (A who u.q Ok ∷ journal) who loss) (A who u.q Ok ∷ journal)) → OkAt (A who u.q Ok) journal who u.q
 sync-ok who u file journal dirty push losses h is clean none unsaved named = record {
   told = Told.Sync file;
+  wrote = tt;
   asks = h.tells ∙ ap (λ op. Some (told op)) is;
   kept = all-settled whole whole whole journal who file losses (record {
     covered = λ block n value i. covered block n (unsaved block n value (inr i));
@@ -156,6 +173,7 @@ write-in who q file block number value (e ∷ before) (inr h) = inr (write-in wh
 pub put-ok : (who : Who) (u : UnderWay) (file block : ℕ) (body : List ℕ) (journal : List Entry) (dirty : List Push) (push : Option Push) → IsOpenAs who u journal → u.call ≡ Call.WriteSync file block body → PutWaits who u.q file block journal → is_clean_in file dirty push ≡ true → ((n value : ℕ) → In (A who u.q Ok ∷ journal) (W who file block n value false) → CoversNumber (A who u.q Ok ∷ journal) who file block n ⊎ LiesWithin dirty push file block n) → OkAt (A who u.q Ok) journal who u.q
 put-ok who u file block body journal dirty push h is waits clean unsaved = record {
   told = told (Call.WriteSync file block body);
+  wrote = tt;
   asks = h.tells ∙ ap (λ op. Some (told op)) is;
   kept = somewhere-more (IsPutWrite who u.q file block waits.number waits.value) (IsPutKept journal who u.q) journal keeps waits.stands;
 } where

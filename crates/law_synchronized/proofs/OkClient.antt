@@ -1,5 +1,5 @@
 -- What is kept of a client's call under way, over a whole step of the client: a call, a tick, a datagram, a restart.
-use Rattle.std.proofs.Common.{◌≡◌, ◌<◌, ◌≤◌, ◌⊎◌, ℕ, ◌+◌, Bool, true, false, ◌&&◌, ◌==◌, List, [], ◌∷◌, Some, None, is_some, if◌then◌else◌, refl, subst, ap, ◌∙◌, arith, inl, inr}
+use Rattle.std.proofs.Common.{◌≡◌, ◌<◌, ◌≤◌, ◌⊎◌, ℕ, ◌+◌, Bool, true, false, ◌&&◌, ◌==◌, List, [], ◌∷◌, Option, Some, None, is_some, if◌then◌else◌, refl, sym, subst, ap, ◌∙◌, arith, inl, inr}
 use Rattle.std.specs.Option.{option_or}
 use Rattle.std.proofs.lemmas.Bool.{and_parts, and_from}
 use Rattle.nq_base.specs.declared.Call.{Call}
@@ -18,10 +18,14 @@ use Rattle.walk_fates.proofs.ServerTells.{Tells}
 use Rattle.nq_model.specs.Client.{Client, ClientStep, for_call, Ticket, UnderWay, begun, losses_of}
 use Rattle.nq_model.specs.ClientStep.{told, begins_call, is_called, sends_unless_cached, says_busy, losses_for, changed_file, client_call, at_time, sends_again, client_tick, fresh_client, starts, next_incarnation, restart}
 use Rattle.nq_model.specs.Hear.{inc_of, replied, cancels, evicted, hear}
-use Rattle.nq_model.specs.Journal.{Exists, Throughout, IsAnswer, IsOpen, call_of, told_by}
+use Rattle.nq_model.specs.Ordered.{HasOpen, IsOpenCall}
+use Rattle.nq_promises.specs.BusyIsSaidAtOnce.{IsStartOf}
+use Rattle.nq_model.proofs.Lists.{exists-map}
+use Rattle.nq_model.specs.Journal.{Exists, Throughout, IsCall, IsAnswer, IsOpen, call_of, told_by}
 use Rattle.nq_model.specs.Message.{Message, reply, sequence_of}
 use Rattle.nq_model.specs.Send.{send_next}
-use Rattle.nq_model.specs.Settle.{settle}
+use Rattle.nq_model.specs.Settle.{names_losses, settle}
+use Rattle.nq_promises.specs.AnswersAreOfTheirCalls.{IsChanging}
 use Rattle.nq_promises.specs.LossesAreReported.{cleans}
 use Rattle.walk_run.proofs.Packets.{In}
 use Rattle.walk_server.proofs.Incarnations.{who-same}
@@ -39,6 +43,8 @@ pub record Ready (line : HostRow) (c : Client) (journal : List Entry) : Type 0 w
   pub above : line.inc ≡ c.who.inc → line.seq < c.seq
   pub kept : Throughout KeptHere journal
   pub alone : Alone c
+  -- an incarnation that is not attached was started by a B
+  pub began : c.attached ≡ false → Exists (IsStartOf c.who) journal
   -- no call of it has a number above the count of its calls, and no entry is of a later incarnation of its host
   pub counted : (u : UnderWay) → c.call ≡ Some u → u.q ≤ c.calls
   pub numbers : (e : Entry) (q : ℕ) → In journal e → entry_who e ≡ Some c.who → entry_call e ≡ Some q → q ≤ c.calls
@@ -91,6 +97,14 @@ cleans-changed file (Call.Resize f blocks) losses e none = subst (λ n. losses_o
 cleans-changed file (Call.Remove f) losses e none = subst (λ n. losses_of n losses ≡ []) (same-number f file e) none
 cleans-changed file other losses e none = absurd (cc)
 
+-- a call that is open is one of the open ones
+has-open-call : (who : Who) (q : ℕ) (journal : List Entry) → IsOpen journal who q → HasOpen journal who
+has-open-call who q journal h = exists-map (IsCall who q) (IsOpenCall journal who) journal (λ e i. at e i) h.0
+  where
+    at : (e : Entry) → IsCall who q e → IsOpenCall journal who e
+    at (C by n told) i = (i.0, subst (IsOpen journal who) (sym i.1) h)
+    at other i = absurd i
+
 module _ (line : HostRow) (c : Client) (journal : List Entry) (h : Ready line c journal) where
   -- a C or A of a new call changes nothing for the call under way
   one-more : (e : Entry) → ((u : UnderWay) → c.call ≡ Some u → IsAnswer c.who u.q e → ⊥) → ((file block first last : ℕ) → e ≡ L c.who file block first last → ⊥) → ((file block n value : ℕ) → e ≡ W c.who file block n value false → ⊥) → (before : List Entry) → KeepsOf line c before → KeepsOf line c (e ∷ before)
@@ -108,14 +122,6 @@ module _ (line : HostRow) (c : Client) (journal : List Entry) (h : Ready line c 
 
   called : (op : Call) → KeepsOf line c (C c.who (c.calls + 1) (told op) ∷ journal)
   called op = one-more (C c.who (c.calls + 1) (told op)) (λ u is a. a) (λ f b n l e. cc) (λ f b n v e. cc) journal h.keeps
-
-  busy : (op : Call) → End line journal (book_of (says_busy (begins_call c op)))
-  unfolding says_busy begins_call
-  busy op = record {
-    keeps = one-more (A c.who (c.calls + 1) Said.Busy) (λ u is a. let few = h.counted u is in let same : c.calls + 1 ≡ u.q = a.1 in absurd (omega arith)) (λ f b n l e. cc) (λ f b n v e. cc) (C c.who (c.calls + 1) (told op) ∷ journal) (called op);
-    kept = (tt, (tt, h.kept));
-    own = own-more c.who _ (C c.who (c.calls + 1) (told op) ∷ []) refl (own-more c.who (C c.who (c.calls + 1) (told op)) [] refl (λ e i. absurd i));
-  }
 
   mid-begins : (op : Call) → Mid All line journal (book_of (begins_call c op))
   unfolding begins_call
@@ -142,6 +148,36 @@ module _ (line : HostRow) (c : Client) (journal : List Entry) (h : Ready line c 
       case (inl bad) = bad
       case (inr a) = unanswered c.who (c.calls + 1) journal fresh a
 
+  -- another call is open, or the incarnation was started again
+  cause : (is_some c.call ≡ true) ⊎ (c.attached ≡ false) → HasOpen journal c.who ⊎ Exists (IsStartOf c.who) journal
+  cause (inr off) = inr (h.began off)
+  cause (inl some) = from c.call refl some
+    where
+      from : (o : Option UnderWay) → c.call ≡ o → is_some o ≡ true → HasOpen journal c.who ⊎ Exists (IsStartOf c.who) journal
+      from None is e = absurd (cc)
+      from (Some u) is e = inl (has-open-call c.who u.q journal (h.keeps.is_open u is).is_open)
+
+  busy : (op : Call) → (is_some c.call ≡ true) ⊎ (c.attached ≡ false) → End line journal (book_of (says_busy (begins_call c op)))
+  unfolding says_busy begins_call
+  busy op why = record {
+    keeps = one-more (A c.who (c.calls + 1) Said.Busy) (λ u is a. let few = h.counted u is in let same : c.calls + 1 ≡ u.q = a.1 in absurd (omega arith)) (λ f b n l e. cc) (λ f b n v e. cc) (C c.who (c.calls + 1) (told op) ∷ journal) (called op);
+    kept = ((record { is_open = open-new op; form = tt }, (refl, refl, cause why)), (tt, h.kept));
+    own = own-more c.who _ (C c.who (c.calls + 1) (told op) ∷ []) refl (own-more c.who (C c.who (c.calls + 1) (told op)) [] refl (λ e i. absurd i));
+  }
+
+  -- a call that is told losses asks for a change
+  changed-changes : (file : ℕ) (op : Call) → changed_file op ≡ Some file → IsChanging (Some (told op))
+  changed-changes file (Call.Write f block body) e = tt
+  changed-changes file (Call.WriteSync f block body) e = tt
+  changed-changes file (Call.Sync f) e = tt
+  changed-changes file (Call.Resize f blocks) e = tt
+  changed-changes file (Call.Remove f) e = tt
+  changed-changes file other e = none-some file e
+
+  mid-tells : (op : Call) (file : ℕ) → changed_file op ≡ Some file → Mid All line journal (book_of (names_losses (begins_call c op) (begins_call c op).client.calls file))
+  unfolding begins_call
+  mid-tells op file of = mid-names (begins_call c op) (begins_call c op).client.calls file (open-new op) (subst IsChanging (sym (tells-new op)) (changed-changes file op of)) (mid-begins op)
+
   free-call : (t : Ticket) → c.call ≡ None → c.ticket ≡ Some t → t.job ≡ for_call → ⊥
   free-call t none is job = let some : is_some c.call ≡ true = h.alone.asking.called t is job in let gone : is_some c.call ≡ false = ap is_some none in absurd (cc)
 
@@ -165,8 +201,8 @@ module _ (line : HostRow) (c : Client) (journal : List Entry) (h : Ready line c 
 
   pub call-end : (op : Call) → After journal (book_of (client_call c op)) → End line journal (book_of (client_call c op))
   call-end op = call-cases c op (λ s. After journal (book_of s) → End line journal (book_of s)) (record {
-    busy = λ why a. busy op;
-    telling = λ file loss losses none on of some a. mid-end _ (mid-names (begins_call c op) _ file (mid-begins op));
+    busy = λ why a. busy op why;
+    telling = λ file loss losses none on of some a. mid-end _ (mid-tells op file of);
     going = λ none on unlost a. mid-unless-cached (is_called (begins_call c op) op) (mid-called op none unlost) a;
   })
 

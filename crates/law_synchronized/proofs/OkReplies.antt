@@ -1,5 +1,6 @@
 -- What is kept of a client's call under way, by each outcome of a reply and of a notice.
 use Rattle.std.proofs.Common.{◌≡◌, ◌⊎◌, ℕ, Bool, true, false, List, [], ◌∷◌, ◌++◌, Option, Some, None, refl, sym, subst, ap, ◌∙◌, inl, inr}
+use Rattle.nq_base.specs.Block.{value_of}
 use Rattle.nq_base.specs.declared.Answer.{Answer}
 use Rattle.nq_base.specs.declared.Call.{Call}
 use Rattle.nq_base.specs.declared.Entry.{Entry}
@@ -25,17 +26,18 @@ use Rattle.walk_fates.proofs.ServerTells.{Tells, later, decided}
 use Rattle.nq_model.specs.Client.{Client, ClientStep, for_call, Ticket, UnderWay, Notice, begun, notice_on}
 use Rattle.nq_model.specs.ClientStep.{told}
 use Rattle.nq_model.specs.Decide.{verdict_reply}
-use Rattle.nq_model.specs.Hear.{vacates_lease, vacates_noticed, loses, reports, without_lease, push_refused, breaks_chain, if_broken, holds, takes_grant, takes_optional, answers_call, caches_block, purges, knows_revision, then_caches, read_done, marks_through, lease_done, caches_write, write_done, ends_push, caches_push, push_done, answer_of, spends, attached, pauses, replied, reply_counts, cancels, notes_notice, evicted}
+use Rattle.nq_model.specs.Hear.{vacates_lease, vacates_noticed, loses, reports, without_lease, push_refused, breaks_chain, if_broken, holds, takes_grant, takes_optional, answers_call, caches_block, purges, knows_revision, then_caches, read_done, marks_through, lease_done, caches_write, write_done, ends_push, caches_push, push_done, answer_of, spends, attached, pauses, replied, reply_counts, waits_for, counts_for_call, is_put_off, cancels, notes_notice, evicted}
 use Rattle.nq_model.specs.Journal.{Somewhere}
 use Rattle.nq_model.specs.Message.{sequence_of}
 use Rattle.nq_model.specs.Settle.{said, answers, names_losses}
 use Rattle.nq_model.specs.Synchronized.{IsPutKept, IsSettledResize}
-use Rattle.law_synchronized.proofs.KeptPlaces.{KeptHere, OkAt, somewhere-more, resize-later}
-use Rattle.law_synchronized.proofs.OkAnswers.{is_plain, plain-ok}
-use Rattle.law_synchronized.proofs.OkFacts.{IsThroughWrite, Made, IsFor, IsDone, All, book_of, Mid}
+use Rattle.nq_promises.specs.AnswersAreOfTheirCalls.{IsNaming, IsChanging, IsFormOf}
+use Rattle.law_synchronized.proofs.KeptPlaces.{KeptHere, IsMadeOpen, OkAt, AnswersOpen, somewhere-more, resize-later}
+use Rattle.law_synchronized.proofs.OkAnswers.{is_plain, plain-ok, write-ok, answers-open}
+use Rattle.law_synchronized.proofs.OkFacts.{IsThroughWrite, Made, IsOpenAs, IsFor, IsDone, All, book_of, Mid}
 use Rattle.law_synchronized.proofs.OkHear.{Spent, mid-spared, spent-marks, Sparing, spent-loses}
 use Rattle.law_synchronized.proofs.OkMoves.{numbered-stored}
-use Rattle.law_synchronized.proofs.OkSettle.{mid-answers, mid-names}
+use Rattle.law_synchronized.proofs.OkSettle.{mid-answers, mid-names, changing-form, reading-form}
 
 -- ---- parts of a reply
 
@@ -46,16 +48,26 @@ spent-vacates t file tag s = record { mid = s.mid; free = s.free; from = s.from 
 spent-vacates-noticed : {call : Option UnderWay} {Spared : UnderWay → Type 0} {line : HostRow} {journal : List Entry} (t : ClientStep) (file : ℕ) (o : Option Notice) → Spent call Spared line journal t → Spent call Spared line journal (vacates_noticed t file o)
 spent-vacates-noticed {call} {Spared} {line} {journal} t file o s = vacates-noticed-cases t file o (Spent call Spared line journal) (λ e. s) (λ n e. spent-vacates t file n.tag s)
 
-spent-names : {call : Option UnderWay} {Spared : UnderWay → Type 0} {line : HostRow} {journal : List Entry} (t : ClientStep) (q file : ℕ) → Spent call Spared line journal t → Spent call All line journal (names_losses t q file)
+-- a call that waits until a file is clean asks for a change
+waits-changes : (file : ℕ) (written : Bool) (op : Call) → waits_for file written op ≡ true → IsChanging (Some (told op))
+waits-changes file written (Call.Sync f) e = tt
+waits-changes file written (Call.Resize f blocks) e = tt
+waits-changes file written (Call.Remove f) e = tt
+waits-changes file written (Call.WriteSync f block body) e = tt
+waits-changes file written other e = absurd (cc)
+
+spent-names : {call : Option UnderWay} {Spared : UnderWay → Type 0} {line : HostRow} {journal : List Entry} (t : ClientStep) (u : UnderWay) (file : ℕ) → t.client.call ≡ Some u → IsChanging (Some (told u.call)) → Spent call Spared line journal t → Spent call All line journal (names_losses t u.q file)
 unfolding answers
-spent-names t q file s = record { mid = mid-names t q file s.mid; free = s.free; from = λ u e. none-some u e }
+spent-names t u file is changes s =
+    let o = s.mid.keeps.is_open u is in
+    record { mid = mid-names t u.q file o.is_open (subst IsChanging (sym o.tells) changes) s.mid; free = s.free; from = λ v e. none-some v e }
 
 spent-reports : {call : Option UnderWay} {line : HostRow} {journal : List Entry} (t : ClientStep) (file : ℕ) → Spent call (Sparing file) line journal t → Spent call All line journal (reports t file)
 spent-reports {call = call} {line = line} {journal = journal} t file s =
     reports-cases t file (Spent call All line journal)
     (λ none. record { mid = mid-spared (book_of t) (λ u e. none-some u (sym none ∙ e)) s.mid; free = s.free; from = s.from })
     (λ u is waits. record { mid = mid-spared (book_of t) (λ v e. subst (Sparing file) (some-same u v (sym is ∙ e)) waits) s.mid; free = s.free; from = s.from })
-    (λ u is waits. spent-names t u.q file s)
+    (λ u is waits. spent-names t u file is (waits-changes file u.written u.call waits) s)
 
 spent-holds : {call : Option UnderWay} {line : HostRow} {journal : List Entry} (t : ClientStep) (file : ℕ) (g : Grant) (sent : ℕ) → Spent call All line journal t → Spent call All line journal (holds t file g sent)
 unfolding holds
@@ -133,17 +145,28 @@ told-done : (line : HostRow) (who : Who) (n : ℕ) (asks : Request) (r : Reply) 
 told-done line who n asks r done (later status is off) = let bad : true ≡ false = ap is_refused (sym is) ∙ done in absurd (cc)
 told-done line who n asks r done (decided inc seq is) = record { inc = inc; decided = seq; told = verdict-done who.inc line.verdict line.value asks (ap is_refused (sym is) ∙ done) }
 
--- a refusal is no ok
-refused-here : (who : Who) (q : ℕ) (status : Refusal) (before : List Entry) → KeptHere (A who q (said (answer_of status) None)) before
-refused-here who q Refusal.NoEnt before = tt
-refused-here who q Refusal.Exist before = tt
-refused-here who q Refusal.Inval before = tt
-refused-here who q Refusal.NoSpc before = tt
-refused-here who q Refusal.Stale before = tt
-refused-here who q Refusal.TryLater before = tt
-refused-here who q Refusal.Fenced before = tt
-refused-here who q Refusal.NotAttached before = tt
-refused-here who q Refusal.Old before = tt
+-- a refusal that counts and puts nothing off is no ok, and no `busy`
+refused-here : (who : Who) (u : UnderWay) (status : Refusal) (request : Request) (before : List Entry) → counts_for_call status request ≡ true → is_put_off status ≡ false → IsOpenAs who u before → KeptHere (A who u.q (said (answer_of status) None)) before
+refused-here who u Refusal.NoEnt request before counted final h = answers-open who u Said.NoEntry before h tt
+refused-here who u Refusal.Exist request before counted final h = answers-open who u Said.Exists before h tt
+refused-here who u Refusal.Inval request before counted final h = answers-open who u Said.Range before h tt
+refused-here who u Refusal.NoSpc request before counted final h = answers-open who u Said.NoSpace before h tt
+refused-here who u Refusal.Stale request before counted final h = answers-open who u Said.Stale before h tt
+refused-here who u Refusal.TryLater request before counted final h = absurd (cc)
+refused-here who u Refusal.NotAttached request before counted final h = absurd (cc)
+refused-here who u Refusal.Old request before counted final h = absurd (cc)
+refused-here who u Refusal.Fenced request before counted final h = absurd (uncounted request counted)
+  where
+    uncounted : (r : Request) → counts_for_call Refusal.Fenced r ≡ true → ⊥
+    uncounted (Request.Lookup w name) e = cc
+    uncounted (Request.Create w seq name blocks) e = cc
+    uncounted (Request.GetAttr w file) e = cc
+    uncounted (Request.Read w q file block want) e = cc
+    uncounted (Request.Write w seq file block first last push body) e = cc
+    uncounted (Request.GetLease w file want) e = cc
+    uncounted (Request.Resize w seq q file blocks) e = cc
+    uncounted (Request.Remove w seq q file) e = cc
+    uncounted other e = cc
 
 -- ---- the outcomes
 
@@ -175,6 +198,14 @@ module _ (line : HostRow) (journal : List Entry) (c : Client) (number : ℕ) (ti
   plain-here : (s : ClientStep) → Spent c.call All line journal s → ((u : UnderWay) → c.call ≡ Some u → is_plain u.call ≡ true) → (entry : Entry) (u : UnderWay) → s.client.call ≡ Some u → OkAt entry (s.entries ++ journal) s.client.who u.q
   plain-here s k plain entry u e = plain-ok entry s.client.who u (s.entries ++ journal) (k.mid.keeps.is_open u e) (plain u (k.from u e))
 
+  -- it is of its call
+  open-here : (s : ClientStep) → Spent c.call All line journal s → (says : Said) → ((u : UnderWay) → c.call ≡ Some u → IsFormOf says (Some (told u.call))) → (u : UnderWay) → s.client.call ≡ Some u → AnswersOpen (s.entries ++ journal) s.client.who u.q says
+  open-here s k says form u e = answers-open s.client.who u says (s.entries ++ journal) (k.mid.keeps.is_open u e) (form u (k.from u e))
+
+  -- it names a file or asks for one
+  naming : (u : UnderWay) (op : Call) → u.call ≡ op → IsNaming (Some (told op)) → IsNaming (Some (told u.call))
+  naming u op e h = subst (λ o. IsNaming (Some (told o))) (sym e) h
+
   -- what the call under way is, by its request
   for-it : (request : Request) (u : UnderWay) → ticket.job ≡ for_call → ticket.request ≡ request → c.call ≡ Some u → IsFor u c.dirty c.push request
   for-it request u job asks e = subst (IsFor u c.dirty c.push) asks (m.keeps.fits ticket u is job e)
@@ -183,9 +214,9 @@ module _ (line : HostRow) (journal : List Entry) (c : Client) (number : ℕ) (ti
   named answer job n = answers-call-cases (spends (begun c)) answer None (λ s. Mid All line journal (book_of s)) (λ e. spent.mid) (λ u e. mid-answers (spends (begun c)) u.q answer None (here answer n u e) spent.mid)
     where
       here : (answer : Answer) → IsNamed ticket.request r answer → (u : UnderWay) → (spends (begun c)).client.call ≡ Some u → KeptHere (A (spends (begun c)).client.who u.q (said answer None)) ((spends (begun c)).entries ++ journal)
-      here answer (looked_up who name inc file blocks asks told) u e = plain-here (spends (begun c)) spent (λ v f. ap is_plain (for-it (Request.Lookup who name) v job asks f)) _ u e
-      here answer (created who seq name blocks inc file asks told) u e = plain-here (spends (begun c)) spent (λ v f. ap is_plain (for-it (Request.Create who seq name blocks) v job asks f)) _ u e
-      here answer (attributes who file inc blocks rev asks told) u e = plain-here (spends (begun c)) spent (λ v f. ap is_plain (for-it (Request.GetAttr who file) v job asks f)) _ u e
+      here answer (looked_up who name inc file blocks asks told) u e = (open-here (spends (begun c)) spent (Said.OkValue file) (λ v f. inl (naming v _ (for-it (Request.Lookup who name) v job asks f) tt)) u e, plain-here (spends (begun c)) spent (λ v f. ap is_plain (for-it (Request.Lookup who name) v job asks f)) _ u e)
+      here answer (created who seq name blocks inc file asks told) u e = (open-here (spends (begun c)) spent (Said.OkValue file) (λ v f. inl (naming v _ (for-it (Request.Create who seq name blocks) v job asks f) tt)) u e, plain-here (spends (begun c)) spent (λ v f. ap is_plain (for-it (Request.Create who seq name blocks) v job asks f)) _ u e)
+      here answer (attributes who file inc blocks rev asks told) u e = (open-here (spends (begun c)) spent (Said.OkValue blocks) (λ v f. inl (naming v _ (for-it (Request.GetAttr who file) v job asks f) tt)) u e, plain-here (spends (begun c)) spent (λ v f. ap is_plain (for-it (Request.GetAttr who file) v job asks f)) _ u e)
 
   plain-read : (u : UnderWay) (file block : ℕ) → IsRead u.call file block → is_plain u.call ≡ true
   plain-read u file block (inl e) = ap is_plain e
@@ -197,7 +228,9 @@ module _ (line : HostRow) (journal : List Entry) (c : Client) (number : ℕ) (ti
       let taken : Spent c.call All line journal (takes_optional (spends (begun c)) file grant ticket.first) = spent-takes-optional (spends (begun c)) file grant ticket.first spent in
       let k : Spent c.call All line journal s = then-caches-cases (takes_optional (spends (begun c)) file grant ticket.first) file block body grant (Spent c.call All line journal) (λ e. spent-caches _ file block body taken) (λ e. taken) in
       answers-call-cases s (Answer.Ok (Value.Body body)) (Some number) (λ z. Mid All line journal (book_of z)) (λ e. k.mid)
-      (λ u e. mid-answers s u.q (Answer.Ok (Value.Body body)) (Some number) (plain-here s k (λ v f. plain-read v file block (for-it (Request.Read who q file block want) v of.job of.asks f)) _ u e) k.mid)
+      (λ u e. mid-answers s u.q (Answer.Ok (Value.Body body)) (Some number)
+      (open-here s k (Said.OkBy (value_of body) number) (λ v f. reading-form v file block (for-it (Request.Read who q file block want) v of.job of.asks f)) u e, plain-here s k (λ v f. plain-read v file block (for-it (Request.Read who q file block want) v of.job of.asks f)) _ u e)
+      k.mid)
 
   leasing : (file : ℕ) (grant : Option Grant) → Mid All line journal (book_of (lease_done (spends (begun c)) file grant ticket.first))
   leasing file grant =
@@ -209,31 +242,46 @@ module _ (line : HostRow) (journal : List Entry) (c : Client) (number : ℕ) (ti
   was-done u request n of draws done e = subst (λ z. Made c.who u.q z journal) of.asks (m.keeps.made ticket u n is of.job e (ap sequence_of of.asks ∙ draws) (told-done line c.who n ticket.request r done (tells n (ap sequence_of of.asks ∙ draws))))
 
   -- a write that went through
-  through-here : (u : UnderWay) (file block : ℕ) (body : List ℕ) → c.call ≡ Some u → (u.call ≡ Call.Write file block body) ⊎ (u.call ≡ Call.WriteSync file block body) → Somewhere (IsThroughWrite c.who u.q) journal → OkAt (A c.who u.q Said.Ok) journal c.who u.q
-  through-here u file block body e (inl write) made = plain-ok _ c.who u journal (m.keeps.is_open u e) (ap is_plain write)
-  through-here u file block body e (inr put) made = record {
-    told = told (Call.WriteSync file block body);
-    asks = (m.keeps.is_open u e).tells ∙ ap (λ op. Some (told op)) put;
-    kept = somewhere-more (IsThroughWrite c.who u.q) (IsPutKept journal c.who u.q) journal (λ x before h. (h.0, h.2, inl h.1)) made;
-  }
+  through-here : (u : UnderWay) (file block : ℕ) (body : List ℕ) → c.call ≡ Some u → (u.call ≡ Call.Write file block body) ⊎ (u.call ≡ Call.WriteSync file block body) → Somewhere (IsThroughWrite c.who u.q) journal → KeptHere (A c.who u.q Said.Ok) journal
+  through-here u file block body e (inl write) made = (
+    answers-open c.who u Said.Ok journal (m.keeps.is_open u e) (changing-form u (Call.Write file block body) write tt),
+    write-ok c.who u file block body journal (m.keeps.is_open u e) write (somewhere-more (IsThroughWrite c.who u.q) (IsMadeOpen c.who u.q) journal (λ x before h. (h.0, h.2)) made),
+  )
+  through-here u file block body e (inr put) made = (
+    answers-open c.who u Said.Ok journal (m.keeps.is_open u e) (changing-form u (Call.WriteSync file block body) put tt),
+    record {
+      told = told (Call.WriteSync file block body);
+      asks = (m.keeps.is_open u e).tells ∙ ap (λ op. Some (told op)) put;
+      kept = somewhere-more (IsThroughWrite c.who u.q) (IsPutKept journal c.who u.q) journal (λ x before h. (h.0, h.2, inl h.1)) made;
+      wrote = tt;
+    },
+  )
 
-  changed-here : (u : UnderWay) (file : ℕ) (op : Call) → c.call ≡ Some u → u.call ≡ op → (op ≡ Call.Remove file) ⊎ ((blocks : ℕ) × (op ≡ Call.Resize file blocks)) → Somewhere (IsSettledResize journal journal c.who u.q file) journal → OkAt (A c.who u.q Said.Ok) journal c.who u.q
-  changed-here u file op e same (inl remove) made = record {
-    told = told (Call.Remove file);
-    asks = (m.keeps.is_open u e).tells ∙ ap (λ o. Some (told o)) (same ∙ remove);
-    kept = somewhere-more (IsSettledResize journal journal c.who u.q file) (IsSettledResize (A c.who u.q Said.Ok ∷ journal) journal c.who u.q file) journal (λ x before h. resize-later (A c.who u.q Said.Ok ∷ []) journal journal c.who u.q file x before h) made;
-  }
-  changed-here u file op e same (inr resize) made = record {
-    told = told (Call.Resize file resize.0);
-    asks = (m.keeps.is_open u e).tells ∙ ap (λ o. Some (told o)) (same ∙ resize.1);
-    kept = somewhere-more (IsSettledResize journal journal c.who u.q file) (IsSettledResize (A c.who u.q Said.Ok ∷ journal) journal c.who u.q file) journal (λ x before h. resize-later (A c.who u.q Said.Ok ∷ []) journal journal c.who u.q file x before h) made;
-  }
+  changed-here : (u : UnderWay) (file : ℕ) (op : Call) → c.call ≡ Some u → u.call ≡ op → (op ≡ Call.Remove file) ⊎ ((blocks : ℕ) × (op ≡ Call.Resize file blocks)) → Somewhere (IsSettledResize journal journal c.who u.q file) journal → KeptHere (A c.who u.q Said.Ok) journal
+  changed-here u file op e same (inl remove) made = (
+    answers-open c.who u Said.Ok journal (m.keeps.is_open u e) (changing-form u (Call.Remove file) (same ∙ remove) tt),
+    record {
+      wrote = tt;
+      told = told (Call.Remove file);
+      asks = (m.keeps.is_open u e).tells ∙ ap (λ o. Some (told o)) (same ∙ remove);
+      kept = somewhere-more (IsSettledResize journal journal c.who u.q file) (IsSettledResize (A c.who u.q Said.Ok ∷ journal) journal c.who u.q file) journal (λ x before h. resize-later (A c.who u.q Said.Ok ∷ []) journal journal c.who u.q file x before h) made;
+    },
+  )
+  changed-here u file op e same (inr resize) made = (
+    answers-open c.who u Said.Ok journal (m.keeps.is_open u e) (changing-form u (Call.Resize file resize.0) (same ∙ resize.1) tt),
+    record {
+      wrote = tt;
+      told = told (Call.Resize file resize.0);
+      asks = (m.keeps.is_open u e).tells ∙ ap (λ o. Some (told o)) (same ∙ resize.1);
+      kept = somewhere-more (IsSettledResize journal journal c.who u.q file) (IsSettledResize (A c.who u.q Said.Ok ∷ journal) journal c.who u.q file) journal (λ x before h. resize-later (A c.who u.q Said.Ok ∷ []) journal journal c.who u.q file x before h) made;
+    },
+  )
 
   -- a step that is the same to the journal
-  same-answer : (s : ClientStep) → book_of s ≡ book_of (spends (begun c)) → ((u : UnderWay) → c.call ≡ Some u → OkAt (A c.who u.q Said.Ok) journal c.who u.q) → Mid All line journal (book_of (answers_call s (Answer.Ok Value.Nothing) None))
+  same-answer : (s : ClientStep) → book_of s ≡ book_of (spends (begun c)) → ((u : UnderWay) → c.call ≡ Some u → KeptHere (A c.who u.q Said.Ok) journal) → Mid All line journal (book_of (answers_call s (Answer.Ok Value.Nothing) None))
   unfolding spends
   same-answer s same ok =
-      answers-call-cases s (Answer.Ok Value.Nothing) None (λ z. Mid All line journal (book_of z)) (λ e. k) (λ u e. mid-answers s u.q (Answer.Ok Value.Nothing) None (subst (λ b. OkAt (A b.who u.q Said.Ok) (b.entries ++ journal) b.who u.q) (sym same) (ok u (ap (λ b. b.call) (sym same) ∙ e))) k)
+      answers-call-cases s (Answer.Ok Value.Nothing) None (λ z. Mid All line journal (book_of z)) (λ e. k) (λ u e. mid-answers s u.q (Answer.Ok Value.Nothing) None (subst (λ b. KeptHere (A b.who u.q Said.Ok) (b.entries ++ journal)) (sym same) (ok u (ap (λ b. b.call) (sym same) ∙ e))) k)
     where
       k : Mid All line journal (book_of s)
       k = subst (Mid All line journal) (sym same) spent.mid
@@ -262,8 +310,8 @@ module _ (line : HostRow) (journal : List Entry) (c : Client) (number : ℕ) (ti
       let cached : Spent c.call All line journal (caches_push (knows_revision (ends_push (spends (begun c))) file rev) file block body) = caches-push-cases _ file block body (Spent c.call All line journal) (λ e. k) (λ e. spent-caches _ file block body k) in
       vacates-if-clean-cases _ file (λ z. Mid All line journal (book_of z)) cached.mid (λ n clean e. (spent-vacates _ file n.tag cached).mid)
 
-  refusing : (status : Refusal) → Mid All line journal (book_of (answers_call (spends (begun c)) (answer_of status) None))
-  refusing status = answers-call-cases (spends (begun c)) (answer_of status) None (λ z. Mid All line journal (book_of z)) (λ e. spent.mid) (λ u e. mid-answers (spends (begun c)) u.q (answer_of status) None (refused-here _ u.q status _) spent.mid)
+  refusing : (status : Refusal) → counts_for_call status ticket.request ≡ true → is_put_off status ≡ false → Mid All line journal (book_of (answers_call (spends (begun c)) (answer_of status) None))
+  refusing status counted final = answers-call-cases (spends (begun c)) (answer_of status) None (λ z. Mid All line journal (book_of z)) (λ e. spent.mid) (λ u e. mid-answers (spends (begun c)) u.q (answer_of status) None (refused-here _ u status ticket.request _ counted final (spent.mid.keeps.is_open u e)) spent.mid)
 
   push-refused : (file : ℕ) → Mid All line journal (book_of (push_refused (spends (begun c)) file))
   push-refused file = (spent-reports _ file (spent-vacates-noticed _ file _ (spent-without _ file (spent-loses (spends (begun c)) file spent)))).mid
@@ -280,7 +328,7 @@ module _ (line : HostRow) (journal : List Entry) (c : Client) (number : ℕ) (ti
     renewing = λ who file want inc grant job asks told. (spent-takes-optional (spends (begun c)) file grant ticket.first spent).mid;
     pushed = λ who seq file block first last base body inc rev job asks told. pushed file block body rev;
     putting_off = λ inc status job told off. spent-pauses _ spent;
-    refusing = λ inc status job told counted final. refusing status;
+    refusing = λ inc status job told counted final. refusing status counted final;
     renewal_refused = λ inc status job told final. spent.mid;
     push_refused = λ who seq file block first last base body inc status job asks told final. push-refused file;
   })

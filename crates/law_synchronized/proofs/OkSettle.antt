@@ -14,19 +14,22 @@ use Rattle.nq_base.specs.declared.Value.{Value}
 use Rattle.nq_base.specs.declared.Who.{Who}
 use Rattle.walk_calls.proofs.CallsFit.{entry_who}
 use Rattle.walk_client.proofs.SendCases.{pushed, send-cases}
-use Rattle.walk_client.proofs.SettleCases.{IsSettling, IsRead, IsSync, of_sync, of_put, settle-cases}
+use Rattle.walk_client.proofs.SettleCases.{IsSettling, IsRead, IsWrite, IsSync, of_sync, of_put, settle-cases}
 use Rattle.walk_client.proofs.ClientMoves.{some-same, none-some}
 use Rattle.nq_model.specs.Client.{ClientStep, Job, for_call, renewing, Ticket, UnderWay, first_dirty, drop_dirty, is_clean, is_push_of}
-use Rattle.nq_model.specs.Journal.{Throughout}
+use Rattle.nq_model.specs.ClientStep.{told}
+use Rattle.nq_model.specs.Journal.{Throughout, Somewhere, IsOpen, call_of}
+use Rattle.nq_model.specs.Legal.{IsReading}
 use Rattle.nq_model.specs.Message.{sequence_of}
 use Rattle.nq_model.specs.Send.{sends_request, after_seq, after_number, takes_push, sends_write, gives_up, send_next}
 use Rattle.nq_model.specs.Settle.{said, answers, names_losses, reads_cached, after_read, delays, after_write, marks_written, settle, ticket_is_for_call}
+use Rattle.nq_promises.specs.AnswersAreOfTheirCalls.{IsChanging, IsWriting}
 use Rattle.nq_promises.specs.LossesAreReported.{cleans}
 use Rattle.walk_run.proofs.Members.{in-filtered, find-in}
 use Rattle.walk_run.proofs.Packets.{In}
 use Rattle.walk_server.proofs.Rows.{number-same}
-use Rattle.law_synchronized.proofs.KeptPlaces.{KeptHere, OkAt}
-use Rattle.law_synchronized.proofs.OkAnswers.{is_plain, plain-ok, sync-ok, put-ok}
+use Rattle.law_synchronized.proofs.KeptPlaces.{KeptHere, IsMadeOpen, OkAt}
+use Rattle.law_synchronized.proofs.OkAnswers.{is_plain, plain-ok, write-ok, answers-open, sync-ok, put-ok}
 use Rattle.law_synchronized.proofs.OkFacts.{CoversNumber, LiesWithin, in_list, under_way, PutWaits, IsOpenAs, IsFor, IsDone, Numbered, KeepsOk, All, Book, book_of, Mid, After, ended, not-for-call}
 use Rattle.law_synchronized.proofs.OkMoves.{open-more, put-more, numbered-more, numbered-raised, numbered-written, numbered-taken}
 
@@ -46,16 +49,28 @@ mid-answers t q a by here m = record {
 }
 
 -- it is told losses
-pub mid-names : {Spared More : UnderWay → Type 0} {line : HostRow} {journal : List Entry} (t : ClientStep) (q file : ℕ) → Mid Spared line journal (book_of t) → Mid More line journal (book_of (names_losses t q file))
+pub mid-names : {Spared More : UnderWay → Type 0} {line : HostRow} {journal : List Entry} (t : ClientStep) (q file : ℕ) → IsOpen (t.entries ++ journal) t.client.who q → IsChanging (call_of (t.entries ++ journal) t.client.who q) → Mid Spared line journal (book_of t) → Mid More line journal (book_of (names_losses t q file))
 unfolding answers
-mid-names t q file m = record {
+mid-names t q file is_open form m = record {
   keeps = ended (numbered-more _ (λ f b n l e. absurd (cc)) m.keeps.numbers);
   above = m.above;
-  kept = (tt, m.kept);
+  kept = (record { is_open = is_open; form = form }, m.kept);
   own = own-more t.client.who _ t.entries refl m.own;
 }
 
 -- ---- settling
+
+-- what a call of this form asks
+pub changing-form : (u : UnderWay) (op : Call) → u.call ≡ op → IsChanging (Some (told op)) → IsChanging (Some (told u.call))
+changing-form u op e h = subst (λ o. IsChanging (Some (told o))) (sym e) h
+
+pub writing-form : (u : UnderWay) (sync : Bool) (file block : ℕ) (body : List ℕ) → IsWrite u sync file block body → IsWriting (Some (told u.call))
+writing-form u true file block body e = subst (λ o. IsWriting (Some (told o))) (sym e.0) tt
+writing-form u false file block body e = subst (λ o. IsWriting (Some (told o))) (sym e) tt
+
+pub reading-form : (u : UnderWay) (file block : ℕ) → IsRead u.call file block → IsReading (Some (told u.call))
+reading-form u file block (inl e) = subst (λ o. IsReading (Some (told o))) (sym e) tt
+reading-form u file block (inr e) = subst (λ o. IsReading (Some (told o))) (sym e) tt
 
 delays-call : (t : ClientStep) (file block : ℕ) (body : List ℕ) → (delays t file block body).client.call ≡ t.client.call
 unfolding after_write
@@ -77,7 +92,7 @@ module _ {line : HostRow} {journal : List Entry} (t : ClientStep) (m : Mid All l
       record {
         keeps = ended (numbered-more _ (λ f b n l e. absurd (cc)) (numbered-more r (λ f b n l e. absurd (cc)) m.keeps.numbers));
         above = m.above;
-        kept = (plain-ok _ t.client.who u (r ∷ t.entries ++ journal) open_after (plain-read u file block read), (tt, m.kept));
+        kept = ((answers-open t.client.who u (Said.OkValue (value_of body)) (r ∷ t.entries ++ journal) open_after (inr (reading-form u file block read)), plain-ok _ t.client.who u (r ∷ t.entries ++ journal) open_after (plain-read u file block read)), (tt, m.kept));
         own = own-more t.client.who _ (r ∷ t.entries) refl (own-more t.client.who r t.entries refl m.own);
       }
 
@@ -100,12 +115,18 @@ module _ {line : HostRow} {journal : List Entry} (t : ClientStep) (m : Mid All l
         own = own-more t.client.who w t.entries refl m.own;
       }
 
+  has-written : (u : UnderWay) (file block : ℕ) (body : List ℕ) → IsSettling t u → Somewhere (IsMadeOpen (delays t file block body).client.who u.q) ((delays t file block body).entries ++ journal)
+  unfolding after_write
+  has-written u file block body is = inl (refl, (open-now u is.called).is_open)
+
   -- and answered
   mid-writes : (u : UnderWay) (file block : ℕ) (body : List ℕ) → IsSettling t u → u.call ≡ Call.Write file block body → Mid All line journal (book_of (answers (delays t file block body) u.q (Answer.Ok Value.Nothing) None))
   mid-writes u file block body is write =
       let d : Mid All line journal (book_of (delays t file block body)) = mid-delays file block body is.idle in
       let o : IsOpenAs (delays t file block body).client.who u ((delays t file block body).entries ++ journal) = d.keeps.is_open u (delays-call t file block body ∙ is.called) in
-      mid-answers (delays t file block body) u.q (Answer.Ok Value.Nothing) None (plain-ok _ _ u _ o (ap is_plain write)) d
+      mid-answers (delays t file block body) u.q (Answer.Ok Value.Nothing) None
+      (answers-open _ u Said.Ok _ o (changing-form u (Call.Write file block body) write tt), write-ok _ u file block body _ o write (has-written u file block body is))
+      d
 
   -- a put's write was delayed
   mid-puts : (u : UnderWay) (file block : ℕ) (body : List ℕ) → IsSettling t u → u.call ≡ Call.WriteSync file block body → Mid All line journal (book_of (marks_written (delays t file block body) u))
@@ -155,6 +176,11 @@ module _ {line : HostRow} {journal : List Entry} (t : ClientStep) (m : Mid All l
         let two : block ≡ b = cc in
         subst (λ n. PutWaits t.client.who n f b (w ∷ t.entries ++ journal)) q (subst (λ n. PutWaits t.client.who u.q f n (w ∷ t.entries ++ journal)) two (subst (λ n. PutWaits t.client.who u.q n block (w ∷ t.entries ++ journal)) one own))
 
+  -- a sync, or a put, asks for a change
+  sync-form : (u : UnderWay) (file : ℕ) → IsSync u file → IsChanging (Some (told u.call))
+  sync-form u file (of_sync e) = changing-form u (Call.Sync file) e tt
+  sync-form u file (of_put block body e written) = changing-form u (Call.WriteSync file block body) e tt
+
   sync-here : (u : UnderWay) (file : ℕ) → IsSettling t u → IsSync u file → is_clean t.client file ≡ true → After journal (book_of (answers t u.q (Answer.Ok Value.Nothing) None)) → OkAt (A t.client.who u.q Said.Ok) (t.entries ++ journal) t.client.who u.q
   unfolding answers
   sync-here u file is (of_sync e) clean after =
@@ -169,18 +195,18 @@ module _ {line : HostRow} {journal : List Entry} (t : ClientStep) (m : Mid All l
       (λ n value i. after.unsaved file block n value i)
 
   mid-syncs : (u : UnderWay) (file : ℕ) → IsSettling t u → IsSync u file → is_clean t.client file ≡ true → After journal (book_of (answers t u.q (Answer.Ok Value.Nothing) None)) → Mid All line journal (book_of (answers t u.q (Answer.Ok Value.Nothing) None))
-  mid-syncs u file is sync clean after = mid-answers t u.q (Answer.Ok Value.Nothing) None (sync-here u file is sync clean after) m
+  mid-syncs u file is sync clean after = mid-answers t u.q (Answer.Ok Value.Nothing) None (answers-open t.client.who u Said.Ok (t.entries ++ journal) (open-now u is.called) (sync-form u file sync), sync-here u file is sync clean after) m
 
   -- a settled step
   pub mid-settles : After journal (book_of (settle t)) → Mid All line journal (book_of (settle t))
   mid-settles = settle-cases t (λ s. After journal (book_of s) → Mid All line journal (book_of s)) (record {
     idle = λ none a. m;
     asking = λ u is own a. m;
-    read_out = λ u file block lease is read can out a. mid-answers t u.q Answer.Range None tt m;
+    read_out = λ u file block lease is read can out a. mid-answers t u.q Answer.Range None (answers-open t.client.who u Said.Range (t.entries ++ journal) (open-now u is.called) tt) m;
     reading = λ u file block lease body is read can below has a. mid-cached u file block body is.called read;
     read_waits = λ u file block is read waits a. m;
-    write_out = λ u sync file block body lease is write can out a. mid-answers t u.q Answer.Range None tt m;
-    write_full = λ u sync file block body lease is write can below full a. mid-answers t u.q Answer.DirtyFull None tt m;
+    write_out = λ u sync file block body lease is write can out a. mid-answers t u.q Answer.Range None (answers-open t.client.who u Said.Range (t.entries ++ journal) (open-now u is.called) tt) m;
+    write_full = λ u sync file block body lease is write can below full a. mid-answers t u.q Answer.DirtyFull None (answers-open t.client.who u Said.DirtyFull (t.entries ++ journal) (open-now u is.called) (writing-form u sync file block body write)) m;
     writing = λ u file block body lease is write can below room a. mid-writes u file block body is write;
     putting = λ u file block body lease is put written can below room a. mid-puts u file block body is put;
     write_waits = λ u sync file block body is write waits a. m;

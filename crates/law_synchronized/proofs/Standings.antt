@@ -7,11 +7,15 @@ use Rattle.nq_base.specs.declared.Who.{Who}
 use Rattle.law_calls.proofs.RunCalls.{calls-fit}
 use Rattle.law_fates.proofs.WorldWrites.{writes-fit}
 use Rattle.walk_fates.proofs.WritesFit as fits
-use Rattle.nq_model.specs.Journal.{Exists, Covers}
+use Rattle.nq_model.specs.Journal.{Exists, Throughout, Covers}
 use Rattle.nq_model.specs.World.{run}
 use Rattle.law_reports.proofs.ReportedRuns.{losses-fit}
 use Rattle.law_synchronized.proofs.OkFacts.{CoversNumber, by_store, by_loss, LiesWithin, in_list, under_way}
-use Rattle.law_synchronized.proofs.OkRuns.{StandingInEveryRun, CountedInEveryRun, synchronized-runs}
+use Rattle.law_synchronized.proofs.KeptPlaces.{KeptHere, answers-are-of-calls, busy-at-once}
+use Rattle.law_synchronized.proofs.OkRuns.{StandingInEveryRun, CountedInEveryRun, answered-runs, synchronized-runs}
+use Rattle.nq_promises.specs.AnswersAreOfTheirCalls.{AnswersAreOfTheirCallsInEveryRun}
+use Rattle.nq_promises.specs.Bounds.{InEveryRun}
+use Rattle.nq_promises.specs.BusyIsSaidAtOnce.{BusyIsSaidAtOnceInEveryRun}
 use Rattle.nq_promises.specs.OksAreKept.{SynchronizedInEveryRun}
 
 more-covers : (e : Entry) (journal : List Entry) (who : Who) (file block n : ℕ) → CoversNumber journal who file block n → CoversNumber (e ∷ journal) who file block n
@@ -54,3 +58,15 @@ counted most head events bounds within host c is =
 -- what is answered ok is kept, in every run
 pub synchronized-in-every-run : SynchronizedInEveryRun
 synchronized-in-every-run = synchronized-runs standing counted
+
+-- each answer at its place
+pub answered-in-every-run : InEveryRun (λ head events. Throughout KeptHere (run head events).journal)
+answered-in-every-run = answered-runs standing counted
+
+-- and each is of its call
+pub answers-in-every-run : AnswersAreOfTheirCallsInEveryRun
+answers-in-every-run most head events bounds within = answers-are-of-calls (run head events).journal (answered-in-every-run most head events bounds within)
+
+-- and busy is said at once
+pub busy-in-every-run : BusyIsSaidAtOnceInEveryRun
+busy-in-every-run most head events bounds within = busy-at-once (run head events).journal (answered-in-every-run most head events bounds within)

@@ -24,13 +24,17 @@ use Rattle.nq_model.specs.Skew.{IsWithinSkew}
 use Rattle.nq_model.specs.World.{Head, World, after_server, after_client, at_client, after_hearing, deliver_to_client, deliver_to, deliver, step, run}
 use Rattle.law_reports.proofs.ReportedRuns.{reported-in-every-run}
 use Rattle.walk_run.proofs.Clocks.{within-before}
-use Rattle.law_synchronized.proofs.Standings.{synchronized-in-every-run}
+use Rattle.law_deeds.proofs.OkDeeds.{deeds-in-every-run}
+use Rattle.law_synchronized.proofs.Standings.{synchronized-in-every-run, answers-in-every-run, busy-in-every-run}
 
 headline : (most : ℕ) (head : Head) (events : List Event) → KeepsBounds most head events → IsWithinSkew head.hosts most events → HeadlineHolds (run head events)
 headline most head events bounds within =
     record {
       ordered = ordered-in-every-run most head events bounds within;
       of_their_call = of-their-call-in-every-run most head events bounds within;
+      answered = answers-in-every-run most head events bounds within;
+      done = deeds-in-every-run most head events bounds within;
+      busy = busy-in-every-run most head events bounds within;
       legal = legal-in-every-run most head events bounds within;
       accounted = accounted most head events bounds within;
       waiting = waiting most head events bounds within;

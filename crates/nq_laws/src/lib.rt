@@ -16,6 +16,7 @@ pub use law_contents::{
     done_requests_are_changes_in_every_run, files_are_their_history_in_every_run,
     pushes_carry_their_last_write_in_every_run,
 };
+pub use law_deeds::{deeds_are_met, oks_have_their_deeds_in_every_run};
 pub use law_endings::{
     endings_are_met, endings_come_late_in_every_run, excuses_are_met,
     losses_are_excused_in_every_run, unsaved_files_are_bound_or_excused_in_every_run,
@@ -24,11 +25,14 @@ pub use law_fates::{
     each_fate_is_met, each_write_has_its_fate_in_every_run,
     waiting_writes_are_unsaved_in_every_run, writes_are_accounted_in_every_run,
 };
+pub use law_filled::{bodies_are_filled_in_every_run, filled_bodies_are_met};
 pub use law_held::{held_are_met, kept_blocks_are_held_in_every_run};
 pub use law_leases::{
     lease_interval_in_every_run, lease_interval_is_met, lease_interval_is_met_in_recovery,
 };
 pub use law_legal::{reads_are_legal_in_every_run, reads_are_met};
+pub use law_owed::replies_are_owed;
+pub use law_refused::{only_busy_refuses, only_calls_refuse, only_deeds_refuse};
 pub use law_reports::{
     losses_are_kept_until_named, losses_are_met, losses_are_reported_in_every_run,
 };
@@ -36,7 +40,11 @@ pub use law_requests::{
     one_request_is_open, one_request_per_sequence, replies_come_after, requests_are_met,
 };
 pub use law_servers::{recoveries_are_met, recovery_waits, rows_stand_apart};
-pub use law_synchronized::{oks_are_kept_in_every_run, oks_are_met};
+pub use law_steps::{steps_are_of_one_host, steps_rest_on_their_host};
+pub use law_synchronized::{
+    answers_are_of_their_calls_in_every_run, busy_is_said_at_once_in_every_run,
+    oks_are_kept_in_every_run, oks_are_met,
+};
 pub use law_tags::{
     standing_table_grows, tags_are_drawn_in_order, vacated_tags_are_met, vacated_tags_are_past,
 };

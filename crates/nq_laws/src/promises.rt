@@ -1,5 +1,8 @@
 //! The headline.
 
+ghost use Rattle.nq_promises.specs.AnswersAreOfTheirCalls.{AnswersAreOfTheirCallsInEveryRun};
+ghost use Rattle.nq_promises.specs.BusyIsSaidAtOnce.{BusyIsSaidAtOnceInEveryRun};
+ghost use Rattle.nq_promises.specs.OksHaveTheirDeeds.{OksHaveTheirDeedsInEveryRun};
 ghost use Rattle.nq_promises.specs.CallsAreOrdered.{OrderedInEveryRun, ReadsAreOfTheirCallInEveryRun};
 ghost use Rattle.nq_promises.specs.LossesAreExcused.{LossesAreExcused};
 ghost use Rattle.nq_promises.specs.WritesAreAccounted.{AccountedInEveryRun, EachHasItsFateInEveryRun, WaitingAreUnsavedInEveryRun};
@@ -12,13 +15,16 @@ ghost use Rattle.nq_promises.specs.UntouchedAreZeros.{UntouchedAreZerosInEveryRu
 ghost use Rattle.nq_promises.specs.OksAreKept.{SynchronizedInEveryRun};
 
 /// For every schedule of calls, losses, repeats, reorderings, ticks within skew, restarts and crashes, the journal keeps each
-/// client's order; every successful read gives the latest standing write before it; missing are only delayed writes of clients
+/// client's order; each answer is of its call, and the deed of each ok stands before it; every successful read gives the latest standing write before it; missing are only delayed writes of clients
 /// that restarted or were cut off beyond write slack, which survivors report by name; synchronized writes that were answered ok
 /// never are; and a cached read under a live lease is answered at once. So it is at every moment of the schedule (Macklem 1994;
 /// Gray and Cheriton 1989).
 pub fn headline()
     ensures ordered { OrderedInEveryRun }
     ensures of_their_call { ReadsAreOfTheirCallInEveryRun }
+    ensures answered { AnswersAreOfTheirCallsInEveryRun }
+    ensures done { OksHaveTheirDeedsInEveryRun }
+    ensures busy { BusyIsSaidAtOnceInEveryRun }
     ensures legal { ReadsAreLegalInEveryRun }
     ensures accounted { AccountedInEveryRun }
     ensures waiting { WaitingAreUnsavedInEveryRun }

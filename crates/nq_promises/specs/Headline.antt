@@ -3,6 +3,9 @@ use Rattle.std.specs.Prelude.{◌≡◌, ◌++◌, ℕ, List, Some, slice_get}
 use Rattle.nq_base.specs.declared.Call.{Call}
 use Rattle.nq_base.specs.declared.Entry.{Entry}
 use Rattle.nq_base.specs.declared.Event.{Event}
+use Rattle.nq_promises.specs.AnswersAreOfTheirCalls.{AnswersAreOfTheirCalls}
+use Rattle.nq_promises.specs.BusyIsSaidAtOnce.{BusyIsSaidAtOnce}
+use Rattle.nq_promises.specs.OksHaveTheirDeeds.{OksHaveTheirDeeds}
 use Rattle.nq_promises.specs.WritesAreAccounted.{WaitingAreUnsaved, EachHasItsFate}
 use Rattle.nq_promises.specs.BlocksAreHeld.{KeptBlocksAreHeld}
 use Rattle.nq_promises.specs.UntouchedAreZeros.{AreZeros}
@@ -35,6 +38,11 @@ pub record HeadlineHolds (w : World) : Type 0 where
   -- the journal keeps each client's order, and each counted read is of its call
   pub ordered : IsOrdered w.journal
   pub of_their_call : AreOfTheirCall w.journal
+  -- each answer is of its call, and the deed of each ok stands before it
+  pub answered : AnswersAreOfTheirCalls w.journal
+  pub done : OksHaveTheirDeeds w.journal
+  -- busy is said at once, and for a cause
+  pub busy : BusyIsSaidAtOnce w.journal
   -- every successful read gives the latest standing write before it
   pub legal : IsLegal w.journal
   -- missing are only delayed writes that are lost, or whose host started again after them: each other one is stored, or is

@@ -6,10 +6,14 @@ pub mod Contents
 pub mod Told
 pub mod Undisturbed
 pub mod UntouchedAreZeros
+pub mod BodiesAreFilled
 -- the headline
 pub mod Headline
 -- journals
 pub mod CallsAreOrdered
+pub mod AnswersAreOfTheirCalls
+pub mod OksHaveTheirDeeds
+pub mod BusyIsSaidAtOnce
 pub mod ReadsAreLegal
 pub mod WritesAreAccounted
 pub mod LossesAreExcused
@@ -17,6 +21,7 @@ pub mod LossesAreReported
 pub mod OksAreKept
 pub mod EndingsComeLate
 pub mod EventsSendFew
+pub mod StepsAreOfOneHost
 -- what the server and the clients have
 pub mod BlocksAreHeld
 pub mod WritesAreUndisturbed
@@ -29,6 +34,7 @@ pub mod CachedReadsChangeLittle
 pub mod TagsAreInOrder
 pub mod OneRequestPerSequence
 pub mod RowsStandApart
+pub mod RepliesAreOwed
 pub mod RecoveriesWait
 -- tests of entries, by which schedules are shown to lead to what the laws speak of
 pub mod Witnesses

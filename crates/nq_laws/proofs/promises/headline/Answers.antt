@@ -1,5 +1,6 @@
 use Rattle.law_calls.proofs.OrderedCalls.{of-their-call-in-every-run, ordered-in-every-run}
 use Rattle.law_chains.proofs.ChainWorlds.{chain-fits}
+use Rattle.law_deeds.proofs.OkDeeds.{deeds-in-every-run}
 use Rattle.law_endings.proofs.ExcusesInRuns.{losses-excused}
 use Rattle.law_fates.proofs.FateLaws.{accounted, waiting, fates}
 use Rattle.law_held.proofs.HeldLaws.{held-in-every-run}
@@ -9,13 +10,22 @@ use Rattle.nq_laws.proofs.HeadlineParts.{at-every-moment}
 use Rattle.nq_laws.proofs.promises.headline.Goals as goal
 use Rattle.law_legal.proofs.LegalLaws.{legal-in-every-run}
 use Rattle.law_reports.proofs.ReportedRuns.{reported-in-every-run}
-use Rattle.law_synchronized.proofs.Standings.{synchronized-in-every-run}
+use Rattle.law_synchronized.proofs.Standings.{synchronized-in-every-run, answers-in-every-run, busy-in-every-run}
 
 pub returns-clause-ordered : goal.returns-clause-ordered
 returns-clause-ordered c = ordered-in-every-run
 
 pub returns-clause-of_their_call : goal.returns-clause-of_their_call
 returns-clause-of_their_call c = of-their-call-in-every-run
+
+pub returns-clause-answered : goal.returns-clause-answered
+returns-clause-answered c = answers-in-every-run
+
+pub returns-clause-done : goal.returns-clause-done
+returns-clause-done c = deeds-in-every-run
+
+pub returns-clause-busy : goal.returns-clause-busy
+returns-clause-busy c = busy-in-every-run
 
 pub returns-clause-legal : goal.returns-clause-legal
 returns-clause-legal c = legal-in-every-run

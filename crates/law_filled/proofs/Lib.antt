@@ -1,0 +1,5 @@
+pub mod EachOf
+pub mod FilledServer
+pub mod FilledClient
+pub mod FilledRuns
+pub mod SomeFilled

@@ -1,0 +1,33 @@
+//! Progress: once the network is calm, delivery ends, every call is answered and every delayed write is stored. The statements stand
+//! in `specs/`; those that are proved stand on functions with empty bodies, whose proofs stand in `proofs/`.
+#![tactic(auto)]
+
+ghost use Rattle.law_progress.specs.AnswersStay.{AnswersStay, StoresStay};
+ghost use Rattle.law_progress.specs.CalmRoundsAreLawful.{CalmRoundsAreLawful};
+ghost use Rattle.law_progress.specs.ClocksTickOnce.{ClocksTickOnce};
+ghost use Rattle.law_progress.specs.SomeNeedHalf.{NeedsHalf};
+
+/// Calm rounds keep a schedule within its bounds and within skew.
+pub fn calm_rounds_are_lawful()
+    ensures { CalmRoundsAreLawful }
+{}
+
+/// Calm rounds open no call: where all clients are attached and have no open call, it stays so.
+pub fn answers_stay()
+    ensures { AnswersStay }
+{}
+
+/// Where moreover no client has delayed writes, none gets any.
+pub fn stores_stay()
+    ensures { StoresStay }
+{}
+
+/// After some schedule half of the rounds that are enough are needed: five events, a recovery among them.
+pub fn some_need_half()
+    ensures { NeedsHalf }
+{}
+
+/// Each calm round is one tick of each clock.
+pub fn clocks_tick_once()
+    ensures { ClocksTickOnce }
+{}

@@ -1,0 +1,16 @@
+-- The text of a page.
+use Rattle.std.specs.Prelude.{◌≡◌, ℕ, List, ◌++◌, ◌∷◌, [], codes, ◌==◌, if◌then◌else◌}
+
+-- what stood there before stands in front, and more may stand behind it
+pub record Extends (before now : List ℕ) : Type 0 where
+  pub more : List ℕ
+  pub behind : now ≡ before ++ more
+
+-- a byte of a text as it is written between marks: `&`, `<`, `>` and `"` by their names
+abbrev pub escaped_byte : ℕ → List ℕ
+escaped_byte byte =
+    if byte == 38 then codes "&amp;"
+    else (if byte == 60 then codes "&lt;"
+    else (if byte == 62 then codes "&gt;"
+    else (if byte == 34 then codes "&quot;"
+    else byte ∷ [])))

@@ -1,0 +1,186 @@
+//! The packets and the bars.
+
+ghost use Rattle.nq_chart.specs.Page.{Extends};
+
+use crate::NoMemory;
+use crate::chart::{Bar, Chart, Packet, Side, Tint};
+use crate::columns::Post;
+use crate::layout::Layout;
+use crate::style::{BAR, LANE};
+use crate::text::{escape, put};
+use std::alloc::Global;
+
+/// How long the arrow of a lost packet is, in pixels.
+const LOST: u64 = 44;
+
+/// How wide a letter in a bar is, in pixels.
+const SMALL: u64 = 6;
+
+/// All packets.
+pub(crate) fn packets(
+    alloc: Global,
+    page: &mut Vec<u8>,
+    chart: &Chart,
+    layout: &Layout,
+) -> Result<(), NoMemory>
+    ensures { Extends page.old.items page.new.items }
+{
+    for packet in &chart.packets {
+        if let (Some(from), Some(to)) = (
+            layout.posts.get(packet.from),
+            layout.posts.get(packet.to),
+        ) {
+            arrows(alloc, page, layout, packet, from, to)?;
+        }
+    }
+    Ok(())
+}
+
+/// The arrows of a packet.
+fn arrows(
+    alloc: Global,
+    page: &mut Vec<u8>,
+    layout: &Layout,
+    packet: &Packet,
+    from: Post,
+    to: Post,
+) -> Result<(), NoMemory>
+    ensures { Extends page.old.items page.new.items }
+{
+    let sent = match packet.sent {
+        Some(row) => match layout.steps.get(row) {
+            Some(step) => step.send,
+            None => layout.steps.end,
+        },
+        None => layout.legend.end,
+    };
+    if packet.arrivals.is_empty() {
+        return lost(alloc, page, from, to, sent);
+    }
+    for (count, row) in packet.arrivals.iter().enumerate() {
+        if let Some(step) = layout.steps.get(*row) {
+            arrow(alloc, page, from.x, to.x, sent, step.arrive, count > 0)?;
+        }
+    }
+    Ok(())
+}
+
+/// An arrow from a sending to an arrival.
+fn arrow(
+    alloc: Global,
+    page: &mut Vec<u8>,
+    from: u64,
+    to: u64,
+    sent: u64,
+    arrived: u64,
+    again: bool,
+) -> Result<(), NoMemory>
+    ensures { Extends page.old.items page.new.items }
+{
+    let class = if again { "a g" } else { "a" };
+    let mark = format!(in alloc;
+        "<path class=\"{class}\" d=\"M{from} {sent}L{to} {arrived}\"/>\n"
+    )?;
+    put(page, mark.as_str())
+}
+
+/// The arrow of a lost packet.
+fn lost(alloc: Global, page: &mut Vec<u8>, from: Post, to: Post, sent: u64) -> Result<(), NoMemory>
+    ensures { Extends page.old.items page.new.items }
+{
+    let x = from.x;
+    let end = if to.x < x {
+        x.saturating_sub(LOST)
+    } else {
+        x.saturating_add(LOST)
+    };
+    let mark = format!(in alloc; "<path class=\"x\" d=\"M{x} {sent}H{end}\"/>\n")?;
+    put(page, mark.as_str())
+}
+
+/// All bars.
+pub(crate) fn bars(
+    alloc: Global,
+    page: &mut Vec<u8>,
+    chart: &Chart,
+    layout: &Layout,
+) -> Result<(), NoMemory>
+    ensures { Extends page.old.items page.new.items }
+{
+    for (place, shown) in chart.bars.iter().enumerate() {
+        if let Some(post) = layout.posts.get(shown.party) {
+            let lane = layout.lanes.place(place);
+            bar(alloc, page, layout, shown, post, lane)?;
+        }
+    }
+    Ok(())
+}
+
+/// The class of a bar.
+fn class(tint: Tint) -> &'static str {
+    match tint {
+        Tint::NonCaching => "n0",
+        Tint::Reading => "n1",
+        Tint::Writing => "n2",
+        Tint::Recovery => "n3",
+    }
+}
+
+/// A bar in a lane.
+fn bar(
+    alloc: Global,
+    page: &mut Vec<u8>,
+    layout: &Layout,
+    shown: &Bar,
+    post: Post,
+    lane: u64,
+) -> Result<(), NoMemory>
+    ensures { Extends page.old.items page.new.items }
+{
+    let (Some(first), Some(last)) = (layout.steps.get(shown.first), layout.steps.get(shown.last))
+    else {
+        return Ok(());
+    };
+    let aside = lane.saturating_mul(LANE).saturating_add(7);
+    let x = match post.bars {
+        Side::Left => post.x.saturating_sub(aside).saturating_sub(BAR),
+        Side::Right => post.x.saturating_add(aside),
+    };
+    let y = first.arrive;
+    let high = last.send.saturating_sub(y);
+    let class = class(shown.tint);
+    let mark = format!(in alloc;
+        "<rect class=\"{class}\" x=\"{x}\" y=\"{y}\" width=\"{BAR}\" height=\"{high}\" rx=\"2\"><title>"
+    )?;
+    put(page, mark.as_str())?;
+    escape(page, shown.text.as_str())?;
+    put(page, "</title></rect>\n")?;
+    letters(alloc, page, shown, x, y, high)
+}
+
+/// The name of a bar along it, if there is room for it.
+fn letters(
+    alloc: Global,
+    page: &mut Vec<u8>,
+    shown: &Bar,
+    x: u64,
+    y: u64,
+    high: u64,
+) -> Result<(), NoMemory>
+    ensures { Extends page.old.items page.new.items }
+{
+    let long = (shown.text.len() as u64)
+        .saturating_mul(SMALL)
+        .saturating_add(4);
+    if long > high {
+        return Ok(());
+    }
+    let left = x.saturating_add(3);
+    let top = y.saturating_add(3);
+    let mark = format!(in alloc;
+        "<text class=\"b\" transform=\"translate({left} {top})rotate(90)\">"
+    )?;
+    put(page, mark.as_str())?;
+    escape(page, shown.text.as_str())?;
+    put(page, "</text>\n")
+}

@@ -1,0 +1,6 @@
+use Rattle.std.proofs.Common.{◌≡◌, ◌+◌, ◌-◌, length, arith, rules}
+use Rattle.std.proofs.lemmas.Slice.{drop-put_mid, overwrites}
+use Rattle.nq_disk.proofs.copying.copy_in.Goals as goal
+
+pub returns-clause-behind : goal.returns-clause-behind
+returns-clause-behind c = search (rules, overwrites)

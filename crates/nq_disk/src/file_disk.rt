@@ -1,0 +1,241 @@
+//! One file as a disk.
+
+ghost use Rattle.std.specs.Prelude.{◌≡◌, ◌≤◌, ℕ, List, Option, None, length, drop, IfOk};
+ghost use Rattle.std.proofs.Common.{inl};
+ghost use Rattle.nq_io.specs.Faults.{Rose, count_up};
+ghost use Rattle.nq_disk.specs.FileLaws.{Anything, counts-itself, counts-on};
+
+use crate::copying::copy_in;
+use crate::{Disk, DiskFault, NoMemory};
+use std::alloc::Global;
+use std::fs::{File, OpenOptions};
+use std::io;
+use std::io::ErrorKind;
+use std::marker::Model;
+use std::os::unix::fs::FileExt;
+use std::path::Path;
+
+/// How many bytes are read at once.
+const PIECE: usize = 4096;
+
+/// A file of the operating system as a disk, which tells nothing of its bytes. It is opened, or made where it is not there, at
+/// the first call, and locked, so that two disks never write one file. A sync is `fsync`, and the first one syncs the folder,
+/// too. Each error is a fault. Contracts see the count of faults, which stands still at `u64::MAX`.
+#[derive(Drop)]
+pub struct FileDisk {
+    files: HostRuntime,
+    path: String,
+    file: Option<File>,
+    knows_name: bool,
+    faults: u64,
+}
+
+impl Model for FileDisk {
+    ghost use Rattle.std.specs.Prelude.{ℕ};
+
+    ghost Value = { ℕ };
+
+    ghost view = { λ d. d.faults };
+}
+
+/// Opens a file, or makes it, and locks it.
+fn open_locked(files: &HostRuntime, path: &str) -> io::Result<File> {
+    let file = OpenOptions::new()
+        .read(true)
+        .write(true)
+        .create(true)
+        .open(files, path)?;
+    file.try_lock()?;
+    Ok(file)
+}
+
+/// Syncs the folder in which a file lies, so that the file's name lasts.
+fn sync_folder(files: &HostRuntime, path: &str) -> io::Result<()> {
+    let folder = match Path::new(path).parent() {
+        Some(parent) => parent.as_str(),
+        None => ".",
+    };
+    let name = if folder.is_empty() { "." } else { folder };
+    File::open(files, name)?.sync_all()
+}
+
+/// The place so many bytes further on.
+fn further(place: u64, count: usize) -> io::Result<u64> {
+    match place.checked_add(count as u64) {
+        Some(further) => Ok(further),
+        None => Err(io::Error::from(ErrorKind::InvalidInput)),
+    }
+}
+
+/// Reads the bytes from a place on into the front of `into`, until it is full or the file ends, and says how many.
+fn read_from(file: &File, place: u64, into: &mut [u8]) -> io::Result<usize>
+    ensures within { IfOk result (λ count. count ≤ length into.old) }
+    ensures rest { IfOk result (λ count. drop count into.new ≡ drop count into.old) }
+{
+    let mut count = 0;
+    let mut piece = [0; PIECE];
+    while count < into.len() {
+        let most = PIECE.min(into.len() - count);
+        let came = file.read_at(&mut piece[..most], further(place, count)?)?;
+        if came == 0 {
+            break;
+        }
+        copy_in(into, count, &piece[..came]);
+        count += came;
+    }
+    Ok(count)
+}
+
+/// Writes all the bytes at a place.
+fn write_whole(file: &File, place: u64, bytes: &[u8]) -> io::Result<()> {
+    let mut count = 0;
+    while count < bytes.len() {
+        match file.write_at(&bytes[count..], further(place, count)?)? {
+            0 => return Err(io::Error::from(ErrorKind::WriteZero)),
+            taken => count += taken,
+        }
+    }
+    Ok(())
+}
+
+impl FileDisk {
+    /// The file at a path, which is opened at the first call.
+    ///
+    /// # Errors
+    ///
+    /// Only want of memory.
+    pub fn new(alloc: Global, files: HostRuntime, path: &str) -> Result<FileDisk, NoMemory>
+        ensures { IfOk result (λ disk. disk ≡ 0) }
+    {
+        let path = String::from_str(alloc, path)?;
+        Ok(FileDisk {
+            files,
+            path,
+            file: None,
+            knows_name: false,
+            faults: 0,
+        })
+    }
+
+    /// Counts a fault.
+    fn fail(&mut self) -> DiskFault
+        ensures counted { self.new ≡ count_up self.old }
+        ensures rose { Rose self.old self.new }
+    {
+        self.faults = self.faults.saturating_add(1);
+        DiskFault::Failed
+    }
+
+    /// Opens the file, if that was not done yet.
+    fn open(&mut self) -> io::Result<()>
+        ensures { self.new ≡ self.old }
+    {
+        if self.file.is_none() {
+            self.file = Some(open_locked(&self.files, self.path.as_str())?);
+        }
+        Ok(())
+    }
+
+    /// The file, where it was opened.
+    fn file(&self) -> io::Result<&File> {
+        match &self.file {
+            Some(file) => Ok(file),
+            None => Err(io::Error::from(ErrorKind::NotFound)),
+        }
+    }
+
+    /// How many bytes the file has.
+    fn measure(&mut self) -> io::Result<u64>
+        ensures { self.new ≡ self.old }
+    {
+        self.open()?;
+        Ok(self.file()?.metadata()?.len())
+    }
+
+    /// Reads the bytes from a place on, and says how many.
+    fn read_some(&mut self, place: u64, into: &mut [u8]) -> io::Result<usize>
+        ensures same { self.new ≡ self.old }
+        ensures within { IfOk result (λ count. count ≤ length into.old) }
+        ensures rest { IfOk result (λ count. drop count into.new ≡ drop count into.old) }
+    {
+        self.open()?;
+        read_from(self.file()?, place, into)
+    }
+
+    /// Writes all the bytes at a place.
+    fn write_all(&mut self, place: u64, bytes: &[u8]) -> io::Result<()>
+        ensures { self.new ≡ self.old }
+    {
+        self.open()?;
+        write_whole(self.file()?, place, bytes)
+    }
+
+    /// Syncs the file, and its folder if that was not done yet.
+    fn sync_all(&mut self) -> io::Result<()>
+        ensures { self.new ≡ self.old }
+    {
+        self.open()?;
+        self.file()?.sync_all()?;
+        if !self.knows_name {
+            sync_folder(&self.files, self.path.as_str())?;
+            self.knows_name = true;
+        }
+        Ok(())
+    }
+}
+
+impl Disk for FileDisk {
+    ghost told = { λ _. None };
+
+    ghost faults = { λ disk. disk };
+
+    ghost may_leave = { λ _. Anything };
+
+    ghost follows = { λ first last. first ≤ last };
+
+    ghost leaves = { λ _ _. Anything };
+
+    ghost follows_itself = { counts-itself };
+
+    ghost follows_on = { counts-on };
+
+    ghost rises = { λ first last goes. goes };
+
+    ghost told_may_stay = { λ _ _ _. tt };
+
+    ghost leaves_now = { λ _ _ _. tt };
+
+    ghost leaves_ends = { λ _ _ _ _ _. tt };
+
+    ghost parts = { λ _ _ _ _ _ _ _. inl tt };
+
+    ghost joins = { λ _ _ _ _ _ _ _. tt };
+
+    fn size(&mut self) -> Result<u64, DiskFault> {
+        match self.measure() {
+            Ok(size) => Ok(size),
+            Err(_) => Err(self.fail()),
+        }
+    }
+
+    fn read(&mut self, place: u64, into: &mut [u8]) -> Result<usize, DiskFault> {
+        match self.read_some(place, into) {
+            Ok(count) => Ok(count),
+            Err(_) => Err(self.fail()),
+        }
+    }
+
+    fn write_at(&mut self, place: u64, bytes: &[u8]) -> Result<(), DiskFault> {
+        match self.write_all(place, bytes) {
+            Ok(()) => Ok(()),
+            Err(_) => Err(self.fail()),
+        }
+    }
+
+    fn sync(&mut self) -> Result<(), DiskFault> {
+        match self.sync_all() {
+            Ok(()) => Ok(()),
+            Err(_) => Err(self.fail()),
+        }
+    }
+}

@@ -1,0 +1,3 @@
+pub mod Checks
+pub mod Names
+pub mod Walks

@@ -1,0 +1,186 @@
+//! A run as a chart.
+
+use crate::NoMemory;
+use crate::picture_rows::{Rows, rows_of};
+use crate::record::{Record, Sent};
+use crate::spans::{Kind, Span};
+use crate::text::party_name;
+use nq_base::{Host, Mode, Party};
+use nq_chart::{Bar, Chart, Column, Packet, Side, Tint};
+use std::alloc::Global;
+
+/// How many hosts stand left of the server.
+fn hosts_left(hosts: u32) -> u32 {
+    hosts / 2 + hosts % 2
+}
+
+/// The place of a party, from the left: the server stands in the middle.
+pub(crate) fn place_of(hosts: u32, party: Party) -> usize {
+    let left = hosts_left(hosts);
+    match party {
+        Party::Server => left as usize,
+        Party::Client(host) => place_of_host(left, host.0),
+    }
+}
+
+/// The place of a host, where so many stand left of the server.
+fn place_of_host(left: u32, host: u32) -> usize {
+    let place = host as usize;
+    if host < left {
+        place
+    } else {
+        place.saturating_add(1)
+    }
+}
+
+/// The side of a party that is turned away from the others; the server has its bars on the right.
+pub(crate) fn outer(hosts: u32, party: Party) -> Side {
+    match party {
+        Party::Server => Side::Right,
+        Party::Client(host) => outer_of_host(hosts_left(hosts), host.0),
+    }
+}
+
+/// The side of a host that is turned away from the server, where so many stand left of it.
+fn outer_of_host(left: u32, host: u32) -> Side {
+    if host < left { Side::Left } else { Side::Right }
+}
+
+/// The events from `from` to `to` of a run as a chart.
+pub fn picture(
+    alloc: Global,
+    record: &Record,
+    title: String,
+    from: usize,
+    to: usize,
+) -> Result<Chart, NoMemory> {
+    let columns = columns(alloc, record.hosts)?;
+    let shown = rows_of(alloc, record, from, to)?;
+    let packets = packets(alloc, record, &shown)?;
+    let bars = bars(alloc, record, &shown)?;
+    let rows = shown.into_rows();
+    Ok(Chart {
+        title,
+        columns,
+        rows,
+        packets,
+        bars,
+    })
+}
+
+/// The parties: the server stands between the hosts.
+fn columns(alloc: Global, hosts: u32) -> Result<Vec<Column>, NoMemory> {
+    let mut columns = Vec::new(alloc);
+    let left = hosts_left(hosts);
+    for host in 0..left {
+        columns.push(column(alloc, hosts, &Party::Client(Host(host)))?)?;
+    }
+    columns.push(column(alloc, hosts, &Party::Server)?)?;
+    for host in left..hosts {
+        columns.push(column(alloc, hosts, &Party::Client(Host(host)))?)?;
+    }
+    Ok(columns)
+}
+
+/// A party.
+fn column(alloc: Global, hosts: u32, party: &Party) -> Result<Column, NoMemory> {
+    let bars = outer(hosts, *party);
+    let name = party_name(alloc, *party)?;
+    Ok(Column { name, bars })
+}
+
+/// The packets that are sent or arrive in the rows that are shown.
+fn packets(alloc: Global, record: &Record, shown: &Rows) -> Result<Vec<Packet>, NoMemory> {
+    let mut packets = Vec::new(alloc);
+    for sent in &record.packets {
+        let arrivals = arrivals(alloc, sent, shown)?;
+        let row = shown.row_of(sent.sent);
+        let is_lost = sent.arrivals.is_empty() && row.is_some();
+        if is_lost || !arrivals.is_empty() {
+            packets.push(Packet {
+                from: place_of(record.hosts, sent.from),
+                to: place_of(record.hosts, sent.to),
+                sent: row,
+                arrivals,
+            })?;
+        }
+    }
+    Ok(packets)
+}
+
+/// The rows in which a packet arrives.
+fn arrivals(alloc: Global, sent: &Sent, shown: &Rows) -> Result<Vec<usize>, NoMemory> {
+    let mut arrivals = Vec::new(alloc);
+    for moment in &sent.arrivals {
+        if let Some(row) = shown.row_of(*moment) {
+            arrivals.push(row)?;
+        }
+    }
+    Ok(arrivals)
+}
+
+/// The bars of what lasts in the rows that are shown.
+fn bars(alloc: Global, record: &Record, shown: &Rows) -> Result<Vec<Bar>, NoMemory> {
+    let mut bars = Vec::new(alloc);
+    for span in &record.spans {
+        if span.first <= shown.to && span.last >= shown.from {
+            let first = shown.row_of(span.first.max(shown.from));
+            let last = shown.row_of(span.last.min(shown.to));
+            if let (Some(first), Some(last)) = (first, last) {
+                bars.push(bar(alloc, record.hosts, span, first, last)?)?;
+            }
+        }
+    }
+    Ok(bars)
+}
+
+/// The bar of something that lasts.
+fn bar(alloc: Global, hosts: u32, span: &Span, first: usize, last: usize) -> Result<Bar, NoMemory> {
+    let text = bar_text(alloc, span.kind)?;
+    Ok(Bar {
+        party: place_of(hosts, span.party),
+        first,
+        last,
+        tint: tint(span.kind),
+        text,
+    })
+}
+
+/// The name of a bar: the kind of the lease by its letter, the file, and at the server the host.
+fn bar_text(alloc: Global, kind: Kind) -> Result<String, NoMemory> {
+    match kind {
+        Kind::Recovery => Ok(String::from_str(alloc, "recovery")?),
+        Kind::Lease { file, mode } => {
+            let letter = letter(mode);
+            let file = file.0;
+            Ok(format!(in alloc; "{letter}{file}")?)
+        }
+        Kind::Row { file, host, mode } => {
+            let letter = letter(mode);
+            let file = file.0;
+            let host = host.0;
+            Ok(format!(in alloc; "{letter}{file} h{host}")?)
+        }
+    }
+}
+
+/// The letter of a kind of lease.
+fn letter(mode: Mode) -> &'static str {
+    match mode {
+        Mode::NonCaching => "n",
+        Mode::Reading => "r",
+        Mode::Writing => "w",
+    }
+}
+
+/// The colour of something that lasts.
+fn tint(kind: Kind) -> Tint {
+    match kind {
+        Kind::Recovery => Tint::Recovery,
+        Kind::Lease { mode, .. } | Kind::Row { mode, .. } => match mode {
+            Mode::NonCaching => Tint::NonCaching,
+            Mode::Reading => Tint::Reading,
+            Mode::Writing => Tint::Writing,
+        },
+    }
+}

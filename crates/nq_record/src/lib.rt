@@ -1,0 +1,21 @@
+//! A run as it was seen, event by event, and how it is shown: as a picture, told line by line, and why an entry came.
+#![tactic(auto)]
+
+mod drawing;
+mod entries;
+mod packets;
+mod picture_rows;
+mod reasons;
+mod record;
+mod spans;
+mod telling;
+mod text;
+
+pub use drawing::picture;
+pub use entries::entry_words;
+pub use nq_base::NoMemory;
+pub use packets::{reply_words, request_words};
+pub use reasons::why;
+pub use record::{Act, Moment, Noted, Record, Sent};
+pub use spans::{Kind, Span};
+pub use telling::tell;

@@ -1,0 +1,51 @@
+//! Text.
+
+ghost use Rattle.std.specs.Prelude.{◌≡◌, string_bytes, IfOk};
+ghost use Rattle.nq_chart.specs.Page.{Extends};
+ghost use Rattle.nq_record.specs.Words.{mode_word};
+
+use crate::NoMemory;
+use nq_base::{Mode, Name, Party};
+use std::alloc::Global;
+
+/// Appends text.
+pub(crate) fn put(out: &mut Vec<u8>, text: &str) -> Result<(), NoMemory>
+    ensures { Extends out.old.items out.new.items }
+{
+    out.extend_from_slice(text.as_bytes())?;
+    Ok(())
+}
+
+/// Appends a name, which is printable ASCII, behind a word.
+pub(crate) fn named(alloc: Global, word: &str, name: &Name) -> Result<String, NoMemory>
+    ensures { IfOk result (λ text. Extends word.now (string_bytes text)) }
+{
+    let mut text = String::new(alloc);
+    text.push_str(word)?;
+    for byte in name.as_bytes() {
+        text.push(*byte as char)?;
+    }
+    Ok(text)
+}
+
+/// The word of a kind of lease.
+pub(crate) fn mode_word(mode: Mode) -> &'static str
+    ensures { result.now ≡ mode_word mode }
+{
+    match mode {
+        Mode::NonCaching => "noncaching",
+        Mode::Reading => "reading",
+        Mode::Writing => "writing",
+    }
+}
+
+/// The name of a party.
+pub(crate) fn party_name(alloc: Global, party: Party) -> Result<String, NoMemory> {
+    match party {
+        Party::Server => Ok(String::from_str(alloc, "server")?),
+        Party::Client(host) => {
+            let number = host.0;
+            Ok(format!(in alloc; "host {number}")?)
+        }
+    }
+}

@@ -1,0 +1,12 @@
+mod Going
+mod Lawful
+mod Opening
+mod Settling
+mod Settled
+mod Changing
+mod Encoding
+mod Batching
+mod Adding
+mod Fielding
+mod Reading
+mod Replaying

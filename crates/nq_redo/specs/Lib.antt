@@ -1,0 +1,5 @@
+pub mod Record
+pub mod Saying
+pub mod Ranges
+pub mod Whole
+pub mod Batch
