@@ -1,6 +1,7 @@
 -- Blocks that repeat a word: what follows the first word is the block without its last one.
-use Rattle.std.proofs.Common.{◌≡◌, ◌≤◌, ℕ, ◌+◌, ◌*◌, ◌<◌, List, [], ◌∷◌, ◌++◌, length, take, drop, zero, suc, refl, sym, ap, ◌∙◌, get_or, ◌/◌, ◌%◌, arith}
-use Rattle.std.proofs.lemmas.List.{take_at, drop_at, take_all, take-take, take-append-drop, drop-take, length-drop}
+use Rattle.std.proofs.Common.{◌≡◌, ◌≤◌, ℕ, Bool, true, false, ◌==◌, ◌&&◌, subst, ◌+◌, ◌*◌, ◌<◌, List, [], ◌∷◌, ◌++◌, length, take, drop, zero, suc, refl, sym, ap, ◌∙◌, get_or, ◌/◌, ◌%◌, arith}
+use Rattle.std.proofs.lemmas.List.{take_at, drop_at, take_all, take-take, take-append-drop, drop-take, length-drop, get_or-drop, get_or-take, take_more_same}
+use Rattle.std.proofs.lemmas.Bool.Decides.{nat_tests}
 use Rattle.nq_base.specs.Block.{filled, repeated, word, value_of}
 use Rattle.nq_base.proofs.Filling.{repeated-length}
 
@@ -57,3 +58,50 @@ filled-goes-on bytes v is =
     ap (take 4092) (is ∙ repeated-more 1023 v) ∙ take_at (repeated 1023 v) (word v) 4092 (repeated-length 1023 v) in
     let after : drop 4 bytes ≡ repeated 1023 v = ap (drop 4) is ∙ drop_at (word v) (repeated 1023 v) 4 refl in
     most ∙ sym after
+
+-- ---- the test of a block, byte by byte
+
+-- the first bytes, so many of them, go on as they begin; or the block does not
+pub record GoesOn (bytes : List ℕ) (count : ℕ) (same : Bool) : Type 0 where
+  pub yes : same ≡ true → take count bytes ≡ take count (drop 4 bytes)
+  pub no : same ≡ false → take 4092 bytes ≡ drop 4 bytes → ⊥
+
+pub goes-on-begun : (bytes : List ℕ) → GoesOn bytes 0 true
+goes-on-begun bytes = record { yes = λ is. refl; no = λ is. absurd cc }
+
+-- a byte that stands four places behind too
+same-behind : (bytes : List ℕ) (count : ℕ) → get_or (drop 4 bytes) count 0 ≡ get_or bytes (count + 4) 0
+same-behind bytes count = let behind : 4 + count ≡ count + 4 = omega arith in get_or-drop 4 bytes count 0 ∙ ap (λ i. get_or bytes i 0) behind
+
+in-front : (bytes : List ℕ) (count : ℕ) → count < 4092 → take 4092 bytes ≡ drop 4 bytes → get_or bytes count 0 ≡ get_or bytes (count + 4) 0
+in-front bytes count below same = sym (get_or-take 4092 bytes count 0 below) ∙ ap (λ xs. get_or xs count 0) same ∙ same-behind bytes count
+
+same-test : (a b : ℕ) → a ≡ b → (a == b) ≡ false → ⊥
+same-test a b is other = grind (arith, nat_tests)
+
+equal-test : (a b : ℕ) → (a == b) ≡ true → a ≡ b
+equal-test a b is = grind (arith, nat_tests)
+
+one-more : (bytes : List ℕ) (count : ℕ) → length bytes ≡ 4096 → count < 4092 → (before here : Bool) → GoesOn bytes count before
+    → here ≡ (get_or bytes count 0 == get_or bytes (count + 4) 0) → GoesOn bytes (count + 1) (before && here)
+one-more bytes count long below true true goes is = record {
+  yes = λ both.
+      take_more_same bytes (drop 4 bytes) count 0 (omega (arith, long)) (omega (arith, long, length-drop 4 bytes)) (goes.yes refl) (equal-test (get_or bytes count 0) (get_or bytes (count + 4) 0) (sym is) ∙ sym (same-behind bytes count));
+  no = λ wrong. absurd cc;
+}
+one-more bytes count long below true false goes is = record {
+  yes = λ wrong. absurd cc;
+  no = λ other same. same-test (get_or bytes count 0) (get_or bytes (count + 4) 0) (in-front bytes count below same) (sym is);
+}
+one-more bytes count long below false here goes is = record { yes = λ wrong. absurd cc; no = λ other. goes.no refl }
+
+-- one byte more
+pub goes-on-more : (bytes : List ℕ) (count : ℕ) (before here now : Bool) → length bytes ≡ 4096 → count < 4092 → GoesOn bytes count before
+    → here ≡ (get_or bytes count 0 == get_or bytes (count + 4) 0) → now ≡ (before && here) → GoesOn bytes (count + 1) now
+goes-on-more bytes count before here now long below goes is both = subst (GoesOn bytes (count + 1)) (sym both) (one-more bytes count long below before here goes is)
+
+-- all of them
+pub all-go-on : (bytes : List ℕ) (count : ℕ) (same : Bool) → length bytes ≡ 4096 → 4092 ≤ count → count ≤ 4092 → GoesOn bytes count same → same ≡ true → take 4092 bytes ≡ drop 4 bytes
+all-go-on bytes count same long enough most goes is =
+    let all : count ≡ 4092 = omega arith in
+    subst (λ n. take n bytes ≡ take n (drop 4 bytes)) all (goes.yes is) ∙ take_all 4092 (drop 4 bytes) (omega (arith, long, length-drop 4 bytes))

@@ -1,6 +1,6 @@
 //! A block of a file.
 
-ghost use Rattle.std.specs.Prelude.{◌≡◌, ◌≢◌, ◌+◌, ◌*◌, ◌↔◌, ℕ, true, false, length, take, drop, refl, IsSome, IsOk, IfSome, IfOk, OnOk};
+ghost use Rattle.std.specs.Prelude.{◌≡◌, ◌≢◌, ◌<◌, ◌==◌, ◌&&◌, get_or, ◌+◌, ◌*◌, ◌↔◌, ℕ, true, false, length, take, drop, refl, IsSome, IsOk, IfSome, IfOk, OnOk};
 ghost use Rattle.nq_base.specs.Block.{word, value_of, repeated, filled};
 ghost use Rattle.nq_base.specs.Seen.{seen_bytes};
 
@@ -212,7 +212,27 @@ fn repeats(bytes: &[u8]) -> bool
     ensures yes { result ≡ true → bytes.now ≡ filled (value_of bytes.now) }
     ensures no { result ≡ false → (v : ℕ) → bytes.now ≢ filled v }
 {
-    bytes[..Block::SIZE - 4] == bytes[4..]
+    // It ends at no difference, so that the compiler compares many bytes at once.
+    let mut same = true;
+    for at in 0..Block::SIZE - 4 {
+        same = both(same, goes_on(bytes, at));
+    }
+    same
+}
+
+/// Whether the byte at a place is the one four bytes behind it.
+fn goes_on(bytes: &[u8], at: usize) -> bool
+    requires { at + 4 < length bytes.now }
+    ensures { result ≡ (get_or bytes.now at 0 == get_or bytes.now (at + 4) 0) }
+{
+    bytes[at] == bytes[at + 4]
+}
+
+/// Whether both are so. It looks at both.
+fn both(one: bool, other: bool) -> bool
+    ensures { result ≡ (one && other) }
+{
+    one & other
 }
 
 /// The block that keeps 4096 bytes, which repeat no word.
