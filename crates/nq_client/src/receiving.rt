@@ -112,7 +112,9 @@ fn would_count(state: &State, datagram: &[u8]) -> bool
 {
     match decode_in_place(datagram) {
         Ok(LentMessage::Call(call)) => call_would_count(state, call),
-        Ok(LentMessage::Reply(LentReply { xid, outcome })) => reply_would_count(state, xid, outcome),
+        Ok(LentMessage::Reply(LentReply { xid, outcome })) => reply_would_count(
+            state, xid, outcome,
+        ),
         Err(_) => false,
     }
 }
