@@ -4,7 +4,9 @@ ghost use Rattle.std.specs.Prelude.{◌≡◌, ◌≤◌, ◌<◌, ◌+◌, ◌^
 ghost use Rattle.nq_base.specs.Plain.{plain_answer};
 ghost use Rattle.nq_datagrams.specs.Incoming.{hears_in};
 ghost use Rattle.nq_datagrams.specs.Messages.{FitsMessage};
+ghost use Rattle.nq_held.specs.Leases.{lease_of};
 ghost use Rattle.nq_model.specs.CachedAtOnce.{has_cached};
+ghost use Rattle.nq_model.specs.Client.{lease_on};
 ghost use Rattle.nq_model.specs.ClientStep.{attached_client, client_call, client_tick, starts};
 ghost use Rattle.nq_model.specs.Profile.{most_taken_by_client};
 ghost use Rattle.nq_model.specs.Settle.{after_read};
@@ -23,6 +25,7 @@ use crate::step::Step;
 use crate::stepping::{hear, make_call, make_tick, reserve, room_for_call};
 use nq_base::{Answer, Block, BlockNo, Call, FileId, Host, Inc, NoMemory, Spare, Ticks, Who};
 use nq_dirty::Dirty;
+use nq_held::Held;
 use nq_journal::Journal;
 use nq_wire::Outbox;
 use std::alloc::Global;
@@ -166,8 +169,8 @@ impl Client {
     }
 
     /// Takes in a datagram of the server, which is the packet of this number: the reply to the request under way, or a
-    /// notice of a lease. It is `Ignored` only where the protocol ignores it, and then it is counted and changes nothing else.
-    /// Room for the block of a reply is taken before the datagram is read, and is kept for the next one.
+    /// notice of a lease. It is `Ignored` exactly where the protocol ignores it, and then it is counted and changes nothing
+    /// else. Want of memory never hinders that.
     ///
     /// # Errors
     ///
@@ -187,11 +190,9 @@ impl Client {
         if self.taken == Client::MOST_TAKEN {
             return Heard::Spent;
         }
-        let alloc = self.step.state.alloc;
-        let Ok(()) = self.letters.rooms.kept.reserve(alloc) else {
+        let Ok(heard) = read(&self.step.state, datagram, &mut self.letters.rooms.kept) else {
             return Heard::Memory;
         };
-        let heard = read(&self.step.state, datagram, &mut self.letters.rooms.kept);
         let Some(heard) = &heard else {
             self.taken += 1;
             return Heard::Ignored;
@@ -271,6 +272,13 @@ impl Client {
         ensures push { result.now.push ≡ self.now.client.push }
     {
         &self.step.state.dirty
+    }
+
+    /// What it holds on a file.
+    pub fn held(&self, file: FileId) -> Held
+        ensures { lease_of result ≡ lease_on file self.now.client.leases }
+    {
+        self.step.state.leases.on(file)
     }
 
     /// Ends the client: what it has under way and what waits is forgotten, and so are its delayed writes.
