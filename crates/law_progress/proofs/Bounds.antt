@@ -1,5 +1,5 @@
 -- What is left to be paid at the start of a calm delivery is within the bound that is stated.
-use Rattle.std.proofs.Common.{◌≡◌, ◌≤◌, ◌<◌, ℕ, ◌+◌, ◌*◌, ◌==◌, ◌&&◌, Bool, true, false, nat_lt, zero, suc, List, [], ◌∷◌, Option, Some, None, if◌then◌else◌, is_some, length, refl, sym, ap, subst, ◌∙◌, arith}
+use Rattle.std.proofs.Common.{◌≡◌, ◌≤◌, ◌<◌, ℕ, ◌+◌, ◌*◌, ◌==◌, ◌&&◌, Bool, true, false, nat_lt, suc, List, [], ◌∷◌, Option, Some, None, length, arith}
 use Rattle.std.specs.Prelude.{sum_by, slice_get}
 use Rattle.std.proofs.lemmas.List.Sums.{sum_by-cons}
 use Rattle.nq_base.specs.declared.Call.{Call}
@@ -10,8 +10,8 @@ use Rattle.nq_model.specs.Lines.{Play}
 use Rattle.nq_model.specs.Message.{Message, Packet, call, reply, error}
 use Rattle.nq_model.specs.Settle.{pending}
 use Rattle.nq_model.specs.Table.{is_writing}
-use Rattle.law_progress.specs.CalmRound.{delayed_in_all, most_deliveries}
-use Rattle.law_progress.proofs.Efforts.{total, fresh_left, writes_to, read_left, lease_left, sent_left, job_left, asked_left, requests_left, put_delays, may_delay, delays_left, is_idle, lease_weight, reply_weight, want_weight, request_weight, weight, calls_left, effort}
+use Rattle.law_progress.specs.CalmRound.{most_deliveries}
+use Rattle.law_progress.proofs.Efforts.{total, writes_to, read_left, lease_left, sent_left, job_left, requests_left, put_delays, may_delay, delays_left, is_idle, lease_weight, reply_weight, want_weight, request_weight, weight, effort}
 use Rattle.law_progress.proofs.EffortReplies.{two-left}
 use Rattle.law_progress.proofs.FlowEnds.{some_weight, number_weight, left_to_pay}
 

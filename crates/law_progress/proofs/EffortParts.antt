@@ -1,25 +1,24 @@
 -- No part of a client's step costs more than it saves, but for what a notice cancels.
-use Rattle.std.proofs.Common.{◌≡◌, ◌≤◌, ◌⊎◌, ℕ, ◌+◌, ◌*◌, ◌==◌, ◌&&◌, ◌++◌, Bool, true, false, not, nat_lt, List, [], ◌∷◌, Option, Some, None, if◌then◌else◌, length, refl, sym, ap, subst, ◌∙◌, arith, inl, inr}
+use Rattle.std.proofs.Common.{◌≡◌, ◌≤◌, ℕ, ◌+◌, ◌==◌, ◌&&◌, Bool, true, false, not, nat_lt, List, [], ◌∷◌, Option, Some, None, if◌then◌else◌, length, refl, sym, ap, subst, ◌∙◌, arith, inl, inr}
 use Rattle.std.specs.List.{filter, find}
 use Rattle.std.proofs.lemmas.Bool.Decides.{nat_tests}
 use Rattle.std.proofs.lemmas.List.{length-append, length-map}
 use Rattle.nq_base.specs.declared.Answer.{Answer}
 use Rattle.nq_base.specs.declared.Call.{Call}
-use Rattle.nq_base.specs.declared.Mode.{Mode}
 use Rattle.nq_base.specs.declared.Push.{Push}
 use Rattle.nq_base.specs.declared.Request.{Request}
 use Rattle.nq_base.specs.declared.Value.{Value}
 use Rattle.nq_base.specs.declared.Want.{Want}
 use Rattle.nq_base.specs.declared.Who.{Who}
-use Rattle.nq_model.specs.Client.{Client, ClientStep, Job, attaching, for_call, renewing, pushing, Lease, Ticket, UnderWay, is_push_of, is_push_at, first_dirty, dirty_at, drop_dirty}
+use Rattle.nq_model.specs.Client.{ClientStep, Job, attaching, for_call, renewing, pushing, Lease, Ticket, UnderWay, is_push_of, is_push_at, first_dirty, dirty_at, drop_dirty}
 use Rattle.nq_model.specs.Message.{Message}
 use Rattle.nq_model.specs.Send.{sends_request, after_seq, after_number, takes_push, gives_up, base_of, send_next}
 use Rattle.nq_model.specs.Settle.{answers, after_read, reads_cached, overwritten_at, with_write, write_in, after_write, delays, marks_written, ticket_is_for_call, is_for_call, settle}
 use Rattle.walk_client.proofs.ClientMoves.{some-same, none-some}
-use Rattle.walk_client.proofs.SendCases.{IsFree, pushed, send-cases}
+use Rattle.walk_client.proofs.SendCases.{pushed, send-cases}
 use Rattle.walk_client.proofs.SettleCases.{IsSettling, IsRead, IsWrite, IsSync, of_sync, of_put, needs_packet, CanWrite, WriteWaits, settle-cases}
-use Rattle.walk_server.proofs.Rows.{choice, same-number, number-same}
-use Rattle.law_progress.proofs.Efforts.{total, total-more, write_price, put_price, fresh_for, fresh_left, writes_to, read_left, lease_left, sent_left, asked_left, call_left, requests_left, put_delays, may_delay, delays_left, want_weight, request_weight, weight, writes_left, calls_left, effort, sent_weight, cost}
+use Rattle.walk_server.proofs.Rows.{choice, number-same}
+use Rattle.law_progress.proofs.Efforts.{total-more, write_price, put_price, fresh_for, fresh_left, writes_to, read_left, lease_left, sent_left, asked_left, requests_left, put_delays, may_delay, delays_left, request_weight, weight, calls_left, cost}
 
 -- ---- lists of delayed writes
 

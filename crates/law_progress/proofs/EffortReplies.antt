@@ -1,11 +1,10 @@
 -- What a reply brings costs a client no more than the reply's weight, and what a notice brings no more than one request.
-use Rattle.std.proofs.Common.{◌≡◌, ◌≤◌, ◌⊎◌, ℕ, ◌+◌, ◌*◌, ◌==◌, ◌&&◌, ◌++◌, Bool, true, false, not, nat_lt, List, [], ◌∷◌, Option, Some, None, if◌then◌else◌, is_some, length, refl, sym, ap, subst, ◌∙◌, arith, inl, inr}
-use Rattle.std.proofs.lemmas.Bool.{and_parts, not-true}
+use Rattle.std.proofs.Common.{◌≡◌, ◌≤◌, ◌⊎◌, ℕ, ◌+◌, ◌==◌, ◌&&◌, Bool, true, false, not, nat_lt, List, Option, Some, None, is_some, refl, sym, ap, ◌∙◌, arith, inl, inr}
+use Rattle.std.proofs.lemmas.Bool.{and_parts}
 use Rattle.std.proofs.lemmas.Bool.Decides.{nat_tests}
 use Rattle.nq_base.specs.declared.Answer.{Answer}
 use Rattle.nq_base.specs.declared.Call.{Call}
 use Rattle.nq_base.specs.declared.Grant.{Grant}
-use Rattle.nq_base.specs.declared.Push.{Push}
 use Rattle.nq_base.specs.declared.Reply.{Reply}
 use Rattle.nq_base.specs.declared.Request.{Request}
 use Rattle.nq_base.specs.declared.Tag.{Tag}
@@ -13,23 +12,22 @@ use Rattle.nq_base.specs.declared.Value.{Value}
 use Rattle.nq_base.specs.declared.Want.{Want}
 use Rattle.nq_base.specs.declared.Who.{Who}
 use Rattle.nq_model.proofs.ClientLists.{put-lease-found}
-use Rattle.nq_model.specs.Client.{Client, ClientStep, begun, Job, attaching, for_call, renewing, pushing, Lease, Notice, Ticket, UnderWay, lease_on, notice_on, put_lease, is_push_of, dirty_at, is_clean, revision_of, is_revision_before, lets_write}
-use Rattle.nq_model.specs.Hear.{hear, answers_call, answer_of, vacates_lease, vacates_noticed, loses, waits_for, reports_to, reports, push_refused, without_lease, granted_lease, breaks, breaks_chain, if_broken, holds, takes_grant, takes_optional, grant_caches, caches_block, purges, knows_revision, then_caches, read_done, with_through, marks_through, lease_done, holds_caching, caches_write, write_done, ends_push, caches_push, vacates_if_clean, push_done, is_put_off, spends, attached, pauses, replied, wants_of, cancelled, cancels, notes_notice, evicted, goes_on, reply_counts}
+use Rattle.nq_model.specs.Client.{Client, ClientStep, begun, Job, attaching, for_call, renewing, pushing, Notice, Ticket, UnderWay, lease_on, notice_on, is_push_of, dirty_at, is_clean, revision_of, is_revision_before, lets_write}
+use Rattle.nq_model.specs.Hear.{hear, answers_call, answer_of, vacates_lease, vacates_noticed, loses, waits_for, reports_to, reports, push_refused, without_lease, granted_lease, breaks, breaks_chain, if_broken, holds, takes_grant, takes_optional, grant_caches, caches_block, purges, knows_revision, then_caches, with_through, marks_through, lease_done, holds_caching, caches_write, ends_push, caches_push, vacates_if_clean, push_done, spends, attached, pauses, replied, wants_of, cancelled, cancels, notes_notice, evicted, goes_on, reply_counts}
 use Rattle.nq_model.specs.Message.{Message}
 use Rattle.nq_model.specs.Profile.{patience}
-use Rattle.nq_model.specs.Send.{send_next}
 use Rattle.nq_model.specs.Settle.{answers, names_losses, ticket_is_for_call, settle}
-use Rattle.nq_model.specs.Table.{caches, is_writing}
+use Rattle.nq_model.specs.Table.{is_writing}
 use Rattle.walk_client.proofs.ClientFacts.{Alone}
-use Rattle.walk_client.proofs.ClientMoves.{some-same, none-some}
+use Rattle.walk_client.proofs.ClientMoves.{none-some}
 use Rattle.walk_client.proofs.PartCases.{answers-call-cases, lease-done-cases, vacates-if-clean-cases}
 use Rattle.walk_client.proofs.RepliedCases.{IsNamed, looked_up, created, attributes, OfCall, replied-cases}
 use Rattle.walk_client.proofs.SettleCases.{CanWrite, IsSettling}
 use Rattle.walk_client.proofs.StepCases.{evicted-cases, heard-cases}
-use Rattle.walk_server.proofs.Rows.{choice, same-number, number-same, decided}
+use Rattle.walk_server.proofs.Rows.{choice, same-number, number-same}
 use Rattle.walk_server.proofs.Tests.{is-not-below}
 use Rattle.law_progress.specs.QuietDeliveries.{wants_lease, IsSpared, pausing, wants_none}
-use Rattle.law_progress.proofs.Efforts.{total, total-more, write_price, put_price, fresh_for, fresh_left, writes_to, read_left, lease_left, sent_left, job_left, asked_left, call_left, requests_left, may_delay, delays_left, is_idle, lease_weight, reply_weight, request_weight, weight, writes_left, calls_left, effort, sent_weight, cost}
+use Rattle.law_progress.proofs.Efforts.{total-more, write_price, put_price, fresh_for, fresh_left, writes_to, read_left, lease_left, sent_left, job_left, asked_left, requests_left, delays_left, is_idle, lease_weight, reply_weight, weight, writes_left, calls_left, effort, sent_weight, cost}
 use Rattle.law_progress.proofs.EffortParts.{filter-shorter, none-left, called-left, settle-cheap, send-cheap, settle-saves}
 
 -- what is left of a call is as before, or nothing

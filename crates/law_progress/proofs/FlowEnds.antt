@@ -1,21 +1,20 @@
 -- A flow ends: where each delivery lowers what is left to be paid, as many deliveries as that are enough.
-use Rattle.std.proofs.Common.{◌≡◌, ◌≤◌, ◌<◌, ◌⊎◌, ℕ, ◌+◌, ◌-◌, ◌==◌, ◌++◌, Bool, true, false, not, nat_lt, zero, suc, List, [], ◌∷◌, Option, Some, None, length, refl, sym, ap, subst, ◌∙◌, arith, inl, inr}
+use Rattle.std.proofs.Common.{◌≡◌, ◌≤◌, ◌<◌, ℕ, ◌+◌, ◌==◌, ◌++◌, Bool, true, not, zero, suc, List, [], ◌∷◌, Option, Some, None, length, refl, sym, ap, subst, ◌∙◌, arith}
 use Rattle.std.specs.Prelude.{map, slice_get, slice_set, filter}
 use Rattle.std.proofs.lemmas.List.{append-nil, length-append}
-use Rattle.std.proofs.lemmas.Bool.Decides.{nat_tests}
 use Rattle.nq_base.specs.declared.Event.{Event}
 use Rattle.nq_base.specs.declared.Party.{Party}
 use Rattle.nq_model.specs.Client.{Client, ClientStep}
 use Rattle.nq_model.specs.Hear.{hear}
-use Rattle.nq_model.specs.Lines.{Play, play, play_flow, flow_first, numbers_from, without, added, played_to}
+use Rattle.nq_model.specs.Lines.{Play, play, play_flow, flow_first, numbers_from, without, added}
 use Rattle.nq_model.specs.Message.{Message, Packet, datagram_of}
-use Rattle.nq_model.specs.Server.{Server, ServerStep}
+use Rattle.nq_model.specs.Server.{ServerStep}
 use Rattle.nq_model.specs.ServerStep.{receive}
 use Rattle.nq_model.specs.World.{World, from_host, after_server, after_client, after_hearing, sending_host, deliver, deliver_to, deliver_to_client, step}
 use Rattle.walk_client.proofs.ClientFacts.{Alone}
 use Rattle.walk_client.proofs.ClientMoves.{some-same, none-some}
 use Rattle.walk_server.proofs.Rows.{choice, number-same}
-use Rattle.law_progress.proofs.Efforts.{total, total-more, total-append, weight, effort, sent_weight, cost}
+use Rattle.law_progress.proofs.Efforts.{total, total-append, weight, effort, cost}
 use Rattle.law_progress.proofs.EffortReplies.{CancelCosts, hear-pays}
 use Rattle.law_progress.proofs.ServerWeights.{packet_weight, packets_weight, Dear, some-weight, receive-lighter}
 

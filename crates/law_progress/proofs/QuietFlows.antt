@@ -1,21 +1,20 @@
 -- Calm deliveries end while the server recovers.
-use Rattle.std.proofs.Common.{◌≡◌, ◌≤◌, ◌<◌, ℕ, ◌+◌, ◌*◌, Bool, true, false, zero, suc, List, [], ◌∷◌, ◌++◌, Option, Some, None, length, refl, sym, ap, subst, ◌∙◌, arith}
+use Rattle.std.proofs.Common.{◌≡◌, ℕ, ◌+◌, true, false, zero, suc, List, [], ◌∷◌, ◌++◌, Option, Some, None, length, refl, sym, ap, subst, ◌∙◌, arith}
 use Rattle.std.specs.Prelude.{map, slice_get}
 use Rattle.std.proofs.lemmas.List.{append-nil, length-append}
 use Rattle.nq_base.specs.declared.Event.{Event}
 use Rattle.nq_base.specs.declared.Party.{Party}
 use Rattle.nq_model.specs.Client.{Client, ClientStep}
 use Rattle.nq_model.specs.Hear.{hear}
-use Rattle.nq_model.specs.Lines.{Play, play, play_flow, flow_first, play_hosts, delivered, added, without, numbers_from}
+use Rattle.nq_model.specs.Lines.{Play, play, play_flow, flow_first, play_hosts, delivered, added}
 use Rattle.nq_model.specs.Message.{Message, Packet, Datagram, datagram_of}
-use Rattle.nq_model.specs.Server.{Phase, serving, recovering, Server, ServerStep}
+use Rattle.nq_model.specs.Server.{serving, Server}
 use Rattle.nq_model.specs.ServerStep.{receive}
 use Rattle.nq_model.specs.World.{Head, World, from_host, after_server, after_client, after_hearing, sending_host, deliver, deliver_to, deliver_to_client, step, run}
 use Rattle.walk_run.proofs.Steps.{Changes, nothing, by_client, by_server, step-changes}
 use Rattle.walk_run.proofs.Worlds.{run-holds}
 use Rattle.walk_server.proofs.ServerMoves.{server-moves, phase-moves}
 use Rattle.law_progress.specs.CalmRound.{AreUnderWay, calmed, calm_round, calm_rounds, most_deliveries}
-use Rattle.law_progress.specs.CalmRoundsAreLawful.{IsLawful}
 use Rattle.law_progress.specs.QuietDeliveries.{recovers, RecoveringDeliveryEnds}
 use Rattle.law_progress.proofs.Bounds.{within-bound}
 use Rattle.law_progress.proofs.CalmIsLawful.{calm-is-lawful}

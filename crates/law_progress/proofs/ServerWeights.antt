@@ -1,5 +1,5 @@
 -- What the server sends for a datagram weighs less than the datagram, where a request pays for the notices that it may cause.
-use Rattle.std.proofs.Common.{◌≡◌, ◌≤◌, ◌<◌, ◌⊎◌, ℕ, ◌+◌, ◌%◌, ◌==◌, ◌&&◌, ◌++◌, Bool, true, false, not, nat_lt, List, [], ◌∷◌, Option, Some, None, if◌then◌else◌, max, min, length, refl, sym, ap, subst, ◌∙◌, arith, inl, inr}
+use Rattle.std.proofs.Common.{◌≡◌, ◌≤◌, ◌<◌, ℕ, ◌+◌, ◌==◌, ◌&&◌, ◌++◌, Bool, true, false, not, nat_lt, List, [], ◌∷◌, Some, None, if◌then◌else◌, refl, sym, ap, subst, ◌∙◌, arith}
 use Rattle.std.proofs.lemmas.Bool.Decides.{nat_tests}
 use Rattle.nq_base.specs.declared.Access.{Access}
 use Rattle.nq_base.specs.declared.Mode.{Mode}
@@ -13,21 +13,21 @@ use Rattle.nq_base.specs.declared.Tag.{Tag}
 use Rattle.nq_base.specs.declared.Verdict.{Verdict}
 use Rattle.nq_base.specs.declared.Want.{Want}
 use Rattle.nq_base.specs.declared.Who.{Who}
-use Rattle.nq_model.specs.Ask.{term_of, grant_of, sharing_row, caching_row, shared_again, renewed_row}
+use Rattle.nq_model.specs.Ask.{grant_of, sharing_row, caching_row, shared_again, renewed_row}
 use Rattle.nq_model.specs.Decide.{in_the_way, verdict_reply, done_reply, decides, creates, writes_through, stores, stores_recovering, resizes, removes, puts_off, commits}
 use Rattle.nq_model.specs.Kept.{host_row}
 use Rattle.nq_model.specs.LeaseInterval.{requested_file}
-use Rattle.nq_model.specs.Message.{Message, Packet, call, reply, error, Datagram, request, datagram_of, datagram_of_call, old_incarnation, wrong_host}
-use Rattle.nq_model.specs.Profile.{most_hosts, xid_end, granted_term}
+use Rattle.nq_model.specs.Message.{Message, Packet, call, reply, error, request, datagram_of, datagram_of_call, old_incarnation, wrong_host}
+use Rattle.nq_model.specs.Profile.{most_hosts, granted_term}
 use Rattle.nq_model.specs.Server.{Server, ServerStep, serving, notices, quiet, drops, says, to_host}
-use Rattle.nq_model.specs.ServerStep.{attaches, vacates, tells_later, serves, leases, receive, to_read, admit, not_attached, perform, answer_request, access_of}
+use Rattle.nq_model.specs.ServerStep.{attaches, vacates, tells_later, serves, leases, receive, to_read, admit, not_attached, perform, access_of}
 use Rattle.nq_model.specs.Table.{Table, caches, is_writing, greater_mode}
 use Rattle.walk_client.proofs.ClientMoves.{some-same}
 use Rattle.walk_server.proofs.AskCases.{IsGranted, shares_again, begins_sharing, begins_caching, renews_row}
 use Rattle.walk_server.proofs.Rows.{choice}
 use Rattle.walk_server.proofs.ServerCases.{server-hears}
 use Rattle.walk_server.proofs.ServerOutcomes.{error_for, file_changed_by, wanted_by, base_in, IsPlain, unattached, attached_again, not_yet, no_entry, entry, no_attributes, attributes, no_file, no_block, decided_again, is_old}
-use Rattle.law_progress.proofs.Efforts.{total, total-more, total-append, is_idle, lease_weight, reply_weight, want_weight, request_weight, weight}
+use Rattle.law_progress.proofs.Efforts.{total, total-more, is_idle, lease_weight, reply_weight, want_weight, request_weight, weight}
 
 -- whether a request is VACATED
 abbrev pub is_vacated : Request → Bool
