@@ -43,7 +43,7 @@ abbrev pub start : Client → ClientStep
 start c = spends (begun c)
 
 module _ (price note : ℕ) where
-  same-goes : (t : ClientStep) → Goes price note 0 t t
+  pub same-goes : (t : ClientStep) → Goes price note 0 t t
   same-goes t = record { rest = omega arith; call = inl refl; ticket = refl; now = refl; pause = refl }
 
   goes-then : (m n k : ℕ) (t u v : ClientStep) → m + n ≤ k → Goes price note m t u → Goes price note n u v → Goes price note k t v
@@ -54,7 +54,7 @@ module _ (price note : ℕ) where
       which (inl same) (inl e) = inl (e ∙ same)
       which (inr none) (inl e) = inr (e ∙ none)
 
-  wider : (m n : ℕ) (t u : ClientStep) → m ≤ n → Goes price note m t u → Goes price note n t u
+  pub wider : (m n : ℕ) (t u : ClientStep) → m ≤ n → Goes price note m t u → Goes price note n t u
   wider m n t u more a = record { rest = let x = a.rest in omega arith; call = a.call; ticket = a.ticket; now = a.now; pause = a.pause }
 
   vacates-goes : (t : ClientStep) (file : ℕ) (tag : Tag) → Goes price note 1 t (vacates_lease t file tag)
@@ -83,7 +83,7 @@ module _ (price note : ℕ) where
   unfolding without_lease
   freed-goes t file = record { rest = omega arith; call = inl refl; ticket = refl; now = refl; pause = refl }
 
-  refused-goes : (t : ClientStep) (file : ℕ) → Goes price note 1 t (push_refused t file)
+  pub refused-goes : (t : ClientStep) (file : ℕ) → Goes price note 1 t (push_refused t file)
   refused-goes t file =
       let lost = loses t file in
       let free = without_lease lost file in
@@ -100,7 +100,7 @@ module _ (price note : ℕ) where
   taken-goes : (t : ClientStep) (file : ℕ) (g : Grant) (sent : ℕ) → Goes price note 1 t (takes_grant t file g sent)
   taken-goes t file g sent = goes-then 1 0 1 t (if_broken t file g) (takes_grant t file g sent) (omega arith) (if-broken-goes t file g) (holds-goes (if_broken t file g) file g sent)
 
-  optional-goes : (t : ClientStep) (file : ℕ) (o : Option Grant) (sent : ℕ) → Goes price note 1 t (takes_optional t file o sent)
+  pub optional-goes : (t : ClientStep) (file : ℕ) (o : Option Grant) (sent : ℕ) → Goes price note 1 t (takes_optional t file o sent)
   optional-goes t file None sent = wider 0 1 t t (omega arith) (same-goes t)
   optional-goes t file (Some g) sent = taken-goes t file g sent
 
@@ -112,7 +112,7 @@ module _ (price note : ℕ) where
   unfolding purges
   purged-goes t file = record { rest = omega arith; call = inl refl; ticket = refl; now = refl; pause = refl }
 
-  known-goes : (t : ClientStep) (file rev : ℕ) → Goes price note 0 t (knows_revision t file rev)
+  pub known-goes : (t : ClientStep) (file rev : ℕ) → Goes price note 0 t (knows_revision t file rev)
   unfolding knows_revision
   known-goes t file rev = record { rest = omega arith; call = inl refl; ticket = refl; now = refl; pause = refl }
 
@@ -132,7 +132,7 @@ module _ (price note : ℕ) where
   vacates-if-clean-goes : (t : ClientStep) (file : ℕ) → Goes price note 1 t (vacates_if_clean t file)
   vacates-if-clean-goes t file = vacates-if-clean-cases t file (Goes price note 1 t) (wider 0 1 t t (omega arith) (same-goes t)) (λ n clean is. vacates-goes t file n.tag)
 
-  pushed-goes : (t : ClientStep) (file block : ℕ) (body : List ℕ) (rev : ℕ) → Goes price note 1 t (push_done t file block body rev)
+  pub pushed-goes : (t : ClientStep) (file block : ℕ) (body : List ℕ) (rev : ℕ) → Goes price note 1 t (push_done t file block body rev)
   pushed-goes t file block body rev =
       let ended = ends_push t in
       let known = knows_revision ended file rev in
@@ -167,7 +167,7 @@ module _ (price note : ℕ) where
       by renewing is = refl
       by pushing is = refl
 
-  start-same : (c : Client) → ((start c).client.call ≡ c.call) × ((start c).client.ticket ≡ None) × ((start c).client.now ≡ c.now) × ((start c).client.pause ≡ c.pause) × ((start c).client.notices ≡ c.notices)
+  pub start-same : (c : Client) → ((start c).client.call ≡ c.call) × ((start c).client.ticket ≡ None) × ((start c).client.now ≡ c.now) × ((start c).client.pause ≡ c.pause) × ((start c).client.notices ≡ c.notices)
   unfolding spends
   start-same c = (refl, refl, refl, refl, refl)
 
@@ -461,7 +461,7 @@ module _ (price note : ℕ) where
 
   -- ---- all that a reply may bring
 
-  attached-goes : (c : Client) → Goes price note 1 (start c) (attached (start c))
+  pub attached-goes : (c : Client) → Goes price note 1 (start c) (attached (start c))
   unfolding attached
   attached-goes c = record { rest = omega arith; call = inl refl; ticket = refl; now = refl; pause = refl }
 
@@ -480,10 +480,10 @@ module _ (price note : ℕ) where
   by-answer : (c : Client) (r : Reply) (t : ClientStep) (answer : Answer) (by : Option ℕ) → Goes price note 1 (start c) t → reply_weight price r ≡ 2 → Pays c r (answers_call t answer by)
   by-answer c r t answer by g two = by-cost c r (answers_call t answer by) (let few = answered-cost c t answer by g in omega arith) two
 
-  read-goes : (t : ClientStep) (file block : ℕ) (body : List ℕ) (g : Option Grant) (sent : ℕ) → Goes price note 1 t (then_caches (takes_optional t file g sent) file block body g)
+  pub read-goes : (t : ClientStep) (file block : ℕ) (body : List ℕ) (g : Option Grant) (sent : ℕ) → Goes price note 1 t (then_caches (takes_optional t file g sent) file block body g)
   read-goes t file block body g sent = goes-then 1 0 1 t (takes_optional t file g sent) _ (omega arith) (optional-goes t file g sent) (then-caches-goes (takes_optional t file g sent) file block body g)
 
-  write-goes : (t : ClientStep) (file block : ℕ) (body : List ℕ) (rev : ℕ) → Goes price note 1 t (knows_revision (caches_write t file block body rev) file rev)
+  pub write-goes : (t : ClientStep) (file block : ℕ) (body : List ℕ) (rev : ℕ) → Goes price note 1 t (knows_revision (caches_write t file block body rev) file rev)
   write-goes t file block body rev = goes-then 0 0 1 t (caches_write t file block body rev) _ (omega arith) (caches-write-goes t file block body rev) (known-goes (caches_write t file block body rev) file rev)
 
   lease-pays : (c : Client) (ticket : Ticket) (who : Who) (file : ℕ) (want : Want) (inc : ℕ) (grant : Option Grant) (r : Reply) → c.ticket ≡ Some ticket → OfCall ticket (Request.GetLease who file want) → Alone c → r ≡ Reply.GetLease inc grant → Pays c r (lease_done (start c) file grant ticket.first)
@@ -562,7 +562,7 @@ module _ (price note : ℕ) where
   unfolding notes_notice
   noted-goes t file tag = record { rest = omega arith; call = inl refl; ticket = refl; now = refl; pause = refl }
 
-  evicted-goes : (t : ClientStep) (file : ℕ) (tag : Tag) → Goes price note 1 t (evicted t file tag)
+  pub evicted-goes : (t : ClientStep) (file : ℕ) (tag : Tag) → Goes price note 1 t (evicted t file tag)
   evicted-goes t file tag = evicted-cases t file tag (Goes price note 1 t) (record { clean = λ e. vacates-goes t file tag; waiting = λ e. noted-goes t file tag })
 
   cancels-cost : (rise : ℕ) (c : Client) (file : ℕ) → CancelCosts rise c file → cost price note (cancels (begun c) file) ≤ effort price c + rise

@@ -117,7 +117,8 @@ module _ (price note : ℕ) where
 
   -- what a world may pay, each client
   pub record Affords (rise : ℕ) (w : World) : Type 0 where
-    pub dear : Dear price note w.server
+    pub dear : (k : ℕ) (p : Packet) → slice_get w.packets k ≡ Some p → Dear price note w.server (sending_host p.sender)
+    pub least : 3 ≤ price
     pub noted : rise + 2 ≤ note
     pub alone : EachClient Alone w
     pub cancels : EachClient (λ c. (file : ℕ) → CancelCosts price note rise c file) w
@@ -154,7 +155,7 @@ module _ (price note : ℕ) where
 
   module _ (rise : ℕ) (w : World) (affords : Affords rise w) where
     some : (m : Message) → 1 ≤ weight price note m
-    some m = some-weight price note w.server 0 0 m affords.dear m
+    some m = some-weight price note affords.least (let enough = affords.noted in omega arith) m
 
     hearing-pays : (k host : ℕ) (m : Message) (c : Client) → slice_get w.clients host ≡ Some c → (o : Option ClientStep) → hear c k m ≡ o → Pays w (after_hearing w host o) (weight price note m)
     hearing-pays k host m c is None hears = pays-nothing w (weight price note m) (some m)
@@ -164,13 +165,13 @@ module _ (price note : ℕ) where
     to-client-pays k host m None is = pays-nothing w (weight price note m) (some m)
     to-client-pays k host m (Some c) is = hearing-pays k host m c is (hear c k m) refl
 
-    to-party-pays : (k : ℕ) (p : Packet) (to : Party) → Pays w (deliver_to w k p to) (packet_weight price note p)
-    to-party-pays k p Party.Server = server-pays w (packet_weight price note p) (receive w.server (sending_host p.sender) (length w.packets) (datagram_of p.message)) (receive-lighter price note w.server (sending_host p.sender) (length w.packets) p.message affords.dear)
-    to-party-pays k p (Party.Client host) = to-client-pays k host p.message (slice_get w.clients host) refl
+    to-party-pays : (k : ℕ) (p : Packet) → slice_get w.packets k ≡ Some p → (to : Party) → Pays w (deliver_to w k p to) (packet_weight price note p)
+    to-party-pays k p sent Party.Server = server-pays w (packet_weight price note p) (receive w.server (sending_host p.sender) (length w.packets) (datagram_of p.message)) (receive-lighter price note w.server (sending_host p.sender) (length w.packets) p.message (affords.dear k p sent))
+    to-party-pays k p sent (Party.Client host) = to-client-pays k host p.message (slice_get w.clients host) refl
 
-    packet-pays : (k : ℕ) (o : Option Packet) → Pays w (deliver w k o) (some_weight o)
-    packet-pays k None = pays-nothing w 1 (omega arith)
-    packet-pays k (Some p) = to-party-pays k p p.to
+    packet-pays : (k : ℕ) (o : Option Packet) → slice_get w.packets k ≡ o → Pays w (deliver w k o) (some_weight o)
+    packet-pays k None sent = pays-nothing w 1 (omega arith)
+    packet-pays k (Some p) sent = to-party-pays k p sent p.to
 
     number-some : (k : ℕ) → 1 ≤ number_weight w.packets k
     number-some k = by (slice_get w.packets k)
@@ -235,7 +236,7 @@ module _ (price note : ℕ) where
           let w = p.world in
           let v = step w (Event.Deliver k) in
           let all : AllSent (length w.packets) (k ∷ fresh) = subst (λ ns. AllSent (length w.packets) ns) is sent in
-          let pays : Pays w v (number_weight w.packets k) = packet-pays rise w (affords p good) k (slice_get w.packets k) in
+          let pays : Pays w v (number_weight w.packets k) = packet-pays rise w (affords p good) k (slice_get w.packets k) refl in
           let q : Play = next w v k fresh (Event.Deliver k ∷ p.events) all pays in
           let same : play p (Event.Deliver k) ≡ q = ap (λ ns. record { world = v; fresh = without k ns ++ added w v; events = Event.Deliver k ∷ p.events }) is in
           let whole : total (number_weight w.packets) p.fresh ≡ total (number_weight w.packets) (k ∷ fresh) = ap (total (number_weight w.packets)) is in

@@ -10,4 +10,6 @@ pub mod EffortReplies
 pub mod ServerWeights
 pub mod FlowEnds
 pub mod Bounds
+pub mod HostsBelow
+pub mod SparedSteps
 pub mod QuietFlows

@@ -1,5 +1,5 @@
--- Calm deliveries end while the server recovers.
-use Rattle.std.proofs.Common.{◌≡◌, ℕ, ◌+◌, true, false, zero, suc, List, [], ◌∷◌, ◌++◌, Option, Some, None, length, refl, sym, ap, subst, ◌∙◌, arith}
+-- Calm deliveries end while the server recovers, and where no call waits for a lease.
+use Rattle.std.proofs.Common.{◌≡◌, ◌≤◌, ◌<◌, ℕ, ◌+◌, ◌%◌, nat_lt, Bool, true, false, zero, suc, List, [], ◌∷◌, ◌++◌, Option, Some, None, length, refl, sym, ap, subst, ◌∙◌, arith}
 use Rattle.std.specs.Prelude.{map, slice_get}
 use Rattle.std.proofs.lemmas.List.{append-nil, length-append}
 use Rattle.nq_base.specs.declared.Event.{Event}
@@ -14,11 +14,28 @@ use Rattle.nq_model.specs.World.{Head, World, from_host, after_server, after_cli
 use Rattle.walk_run.proofs.Steps.{Changes, nothing, by_client, by_server, step-changes}
 use Rattle.walk_run.proofs.Worlds.{run-holds}
 use Rattle.walk_server.proofs.ServerMoves.{server-moves, phase-moves}
+use Rattle.std.specs.Prelude.{All}
+use Rattle.nq_base.specs.declared.Access.{Access}
+use Rattle.nq_base.specs.declared.Row.{Row}
+use Rattle.nq_model.specs.Decide.{in_the_way}
+use Rattle.nq_model.specs.Profile.{most_hosts, xid_end}
+use Rattle.nq_model.specs.Server.{notices}
+use Rattle.nq_model.specs.Table.{find_row}
+use Rattle.nq_promises.specs.RowsStandApart.{HasOneRowEach}
+use Rattle.law_packets.proofs.NoticeCounts.{HostedBelow, fewer-than-hosts}
+use Rattle.walk_client.proofs.ClientFacts.{Alone}
+use Rattle.walk_client.proofs.ClientMoves.{none-some}
+use Rattle.walk_run.proofs.Packets.{in-get}
+use Rattle.walk_server.proofs.Tests.{is-below, is-not-below}
+use Rattle.law_progress.proofs.ClientCount.{client-count}
+use Rattle.law_progress.proofs.HostsBelow.{IsLocal, run-local, one-row-each}
+use Rattle.law_progress.proofs.ServerWeights.{packets_weight}
+use Rattle.law_progress.proofs.SparedSteps.{found-all, delivered-spared}
 use Rattle.law_progress.specs.CalmRound.{AreUnderWay, calmed, calm_round, calm_rounds, most_deliveries}
-use Rattle.law_progress.specs.QuietDeliveries.{recovers, RecoveringDeliveryEnds}
+use Rattle.law_progress.specs.QuietDeliveries.{recovers, IsSpared, RecoveringDeliveryEnds, SparedDeliveryEnds}
 use Rattle.law_progress.proofs.Bounds.{within-bound}
 use Rattle.law_progress.proofs.CalmIsLawful.{calm-is-lawful}
-use Rattle.law_progress.proofs.EffortReplies.{cancel-costs}
+use Rattle.law_progress.proofs.EffortReplies.{cancel-costs, spared-costs}
 use Rattle.law_progress.proofs.FlowEnds.{AllSent, IsSentAll, sent-wider, sent-filter, sent-append, sent-from, Affords, flow-ends}
 
 -- ---- what is under way was sent, in each play of a calm network
@@ -110,12 +127,13 @@ record Recovers (head : Head) (p : Play) : Type 0 where
 
 recovering-affords : (head : Head) (p : Play) → Recovers head p → Affords 3 5 3 p.world
 recovering-affords head p r = record {
-  dear = record {
+  dear = λ k q sent. record {
     least = omega arith;
     noted = omega arith;
-    others = λ serves file host access within. absurd (no-serving serves);
-    own = λ serves. absurd (no-serving serves);
+    others = λ serves file host access same within. absurd (no-serving serves);
+    own = λ serves file host row found. absurd (no-serving serves);
   };
+  least = omega arith;
   noted = omega arith;
   alone = λ host c is. ((run-holds head p.events).clients host c (subst (λ (w : World). slice_get w.clients host ≡ Some c) r.is_run is)).alone;
   cancels = λ host c is file. cancel-costs 3 5 c file;
@@ -135,3 +153,75 @@ recovering-ends most head events bounds within under_way count all phase =
     let p = calm_rounds count (calmed head events under_way) in
     let lawful = calm-is-lawful most head events bounds within under_way count in
     flow-ends 3 5 3 (Recovers head) (recovering-affords head) (recovering-goes head) (most_deliveries p) p (record { is_run = lawful.is_run; phase = phase }) (calm-sent head events under_way count all) (within-bound 3 5 (omega arith) (omega arith) p (omega arith) (λ some. omega arith))
+
+-- ---- no call waits for a lease
+
+record Spared (head : Head) (p : Play) : Type 0 where
+  is_run : p.world ≡ run head p.events
+  hosts : head.hosts ≤ most_hosts
+  spared : All IsSpared p.world.clients
+
+-- what a request costs: a reply, and two for each host
+abbrev price_for : Head → ℕ
+price_for head = (head.hosts + head.hosts) + 3
+
+notices-most : (price xid : ℕ) (rows : List Row) → packets_weight price 2 (notices xid rows) ≤ length rows + length rows
+notices-most price xid [] = omega arith
+notices-most price xid (row ∷ rows) = let rest = notices-most price ((xid + 1) % xid_end) rows in omega arith
+
+module _ (head : Head) (p : Play) (s : Spared head p) where
+  local : IsLocal head.hosts p.world
+  local = subst (λ w. IsLocal head.hosts w) (sym s.is_run) (run-local head p.events)
+
+  each-row : HasOneRowEach p.world.server.table.rows
+  each-row = subst (λ (w : World). HasOneRowEach w.server.table.rows) (sym s.is_run) (one-row-each head p.events)
+
+  all-alone : (host : ℕ) (c : Client) → slice_get p.world.clients host ≡ Some c → Alone c
+  all-alone host c is = ((run-holds head p.events).clients host c (subst (λ (w : World). slice_get w.clients host ≡ Some c) s.is_run is)).alone
+
+  -- the notices of one step are fewer than the hosts
+  few-notices : (k : ℕ) (q : Packet) → slice_get p.world.packets k ≡ Some q → (file host : ℕ) (access : Access) → host ≡ sending_host q.sender → host < most_hosts → length (in_the_way p.world.server file host access) + 1 ≤ head.hosts
+  few-notices k q sent file host access same within = fewer-than-hosts file host access head.hosts p.world.server.table.rows (each-row file) local.rows (by q.sender refl)
+    where
+      by : (party : Party) → q.sender ≡ party → host < head.hosts
+      by Party.Server is = let at : host ≡ most_hosts = same ∙ ap sending_host is in absurd (omega arith)
+      by (Party.Client h) is = let at : host ≡ h = same ∙ ap sending_host is in let below = local.senders q (in-get p.world.packets k q sent) h is in omega arith
+
+  some-host : (file host : ℕ) (row : Row) → find_row file host p.world.server.table.rows ≡ Some row → host < head.hosts
+  unfolding HostedBelow
+  some-host file host row found = by (nat_lt host head.hosts) refl
+    where
+      by : (b : Bool) → nat_lt host head.hosts ≡ b → host < head.hosts
+      by true e = is-below host head.hosts e
+      by false e = let none = local.rows file host (is-not-below host head.hosts e) in none-some row (sym none ∙ found)
+
+  spared-affords : Affords (price_for head) 2 0 p.world
+  spared-affords = record {
+    dear = λ k q sent. record {
+      least = omega arith;
+      noted = omega arith;
+      others = λ serves file host access same within.
+          let few = few-notices k q sent file host access same within in
+          let all = notices-most (price_for head) p.world.server.notice (in_the_way p.world.server file host access) in
+          omega arith;
+      own = λ serves file host row found. let below = some-host file host row found in omega arith;
+    };
+    least = omega arith;
+    noted = omega arith;
+    alone = all-alone;
+    cancels = λ host c is file. spared-costs (price_for head) 2 c file (found-all IsSpared p.world.clients host c is s.spared);
+  }
+
+  spared-goes : (k : ℕ) → Spared head (play p (Event.Deliver k))
+  spared-goes k = record {
+    is_run = ap (λ w. step w (Event.Deliver k)) s.is_run;
+    hosts = s.hosts;
+    spared = delivered-spared p.world all-alone s.spared k (slice_get p.world.packets k);
+  }
+
+pub spared-ends : SparedDeliveryEnds
+spared-ends most head events bounds within under_way count all spared =
+    let p = calm_rounds count (calmed head events under_way) in
+    let lawful = calm-is-lawful most head events bounds within under_way count in
+    let hosts : length p.world.clients ≡ head.hosts = ap (λ (w : World). length w.clients) lawful.is_run ∙ client-count head p.events in
+    flow-ends (price_for head) 2 0 (Spared head) (λ q s. spared-affords head q s) (λ q k s. spared-goes head q s k) (most_deliveries p) p (record { is_run = lawful.is_run; hosts = bounds.hosts; spared = spared }) (calm-sent head events under_way count all) (within-bound (price_for head) 2 (omega arith) (omega arith) p (omega arith) (λ some. omega arith))

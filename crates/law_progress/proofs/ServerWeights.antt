@@ -21,7 +21,7 @@ use Rattle.nq_model.specs.Message.{Message, Packet, call, reply, error, request,
 use Rattle.nq_model.specs.Profile.{most_hosts, granted_term}
 use Rattle.nq_model.specs.Server.{Server, ServerStep, serving, notices, quiet, drops, says, to_host}
 use Rattle.nq_model.specs.ServerStep.{attaches, vacates, tells_later, serves, leases, receive, to_read, admit, not_attached, perform, access_of}
-use Rattle.nq_model.specs.Table.{Table, caches, is_writing, greater_mode}
+use Rattle.nq_model.specs.Table.{Table, caches, is_writing, greater_mode, find_row}
 use Rattle.walk_client.proofs.ClientMoves.{some-same}
 use Rattle.walk_server.proofs.AskCases.{IsGranted, shares_again, begins_sharing, begins_caching, renews_row}
 use Rattle.walk_server.proofs.Rows.{choice}
@@ -102,11 +102,11 @@ module _ (price note : ℕ) where
   packets_weight ps = total packet_weight ps
 
   -- what a request has to pay for: all notices that it may cause, and its reply
-  pub record Dear (s : Server) : Type 0 where
+  pub record Dear (s : Server) (sender : ℕ) : Type 0 where
     pub least : 3 ≤ price
     pub noted : 2 ≤ note
-    pub others : s.phase ≡ serving → (file host : ℕ) (access : Access) → host < most_hosts → packets_weight (notices s.notice (in_the_way s file host access)) + 3 ≤ price
-    pub own : s.phase ≡ serving → note + 3 ≤ price
+    pub others : s.phase ≡ serving → (file host : ℕ) (access : Access) → host ≡ sender → host < most_hosts → packets_weight (notices s.notice (in_the_way s file host access)) + 3 ≤ price
+    pub own : s.phase ≡ serving → (file host : ℕ) (row : Row) → find_row file host s.table.rows ≡ Some row → note + 3 ≤ price
 
   lease-most : (b : Bool) → lease_weight price b ≤ price + 2
   lease-most true = omega arith
@@ -144,6 +144,43 @@ module _ (price note : ℕ) where
   changed-price (Request.Resize who seq q f blocks) file e none = omega arith
   changed-price (Request.Remove who seq q f) file e none = omega arith
   changed-price other file e none = absurd (cc)
+
+  pub some-weight : 3 ≤ price → 2 ≤ note → (n : Message) → 1 ≤ weight price note n
+  some-weight least noted (error x e) = omega arith
+  some-weight least noted (reply x a) = by a
+    where
+      lease : (b : Bool) → 1 ≤ lease_weight price b
+      lease true = omega arith
+      lease false = omega arith
+
+      by : (b : Answer) → 1 ≤ reply_weight price b
+      by (Answer.GetLease inc grant) = lease (is_idle grant)
+      by Answer.Null = omega arith
+      by (Answer.Attach inc) = omega arith
+      by (Answer.Lookup inc file blocks) = omega arith
+      by (Answer.Create inc file) = omega arith
+      by (Answer.GetAttr inc blocks rev) = omega arith
+      by (Answer.Read inc rev body grant) = omega arith
+      by (Answer.Write inc rev) = omega arith
+      by (Answer.Resize inc rev) = omega arith
+      by (Answer.Remove inc) = omega arith
+      by (Answer.Refused inc status) = omega arith
+  some-weight least noted (call x r) = by r
+    where
+      by : (q : Request) → 1 ≤ request_weight price note q
+      by Request.Null = let l = least in omega arith
+      by (Request.Attach who) = let l = least in omega arith
+      by (Request.Lookup who name) = let l = least in omega arith
+      by (Request.Create who seq name blocks) = let l = least in omega arith
+      by (Request.GetAttr who file) = let l = least in omega arith
+      by (Request.Read who q file block want) = let l = least in omega arith
+      by (Request.Write who seq file block first last None body) = let l = least in omega arith
+      by (Request.Write who seq file block first last (Some base) body) = omega arith
+      by (Request.GetLease who file want) = let l = least in let w = want-least (is_writing want.mode) in omega arith
+      by (Request.Vacated who file tag) = omega arith
+      by (Request.Evicted who file tag) = let l = noted in omega arith
+      by (Request.Resize who seq q file blocks) = let l = least in omega arith
+      by (Request.Remove who seq q file) = let l = least in omega arith
 
   -- ---- replies
 
@@ -185,53 +222,10 @@ module _ (price note : ℕ) where
 
   -- ---- the step
 
-  module _ (s : Server) (sender next : ℕ) (m : Message) (dear : Dear s) where
+  module _ (s : Server) (sender next : ℕ) (m : Message) (dear : Dear s sender) where
     -- what was sent weighs less than the datagram
     abbrev Lighter : ServerStep → Type 0
     Lighter t = packets_weight t.sends + 1 ≤ weight price note m
-
-    pub some-weight : (n : Message) → 1 ≤ weight price note n
-    some-weight (error x e) = omega arith
-    some-weight (reply x a) = by a
-      where
-        lease : (b : Bool) → 1 ≤ lease_weight price b
-        lease true = omega arith
-        lease false = omega arith
-
-        by : (b : Answer) → 1 ≤ reply_weight price b
-        by (Answer.GetLease inc grant) = lease (is_idle grant)
-        by Answer.Null = omega arith
-        by (Answer.Attach inc) = omega arith
-        by (Answer.Lookup inc file blocks) = omega arith
-        by (Answer.Create inc file) = omega arith
-        by (Answer.GetAttr inc blocks rev) = omega arith
-        by (Answer.Read inc rev body grant) = omega arith
-        by (Answer.Write inc rev) = omega arith
-        by (Answer.Resize inc rev) = omega arith
-        by (Answer.Remove inc) = omega arith
-        by (Answer.Refused inc status) = omega arith
-    some-weight (call x r) = by r
-      where
-        least : 3 ≤ price
-        least = dear.least
-
-        noted : 2 ≤ note
-        noted = dear.noted
-
-        by : (q : Request) → 1 ≤ request_weight price note q
-        by Request.Null = let l = least in omega arith
-        by (Request.Attach who) = let l = least in omega arith
-        by (Request.Lookup who name) = let l = least in omega arith
-        by (Request.Create who seq name blocks) = let l = least in omega arith
-        by (Request.GetAttr who file) = let l = least in omega arith
-        by (Request.Read who q file block want) = let l = least in omega arith
-        by (Request.Write who seq file block first last None body) = let l = least in omega arith
-        by (Request.Write who seq file block first last (Some base) body) = omega arith
-        by (Request.GetLease who file want) = let l = least in let w = want-least (is_writing want.mode) in omega arith
-        by (Request.Vacated who file tag) = omega arith
-        by (Request.Evicted who file tag) = let l = noted in omega arith
-        by (Request.Resize who seq q file blocks) = let l = least in omega arith
-        by (Request.Remove who seq q file) = let l = least in omega arith
 
     -- an error answers no call but one that the server does not serve
     erring : (n : Message) (e : Message) → error_for (datagram_of n) ≡ Some e → (weight price note e ≡ 1) × (2 ≤ weight price note n)
@@ -290,23 +284,23 @@ module _ (price note : ℕ) where
       lighter : Lighter (receive s sender next (datagram_of m))
       unfolding quiet drops says attaches vacates serves leases tells_later decides creates writes_through stores stores_recovering resizes removes puts_off commits
       lighter = server-hears s sender next (datagram_of m) Lighter (record {
-        stays = let some = some-weight m in omega arith;
-        dropping = λ reason. let some = some-weight m in omega arith;
+        stays = let some = some-weight dear.least dear.noted m in omega arith;
+        dropping = λ reason. let some = some-weight dear.least dear.noted m in omega arith;
         erring = λ n e. let a = erring m n e in let one = a.0 in let two = a.1 in omega arith;
         answers_null = λ xid e. replied xid Request.Null (to_host sender (reply xid Answer.Null)) e refl;
         replying = λ xid who r a e by from plain. replied xid r (to_host who.host (reply xid a)) e (plain-weight s who r a plain);
         attaching = λ xid who e from later. replied xid (Request.Attach who) (to_host who.host (reply xid (Answer.Attach who.inc))) e refl;
-        vacating = λ xid who file tag e current. let some = some-weight m in omega arith;
-        putting_off = λ xid who r f clash e by file asking c. notified xid r (notices s.notice (in_the_way s f.id who.host (access_of (wanted_by r)))) (to_host who.host (reply xid (Answer.Refused who.inc Refusal.TryLater))) e refl (dear.others asking.serves f.id who.host (access_of (wanted_by r)) asking.current.from.possible) (asked-price r f.id file);
-        putting_off_waiting = λ xid who r f clash want e by file wants asking c own room. notified xid r (notices s.notice (in_the_way s f.id who.host (access_of (Some want)))) (to_host who.host (reply xid (Answer.Refused who.inc Refusal.TryLater))) e refl (dear.others asking.serves f.id who.host (access_of (Some want)) asking.current.from.possible) (asked-price r f.id file);
-        putting_off_by_own = λ xid who r f want own e by file wants asking c o evicting. notified xid r (notices s.notice (own ∷ [])) (to_host who.host (reply xid (Answer.Refused who.inc Refusal.TryLater))) e refl (let o = dear.own asking.serves in omega arith) (asked-price r f.id file);
+        vacating = λ xid who file tag e current. let some = some-weight dear.least dear.noted m in omega arith;
+        putting_off = λ xid who r f clash e by file asking c. notified xid r (notices s.notice (in_the_way s f.id who.host (access_of (wanted_by r)))) (to_host who.host (reply xid (Answer.Refused who.inc Refusal.TryLater))) e refl (dear.others asking.serves f.id who.host (access_of (wanted_by r)) asking.current.from.host asking.current.from.possible) (asked-price r f.id file);
+        putting_off_waiting = λ xid who r f clash want e by file wants asking c own room. notified xid r (notices s.notice (in_the_way s f.id who.host (access_of (Some want)))) (to_host who.host (reply xid (Answer.Refused who.inc Refusal.TryLater))) e refl (dear.others asking.serves f.id who.host (access_of (Some want)) asking.current.from.host asking.current.from.possible) (asked-price r f.id file);
+        putting_off_by_own = λ xid who r f want own e by file wants asking c o evicting. notified xid r (notices s.notice (own ∷ [])) (to_host who.host (reply xid (Answer.Refused who.inc Refusal.TryLater))) e refl (let few = dear.own asking.serves f.id who.host own o in omega arith) (asked-price r f.id file);
         reading = λ xid who q block f body e asking there c. replied xid (Request.Read who q f.id block None) (to_host who.host (reply xid (Answer.Read who.inc f.rev body None))) e refl;
         reading_full = λ xid who q block want f body e asking there c own room. replied xid (Request.Read who q f.id block (Some want)) (to_host who.host (reply xid (Answer.Read who.inc f.rev body None))) e refl;
         reading_granted = λ xid who q block want f body row term e asking there c g. replied xid (Request.Read who q f.id block (Some want)) (to_host who.host (reply xid (Answer.Read who.inc f.rev body (Some (grant_of (to_read s who f (Some want)) row term))))) e refl;
         leasing_full = λ xid who want f e asking c own room. replied xid (Request.GetLease who f.id want) (to_host who.host (reply xid (Answer.GetLease who.inc None))) e refl;
         leasing = λ xid who want f row term e asking c g. granted xid who want f.id s.table (to_read s who f (Some want)) row term (to_host who.host (reply xid (Answer.GetLease who.inc (Some (grant_of (to_read s who f (Some want)) row term))))) e refl g;
         declining = λ xid who seq r verdict e by sq fresh declined. replied xid r (to_host who.host (reply xid (verdict_reply who.inc verdict 0 r))) e (verdict-weight who.inc verdict 0 r);
-        putting_off_change = λ xid who seq r f clash e by sq file base changing c. notified xid r (notices s.notice (in_the_way s f.id who.host Access.Write)) (to_host who.host (reply xid (verdict_reply who.inc Verdict.TryLater 0 r))) e refl (dear.others changing.serves f.id who.host Access.Write changing.fresh.current.from.possible) (changed-price r f.id file base);
+        putting_off_change = λ xid who seq r f clash e by sq file base changing c. notified xid r (notices s.notice (in_the_way s f.id who.host Access.Write)) (to_host who.host (reply xid (verdict_reply who.inc Verdict.TryLater 0 r))) e refl (dear.others changing.serves f.id who.host Access.Write changing.fresh.current.from.host changing.fresh.current.from.possible) (changed-price r f.id file base);
         creating = λ xid who seq blocks name e fresh serves can. replied xid (Request.Create who seq name blocks) (to_host who.host (reply xid (verdict_reply who.inc Verdict.Done s.kept.next (Request.Create who seq name blocks)))) e refl;
         writing_through = λ xid who seq block first last body f e changing below c. replied xid (Request.Write who seq f.id block first last None body) (to_host who.host (reply xid (verdict_reply who.inc Verdict.Done (f.rev + 1) (Request.Write who seq f.id block first last None body)))) e refl;
         storing = λ xid who seq block first last base body f row e changing below can. replied xid (Request.Write who seq f.id block first last (Some base) body) (to_host who.host (reply xid (verdict_reply who.inc Verdict.Done (f.rev + 1) (Request.Write who seq f.id block first last (Some base) body)))) e refl;
@@ -326,7 +320,7 @@ module _ (price note : ℕ) where
             silent : (who : Who) (file : ℕ) (tag : Tag) → m ≡ Message.call x (Request.Vacated who file tag) → packets_weight (receive s sender next (datagram_of m)).sends + 1 ≤ weight price note m
             silent who file tag e =
                 let none : packets_weight (receive s sender next (datagram_of m)).sends ≡ 0 = ap (λ n. packets_weight (receive s sender next (datagram_of n)).sends) e ∙ ap packets_weight (vacated-silent s sender next x who file tag) in
-                let some = some-weight m in
+                let some = some-weight dear.least dear.noted m in
                 omega arith
 
             vacated : (q : Request) → m ≡ Message.call x q → packets_weight (receive s sender next (datagram_of m)).sends + 1 ≤ weight price note m
