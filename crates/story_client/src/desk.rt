@@ -50,7 +50,8 @@ fn answered(answer: &Answer) -> Came {
         Answer::Lost(_) => Came::Lost,
         Answer::Pending => Came::Pending,
         Answer::Busy => Came::Busy,
-        Answer::Stale | Answer::NoEntry | Answer::Exists | Answer::NoSpace | Answer::Range => Came::Refused,
+        Answer::Stale | Answer::NoEntry | Answer::Exists | Answer::NoSpace | Answer::Range =>
+            Came::Refused,
         Answer::DirtyFull | Answer::Memory | Answer::Spent => Came::Wanting,
     }
 }
@@ -122,6 +123,9 @@ impl Desk {
                 let (xid, procedure) = (word_at(datagram, 0), word_at(datagram, 20));
                 println!(rt; "sent {xid} by {procedure}")?;
             }
+        }
+        if !self.log.is_in(2) {
+            bail!("no journal of this version");
         }
         let mut sink = MemSink::new(self.alloc, ROOM, Vec::new(self.alloc))?;
         print(self.alloc, &self.log, 2, &mut sink);

@@ -248,7 +248,11 @@ fn receives_one(
     if came == Came::Ignored {
         return Ok(None);
     }
-    let stored = usize::from(ticket.stores && kind == Kind::Reply);
+    let stored = if ticket.stores && kind == Kind::Reply {
+        1
+    } else {
+        0
+    };
     let after = accounted(desk, client);
     Ok(Some(
         may_be_heeded(kind, &was, &is)

@@ -45,8 +45,12 @@ pub(crate) fn fill(alloc: Global, story: &mut Story) -> Result<usize> {
     create_all(alloc, story)?;
     for row in 0..HOSTS * FILES {
         let (host, file, tag) = (row / FILES, row % FILES + 1, row + 1);
-        let ask = format!(in alloc; "{host:x} 1 0 2 20004e51 1 7 0 0 0 0 {host:x} 1 {file:x} 1 1e")?;
-        let granted = format!(in alloc; "{host:x} 1 1 0 0 0 0 1 0 1 1 1e 1 0 {tag:x} 1 0 {tag:x} 0 0 1")?;
+        let ask = format!(in alloc;
+            "{host:x} 1 0 2 20004e51 1 7 0 0 0 0 {host:x} 1 {file:x} 1 1e"
+        )?;
+        let granted = format!(in alloc;
+            "{host:x} 1 1 0 0 0 0 1 0 1 1 1e 1 0 {tag:x} 1 0 {tag:x} 0 0 1"
+        )?;
         expect(story, &ask, &granted)?;
     }
     Ok(story.server().table().len())

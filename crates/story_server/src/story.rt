@@ -1,7 +1,7 @@
 //! A server to which datagrams, ticks and crashes come.
 
 use crate::words::{bytes_of, push_words};
-use anyhow::{Context, Result};
+use anyhow::{Context, Result, bail};
 use nq_base::{Host, Party, Ticks};
 use nq_io::MemSink;
 use nq_journal::{Journal, print};
@@ -91,13 +91,16 @@ impl Story {
         if !self.comes(now) {
             return "no such time";
         }
-        word_of(self.server.reboot(self.alloc, LONGEST, Ticks(now), &mut self.log))
+        word_of(
+            self.server
+                .reboot(self.alloc, LONGEST, Ticks(now), &mut self.log),
+        )
     }
 
     /// What the journal says of it all, in version 2 of its text.
     pub(crate) fn told(&self) -> Result<String> {
         if !self.log.is_in(2) {
-            return None.context("a journal of no such version");
+            bail!("no journal of this version");
         }
         let mut sink = MemSink::new(self.alloc, ROOM, Vec::new(self.alloc))?;
         print(self.alloc, &self.log, 2, &mut sink);

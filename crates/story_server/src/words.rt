@@ -36,12 +36,12 @@ fn push_word(bytes: &mut Vec<u8>, word: &str) -> Result<()> {
 /// Adds the words of a datagram to a text, where a block that repeats a word stands as that word behind a star.
 pub(crate) fn push_words(text: &mut String, datagram: &[u8]) -> Result<()> {
     let mut skipped = 0;
-    for place in (0..datagram.len()).step_by(4) {
+    for place in 0..datagram.len() / 4 {
         if skipped > 0 {
             skipped -= 1;
             continue;
         }
-        let rest = datagram.get(place..).unwrap_or(&[]);
+        let rest = datagram.get(4 * place..).unwrap_or(&[]);
         let word = word_at(rest, 0).unwrap_or(0);
         if is_block(rest) {
             skipped = WORDS_OF_BLOCK - 1;

@@ -74,7 +74,10 @@ pub(crate) fn numbers(rt: &HostRuntime) -> Result<()> {
     writer.boolean(no)?;
     writer.append(reader.rest())?;
     let written = again(writer.as_bytes(), &NUMBERS);
-    println!(rt; "{short:x} {long:x} {yes} {no} {:?} {written}", reader.rest())?;
+    println!(rt;
+        "{short:x} {long:x} {yes} {no} {:?} {written}",
+        reader.rest()
+    )?;
     println!(rt; "{:?} {:?}", reader.u64().err(), reader.end().err())?;
     Ok(())
 }

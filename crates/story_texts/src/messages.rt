@@ -30,8 +30,7 @@ fn call_text(alloc: Global, call: &CallMessage) -> Result<String> {
     let (xid, rpcvers, procedure) = (head.xid, call.rpcvers, head.procedure);
     Ok(format!(in alloc;
         "call {xid} of {rpcvers}, {:x} {} {procedure}, {count} bytes, ",
-        head.prog,
-        head.vers
+        head.prog, head.vers
     )?)
 }
 

@@ -48,7 +48,9 @@ pub(crate) fn text_of(alloc: Global, line: &str) -> Result<String> {
         Some(lines) => (lines, true),
         None => (line, false),
     };
-    let mut text = lines.replace(alloc, "; ", "\n")?.replace(alloc, "\\r", "\r")?;
+    let mut text = lines
+        .replace(alloc, "; ", "\n")?
+        .replace(alloc, "\\r", "\r")?;
     if ended {
         text.push('\n')?;
     }
