@@ -1,57 +1,75 @@
-//! Tests of links.
+//! Links.
 
+use anyhow::Result;
 use nq_base::{Host, Party};
 use nq_link::{Came, Link, MemLink, Sent, UdpLink};
-use std::test::Fail;
+use std::str;
 
-/// The datagram that a link gives, as its sender and its bytes; None where nothing comes.
-fn next(link: &mut impl Link, room: &mut [u8]) -> Option<(Party, usize)> {
-    for _ in 0..100 {
-        match link.receive(room) {
-            Came::Datagram { length, sender } => return Some((sender, length)),
+/// Sends bytes to a host, and prints whether they were sent.
+fn send_on<L: Link>(rt: &HostRuntime, link: &mut L, host: u32, bytes: &str) -> Result<()> {
+    let word = match link.send(Party::Client(Host(host)), bytes.as_bytes()) {
+        Sent::All => "sent",
+        Sent::Failed => "failed",
+    };
+    println!(rt; "{bytes} {word}")?;
+    Ok(())
+}
+
+/// The number of a host; 99 for the server.
+fn number_of(party: Party) -> u32 {
+    match party {
+        Party::Client(host) => host.0,
+        Party::Server => 99,
+    }
+}
+
+/// Receives into four bytes, for so many turns until something comes, and prints what came.
+fn receive_on<L: Link>(rt: &HostRuntime, link: &mut L, turns: u32) -> Result<()> {
+    let mut room = *b"----";
+    for _ in 0..turns {
+        match link.receive(&mut room) {
+            Came::Datagram { length, sender } => {
+                let host = number_of(sender);
+                println!(rt; "{length} from {host} {}", str::from_utf8(&room)?)?;
+                return Ok(());
+            }
             Came::Nothing => {}
-            Came::Failed => return None,
+            Came::Failed => {
+                println!(rt; "failed")?;
+                return Ok(());
+            }
         }
     }
-    None
+    println!(rt; "nothing")?;
+    Ok(())
 }
 
-#[test]
-fn a_link_in_memory_sends_and_receives(rt: HostRuntime) -> Result<(), Fail> {
+/// A link in memory with room for two datagrams and nine bytes, whose calls 1 and 4 fail.
+pub(crate) fn in_memory(rt: &HostRuntime) -> Result<()> {
     let alloc = rt.alloc();
+    println!(rt; "== a link in memory")?;
     let failing = vec![in alloc; 1, 4]?;
     let mut link = MemLink::new(alloc, Party::Server, 2, 9, failing)?;
-    for (bytes, want) in [
-        (b"lease".as_slice(), Sent::All),
-        (b"lost".as_slice(), Sent::Failed),
-        (b"beyond".as_slice(), Sent::Failed),
-        (b"last".as_slice(), Sent::All),
-    ] {
-        assert!(rt; link.send(Party::Client(Host(3)), bytes) == want);
+    for bytes in ["lease", "lost", "beyond", "last"] {
+        send_on(rt, &mut link, 3, bytes)?;
     }
-    assert_eq!(rt; link.sent().len(), 2);
-    let mut room = [0; 4];
+    println!(rt; "{}", link.sent().len())?;
     link.bring(alloc, Party::Client(Host(3)), b"datagram")?;
-    assert!(rt; link.receive(&mut room) == Came::Failed);
-    assert!(rt; next(&mut link, &mut room) == Some((Party::Client(Host(3)), 4)));
-    assert_eq!(rt; &room, b"data");
-    assert!(rt; link.receive(&mut room) == Came::Nothing);
+    for _ in 0..3 {
+        receive_on(rt, &mut link, 1)?;
+    }
     Ok(())
 }
 
-#[test]
-fn datagrams_travel_over_udp(rt: HostRuntime) -> Result<(), Fail> {
-    let (one, other) = (Party::Client(Host(62)), Party::Client(Host(63)));
-    let mut here = UdpLink::new(rt.clone()?, one);
-    let mut there = UdpLink::new(rt.clone()?, other);
-    let mut room = [0; 8];
-    assert!(rt; here.receive(&mut room) == Came::Nothing);
-    assert!(rt; there.send(one, b"ask") == Sent::All);
-    assert!(rt; next(&mut here, &mut room) == Some((other, 3)));
-    assert_eq!(rt; &room, b"ask\0\0\0\0\0");
-    assert!(rt; here.send(other, b"answered twice") == Sent::All);
-    assert!(rt; next(&mut there, &mut room) == Some((one, 8)));
-    assert_eq!(rt; &room, b"answered");
-    assert!(rt; here.send(Party::Client(Host(64)), b"nobody") == Sent::Failed);
-    Ok(())
+/// Two hosts over UDP.
+pub(crate) fn over_udp(rt: &HostRuntime) -> Result<()> {
+    println!(rt; "== links over UDP")?;
+    let mut here = UdpLink::new(rt.clone()?, Party::Client(Host(62)));
+    let mut there = UdpLink::new(rt.clone()?, Party::Client(Host(63)));
+    receive_on(rt, &mut here, 1)?;
+    send_on(rt, &mut there, 62, "ask")?;
+    receive_on(rt, &mut here, 100)?;
+    send_on(rt, &mut here, 63, "answered twice")?;
+    receive_on(rt, &mut there, 100)?;
+    send_on(rt, &mut here, 64, "nobody")
 }
