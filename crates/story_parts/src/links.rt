@@ -1,8 +1,8 @@
-//! Links.
+//! A link in memory.
 
 use anyhow::Result;
 use nq_base::{Host, Party};
-use nq_link::{Came, Link, MemLink, Sent, UdpLink};
+use nq_link::{Came, Link, MemLink, Sent};
 use std::str;
 
 /// Sends bytes to a host, and prints whether they were sent.
@@ -23,24 +23,17 @@ fn number_of(party: Party) -> u32 {
     }
 }
 
-/// Receives into four bytes, for so many turns until something comes, and prints what came.
-fn receive_on<L: Link>(rt: &HostRuntime, link: &mut L, turns: u32) -> Result<()> {
+/// Receives into four bytes, and prints what came.
+fn receive_on<L: Link>(rt: &HostRuntime, link: &mut L) -> Result<()> {
     let mut room = *b"----";
-    for _ in 0..turns {
-        match link.receive(&mut room) {
-            Came::Datagram { length, sender } => {
-                let host = number_of(sender);
-                println!(rt; "{length} from {host} {}", str::from_utf8(&room)?)?;
-                return Ok(());
-            }
-            Came::Nothing => {}
-            Came::Failed => {
-                println!(rt; "failed")?;
-                return Ok(());
-            }
+    match link.receive(&mut room) {
+        Came::Datagram { length, sender } => {
+            let host = number_of(sender);
+            println!(rt; "{length} from {host} {}", str::from_utf8(&room)?)?;
         }
+        Came::Nothing => println!(rt; "nothing")?,
+        Came::Failed => println!(rt; "failed")?,
     }
-    println!(rt; "nothing")?;
     Ok(())
 }
 
@@ -56,20 +49,7 @@ pub(crate) fn in_memory(rt: &HostRuntime) -> Result<()> {
     println!(rt; "{}", link.sent().len())?;
     link.bring(alloc, Party::Client(Host(3)), b"datagram")?;
     for _ in 0..3 {
-        receive_on(rt, &mut link, 1)?;
+        receive_on(rt, &mut link)?;
     }
     Ok(())
-}
-
-/// Two hosts over UDP.
-pub(crate) fn over_udp(rt: &HostRuntime) -> Result<()> {
-    println!(rt; "== links over UDP")?;
-    let mut here = UdpLink::new(rt.clone()?, Party::Client(Host(62)));
-    let mut there = UdpLink::new(rt.clone()?, Party::Client(Host(63)));
-    receive_on(rt, &mut here, 1)?;
-    send_on(rt, &mut there, 62, "ask")?;
-    receive_on(rt, &mut here, 100)?;
-    send_on(rt, &mut here, 63, "answered twice")?;
-    receive_on(rt, &mut there, 100)?;
-    send_on(rt, &mut here, 64, "nobody")
 }

@@ -1,5 +1,5 @@
 //! What the parts do that servers, clients and the world are made of: bytes in and out, clocks, fates, leases, links and packets. Each
-//! prints what comes of its calls.
+//! prints what comes of its calls. The stories of lease tables stand in the standard input.
 #![tactic(auto)]
 
 mod bytes;
@@ -22,6 +22,5 @@ fn main(rt: HostRuntime) -> Result<()> {
     fates::fates(&rt)?;
     leases::stories(&rt)?;
     links::in_memory(&rt)?;
-    links::over_udp(&rt)?;
     packets::packets(&rt)
 }
