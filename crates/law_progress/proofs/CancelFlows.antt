@@ -1,5 +1,5 @@
 -- A calm delivery ends, but for the requests of calls that notices cancel: each of those is paid for once more.
-use Rattle.std.proofs.Common.{◌≡◌, ◌≤◌, ◌<◌, ℕ, ◌+◌, ◌*◌, Bool, true, false, zero, suc, List, [], ◌∷◌, ◌++◌, Option, Some, None, length, refl, sym, ap, subst, ◌∙◌, arith}
+use Rattle.std.proofs.Common.{◌≡◌, ◌≤◌, ℕ, ◌+◌, ◌*◌, Bool, true, false, zero, suc, List, [], ◌∷◌, ◌++◌, Option, Some, None, length, refl, sym, ap, subst, ◌∙◌, arith}
 use Rattle.std.specs.Prelude.{slice_get}
 use Rattle.nq_base.specs.declared.Event.{Event}
 use Rattle.nq_base.specs.declared.Party.{Party}
@@ -10,12 +10,12 @@ use Rattle.nq_model.specs.Hear.{hear}
 use Rattle.nq_model.specs.Lines.{Play, play, play_flow, flow_first, without, added}
 use Rattle.nq_model.specs.Message.{Message, Packet, datagram_of}
 use Rattle.nq_model.specs.ServerStep.{receive}
-use Rattle.nq_model.specs.World.{Head, World, after_hearing, sending_host, deliver, deliver_to, deliver_to_client, step, run}
-use Rattle.law_progress.specs.CalmRound.{calmed, calm_rounds, most_deliveries}
+use Rattle.nq_model.specs.World.{Head, World, after_hearing, sending_host, deliver, deliver_to, deliver_to_client, step}
+use Rattle.law_progress.specs.CalmRound.{calmed, calm_rounds}
 use Rattle.law_progress.specs.CancelledDeliveries.{is_cancelled, cancels_ticket, cancels_client, cancels_at, cancels_by, one_if, first_cancels, cancelled_in, DeliveryEndsButForCancels}
-use Rattle.law_progress.proofs.Efforts.{total, effort, weight}
+use Rattle.law_progress.proofs.Efforts.{total, weight}
 use Rattle.law_progress.proofs.EffortReplies.{CancelCosts, hear-costs, cancel-costs, uncancelled-costs}
-use Rattle.law_progress.proofs.FlowEnds.{AllSent, IsSentAll, some_weight, number_weight, left_to_pay, Pays, pays-nothing, pays-more, client-pays, server-pays, next, next-sent, next-pays, stays-empty}
+use Rattle.law_progress.proofs.FlowEnds.{AllSent, IsSentAll, some_weight, number_weight, left_to_pay, Pays, pays-nothing, client-pays, server-pays, next, next-sent, next-pays, stays-empty}
 use Rattle.law_progress.proofs.QuietFlows.{Stands, price_for, all-alone, all-dear, stands-goes, calm-sent, calm-stands, stands-bound}
 use Rattle.law_progress.proofs.ServerWeights.{packet_weight, some-weight, receive-lighter}
 
