@@ -16,7 +16,7 @@ use Rattle.nq_model.specs.Client.{Client, ClientStep, begun, Job, attaching, for
 use Rattle.nq_model.specs.Hear.{hear, answers_call, answer_of, vacates_lease, vacates_noticed, loses, waits_for, reports_to, reports, push_refused, without_lease, granted_lease, breaks, breaks_chain, if_broken, holds, takes_grant, takes_optional, grant_caches, caches_block, purges, knows_revision, then_caches, with_through, marks_through, lease_done, holds_caching, caches_write, ends_push, caches_push, vacates_if_clean, push_done, spends, attached, pauses, replied, wants_of, cancelled, cancels, notes_notice, evicted, goes_on, reply_counts}
 use Rattle.nq_model.specs.Message.{Message}
 use Rattle.nq_model.specs.Profile.{patience}
-use Rattle.nq_model.specs.Settle.{answers, names_losses, ticket_is_for_call, settle}
+use Rattle.nq_model.specs.Settle.{answers, names_losses, is_for_call, ticket_is_for_call, settle}
 use Rattle.nq_model.specs.Table.{is_writing}
 use Rattle.walk_client.proofs.ClientFacts.{Alone}
 use Rattle.walk_client.proofs.ClientMoves.{none-some}
@@ -26,6 +26,7 @@ use Rattle.walk_client.proofs.SettleCases.{CanWrite, IsSettling}
 use Rattle.walk_client.proofs.StepCases.{evicted-cases, heard-cases}
 use Rattle.walk_server.proofs.Rows.{choice, same-number, number-same}
 use Rattle.walk_server.proofs.Tests.{is-not-below}
+use Rattle.law_progress.specs.CancelledDeliveries.{is_cancelled}
 use Rattle.law_progress.specs.QuietDeliveries.{wants_lease, IsSpared, pausing, wants_none}
 use Rattle.law_progress.proofs.Efforts.{total-more, write_price, put_price, fresh_for, fresh_left, writes_to, read_left, lease_left, sent_left, job_left, asked_left, requests_left, delays_left, is_idle, lease_weight, reply_weight, weight, writes_left, calls_left, effort, sent_weight, cost}
 use Rattle.law_progress.proofs.EffortParts.{filter-shorter, none-left, called-left, settle-cheap, send-cheap, settle-saves}
@@ -593,6 +594,20 @@ module _ (price note : ℕ) where
         omega arith;
   })
 
+  -- the same, where what a notice cancels is paid for beside
+  pub hear-costs : (c : Client) (k : ℕ) (m : Message) (t : ClientStep) (rise : ℕ) → 2 ≤ note → ((xid file : ℕ) (tag : Tag) → m ≡ Message.call xid (Request.Evicted c.who file tag) → CancelCosts rise c file) → Alone c → hear c k m ≡ Some t → cost price note t + 1 ≤ effort price c + (weight price note m + rise)
+  hear-costs c k m t rise dear cancel alone hears = heard-cases c k m t (λ v. cost price note v + 1 ≤ effort price c + (weight price note m + rise)) hears (record {
+    answered = λ xid r ticket is asks own inc counts.
+        let pays = replied-pays c k ticket r asks counts alone in
+        let next = send-cheap price note (settle (replied (begun c) k ticket r)) in
+        let same : weight price note m ≡ reply_weight price r = ap (weight price note) is in
+        omega arith;
+    noticed = λ xid file tag is older.
+        let pays = notice-pays rise c file tag (cancel xid file tag is) in
+        let same : weight price note m ≡ note = ap (weight price note) is in
+        omega arith;
+  })
+
   -- ---- what a cancelled request costs once more
 
   read-least : (u : UnderWay) → fresh_left price u ≤ read_left price u u.call + price
@@ -637,6 +652,22 @@ module _ (price note : ℕ) where
       by false None ticket = omega arith
       by false (Some u) None = omega arith
       by false (Some u) (Some t) = choice (λ (o : Option Ticket). asked_left price c.now u o ≤ asked_left price c.now u (Some t) + price) (wants_of file t.request) None (Some t) (λ e. job u t.first t.request e t.job) (λ e. omega arith)
+
+  -- a notice that does not cancel the call's request costs nothing more
+  pub uncancelled-costs : (c : Client) (file : ℕ) → is_cancelled file c.ticket ≡ false → CancelCosts 0 c file
+  uncancelled-costs c file not_so = by (nat_lt c.now c.pause) c.call c.ticket not_so
+    where
+      job : (u : UnderWay) (first : ℕ) (request : Request) → wants_of file request ≡ true → (j : Job) → (is_for_call j && wants_of file request) ≡ false → fresh_left price u ≤ job_left price c.now u first request j
+      job u first request e attaching off = omega arith
+      job u first request e for_call off = absurd (cc)
+      job u first request e renewing off = omega arith
+      job u first request e pushing off = omega arith
+
+      by : (b : Bool) (o : Option UnderWay) (ticket : Option Ticket) → is_cancelled file ticket ≡ false → requests_left price c.now b o (cancelled file ticket) ≤ requests_left price c.now b o ticket + 0
+      by true o ticket off = omega arith
+      by false None ticket off = omega arith
+      by false (Some u) None off = omega arith
+      by false (Some u) (Some t) off = choice (λ (o : Option Ticket). asked_left price c.now u o ≤ asked_left price c.now u (Some t) + 0) (wants_of file t.request) None (Some t) (λ e. let less = job u t.first t.request e t.job off in omega arith) (λ e. omega arith)
 
   -- ---- a client whose call wants no lease, or that pauses, loses nothing by a notice
 

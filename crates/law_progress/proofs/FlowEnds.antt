@@ -124,21 +124,24 @@ module _ (price note : ℕ) where
     pub cancels : EachClient (λ c. (file : ℕ) → CancelCosts price note rise c file) w
 
   -- a delivery sends no more than the packet weighs, less one
-  abbrev SendsLess : World → World → (more : List Packet) → ℕ → Type 0
+  abbrev pub SendsLess : World → World → (more : List Packet) → ℕ → Type 0
   SendsLess w v more paid = (packets_weight price note more + total (effort price) v.clients) + 1 ≤ paid + total (effort price) w.clients
 
-  record Pays (w v : World) (paid : ℕ) : Type 0 where
-    more : List Packet
-    grows : v.packets ≡ w.packets ++ more
-    less : SendsLess w v more paid
+  pub record Pays (w v : World) (paid : ℕ) : Type 0 where
+    pub more : List Packet
+    pub grows : v.packets ≡ w.packets ++ more
+    pub less : SendsLess w v more paid
 
-  pays-nothing : (w : World) (paid : ℕ) → 1 ≤ paid → Pays w w paid
+  pub pays-nothing : (w : World) (paid : ℕ) → 1 ≤ paid → Pays w w paid
   pays-nothing w paid some = record { more = []; grows = sym (append-nil w.packets); less = omega arith }
+
+  pub pays-more : (w v : World) (paid more : ℕ) → Pays w v paid → paid ≤ more → Pays w v more
+  pays-more w v paid more pays fewer = record { more = pays.more; grows = pays.grows; less = let less = pays.less in omega arith }
 
   host-weight : (host : ℕ) (sends : List Message) → packets_weight price note (map (from_host host) sends) ≡ total (weight price note) sends
   host-weight host sends = total-map (packet_weight price note) (from_host host) sends
 
-  client-pays : (w : World) (host paid : ℕ) (c : Client) (t : ClientStep) → slice_get w.clients host ≡ Some c → cost price note t + 1 ≤ effort price c + paid → Pays w (after_client w host t) paid
+  pub client-pays : (w : World) (host paid : ℕ) (c : Client) (t : ClientStep) → slice_get w.clients host ≡ Some c → cost price note t + 1 ≤ effort price c + paid → Pays w (after_client w host t) paid
   unfolding after_client
   client-pays w host paid c t is less = record {
     more = map (from_host host) t.sends;
@@ -149,7 +152,7 @@ module _ (price note : ℕ) where
         omega arith;
   }
 
-  server-pays : (w : World) (paid : ℕ) (t : ServerStep) → packets_weight price note t.sends + 1 ≤ paid → Pays w (after_server w t) paid
+  pub server-pays : (w : World) (paid : ℕ) (t : ServerStep) → packets_weight price note t.sends + 1 ≤ paid → Pays w (after_server w t) paid
   unfolding after_server
   server-pays w paid t less = record { more = t.sends; grows = refl; less = omega arith }
 
@@ -185,8 +188,8 @@ module _ (price note : ℕ) where
   self-gone : (k : ℕ) (fresh : List ℕ) → without k (k ∷ fresh) ≡ without k fresh
   self-gone k fresh = let same : (k == k) ≡ true = number-same k k refl in rw same refl
 
-  module _ (w v : World) (k : ℕ) (fresh : List ℕ) (events : List Event) (sent : AllSent (length w.packets) (k ∷ fresh)) (pays : Pays w v (number_weight w.packets k)) where
-    abbrev next : Play
+  module _ (w v : World) (k : ℕ) (fresh : List ℕ) (events : List Event) (sent : AllSent (length w.packets) (k ∷ fresh)) (extra : ℕ) (pays : Pays w v (number_weight w.packets k + extra)) where
+    abbrev pub next : Play
     next = record { world = v; fresh = without k (k ∷ fresh) ++ added w v; events = events }
 
     longer : length v.packets ≡ length w.packets + length pays.more
@@ -195,14 +198,14 @@ module _ (price note : ℕ) where
     new : added w v ≡ numbers_from (length w.packets) (length pays.more)
     new = let n = longer in ap (numbers_from (length w.packets)) (omega arith)
 
-    next-sent : IsSentAll next
+    pub next-sent : IsSentAll next
     next-sent =
         let n = longer in
         let old : AllSent (length v.packets) (without k (k ∷ fresh)) = sent-wider (length w.packets) (length v.packets) (without k (k ∷ fresh)) (omega arith) (sent-filter (length w.packets) (λ n. not (n == k)) (k ∷ fresh) sent) in
         let fresh_ones : AllSent (length v.packets) (added w v) = subst (λ ns. AllSent (length v.packets) ns) (sym new) (sent-from (length v.packets) (length w.packets) (length pays.more) (omega arith)) in
         sent-append (length v.packets) (without k (k ∷ fresh)) (added w v) old fresh_ones
 
-    next-pays : left_to_pay next + 1 ≤ total (number_weight w.packets) (k ∷ fresh) + total (effort price) w.clients
+    pub next-pays : left_to_pay next + 1 ≤ (total (number_weight w.packets) (k ∷ fresh) + total (effort price) w.clients) + extra
     next-pays =
         let less = pays.less in
         let both = total-append (number_weight v.packets) (without k (k ∷ fresh)) (added w v) in
@@ -215,7 +218,7 @@ module _ (price note : ℕ) where
   -- ---- a flow
 
   -- where nothing is under way nothing comes
-  stays-empty : (fuel : ℕ) (p : Play) → p.fresh ≡ [] → (play_flow fuel p).fresh ≡ []
+  pub stays-empty : (fuel : ℕ) (p : Play) → p.fresh ≡ [] → (play_flow fuel p).fresh ≡ []
   stays-empty zero p none = none
   stays-empty (suc fuel) p none = stays-empty fuel (flow_first p.fresh p) (ap (λ ns. (flow_first ns p).fresh) none ∙ none)
 
@@ -236,10 +239,10 @@ module _ (price note : ℕ) where
           let w = p.world in
           let v = step w (Event.Deliver k) in
           let all : AllSent (length w.packets) (k ∷ fresh) = subst (λ ns. AllSent (length w.packets) ns) is sent in
-          let pays : Pays w v (number_weight w.packets k) = packet-pays rise w (affords p good) k (slice_get w.packets k) refl in
-          let q : Play = next w v k fresh (Event.Deliver k ∷ p.events) all pays in
+          let pays : Pays w v (number_weight w.packets k + 0) = pays-more w v (number_weight w.packets k) (number_weight w.packets k + 0) (packet-pays rise w (affords p good) k (slice_get w.packets k) refl) (omega arith) in
+          let q : Play = next w v k fresh (Event.Deliver k ∷ p.events) all 0 pays in
           let same : play p (Event.Deliver k) ≡ q = ap (λ ns. record { world = v; fresh = without k ns ++ added w v; events = Event.Deliver k ∷ p.events }) is in
           let whole : total (number_weight w.packets) p.fresh ≡ total (number_weight w.packets) (k ∷ fresh) = ap (total (number_weight w.packets)) is in
-          let less = next-pays w v k fresh (Event.Deliver k ∷ p.events) all pays in
-          let rest : (play_flow fuel (play p (Event.Deliver k))).fresh ≡ [] = again (play p (Event.Deliver k)) (goes p k good) (subst (λ r. IsSentAll r) (sym same) (next-sent w v k fresh (Event.Deliver k ∷ p.events) all pays)) (subst (λ r. left_to_pay r ≤ fuel) (sym same) (omega arith)) in
+          let less = next-pays w v k fresh (Event.Deliver k ∷ p.events) all 0 pays in
+          let rest : (play_flow fuel (play p (Event.Deliver k))).fresh ≡ [] = again (play p (Event.Deliver k)) (goes p k good) (subst (λ r. IsSentAll r) (sym same) (next-sent w v k fresh (Event.Deliver k ∷ p.events) all 0 pays)) (subst (λ r. left_to_pay r ≤ fuel) (sym same) (omega arith)) in
           subst (λ ns. (play_flow fuel (flow_first ns p)).fresh ≡ []) (sym is) rest

@@ -13,3 +13,4 @@ pub mod Bounds
 pub mod HostsBelow
 pub mod SparedSteps
 pub mod QuietFlows
+pub mod CancelFlows

@@ -29,14 +29,16 @@ use Rattle.walk_run.proofs.Packets.{in-get}
 use Rattle.walk_server.proofs.Tests.{is-below, is-not-below}
 use Rattle.law_progress.proofs.ClientCount.{client-count}
 use Rattle.law_progress.proofs.HostsBelow.{IsLocal, run-local, one-row-each}
-use Rattle.law_progress.proofs.ServerWeights.{packets_weight}
+use Rattle.law_progress.proofs.ServerWeights.{packets_weight, Dear}
 use Rattle.law_progress.proofs.SparedSteps.{found-all, delivered-spared}
+use Rattle.nq_promises.specs.Bounds.{KeepsBounds}
+use Rattle.nq_model.specs.Skew.{IsWithinSkew}
 use Rattle.law_progress.specs.CalmRound.{AreUnderWay, calmed, calm_round, calm_rounds, most_deliveries}
 use Rattle.law_progress.specs.QuietDeliveries.{recovers, IsSpared, RecoveringDeliveryEnds, SparedDeliveryEnds}
 use Rattle.law_progress.proofs.Bounds.{within-bound}
 use Rattle.law_progress.proofs.CalmIsLawful.{calm-is-lawful}
 use Rattle.law_progress.proofs.EffortReplies.{cancel-costs, spared-costs}
-use Rattle.law_progress.proofs.FlowEnds.{AllSent, IsSentAll, sent-wider, sent-filter, sent-append, sent-from, Affords, flow-ends}
+use Rattle.law_progress.proofs.FlowEnds.{AllSent, IsSentAll, sent-wider, sent-filter, sent-append, sent-from, left_to_pay, Affords, flow-ends}
 
 -- ---- what is under way was sent, in each play of a calm network
 
@@ -156,27 +158,31 @@ recovering-ends most head events bounds within under_way count all phase =
 
 -- ---- no call waits for a lease
 
+-- a play stands where its events lead, and there are no more hosts than there may be
+pub record Stands (head : Head) (p : Play) : Type 0 where
+  pub is_run : p.world ≡ run head p.events
+  pub hosts : head.hosts ≤ most_hosts
+
 record Spared (head : Head) (p : Play) : Type 0 where
-  is_run : p.world ≡ run head p.events
-  hosts : head.hosts ≤ most_hosts
+  stands : Stands head p
   spared : All IsSpared p.world.clients
 
 -- what a request costs: a reply, and two for each host
-abbrev price_for : Head → ℕ
+abbrev pub price_for : Head → ℕ
 price_for head = (head.hosts + head.hosts) + 3
 
 notices-most : (price xid : ℕ) (rows : List Row) → packets_weight price 2 (notices xid rows) ≤ length rows + length rows
 notices-most price xid [] = omega arith
 notices-most price xid (row ∷ rows) = let rest = notices-most price ((xid + 1) % xid_end) rows in omega arith
 
-module _ (head : Head) (p : Play) (s : Spared head p) where
+module _ (head : Head) (p : Play) (s : Stands head p) where
   local : IsLocal head.hosts p.world
   local = subst (λ w. IsLocal head.hosts w) (sym s.is_run) (run-local head p.events)
 
   each-row : HasOneRowEach p.world.server.table.rows
   each-row = subst (λ (w : World). HasOneRowEach w.server.table.rows) (sym s.is_run) (one-row-each head p.events)
 
-  all-alone : (host : ℕ) (c : Client) → slice_get p.world.clients host ≡ Some c → Alone c
+  pub all-alone : (host : ℕ) (c : Client) → slice_get p.world.clients host ≡ Some c → Alone c
   all-alone host c is = ((run-holds head p.events).clients host c (subst (λ (w : World). slice_get w.clients host ≡ Some c) s.is_run is)).alone
 
   -- the notices of one step are fewer than the hosts
@@ -195,33 +201,47 @@ module _ (head : Head) (p : Play) (s : Spared head p) where
       by true e = is-below host head.hosts e
       by false e = let none = local.rows file host (is-not-below host head.hosts e) in none-some row (sym none ∙ found)
 
-  spared-affords : Affords (price_for head) 2 0 p.world
-  spared-affords = record {
-    dear = λ k q sent. record {
-      least = omega arith;
-      noted = omega arith;
-      others = λ serves file host access same within.
-          let few = few-notices k q sent file host access same within in
-          let all = notices-most (price_for head) p.world.server.notice (in_the_way p.world.server file host access) in
-          omega arith;
-      own = λ serves file host row found. let below = some-host file host row found in omega arith;
-    };
+  -- a request pays for the notices that it may cause
+  pub all-dear : (k : ℕ) (q : Packet) → slice_get p.world.packets k ≡ Some q → Dear (price_for head) 2 p.world.server (sending_host q.sender)
+  all-dear k q sent = record {
     least = omega arith;
     noted = omega arith;
-    alone = all-alone;
-    cancels = λ host c is file. spared-costs (price_for head) 2 c file (found-all IsSpared p.world.clients host c is s.spared);
+    others = λ serves file host access same within.
+        let few = few-notices k q sent file host access same within in
+        let all = notices-most (price_for head) p.world.server.notice (in_the_way p.world.server file host access) in
+        omega arith;
+    own = λ serves file host row found. let below = some-host file host row found in omega arith;
   }
 
-  spared-goes : (k : ℕ) → Spared head (play p (Event.Deliver k))
-  spared-goes k = record {
-    is_run = ap (λ w. step w (Event.Deliver k)) s.is_run;
-    hosts = s.hosts;
-    spared = delivered-spared p.world all-alone s.spared k (slice_get p.world.packets k);
-  }
+pub stands-goes : (head : Head) (p : Play) (k : ℕ) → Stands head p → Stands head (play p (Event.Deliver k))
+stands-goes head p k s = record { is_run = ap (λ w. step w (Event.Deliver k)) s.is_run; hosts = s.hosts }
+
+spared-affords : (head : Head) (p : Play) → Spared head p → Affords (price_for head) 2 0 p.world
+spared-affords head p s = record {
+  dear = all-dear head p s.stands;
+  least = omega arith;
+  noted = omega arith;
+  alone = all-alone head p s.stands;
+  cancels = λ host c is file. spared-costs (price_for head) 2 c file (found-all IsSpared p.world.clients host c is s.spared);
+}
+
+spared-goes : (head : Head) (p : Play) (k : ℕ) → Spared head p → Spared head (play p (Event.Deliver k))
+spared-goes head p k s = record {
+  stands = stands-goes head p k s.stands;
+  spared = delivered-spared p.world (all-alone head p s.stands) s.spared k (slice_get p.world.packets k);
+}
+
+-- a play of a calm network stands so, and its bound is kept
+pub calm-stands : (most : ℕ) (head : Head) (events : List Event) → KeepsBounds most head events → IsWithinSkew head.hosts most events → (under_way : List ℕ) (count : ℕ) → Stands head (calm_rounds count (calmed head events under_way))
+calm-stands most head events bounds within under_way count = record { is_run = (calm-is-lawful most head events bounds within under_way count).is_run; hosts = bounds.hosts }
+
+pub stands-bound : (head : Head) (p : Play) → Stands head p → left_to_pay (price_for head) 2 p ≤ most_deliveries p
+stands-bound head p s =
+    let hosts : length p.world.clients ≡ head.hosts = ap (λ (w : World). length w.clients) s.is_run ∙ client-count head p.events in
+    within-bound (price_for head) 2 (omega arith) (omega arith) p (omega arith) (λ some. omega arith)
 
 pub spared-ends : SparedDeliveryEnds
 spared-ends most head events bounds within under_way count all spared =
     let p = calm_rounds count (calmed head events under_way) in
-    let lawful = calm-is-lawful most head events bounds within under_way count in
-    let hosts : length p.world.clients ≡ head.hosts = ap (λ (w : World). length w.clients) lawful.is_run ∙ client-count head p.events in
-    flow-ends (price_for head) 2 0 (Spared head) (λ q s. spared-affords head q s) (λ q k s. spared-goes head q s k) (most_deliveries p) p (record { is_run = lawful.is_run; hosts = bounds.hosts; spared = spared }) (calm-sent head events under_way count all) (within-bound (price_for head) 2 (omega arith) (omega arith) p (omega arith) (λ some. omega arith))
+    let stands = calm-stands most head events bounds within under_way count in
+    flow-ends (price_for head) 2 0 (Spared head) (spared-affords head) (spared-goes head) (most_deliveries p) p (record { stands = stands; spared = spared }) (calm-sent head events under_way count all) (stands-bound head p stands)

@@ -7,3 +7,4 @@ pub mod EverythingIsStored
 pub mod AnswersStay
 pub mod SomeNeedHalf
 pub mod QuietDeliveries
+pub mod CancelledDeliveries

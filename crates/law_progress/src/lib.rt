@@ -4,6 +4,7 @@
 
 ghost use Rattle.law_progress.specs.AnswersStay.{AnswersStay, StoresStay};
 ghost use Rattle.law_progress.specs.CalmRoundsAreLawful.{CalmRoundsAreLawful};
+ghost use Rattle.law_progress.specs.CancelledDeliveries.{DeliveryEndsButForCancels};
 ghost use Rattle.law_progress.specs.ClocksTickOnce.{ClocksTickOnce};
 ghost use Rattle.law_progress.specs.QuietDeliveries.{RecoveringDeliveryEnds, SparedDeliveryEnds};
 ghost use Rattle.law_progress.specs.SomeNeedHalf.{NeedsHalf};
@@ -42,4 +43,9 @@ pub fn recovering_deliveries_end()
 /// one of a client that pauses.
 pub fn spared_deliveries_end()
     ensures { SparedDeliveryEnds }
+{}
+
+/// A calm delivery goes on longer than is stated only where notices cancel requests of calls, and by so much for each.
+pub fn deliveries_end_but_for_cancels()
+    ensures { DeliveryEndsButForCancels }
 {}
