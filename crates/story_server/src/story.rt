@@ -1,5 +1,7 @@
 //! A server to which datagrams, ticks and crashes come.
 
+ghost use Rattle.std.specs.Prelude.{◌≡◌, ◌≤◌, ◌<◌, ◌^◌, true};
+
 use crate::words::{bytes_of, push_words};
 use anyhow::{Context, Result, bail};
 use nq_base::{Host, Party, Ticks};
@@ -68,7 +70,10 @@ impl Story {
     }
 
     /// Whether the server's clock may show a time.
-    fn comes(&self, now: u64) -> bool {
+    fn comes(&self, now: u64) -> bool
+        ensures later { result ≡ true → self.now.server.beside.time ≤ now }
+        ensures early { result ≡ true → now < 2 ^ 62 }
+    {
         self.server.time().0 <= now && now < END_OF_CLOCKS
     }
 
