@@ -14,3 +14,4 @@ pub mod HostsBelow
 pub mod SparedSteps
 pub mod QuietFlows
 pub mod CancelFlows
+pub mod SharedRows
