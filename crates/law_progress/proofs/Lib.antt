@@ -15,3 +15,4 @@ pub mod SparedSteps
 pub mod QuietFlows
 pub mod CancelFlows
 pub mod SharedRows
+pub mod NoticeRows

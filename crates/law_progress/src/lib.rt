@@ -6,6 +6,7 @@ ghost use Rattle.law_progress.specs.AnswersStay.{AnswersStay, StoresStay};
 ghost use Rattle.law_progress.specs.CalmRoundsAreLawful.{CalmRoundsAreLawful};
 ghost use Rattle.law_progress.specs.CancelledDeliveries.{DeliveryEndsButForCancels};
 ghost use Rattle.law_progress.specs.ClocksTickOnce.{ClocksTickOnce};
+ghost use Rattle.law_progress.specs.NoticesMark.{NoticesMarkRows};
 ghost use Rattle.law_progress.specs.QuietDeliveries.{RecoveringDeliveryEnds, SparedDeliveryEnds};
 ghost use Rattle.law_progress.specs.SharedFiles.{SharedFilesStayShared, WhoIsPutOffHasRow};
 ghost use Rattle.law_progress.specs.SomeNeedHalf.{NeedsHalf};
@@ -59,4 +60,9 @@ pub fn shared_files_stay_shared()
 /// Whoever wants a lease and is put off has a row of the file then, where the table had room for one more.
 pub fn who_is_put_off_has_row()
     ensures { WhoIsPutOffHasRow }
+{}
+
+/// The row that a notice names is marked as one that is to go.
+pub fn notices_mark_rows()
+    ensures { NoticesMarkRows }
 {}
