@@ -12,7 +12,7 @@ use Rattle.nq_base.specs.declared.Who.{Who}
 use Rattle.nq_model.proofs.Finding.{number-other}
 use Rattle.nq_model.specs.Ask.{conflicts, marked, sharing_row}
 use Rattle.nq_model.specs.Decide.{in_the_way, decides, creates, writes_through, stores, stores_recovering, wrote, resizes, removes, puts_off, commits}
-use Rattle.nq_model.specs.Message.{Message, Packet, Datagram, other_rpc, other_program, other_version, unknown_procedure, garbage, call, reply, error}
+use Rattle.nq_model.specs.Message.{Message, Packet, Datagram, other_rpc, other_program, other_version, unknown_procedure, garbage, call, reply}
 use Rattle.nq_model.specs.Profile.{xid_end}
 use Rattle.nq_model.specs.Server.{Server, notices, to_host, after_notices, keeping, keeping_with, with_table, quiet, drops, says}
 use Rattle.nq_model.specs.ServerStep.{access_of, attaches, vacates, tells_later, serves, leases, receive}
