@@ -14,3 +14,5 @@ pub mod HostsBelow
 pub mod SparedSteps
 pub mod QuietFlows
 pub mod CancelFlows
+pub mod SharedRows
+pub mod NoticeRows

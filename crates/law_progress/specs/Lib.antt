@@ -8,3 +8,5 @@ pub mod AnswersStay
 pub mod SomeNeedHalf
 pub mod QuietDeliveries
 pub mod CancelledDeliveries
+pub mod SharedFiles
+pub mod NoticesMark
