@@ -6,3 +6,7 @@ pub mod CallsAreAnswered
 pub mod EverythingIsStored
 pub mod AnswersStay
 pub mod SomeNeedHalf
+pub mod QuietDeliveries
+pub mod CancelledDeliveries
+pub mod SharedFiles
+pub mod NoticesMark

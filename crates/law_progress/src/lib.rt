@@ -4,7 +4,11 @@
 
 ghost use Rattle.law_progress.specs.AnswersStay.{AnswersStay, StoresStay};
 ghost use Rattle.law_progress.specs.CalmRoundsAreLawful.{CalmRoundsAreLawful};
+ghost use Rattle.law_progress.specs.CancelledDeliveries.{DeliveryEndsButForCancels};
 ghost use Rattle.law_progress.specs.ClocksTickOnce.{ClocksTickOnce};
+ghost use Rattle.law_progress.specs.NoticesMark.{NoticesMarkRows};
+ghost use Rattle.law_progress.specs.QuietDeliveries.{RecoveringDeliveryEnds, SparedDeliveryEnds};
+ghost use Rattle.law_progress.specs.SharedFiles.{SharedFilesStayShared, WhoIsPutOffHasRow};
 ghost use Rattle.law_progress.specs.SomeNeedHalf.{NeedsHalf};
 
 /// Calm rounds keep a schedule within its bounds and within skew.
@@ -30,4 +34,35 @@ pub fn some_need_half()
 /// Each calm round is one tick of each clock.
 pub fn clocks_tick_once()
     ensures { ClocksTickOnce }
+{}
+
+/// While the server recovers each calm delivery ends, within the bound that is stated.
+pub fn recovering_deliveries_end()
+    ensures { RecoveringDeliveryEnds }
+{}
+
+/// Each calm delivery in which no call waits for a lease ends, within the bound that is stated: each `read` and `write` that is open is
+/// one of a client that pauses.
+pub fn spared_deliveries_end()
+    ensures { SparedDeliveryEnds }
+{}
+
+/// A calm delivery goes on longer than is stated only where notices cancel requests of calls, and by so much for each.
+pub fn deliveries_end_but_for_cancels()
+    ensures { DeliveryEndsButForCancels }
+{}
+
+/// Where a host has a row of a file that does not let it cache, nobody's row comes to let him cache the file by a datagram.
+pub fn shared_files_stay_shared()
+    ensures { SharedFilesStayShared }
+{}
+
+/// Whoever wants a lease and is put off has a row of the file then, where the table had room for one more.
+pub fn who_is_put_off_has_row()
+    ensures { WhoIsPutOffHasRow }
+{}
+
+/// The row that a notice names is marked as one that is to go.
+pub fn notices_mark_rows()
+    ensures { NoticesMarkRows }
 {}

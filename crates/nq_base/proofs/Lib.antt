@@ -1,4 +1,4 @@
-mod Doubling
 pub mod Filling
 pub mod NameTests
 pub mod Options
+mod Repeating

@@ -20,7 +20,7 @@ mod tags;
 
 pub use answers::{Answer, Value};
 pub use asks::{Access, Asked, Clash, Push, Question};
-pub use blocks::Block;
+pub use blocks::{Block, Seen, Spare};
 pub use calls::{Call, Event};
 pub use changes::{BlockChange, Change, Heads, HostChange, Space};
 pub use clocks::SkewBroken;

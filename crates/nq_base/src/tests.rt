@@ -3,25 +3,54 @@
 use super::*;
 
 #[test]
-fn blocks_repeat_their_number(rt: HostRuntime) {
-    let block = Block::fill(0x0102_0304);
-    assert_eq!(rt; block.as_bytes().len(), 4096);
-    assert_eq!(rt; &block.as_bytes()[..6], [1, 2, 3, 4, 1, 2].as_slice());
-    assert_eq!(rt; &block.as_bytes()[4092..], [1, 2, 3, 4].as_slice());
-    for value in [0, 7, 0x0102_0304, u32::MAX] {
-        assert_eq!(rt; Block::fill(value).value(), value);
+fn blocks_repeat_their_number(rt: HostRuntime) -> Result<(), NoMemory> {
+    let mut bytes = [0; 4096];
+    for (at, byte) in bytes.iter_mut().enumerate() {
+        *byte = [1, 2, 3, 4][at % 4];
     }
+    match Block::from_bytes(rt.alloc(), &bytes)? {
+        Some(block) => match block.seen() {
+            Seen::Filled(value) => assert_eq!(rt; value, 0x0102_0304),
+            Seen::Bytes(_) => assert!(rt; false),
+        },
+        None => assert!(rt; false),
+    }
+    bytes[4095] = 5;
+    match Block::from_bytes(rt.alloc(), &bytes)? {
+        Some(block) => match block.copied(rt.alloc())?.seen() {
+            Seen::Filled(_) => assert!(rt; false),
+            Seen::Bytes(seen) => assert_eq!(rt; seen, &bytes[..]),
+        },
+        None => assert!(rt; false),
+    }
+    Ok(())
 }
 
 #[test]
-fn blocks_have_4096_bytes(rt: HostRuntime) {
+fn blocks_have_4096_bytes(rt: HostRuntime) -> Result<(), NoMemory> {
     let bytes = [9; 4097];
-    assert!(rt; Block::from_bytes(&bytes).is_none());
-    assert!(rt; Block::from_bytes(&bytes[..4095]).is_none());
-    match Block::from_bytes(&bytes[..4096]) {
+    assert!(rt; Block::from_bytes(rt.alloc(), &bytes)?.is_none());
+    assert!(rt; Block::from_bytes(rt.alloc(), &bytes[..4095])?.is_none());
+    match Block::from_bytes(rt.alloc(), &bytes[..4096])? {
         Some(block) => assert_eq!(rt; block.value(), 0x0909_0909),
         None => assert!(rt; false),
     }
+    Ok(())
+}
+
+#[test]
+fn room_is_kept_for_a_copy(rt: HostRuntime) -> Result<(), NoMemory> {
+    let mut bytes = [0; 4096];
+    bytes[9] = 1;
+    let mut spare = Spare::none();
+    spare.reserve(rt.alloc())?;
+    if let Some(block) = Block::from_bytes(rt.alloc(), &bytes)? {
+        match block.copied_in(&mut spare).seen() {
+            Seen::Filled(_) => assert!(rt; false),
+            Seen::Bytes(seen) => assert_eq!(rt; seen, &bytes[..]),
+        }
+    }
+    Ok(())
 }
 
 #[test]

@@ -9,12 +9,12 @@ const FILE: FileId = FileId(1);
 /// Reads the first `read` of so many blocks, one after the other and again from the first.
 pub(crate) fn read_often(alloc: Global, blocks: u32, read: u32, times: u64) -> Option<u64> {
     let mut cache = filled(alloc, blocks)?;
-    let mut into = Block::fill(0);
     let mut sum: u64 = 0;
     let mut block: u32 = 0;
     for _ in 0..times {
-        if cache.get(FILE, BlockNo(block), &mut into) {
-            sum = sum.wrapping_add(u64::from(into.value()));
+        cache.touch(FILE, BlockNo(block));
+        if let Some(body) = cache.get(FILE, BlockNo(block)) {
+            sum = sum.wrapping_add(u64::from(body.value()));
         }
         let next = block.wrapping_add(1);
         block = if next < read { next } else { 0 };
@@ -25,7 +25,7 @@ pub(crate) fn read_often(alloc: Global, blocks: u32, read: u32, times: u64) -> O
 fn filled(alloc: Global, blocks: u32) -> Option<Cache> {
     let mut cache = Cache::new(alloc).ok()?;
     for block in 0..blocks {
-        cache.put(FILE, BlockNo(block), &Block::fill(block)).ok()?;
+        cache.put(FILE, BlockNo(block), Block::fill(block)).ok()?;
     }
     Some(cache)
 }
@@ -33,12 +33,11 @@ fn filled(alloc: Global, blocks: u32) -> Option<Cache> {
 /// Copies the blocks of a list of so many, one after the other and again from the first.
 pub(crate) fn copy_often(alloc: Global, blocks: u32, times: u64) -> Option<u64> {
     let list = listed(alloc, blocks)?;
-    let mut into = Block::fill(0);
     let mut sum: u64 = 0;
     let mut place: usize = 0;
     for _ in 0..times {
-        into.copy_from(list.get(place)?);
-        sum = sum.wrapping_add(u64::from(into.value()));
+        let copy = list.get(place)?.copied(alloc).ok()?;
+        sum = sum.wrapping_add(u64::from(copy.value()));
         let next = place.wrapping_add(1);
         place = if next < list.len() { next } else { 0 };
     }

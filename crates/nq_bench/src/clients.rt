@@ -1,7 +1,8 @@
 //! A client that holds leases on so many files: its cached reads and its delayed writes.
 
 use nq_base::{
-    Answer, Block, BlockNo, Call, FileId, Grant, Host, Inc, Mode, Reply, Rev, Tag, Ticks, Value,
+    Answer, Block, BlockNo, Call, FileId, Grant, Host, Inc, Mode, Reply, Rev, Spare, Tag, Ticks,
+    Value,
 };
 use nq_client::Client;
 use nq_datagrams::reply_bytes;
@@ -99,7 +100,7 @@ fn filled_and_used(
     let mut desk = Desk::new(alloc)?;
     desk.fill(client, act, extent)?;
     match act {
-        Act::ReadCached => read_cached_often(client, extent, times),
+        Act::ReadCached => read_cached_often(alloc, client, extent, times),
         Act::Read | Act::Write => desk.call_often(client, act, extent, times),
     }
 }
@@ -153,16 +154,20 @@ impl Desk {
 }
 
 /// None where the client does not have a block.
-fn read_cached_often(client: &mut Client, extent: Extent, times: u64) -> Option<u64> {
-    let mut into = Block::fill(0);
+fn read_cached_often(
+    alloc: Global,
+    client: &mut Client,
+    extent: Extent,
+    times: u64,
+) -> Option<u64> {
+    let mut room = Spare::none();
     let mut sum: u64 = 0;
     let mut place: u32 = 0;
     for _ in 0..times {
         let (file, block) = extent.at(place)?;
-        if !client.read_cached(file, block, &mut into) {
-            return None;
-        }
-        sum = sum.wrapping_add(u64::from(into.value()));
+        room.reserve(alloc).ok()?;
+        let body = client.read_cached(file, block, &mut room)?;
+        sum = sum.wrapping_add(u64::from(body.value()));
         place = extent.next(place);
     }
     Some(sum)

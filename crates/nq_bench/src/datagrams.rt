@@ -1,6 +1,6 @@
 //! Datagrams of a LOOKUP, of its reply and of the reply to a READ, written and read.
 
-use nq_base::{Block, FileId, Host, Inc, Name, PushBase, Reply, Request, Rev, Who};
+use nq_base::{Block, FileId, Host, Inc, Name, PushBase, Reply, Request, Rev, Spare, Who};
 use nq_rpc::{Head, LentMessage, LentOutcome, begin_call, begin_reply, decode_in_place};
 use nq_wire::{Procedure, decode_reply, decode_request, encode_reply_into, encode_request_into};
 use nq_xdr::Writer;
@@ -87,26 +87,27 @@ fn encode_replies(alloc: Global, times: u64, said: &Reply) -> Option<u64> {
     Some(sum)
 }
 
-/// A number that stands on what the datagram asks.
-fn request_in(alloc: Global, bytes: &[u8]) -> Option<u64> {
+/// A number that stands on what the datagram asks, which is read with this room.
+fn request_in(alloc: Global, bytes: &[u8], room: &mut Spare) -> Option<u64> {
+    room.reserve(alloc).ok()?;
     let LentMessage::Call(call) = decode_in_place(bytes).ok()? else {
         return None;
     };
     let xid = u64::from(call.head.xid);
-    match decode_request(alloc, call.head.procedure, call.arguments) {
-        Ok(Request::Lookup { who, .. }) => Some(xid + u64::from(who.host.0)),
-        Ok(
-            Request::Write {
-                push: Some(PushBase { boot, .. }),
-                ..
-            },
-        ) => Some(xid + u64::from(boot)),
-        Ok(_) | Err(_) => None,
+    let request = decode_request(call.head.procedure, call.arguments, room).ok()?;
+    match &request {
+        Request::Lookup { who, .. } => Some(xid + u64::from(who.host.0)),
+        Request::Write {
+            push: Some(PushBase { boot, .. }),
+            ..
+        } => Some(xid + u64::from(*boot)),
+        _ => None,
     }
 }
 
-/// A number that stands on what the datagram answers.
-fn reply_in(alloc: Global, procedure: Procedure, bytes: &[u8]) -> Option<u64> {
+/// A number that stands on what the datagram answers, which is read with this room.
+fn reply_in(alloc: Global, procedure: Procedure, bytes: &[u8], room: &mut Spare) -> Option<u64> {
+    room.reserve(alloc).ok()?;
     let LentMessage::Reply(reply) = decode_in_place(bytes).ok()? else {
         return None;
     };
@@ -114,7 +115,7 @@ fn reply_in(alloc: Global, procedure: Procedure, bytes: &[u8]) -> Option<u64> {
         return None;
     };
     let xid = u64::from(reply.xid);
-    match decode_reply(alloc, procedure.number(), results).ok()? {
+    match decode_reply(procedure.number(), results, room).ok()? {
         Reply::Lookup { blocks, .. } => Some(xid + u64::from(blocks)),
         Reply::Read { body, .. } => Some(xid + u64::from(body.value())),
         _ => None,
@@ -123,9 +124,10 @@ fn reply_in(alloc: Global, procedure: Procedure, bytes: &[u8]) -> Option<u64> {
 
 pub(crate) fn decode_lookups(alloc: Global, times: u64) -> Option<u64> {
     let bytes = lookup(alloc, 1)?;
+    let mut room = Spare::none();
     let mut sum: u64 = 0;
     for _ in 0..times {
-        sum = sum.wrapping_add(request_in(alloc, &bytes)?);
+        sum = sum.wrapping_add(request_in(alloc, &bytes, &mut room)?);
     }
     Some(sum)
 }
@@ -140,9 +142,10 @@ pub(crate) fn decode_read_replies(alloc: Global, times: u64) -> Option<u64> {
 
 fn decode_replies(alloc: Global, times: u64, procedure: Procedure, said: &Reply) -> Option<u64> {
     let bytes = reply(alloc, 1, said)?;
+    let mut room = Spare::none();
     let mut sum: u64 = 0;
     for _ in 0..times {
-        sum = sum.wrapping_add(reply_in(alloc, procedure, &bytes)?);
+        sum = sum.wrapping_add(reply_in(alloc, procedure, &bytes, &mut room)?);
     }
     Some(sum)
 }

@@ -23,14 +23,15 @@ pub(crate) fn often(alloc: Global, way: &str, times: u64) -> Option<u64> {
 /// Writes the first `written` of so many blocks that are in the list, one after the other and again from the first.
 fn write_again_often(alloc: Global, blocks: u32, written: u32, times: u64) -> Option<u64> {
     let mut dirty = Dirty::new(alloc).ok()?;
-    let body = Block::fill(7);
     for block in 0..blocks {
-        dirty.write(FILE, BlockNo(block), Number(1), &body).ok()?;
+        dirty
+            .write(FILE, BlockNo(block), Number(1), Block::fill(7))
+            .ok()?;
     }
     let mut block: u32 = 0;
     for number in 0..times {
         dirty
-            .write(FILE, BlockNo(block), Number(number), &body)
+            .write(FILE, BlockNo(block), Number(number), Block::fill(7))
             .ok()?;
         block = next_below(block, written);
     }
@@ -40,12 +41,11 @@ fn write_again_often(alloc: Global, blocks: u32, written: u32, times: u64) -> Op
 /// Writes blocks that are not in the list. Once so many are in it they are lost, and the list begins anew.
 fn write_new_often(alloc: Global, blocks: u32, times: u64) -> Option<u64> {
     let mut dirty = Dirty::new(alloc).ok()?;
-    let body = Block::fill(7);
     let mut sum: u64 = 0;
     let mut block: u32 = 0;
     for number in 0..times {
         dirty
-            .write(FILE, BlockNo(block), Number(number), &body)
+            .write(FILE, BlockNo(block), Number(number), Block::fill(7))
             .ok()?;
         block = next_below(block, blocks);
         if block == 0 {

@@ -10,6 +10,3 @@ mod starting;
 
 pub use recovering::{Finish, Recovering, Serving};
 pub use starting::{StartFault, Started, start};
-
-#[cfg(test)]
-mod tests;

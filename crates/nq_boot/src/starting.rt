@@ -107,7 +107,7 @@ fn keep_heads<K: Keeper>(keeper: &mut K, heads: Heads) -> Result<(), KeepFault>
     ensures leaves { LeavesTwo (change_of_heads heads) (K.content keeper.old) (K.leaves keeper.old keeper.new) }
 {
     let change = change_to(heads);
-    keeper.commit(&change)
+    keeper.commit(change)
 }
 
 /// Begins a boot, whose longest term is `longest` ticks, 5 to 600: it serves exactly where none served before. Its number

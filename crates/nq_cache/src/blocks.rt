@@ -1,6 +1,6 @@
 //! The clean blocks of a client.
 
-ghost use Rattle.std.specs.Prelude.{◌≡◌, ◌≤◌, [], length, is_some, unwrap_or, IsSome, IsOk, OnOk, OnErr, IfOk};
+ghost use Rattle.std.specs.Prelude.{◌≡◌, ◌≤◌, [], length, is_some, option_copied, IsSome, IsOk, OnOk, OnErr, IfOk};
 ghost use Rattle.nq_model.specs.Client.{clean_at, drop_clean, purge, put_clean};
 ghost use Rattle.nq_model.specs.Profile.{most_clean};
 ghost use Rattle.nq_model.specs.Settle.{clean_body, looked_up};
@@ -42,14 +42,18 @@ impl Blocks {
         Ok(Blocks { entries })
     }
 
-    /// Copies a block that is there, and brings it to the front.
-    pub(crate) fn get(&mut self, key: &Key, into: &mut Block) -> bool
-        ensures found { result ≡ is_some (clean_at key.now.file key.now.block self.old) }
-        ensures body { into.new ≡ unwrap_or (clean_body (clean_at key.now.file key.now.block self.old)) into.old }
-        ensures order { self.new ≡ looked_up key.now.file key.now.block self.old }
+    /// A block that is there.
+    pub(crate) fn get(&self, key: &Key) -> Option<&Block>
+        ensures { option_copied result ≡ clean_body (clean_at key.now.file key.now.block self.now) }
     {
-        read(&self.entries, key, into);
-        bring_forward(&mut self.entries, key)
+        read(&self.entries, key)
+    }
+
+    /// Brings a block to the front, if it is there.
+    pub(crate) fn touch(&mut self, key: &Key)
+        ensures { self.new ≡ looked_up key.now.file key.now.block self.old }
+    {
+        bring_forward(&mut self.entries, key);
     }
 
     /// Whether a block is there.
@@ -61,8 +65,8 @@ impl Blocks {
     }
 
     /// Puts a block in front. The last one goes where there would be more than 512.
-    pub(crate) fn put(&mut self, key: &Key, body: &Block) -> Result<(), NoMemory>
-        ensures put { OnOk result (self.new ≡ put_clean key.now.file key.now.block body.now self.old) }
+    pub(crate) fn put(&mut self, key: &Key, body: Block) -> Result<(), NoMemory>
+        ensures put { OnOk result (self.new ≡ put_clean key.now.file key.now.block body self.old) }
         ensures refused { OnErr result (self.new ≡ self.old) }
         ensures succeeds { IsSome (clean_at key.now.file key.now.block self.old) → IsOk result }
     {
@@ -86,8 +90,8 @@ impl Blocks {
     }
 
     /// Takes the other blocks of a file out, and puts a block in front.
-    pub(crate) fn put_alone(&mut self, key: &Key, body: &Block) -> Result<(), NoMemory>
-        ensures put { OnOk result (self.new ≡ put_clean key.now.file key.now.block body.now (purge key.now.file self.old)) }
+    pub(crate) fn put_alone(&mut self, key: &Key, body: Block) -> Result<(), NoMemory>
+        ensures put { OnOk result (self.new ≡ put_clean key.now.file key.now.block body (purge key.now.file self.old)) }
         ensures refused { OnErr result (self.new ≡ self.old) }
         ensures succeeds { IsSome (clean_at key.now.file key.now.block self.old) → IsOk result }
     {

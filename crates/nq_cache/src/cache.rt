@@ -1,6 +1,6 @@
 //! The cache of a client.
 
-ghost use Rattle.std.specs.Prelude.{◌≡◌, ◌≤◌, ◌+◌, [], length, is_some, unwrap_or, option_map, IsSome, IsOk, OnOk, OnErr, IfOk};
+ghost use Rattle.std.specs.Prelude.{◌≡◌, ◌≤◌, ◌+◌, [], length, is_some, option_copied, option_map, IsSome, IsOk, OnOk, OnErr, IfOk};
 ghost use Rattle.nq_model.specs.Client.{clean_at, drop_clean, purge, put_clean, revision_of, put_revision};
 ghost use Rattle.nq_model.specs.Profile.{most_clean};
 ghost use Rattle.nq_model.specs.Settle.{clean_body, looked_up};
@@ -41,13 +41,18 @@ impl Cache {
         })
     }
 
-    /// Whether a block is there. Its body is then copied, and the block comes to the front.
-    pub fn get(&mut self, file: FileId, block: BlockNo, into: &mut Block) -> bool
-        ensures found { result ≡ is_some (clean_at file block self.old.clean) }
-        ensures body { into.new ≡ unwrap_or (clean_body (clean_at file block self.old.clean)) into.old }
-        ensures order { self.new ≡ record self.old { clean = looked_up file block self.old.clean } }
+    /// A block, if it is there. It stays where it is: [`Cache::touch`] brings it to the front.
+    pub fn get(&self, file: FileId, block: BlockNo) -> Option<&Block>
+        ensures { option_copied result ≡ clean_body (clean_at file block self.now.clean) }
     {
-        self.clean.get(&Key { file, block }, into)
+        self.clean.get(&Key { file, block })
+    }
+
+    /// Brings a block to the front, if it is there.
+    pub fn touch(&mut self, file: FileId, block: BlockNo)
+        ensures { self.new ≡ record self.old { clean = looked_up file block self.old.clean } }
+    {
+        self.clean.touch(&Key { file, block });
     }
 
     /// Whether a block is there.
@@ -63,8 +68,8 @@ impl Cache {
     /// # Errors
     ///
     /// Only want of memory, and then nothing changed. A block that is there wants none.
-    pub fn put(&mut self, file: FileId, block: BlockNo, body: &Block) -> Result<(), NoMemory>
-        ensures put { OnOk result (self.new ≡ record self.old { clean = put_clean file block body.now self.old.clean }) }
+    pub fn put(&mut self, file: FileId, block: BlockNo, body: Block) -> Result<(), NoMemory>
+        ensures put { OnOk result (self.new ≡ record self.old { clean = put_clean file block body self.old.clean }) }
         ensures refused { OnErr result (self.new ≡ self.old) }
         ensures succeeds { IsSome (clean_at file block self.old.clean) → IsOk result }
     {
@@ -90,8 +95,8 @@ impl Cache {
     /// # Errors
     ///
     /// Only want of memory, and then nothing changed: no block was taken out. A block that is there wants none.
-    pub fn put_alone(&mut self, file: FileId, block: BlockNo, body: &Block) -> Result<(), NoMemory>
-        ensures put { OnOk result (self.new ≡ record self.old { clean = put_clean file block body.now (purge file self.old.clean) }) }
+    pub fn put_alone(&mut self, file: FileId, block: BlockNo, body: Block) -> Result<(), NoMemory>
+        ensures put { OnOk result (self.new ≡ record self.old { clean = put_clean file block body (purge file self.old.clean) }) }
         ensures refused { OnErr result (self.new ≡ self.old) }
         ensures succeeds { IsSome (clean_at file block self.old.clean) → IsOk result }
     {

@@ -1,7 +1,7 @@
 //! Clean blocks on an `LruCache`: it has room for one more than there may be, so that a block can be put in before
 //! another goes.
 
-ghost use Rattle.std.specs.Prelude.{◌≡◌, ◌≤◌, ◌<◌, ◌+◌, ◌-◌, ◌∷◌, ◌++◌, [], false, true, length, take, drop, filter, is_some, unwrap_or, option_map, IsSome, IsOk, OnOk, OnErr, IfOk, IsTrue, if◌then◌else◌};
+ghost use Rattle.std.specs.Prelude.{◌≡◌, ◌≤◌, ◌<◌, ◌+◌, ◌-◌, ◌∷◌, ◌++◌, [], false, true, length, take, drop, filter, is_some, option_copied, option_map, IsSome, IsOk, OnOk, OnErr, IfOk, IsTrue, if◌then◌else◌};
 ghost use Rattle.nq_model.specs.Client.{clean_at, drop_clean, purge, put_clean};
 ghost use Rattle.nq_model.specs.Profile.{most_clean, at_most};
 ghost use Rattle.nq_model.specs.Settle.{clean_body, looked_up};
@@ -10,7 +10,6 @@ ghost use Rattle.lru.specs.LruCache.{last_entry};
 
 use lru::LruCache;
 use nq_base::{Block, BlockNo, FileId, NoMemory};
-use std::alloc::Global;
 use std::num::NonZeroUsize;
 
 /// The most clean blocks that a client keeps.
@@ -24,54 +23,20 @@ pub(crate) struct Key {
 }
 
 /// The blocks by their keys.
-pub(crate) type Entries = LruCache<Key, Box<Block>>;
-
-/// Gives a block that is there another body, and brings it to the front.
-fn overwrite(entries: &mut Entries, key: &Key, body: &Block) -> bool
-    ensures found { result ≡ is_some (clean_at key.now.file key.now.block (clean_blocks entries.old.entries)) }
-    ensures written { IsTrue result → clean_blocks entries.new.entries ≡ record { file = key.now.file; block = key.now.block; body = body.now } ∷ drop_clean key.now.file key.now.block (clean_blocks entries.old.entries) }
-    ensures absent { result ≡ false → entries.new ≡ entries.old }
-    ensures room { entries.new.cap ≡ entries.old.cap }
-{
-    let _distinct = entries.len();
-    match entries.get_mut(key) {
-        Some(kept) => {
-            kept.copy_from(body);
-            true
-        }
-        None => false,
-    }
-}
-
-/// Puts a block that is not there in front.
-fn add(entries: &mut Entries, key: Key, body: &Block) -> Result<(), NoMemory>
-    requires room { entries.old.cap ≡ 513 }
-    requires few { length entries.old.entries ≤ 512 }
-    requires absent { is_some (clean_at key.file key.block (clean_blocks entries.old.entries)) ≡ false }
-    ensures added { OnOk result (clean_blocks entries.new.entries ≡ record { file = key.file; block = key.block; body = body.now } ∷ drop_clean key.file key.block (clean_blocks entries.old.entries)) }
-    ensures refused { OnErr result (entries.new ≡ entries.old) }
-    ensures room { entries.new.cap ≡ entries.old.cap }
-{
-    let alloc = *entries.allocator();
-    let boxed = Box::new(alloc, body.copied())?;
-    entries.put(key, boxed)?;
-    Ok(())
-}
+pub(crate) type Entries = LruCache<Key, Block>;
 
 /// Puts a block in front. There may then be one too many.
-pub(crate) fn put_first(entries: &mut Entries, key: &Key, body: &Block) -> Result<(), NoMemory>
+pub(crate) fn put_first(entries: &mut Entries, key: &Key, body: Block) -> Result<(), NoMemory>
     requires room { entries.old.cap ≡ 513 }
     requires few { length entries.old.entries ≤ 512 }
-    ensures put { OnOk result (clean_blocks entries.new.entries ≡ record { file = key.now.file; block = key.now.block; body = body.now } ∷ drop_clean key.now.file key.now.block (clean_blocks entries.old.entries)) }
+    ensures put { OnOk result (clean_blocks entries.new.entries ≡ record { file = key.now.file; block = key.now.block; body = body } ∷ drop_clean key.now.file key.now.block (clean_blocks entries.old.entries)) }
     ensures refused { OnErr result (entries.new ≡ entries.old) }
     ensures succeeds { IsSome (clean_at key.now.file key.now.block (clean_blocks entries.old.entries)) → IsOk result }
     ensures room { entries.new.cap ≡ entries.old.cap }
 {
-    if overwrite(entries, key, body) {
-        Ok(())
-    } else {
-        add(entries, *key, body)
-    }
+    let _distinct = entries.len();
+    entries.put(*key, body)?;
+    Ok(())
 }
 
 /// Brings a block to the front, if it is there.
@@ -95,18 +60,11 @@ pub(crate) fn take_out(entries: &mut Entries, key: &Key)
     drop(entries.pop(key));
 }
 
-/// Copies the body of a block, if it is there.
-pub(crate) fn read(entries: &Entries, key: &Key, into: &mut Block) -> bool
-    ensures found { result ≡ is_some (clean_at key.now.file key.now.block (clean_blocks entries.now.entries)) }
-    ensures body { into.new ≡ unwrap_or (clean_body (clean_at key.now.file key.now.block (clean_blocks entries.now.entries))) into.old }
+/// The body of a block, if it is there.
+pub(crate) fn read<'a>(entries: &'a Entries, key: &Key) -> Option<&'a Block>
+    ensures { option_copied result ≡ clean_body (clean_at key.now.file key.now.block (clean_blocks entries.now.entries)) }
 {
-    match entries.peek(key) {
-        Some(kept) => {
-            into.copy_from(kept);
-            true
-        }
-        None => false,
-    }
+    entries.peek(key)
 }
 
 /// Whether a block is there.

@@ -7,6 +7,3 @@ mod entries;
 mod revisions;
 
 pub use cache::Cache;
-
-#[cfg(test)]
-mod tests;

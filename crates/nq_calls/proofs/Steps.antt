@@ -1,9 +1,10 @@
 -- Lines that are stepped over.
-use Rattle.std.proofs.Common.{◌≡◌, ◌≢◌, ℕ, ◌+◌, ◌<◌, ◌≤◌, List, [], ◌∷◌, ◌++◌, Some, None, length, refl, ap, sym, subst, ◌∙◌, arith, append_assoc, append-nil, length-append}
+use Rattle.std.proofs.Common.{◌≡◌, ◌≢◌, true, false, Result, Ok, Err, ℕ, ◌+◌, ◌<◌, ◌≤◌, List, [], ◌∷◌, ◌++◌, Some, None, length, refl, ap, sym, subst, ◌∙◌, arith, append_assoc, append-nil, length-append}
+use Rattle.std.specs.Prelude.{is_ok}
 use Rattle.nq_base.specs.declared.Call.{Call}
 use Rattle.nq_calls.specs.Lines.{AreCalls, FirstFault, IsCall, SoFar, StepsOver}
 use Rattle.nq_script.specs.Calls.{SpellsCall}
-use Rattle.nq_script.specs.Faults.{Names}
+use Rattle.nq_script.specs.Faults.{Answers}
 use Rattle.nq_script.specs.Reading.{cut_at}
 use Rattle.nq_script.specs.Text.{text_of}
 use Rattle.nq_script.specs.declared.faults.ScriptFault.{ScriptFault}
@@ -73,17 +74,24 @@ done text rest number so none = (
 pub no-call : (text : List ℕ) → cut_at 10 text ≡ None → (line after : List ℕ) → text ≡ line ++ 10 ∷ after → IsCall line → ⊥
 no-call text none line after here call = no-line text line after none here call.0
 
--- a fault that is no want of memory names a line
-pub faulted : (why : ScriptFault) → why ≢ Memory → Names why (λ line. ⊥) → ⊥
-faulted (Bad line) other named = named
-faulted Memory other named = other refl
+-- a line that is read as a call spells it
+pub spelled : (line : List ℕ) (read : Result Call ScriptFault) → is_ok read ≡ true → Answers read (λ call. SpellsCall 1 call line) (λ number. number ≡ 1) → (call : Call) × SpellsCall 1 call line
+spelled line (Ok call) is found = (call, found)
+spelled line (Err why) is found = absurd cc
+
+-- and one that is not read as one spells none
+pub unspelled : (line : List ℕ) (read : Result Call ScriptFault) → is_ok read ≡ false → read ≢ Err Memory
+    → ((call : Call) → SpellsCall 1 call line → Answers read (λ found. found ≡ call) (λ number. ⊥))
+    → (call : Call) → SpellsCall 1 call line → ⊥
+unspelled line (Ok found) is other only call here = absurd cc
+unspelled line (Err (Bad number)) is other only call here = only call here
+unspelled line (Err Memory) is other only call here = other refl
 
 -- a line that spells no call is not one that does
-pub other-line : (text found rest : List ℕ) (why : ScriptFault) → cut_at 10 text ≡ Some (found, rest) → why ≢ Memory
-    → ((call : Call) → SpellsCall 1 call found → Names why (λ line. ⊥))
+pub other-line : (text found rest : List ℕ) → cut_at 10 text ≡ Some (found, rest) → ((call : Call) → SpellsCall 1 call found → ⊥)
     → (line after : List ℕ) → text ≡ line ++ 10 ∷ after → IsCall line → ⊥
-other-line text found rest why cut other none line after here call =
-    faulted why other (none call.1.0 (subst (SpellsCall 1 call.1.0) (sym (one-line text found rest line after cut here call.0).0) call.1.1))
+other-line text found rest cut none line after here call =
+    none call.1.0 (subst (SpellsCall 1 call.1.0) (sym (one-line text found rest line after cut here call.0).0) call.1.1)
 
 -- the line that was cut off spells a call
 pub over : (text found rest : List ℕ) (call : Call) → cut_at 10 text ≡ Some (found, rest) → SpellsCall 1 call found → StepsOver text (Some rest)

@@ -1,8 +1,10 @@
 //! Lines of a text.
 
-ghost use Rattle.std.specs.Prelude.{◌≡◌, ◌<◌, ◌^◌, length};
+ghost use Rattle.std.specs.Prelude.{◌≡◌, ◌<◌, ◌^◌, true, false, length};
 ghost use Rattle.std.specs.Option.{option_map};
+ghost use Rattle.nq_base.specs.declared.Call.{Call};
 ghost use Rattle.nq_calls.specs.Lines.{StepsOver, Tells};
+ghost use Rattle.nq_script.specs.Calls.{SpellsCall};
 ghost use Rattle.nq_script.specs.Reading.{cut_at};
 
 use nq_script::parse_call;
@@ -45,8 +47,17 @@ fn after_call(alloc: Global, text: &[u8]) -> Option<&[u8]>
     let Some((line, after)) = cut_line(text) else {
         return None;
     };
-    match parse_call(alloc, line, 1) {
-        Ok(_) => Some(after),
-        Err(_) => None,
+    if is_call(alloc, line) {
+        Some(after)
+    } else {
+        None
     }
+}
+
+/// Whether a line spells a call.
+fn is_call(alloc: Global, line: &[u8]) -> bool
+    ensures yes { result ≡ true → (call : Call) × SpellsCall 1 call line.now }
+    ensures no { result ≡ false → (call : Call) → SpellsCall 1 call line.now → ⊥ }
+{
+    parse_call(alloc, line, 1).is_ok()
 }

@@ -1,8 +1,9 @@
 -- What a step gives to what it is lent.
-use Rattle.std.specs.Prelude.{◌≡◌, ◌≤◌, ◌++◌, ℕ, List, All, map}
+use Rattle.std.specs.Prelude.{◌≡◌, ◌≤◌, ◌++◌, ℕ, true, List, All, map}
 use Rattle.nq_base.specs.declared.Party.{Party}
 use Rattle.nq_client.specs.Entries.{Tells}
 use Rattle.nq_client.specs.declared.finishing.Letters.{Letters}
+use Rattle.nq_client.specs.declared.rooms.Rooms.{Rooms}
 use Rattle.nq_client.specs.declared.step.Step.{Step}
 use Rattle.nq_datagrams.specs.Messages.{FitsMessage, bytes_of}
 use Rattle.nq_journal.specs.Items.{EntryList}
@@ -29,6 +30,11 @@ longest_call = 4196
 pub record HasLetters (l : Letters) : Type 0 where
   pub vacated : longest_call ≤ l.vacated
   pub request : longest_call ≤ l.request
+
+-- there is room for the blocks that a step may copy
+pub record HasRooms (r : Rooms) : Type 0 where
+  pub kept : r.kept ≡ true
+  pub sent : r.sent ≡ true
 
 -- there is room for so many entries, for a block that becomes dirty and for what a step may send
 pub record HasRoomFor (entries : ℕ) (s : Step) (out : Datagrams) (log : EntryList) : Type 0 where

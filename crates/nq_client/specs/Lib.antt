@@ -6,7 +6,6 @@ pub mod Calling
 pub mod Counted
 pub mod Entries
 pub mod Finishing
-pub mod Given
 pub mod Granting
 pub mod Hearing
 pub mod Leases
@@ -14,6 +13,7 @@ pub mod Losing
 pub mod Lost
 pub mod Notices
 pub mod Outcome
+pub mod Outline
 pub mod Prepared
 pub mod Reading
 pub mod Receiving

@@ -7,13 +7,11 @@ ghost use Rattle.nq_base.specs.declared.Answer.TheVariants.{Ok as ok};
 ghost use Rattle.nq_base.specs.declared.Value.{Value};
 ghost use Rattle.nq_model.specs.Hear.{answer_of, answers_call, attached, knows_revision, marks_through, pauses};
 ghost use Rattle.nq_client.specs.Answering.{answers_as};
-ghost use Rattle.nq_client.specs.Given.{answer_of_brief};
 ghost use Rattle.nq_client.specs.Prepared.{Leaves};
 ghost use Rattle.nq_client.specs.Step.{step_of};
 
-use crate::given::Brief;
 use crate::step::Step;
-use nq_base::{Block, FileId, Refusal, Rev, Said, Ticks};
+use nq_base::{Answer, Block, FileId, Refusal, Rev, Said, Ticks, Value};
 
 /// So long a client pauses after a request was put off, in ticks.
 const PATIENCE: u64 = 2;
@@ -21,15 +19,15 @@ const PATIENCE: u64 = 2;
 #[tactic(auto, unfolding(nq_model::specs::Settle::answers, nq_model::specs::Hear::marks_through, nq_model::specs::Hear::pauses, nq_model::specs::Hear::attached, nq_model::specs::Hear::knows_revision))]
 impl Step {
     /// Answers the call under way, if there is one.
-    fn answers_as(&mut self, brief: Brief, said: Said)
+    fn answers_as(&mut self, answer: Answer, said: Said)
         requires { 1 ≤ self.old.entries.spare }
-        ensures step { step_of self.new ≡ answers_as (step_of self.old) (plain_answer (answer_of_brief brief)) (plain_said said) (step_of self.old).client.call }
+        ensures step { step_of self.new ≡ answers_as (step_of self.old) (plain_answer answer) (plain_said said) (step_of self.old).client.call }
         ensures left { Leaves 1 self.old self.new }
     {
         match &self.state.call {
             Some(u) => {
                 let q = u.q;
-                self.ends_call(q, brief, said);
+                self.ends_call(q, answer, said);
             }
             None => {}
         }
@@ -41,7 +39,7 @@ impl Step {
         ensures step { step_of self.new ≡ answers_call (step_of self.old) (ok Value.Nothing) None }
         ensures left { Leaves 1 self.old self.new }
     {
-        self.answers_as(Brief::Nothing, Said::Ok);
+        self.answers_as(Answer::Ok(Value::Nothing), Said::Ok);
     }
 
     /// Answers the call under way with the id of a file.
@@ -50,7 +48,7 @@ impl Step {
         ensures step { step_of self.new ≡ answers_call (step_of self.old) (ok (Value.File file)) None }
         ensures left { Leaves 1 self.old self.new }
     {
-        self.answers_as(Brief::File(file), Said::OkValue(file.0));
+        self.answers_as(Answer::Ok(Value::File(file)), Said::OkValue(file.0));
     }
 
     /// Answers the call under way with the length of a file.
@@ -59,23 +57,17 @@ impl Step {
         ensures step { step_of self.new ≡ answers_call (step_of self.old) (ok (Value.Blocks blocks)) None }
         ensures left { Leaves 1 self.old self.new }
     {
-        self.answers_as(Brief::Blocks(blocks), Said::OkValue(blocks));
+        self.answers_as(Answer::Ok(Value::Blocks(blocks)), Said::OkValue(blocks));
     }
 
     /// Answers the call under way with a block that the server sent in the packet of this number.
-    pub(crate) fn answers_body(&mut self, body: &Block, packet: u64)
+    pub(crate) fn answers_body(&mut self, body: Block, packet: u64)
         requires { 1 ≤ self.old.entries.spare }
-        ensures step { step_of self.new ≡ answers_call (step_of self.old) (ok (Value.Body body.now)) (Some packet) }
+        ensures step { step_of self.new ≡ answers_call (step_of self.old) (ok (Value.Body body)) (Some packet) }
         ensures left { Leaves 1 self.old self.new }
     {
         let value = body.value();
-        match &self.state.call {
-            Some(u) => {
-                let q = u.q;
-                self.ends_call_with(q, body, Said::OkBy { value, packet });
-            }
-            None => {}
-        }
+        self.answers_as(Answer::Ok(Value::Body(body)), Said::OkBy { value, packet });
     }
 
     /// Answers the call under way with what a refusal means.
@@ -85,13 +77,13 @@ impl Step {
         ensures left { Leaves 1 self.old self.new }
     {
         match status {
-            Refusal::NoEnt => self.answers_as(Brief::NoEntry, Said::NoEntry),
-            Refusal::Exist => self.answers_as(Brief::Exists, Said::Exists),
-            Refusal::Inval => self.answers_as(Brief::Range, Said::Range),
-            Refusal::NoSpc => self.answers_as(Brief::NoSpace, Said::NoSpace),
-            Refusal::Stale => self.answers_as(Brief::Stale, Said::Stale),
+            Refusal::NoEnt => self.answers_as(Answer::NoEntry, Said::NoEntry),
+            Refusal::Exist => self.answers_as(Answer::Exists, Said::Exists),
+            Refusal::Inval => self.answers_as(Answer::Range, Said::Range),
+            Refusal::NoSpc => self.answers_as(Answer::NoSpace, Said::NoSpace),
+            Refusal::Stale => self.answers_as(Answer::Stale, Said::Stale),
             Refusal::TryLater | Refusal::Fenced | Refusal::NotAttached | Refusal::Old => {
-                self.answers_as(Brief::Busy, Said::Busy);
+                self.answers_as(Answer::Busy, Said::Busy);
             }
         }
     }

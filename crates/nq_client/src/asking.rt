@@ -16,7 +16,7 @@ use crate::asked::Job;
 use crate::settling::called_body;
 use crate::state::State;
 use crate::step::Step;
-use nq_base::{BlockNo, Call, FileId, Mode, Name, Number, Request, Seq, Ticks, Want};
+use nq_base::{BlockNo, Call, FileId, Mode, Name, Number, Request, Seq, Spare, Ticks, Want};
 use nq_held::Held;
 
 /// Whether a live non-caching lease is held.
@@ -77,13 +77,14 @@ impl Step {
     }
 
     /// Sends a WRITE of the block of the call under way, which goes through.
-    fn sends_write(&mut self, file: FileId, block: BlockNo)
+    fn sends_write(&mut self, file: FileId, block: BlockNo, room: &mut Spare)
+        requires block { room.old ≡ true }
         requires idle { self.old.state.asked ≡ None }
         requires numbers { HasNumbers 1 self.old.state }
         ensures step { step_of self.new ≡ sends_write (step_of self.old) file block (called_body (step_of self.old).client.call) }
         ensures sent { is_some self.new.state.asked ≡ true }
     {
-        let body = called_body(&self.state.call);
+        let body = called_body(&self.state.call, room);
         let number = self.state.number;
         let seq = self.state.seq;
         self.state.number = Number(number.0 + 1);
@@ -101,18 +102,27 @@ impl Step {
 
     /// A write that was not delayed goes through where it is to or where a non-caching lease runs, else a lease is wanted;
     /// whether a request was sent.
-    fn next_write(&mut self, may_ask: bool, through: bool, file: FileId, block: BlockNo) -> bool
+    fn next_write(
+        &mut self,
+        may_ask: bool,
+        through: bool,
+        file: FileId,
+        block: BlockNo,
+        room: &mut Spare,
+    ) -> bool
+        requires block { room.old ≡ true }
         requires idle { self.old.state.asked ≡ None }
         requires numbers { HasNumbers 1 self.old.state }
         ensures step { step_of self.new ≡ (if may_ask then writes_or_asks (step_of self.old) through file block (called_body (step_of self.old).client.call) else step_of self.old) }
         ensures sent { IsTrue result → is_some self.new.state.asked ≡ true }
         ensures quiet { result ≡ false → self.new ≡ self.old }
+        ensures kept { result ≡ false → room.new ≡ room.old }
     {
         if !may_ask {
             return false;
         }
         if through || self.state.is_shared(file) {
-            self.sends_write(file, block);
+            self.sends_write(file, block, room);
         } else {
             self.asks_for_writing(file);
         }
@@ -132,19 +142,28 @@ impl Step {
     }
 
     /// A put: its file is pushed where its write was delayed, else the write goes through; whether a request was sent.
-    fn next_put(&mut self, written: bool, may_ask: bool, file: FileId, block: BlockNo) -> bool
+    fn next_put(
+        &mut self,
+        written: bool,
+        may_ask: bool,
+        file: FileId,
+        block: BlockNo,
+        room: &mut Spare,
+    ) -> bool
+        requires block { room.old ≡ true }
         requires idle { self.old.state.asked ≡ None }
         requires none { self.old.state.dirty.push ≡ None }
         requires numbers { HasNumbers 1 self.old.state }
         ensures step { step_of self.new ≡ next_put (step_of self.old) written may_ask file block (called_body (step_of self.old).client.call) }
         ensures sent { IsTrue result → is_some self.new.state.asked ≡ true }
         ensures quiet { result ≡ false → self.new ≡ self.old }
+        ensures kept { result ≡ false → room.new ≡ room.old }
     {
         if written {
-            return self.pushes(file);
+            return self.pushes(file, room);
         }
         if may_ask {
-            self.sends_write(file, block);
+            self.sends_write(file, block, room);
         }
         may_ask
     }
@@ -163,7 +182,14 @@ impl Step {
     }
 
     /// A resize or removal: the file is pushed until it is clean; then its lease is given up, and the request is sent.
-    fn next_change(&mut self, may_ask: bool, file: FileId, request: Request) -> bool
+    fn next_change(
+        &mut self,
+        may_ask: bool,
+        file: FileId,
+        request: Request,
+        room: &mut Spare,
+    ) -> bool
+        requires block { room.old ≡ true }
         requires idle { self.old.state.asked ≡ None }
         requires none { self.old.state.dirty.push ≡ None }
         requires numbers { HasNumbers 1 self.old.state }
@@ -171,9 +197,10 @@ impl Step {
         ensures step { step_of self.new ≡ next_change (step_of self.old) may_ask file request }
         ensures sent { IsTrue result → is_some self.new.state.asked ≡ true }
         ensures quiet { result ≡ false → self.new ≡ self.old }
+        ensures kept { result ≡ false → room.new ≡ room.old }
     {
         if !self.state.dirty.is_clean(file) {
-            return self.pushes(file);
+            return self.pushes(file, room);
         }
         if may_ask {
             self.sends_change(file, request);
@@ -282,13 +309,22 @@ impl Step {
     }
 
     /// A resize: the file is pushed until it is clean, and then RESIZE is sent; whether a request was sent.
-    fn resizes(&mut self, may_ask: bool, q: u64, file: FileId, blocks: u32) -> bool
+    fn resizes(
+        &mut self,
+        may_ask: bool,
+        q: u64,
+        file: FileId,
+        blocks: u32,
+        room: &mut Spare,
+    ) -> bool
+        requires block { room.old ≡ true }
         requires idle { self.old.state.asked ≡ None }
         requires none { self.old.state.dirty.push ≡ None }
         requires numbers { HasNumbers 1 self.old.state }
         ensures step { step_of self.new ≡ next_change (step_of self.old) may_ask file (Request.Resize self.old.state.who self.old.state.seq q file blocks) }
         ensures sent { IsTrue result → is_some self.new.state.asked ≡ true }
         ensures quiet { result ≡ false → self.new ≡ self.old }
+        ensures kept { result ≡ false → room.new ≡ room.old }
     {
         let who = self.state.who;
         let seq = self.state.seq;
@@ -299,17 +335,19 @@ impl Step {
             file,
             blocks,
         };
-        self.next_change(may_ask, file, request)
+        self.next_change(may_ask, file, request, room)
     }
 
     /// A removal: the file is pushed until it is clean, and then REMOVE is sent; whether a request was sent.
-    fn removes(&mut self, may_ask: bool, q: u64, file: FileId) -> bool
+    fn removes(&mut self, may_ask: bool, q: u64, file: FileId, room: &mut Spare) -> bool
+        requires block { room.old ≡ true }
         requires idle { self.old.state.asked ≡ None }
         requires none { self.old.state.dirty.push ≡ None }
         requires numbers { HasNumbers 1 self.old.state }
         ensures step { step_of self.new ≡ next_change (step_of self.old) may_ask file (Request.Remove self.old.state.who self.old.state.seq q file) }
         ensures sent { IsTrue result → is_some self.new.state.asked ≡ true }
         ensures quiet { result ≡ false → self.new ≡ self.old }
+        ensures kept { result ≡ false → room.new ≡ room.old }
     {
         let who = self.state.who;
         let seq = self.state.seq;
@@ -319,17 +357,19 @@ impl Step {
             call: q,
             file,
         };
-        self.next_change(may_ask, file, request)
+        self.next_change(may_ask, file, request, room)
     }
 
-    /// The next request of the call under way, if there is one; whether one was sent. The call stays where it is: it is large.
-    pub(crate) fn calls(&mut self) -> bool
+    /// The next request of the call under way, if there is one; whether one was sent.
+    pub(crate) fn calls(&mut self, room: &mut Spare) -> bool
+        requires block { room.old ≡ true }
         requires idle { self.old.state.asked ≡ None }
         requires none { self.old.state.dirty.push ≡ None }
         requires numbers { HasNumbers 1 self.old.state }
         ensures step { step_of self.new ≡ then_calls (step_of self.old) }
         ensures sent { IsTrue result → is_some self.new.state.asked ≡ true }
         ensures quiet { result ≡ false → self.new ≡ self.old }
+        ensures kept { result ≡ false → room.new ≡ room.old }
     {
         let may_ask = self.state.pause <= self.state.time;
         match &self.state.call {
@@ -356,23 +396,23 @@ impl Step {
                 }
                 Call::Write { file, block, .. } => {
                     let (through, file, block) = (u.through, *file, *block);
-                    self.next_write(may_ask, through, file, block)
+                    self.next_write(may_ask, through, file, block, room)
                 }
                 Call::WriteSync { file, block, .. } => {
                     let (written, file, block) = (u.written, *file, *block);
-                    self.next_put(written, may_ask, file, block)
+                    self.next_put(written, may_ask, file, block, room)
                 }
                 Call::Sync { file } => {
                     let file = *file;
-                    self.pushes(file)
+                    self.pushes(file, room)
                 }
                 Call::Resize { file, blocks } => {
                     let (q, file, blocks) = (u.q, *file, *blocks);
-                    self.resizes(may_ask, q, file, blocks)
+                    self.resizes(may_ask, q, file, blocks, room)
                 }
                 Call::Remove { file } => {
                     let (q, file) = (u.q, *file);
-                    self.removes(may_ask, q, file)
+                    self.removes(may_ask, q, file, room)
                 }
             },
             None => false,

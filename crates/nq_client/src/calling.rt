@@ -4,16 +4,17 @@ ghost use Rattle.std.specs.Prelude.{◌≡◌, ◌≤◌, ◌<◌, ◌+◌, ◌^
 ghost use Rattle.nq_model.specs.Client.{begun, losses_of, span_of};
 ghost use Rattle.nq_model.specs.ClientStep.{begins_call, call_freely, changed_file, client_call, is_called, losses_for, says_busy, tell_losses, told};
 ghost use Rattle.nq_model.specs.Settle.{names_losses};
+ghost use Rattle.nq_client.specs.Finishing.{HasRooms};
 ghost use Rattle.nq_client.specs.Step.{HasNumbers, HasRoom, step_of};
 ghost use Rattle.nq_client.specs.Prepared.{Leaves};
 ghost use Rattle.nq_client.specs.Calling.{HasRoomToCall, IsNamedFor};
 ghost use Rattle.nq_client.specs.Tied.{Tied};
 
-use crate::given::Brief;
 use crate::losses::spans_of;
+use crate::rooms::Rooms;
 use crate::state::{State, UnderWay};
 use crate::step::Step;
-use nq_base::{Call, Entry, FileId, Losses, NoMemory, Said, Spans, Told};
+use nq_base::{Answer, Call, Entry, FileId, Losses, NoMemory, Said, Spans, Told};
 use std::alloc::Global;
 
 /// The losses that a call is told before anything else, as its answer and as a journal names them.
@@ -92,10 +93,14 @@ fn told(call: &Call) -> Told
 }
 
 /// A second call of the same words.
-fn copied(call: &Call) -> Call
-    ensures { result ≡ call.now }
+///
+/// # Errors
+///
+/// Only want of memory.
+pub(crate) fn copied(alloc: Global, call: &Call) -> Result<Call, NoMemory>
+    ensures { IfOk result (λ c. c ≡ call.now) }
 {
-    match call {
+    Ok(match call {
         Call::Create { name, blocks } => Call::Create {
             name: *name,
             blocks: *blocks,
@@ -113,12 +118,12 @@ fn copied(call: &Call) -> Call
         Call::Write { file, block, body } => Call::Write {
             file: *file,
             block: *block,
-            body: body.copied(),
+            body: body.copied(alloc)?,
         },
         Call::WriteSync { file, block, body } => Call::WriteSync {
             file: *file,
             block: *block,
-            body: body.copied(),
+            body: body.copied(alloc)?,
         },
         Call::Sync { file } => Call::Sync { file: *file },
         Call::Resize { file, blocks } => Call::Resize {
@@ -126,28 +131,29 @@ fn copied(call: &Call) -> Call
             blocks: *blocks,
         },
         Call::Remove { file } => Call::Remove { file: *file },
-    }
+    })
 }
 
 impl Step {
     /// A call: busy, or told of losses, or under way.
-    pub(crate) fn call(&mut self, call: &Call, named: Named)
+    pub(crate) fn call(&mut self, call: Call, named: Named, rooms: &mut Rooms)
+        requires rooms { HasRooms rooms.old }
         requires room { HasRoomToCall self.old }
         requires numbers { HasNumbers 2 self.old.state }
         requires calls { self.old.state.calls < 2 ^ 62 }
         requires tied { Tied self.old.state.asked self.old.state.dirty.push }
-        requires named { IsNamedFor named call.now self.old.state.losses.items }
+        requires named { IsNamedFor named call self.old.state.losses.items }
         requires begun { step_of self.old ≡ begun (step_of self.old).client }
-        ensures { step_of self.new ≡ client_call (step_of self.old).client call.now }
+        ensures { step_of self.new ≡ client_call (step_of self.old).client call }
     {
         let busy = self.state.call.is_some() || !self.state.attached;
-        self.begins_call(call);
+        self.begins_call(&call);
         if busy {
             self.says_busy();
         } else if named.losses.is_empty() {
-            self.call_freely(call);
+            self.call_freely(call, rooms);
         } else {
-            self.tells_losses(call, named);
+            self.tells_losses(&call, named);
         }
     }
 
@@ -184,7 +190,7 @@ impl Step {
             q: self.state.calls,
             said: Said::Busy,
         });
-        self.answer.put(Brief::Busy);
+        self.answer = Some(Answer::Busy);
     }
 
     /// The call is told its losses, which are then named.
@@ -212,29 +218,30 @@ impl Step {
     {
         self.state.losses.forget(file);
         let Named { losses, spans } = named;
-        self.ends_call(q, Brief::Lost(losses), Said::Lost(spans));
+        self.ends_call(q, Answer::Lost(losses), Said::Lost(spans));
     }
 
     /// A call of a client that has none under way, and that is told of no losses.
-    fn call_freely(&mut self, call: &Call)
+    fn call_freely(&mut self, call: Call, rooms: &mut Rooms)
+        requires rooms { HasRooms rooms.old }
         requires room { HasRoom self.old }
         requires numbers { HasNumbers 2 self.old.state }
         requires tied { Tied self.old.state.asked self.old.state.dirty.push }
-        ensures { step_of self.new ≡ call_freely (step_of self.old) call.now }
+        ensures { step_of self.new ≡ call_freely (step_of self.old) call }
     {
         self.is_called(call);
-        self.settle();
+        self.settle(&mut rooms.kept);
         if !self.cached {
-            self.send_next(false);
+            self.send_next(false, &mut rooms.sent);
         }
     }
 
     /// The call is under way.
     #[tactic(auto, unfolding(nq_model::specs::ClientStep::is_called))]
-    fn is_called(&mut self, call: &Call)
+    fn is_called(&mut self, call: Call)
         requires room { HasRoom self.old }
         requires numbers { HasNumbers 2 self.old.state }
-        ensures step { step_of self.new ≡ is_called (step_of self.old) call.now }
+        ensures step { step_of self.new ≡ is_called (step_of self.old) call }
         ensures room { HasRoom self.new }
         ensures numbers { HasNumbers 2 self.new.state }
         ensures asked { self.new.state.asked ≡ self.old.state.asked }
@@ -242,7 +249,7 @@ impl Step {
     {
         self.state.call = Some(UnderWay {
             q: self.state.calls,
-            call: copied(call),
+            call,
             through: false,
             written: false,
         });

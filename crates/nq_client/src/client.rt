@@ -1,10 +1,12 @@
 //! The client of one host.
 
-ghost use Rattle.std.specs.Prelude.{◌≡◌, ◌≤◌, ◌<◌, ◌+◌, ◌^◌, ◌∷◌, ◌++◌, ◌↔◌, [], All, is_some, map, option_copied, option_map, unwrap_or, IfOk, OnErr, OnOk, if◌then◌else◌};
+ghost use Rattle.std.specs.Prelude.{◌≡◌, ◌≤◌, ◌<◌, ◌+◌, ◌^◌, ◌∷◌, ◌++◌, ◌↔◌, [], All, is_some, map, option_copied, option_map, true, IfOk, OnErr, OnOk, if◌then◌else◌};
 ghost use Rattle.nq_base.specs.Plain.{plain_answer};
 ghost use Rattle.nq_datagrams.specs.Incoming.{hears_in};
 ghost use Rattle.nq_datagrams.specs.Messages.{FitsMessage};
+ghost use Rattle.nq_held.specs.Leases.{lease_of};
 ghost use Rattle.nq_model.specs.CachedAtOnce.{has_cached};
+ghost use Rattle.nq_model.specs.Client.{lease_on};
 ghost use Rattle.nq_model.specs.ClientStep.{attached_client, client_call, client_tick, starts};
 ghost use Rattle.nq_model.specs.Profile.{most_taken_by_client};
 ghost use Rattle.nq_model.specs.Settle.{after_read};
@@ -12,6 +14,7 @@ ghost use Rattle.nq_client.specs.Finishing.{to_server};
 ghost use Rattle.nq_client.specs.Outcome.{Called, Heeded, Received};
 ghost use Rattle.nq_client.specs.State.{call_of};
 
+use crate::calling::copied;
 use crate::finishing::Letters;
 use crate::heard::Heard;
 use crate::reading::read_cached;
@@ -20,8 +23,9 @@ use crate::starting::begin;
 use crate::state::State;
 use crate::step::Step;
 use crate::stepping::{hear, make_call, make_tick, reserve, room_for_call};
-use nq_base::{Answer, Block, BlockNo, Call, FileId, Host, Inc, NoMemory, Ticks, Who};
+use nq_base::{Answer, Block, BlockNo, Call, FileId, Host, Inc, NoMemory, Spare, Ticks, Who};
 use nq_dirty::Dirty;
+use nq_held::Held;
 use nq_journal::Journal;
 use nq_wire::Outbox;
 use std::alloc::Global;
@@ -129,11 +133,14 @@ impl Client {
         if self.taken == Client::MOST_TAKEN {
             return Answer::Spent;
         }
+        let Ok(own) = copied(self.step.state.alloc, call) else {
+            return Answer::Memory;
+        };
         let Ok(named) = room_for_call(&mut self.step, &mut self.letters, call, out, log) else {
             return Answer::Memory;
         };
         self.taken += 1;
-        make_call(&mut self.step, &mut self.letters, call, named, out, log);
+        make_call(&mut self.step, &mut self.letters, own, named, out, log);
         self.step.gives_answer()
     }
 
@@ -163,12 +170,13 @@ impl Client {
 
     /// Takes in a datagram of the server, which is the packet of this number: the reply to the request under way, or a
     /// notice of a lease. It is `Ignored` exactly where the protocol ignores it, and then it is counted and changes nothing
-    /// else. That takes no memory.
+    /// else. Want of memory never hinders that.
     ///
     /// # Errors
     ///
     /// `Spent` exactly where the client has taken in 2^30 calls, datagrams and ticks. After `Spent` and `Memory` the
     /// client, the outbox and the journal are as before.
+    #[tactic(auto, using(crate::proofs::Outcomes::refused_as))]
     pub fn receive(
         &mut self,
         packet: u64,
@@ -182,7 +190,9 @@ impl Client {
         if self.taken == Client::MOST_TAKEN {
             return Heard::Spent;
         }
-        let heard = read(&self.step.state, datagram);
+        let Ok(heard) = read(&self.step.state, datagram, &mut self.letters.rooms.kept) else {
+            return Heard::Memory;
+        };
         let Some(heard) = &heard else {
             self.taken += 1;
             return Heard::Ignored;
@@ -198,16 +208,17 @@ impl Client {
         self.step.gives_heard()
     }
 
-    /// Reads a block from what the client has, without memory: a delayed one, else the one under way, else a clean one.
+    /// Reads a block from what the client has: a delayed one, else the one under way, else a clean one. The copy is made in
+    /// room that the caller has, so it wants no memory.
     /// It does so exactly where no call is under way, the client is attached, and a caching lease runs under which it has
     /// the block.
     #[tactic(auto, unfolding(nq_model::specs::Settle::after_read))]
-    pub fn read_cached(&mut self, file: FileId, block: BlockNo, into: &mut Block) -> bool
-        ensures found { result ≡ is_some (has_cached self.old.client file block) }
-        ensures body { into.new ≡ unwrap_or (has_cached self.old.client file block) into.old }
-        ensures client { self.new ≡ (if result then record self.old { client = after_read self.old.client file block } else self.old) }
+    pub fn read_cached(&mut self, file: FileId, block: BlockNo, room: &mut Spare) -> Option<Block>
+        requires { room.old ≡ true }
+        ensures body { result ≡ has_cached self.old.client file block }
+        ensures client { self.new ≡ (if is_some result then record self.old { client = after_read self.old.client file block } else self.old) }
     {
-        read_cached(&mut self.step.state, file, block, into)
+        read_cached(&mut self.step.state, file, block, room)
     }
 
     /// The host and its incarnation.
@@ -261,6 +272,13 @@ impl Client {
         ensures push { result.now.push ≡ self.now.client.push }
     {
         &self.step.state.dirty
+    }
+
+    /// What it holds on a file.
+    pub fn held(&self, file: FileId) -> Held
+        ensures { lease_of result ≡ lease_on file self.now.client.leases }
+    {
+        self.step.state.leases.on(file)
     }
 
     /// Ends the client: what it has under way and what waits is forgotten, and so are its delayed writes.

@@ -31,8 +31,9 @@ impl Step {
         ensures room { OnOk result (HasRoom self.new) }
         ensures refused { OnErr result (self.new ≡ self.old) }
     {
+        let answer = body.copied(self.state.alloc)?;
         self.takes_read(file, block, body, grant, sent)?;
-        self.answers_body(body, packet);
+        self.answers_body(answer, packet);
         Ok(())
     }
 

@@ -5,24 +5,26 @@ ghost use Rattle.nq_base.specs.Plain.{plain_answer};
 ghost use Rattle.nq_datagrams.specs.Messages.{FitsMessage};
 ghost use Rattle.nq_model.specs.Message.{call};
 ghost use Rattle.nq_wire.specs.Request.{HasSpelling};
-ghost use Rattle.nq_client.specs.Finishing.{Grows, HasLetters, HasRoomFor, longest_call, to_server};
+ghost use Rattle.nq_client.specs.Finishing.{Grows, HasLetters, HasRoomFor, HasRooms, longest_call, to_server};
 ghost use Rattle.nq_client.specs.Outcome.{IsHeard, or_pending};
 ghost use Rattle.nq_client.specs.Step.{IsBegun, request_message, step_of, vacated_message};
 
 use crate::asked::Asked;
 use crate::heard::Heard;
 use crate::letters::Letter;
+use crate::rooms::Rooms;
 use crate::step::{Step, Vacated};
 use nq_base::{Answer, NoMemory, Party, Request, Who};
 use nq_journal::Journal;
 use nq_wire::Outbox;
 use std::alloc::Global;
 
-/// Memory for the bytes of what a step sends.
+/// Memory for the bytes of what a step sends, and for the blocks that it copies.
 #[derive(Drop)]
 pub(crate) struct Letters {
     pub(crate) vacated: Letter,
     pub(crate) request: Letter,
+    pub(crate) rooms: Rooms,
 }
 
 impl Letters {
@@ -31,13 +33,16 @@ impl Letters {
         Letters {
             vacated: Letter::new(alloc),
             request: Letter::new(alloc),
+            rooms: Rooms::none(),
         }
     }
 
-    /// Makes room for what a step may send.
-    pub(crate) fn reserve(&mut self) -> Result<(), NoMemory>
-        ensures { OnOk result (HasLetters self.new) }
+    /// Makes room for what a step may send and for the blocks that it may copy.
+    pub(crate) fn reserve(&mut self, alloc: Global) -> Result<(), NoMemory>
+        ensures letters { OnOk result (HasLetters self.new) }
+        ensures rooms { OnOk result (HasRooms self.new.rooms) }
     {
+        self.rooms.reserve(alloc)?;
         self.vacated.reserve()?;
         self.request.reserve()
     }
@@ -79,7 +84,7 @@ fn post_vacated(
     }
 }
 
-/// Sends this vacated message. It is apart, since a request is large, and most steps send none.
+/// Sends this vacated message.
 fn post_vacancy(letter: &mut Letter, alloc: Global, who: Who, vacated: &Vacated, out: &mut Outbox)
     requires bytes { longest_call ≤ letter.old }
     requires place { 1 ≤ out.old.spare }
@@ -174,10 +179,10 @@ impl Step {
         ensures state { self.new.state ≡ self.old.state }
         ensures answer { plain_answer result ≡ or_pending (option_map plain_answer self.old.answer) }
     {
-        if !self.answer.is_some() {
-            return Answer::Pending;
+        match self.answer.take() {
+            Some(answer) => answer,
+            None => Answer::Pending,
         }
-        self.answer.take()
     }
 
     /// Gives what is heard of the answer, with which the step ends.
@@ -187,9 +192,9 @@ impl Step {
         ensures state { self.new.state ≡ self.old.state }
         ensures heard { IsHeard result (option_map plain_answer self.old.answer) }
     {
-        if !self.answer.is_some() {
-            return Heard::Nothing;
+        match self.answer.take() {
+            Some(answer) => Heard::Answered(answer),
+            None => Heard::Nothing,
         }
-        Heard::Answered(self.answer.take())
     }
 }

@@ -7,6 +7,7 @@ ghost use Rattle.nq_client.specs.Granting.{clean_after_reply};
 
 use nq_base::{Block, BlockNo, FileId, Grant, Mode, NoMemory, Rev};
 use nq_cache::Cache;
+use std::alloc::Global;
 
 /// Whether the clean blocks of a file have this revision.
 fn has_revision(cache: &Cache, file: FileId, rev: Rev) -> bool
@@ -43,6 +44,7 @@ pub(crate) fn cleans(cache: &mut Cache, file: FileId, rev: Rev)
 /// Caches a block that came with a caching grant. Clean blocks of another revision go.
 fn caches_granted(
     cache: &mut Cache,
+    alloc: Global,
     file: FileId,
     block: BlockNo,
     body: &Block,
@@ -51,6 +53,7 @@ fn caches_granted(
     ensures cached { OnOk result (cache.new ≡ record cache.old { clean = put_clean file block body.now (clean_at_revision file rev cache.old.revisions cache.old.clean) }) }
     ensures refused { OnErr result (cache.new ≡ cache.old) }
 {
+    let body = body.copied(alloc)?;
     if has_revision(cache, file, rev) {
         cache.put(file, block, body)
     } else {
@@ -62,6 +65,7 @@ fn caches_granted(
 /// cached under a caching grant.
 pub(crate) fn caches_read(
     cache: &mut Cache,
+    alloc: Global,
     file: FileId,
     block: BlockNo,
     body: &Block,
@@ -72,7 +76,9 @@ pub(crate) fn caches_read(
 {
     match grant {
         None => Ok(()),
-        Some(given) if lets_cache(grant) => caches_granted(cache, file, block, body, given.rev),
+        Some(given) if lets_cache(grant) => {
+            caches_granted(cache, alloc, file, block, body, given.rev)
+        }
         Some(given) => {
             cleans(cache, file, given.rev);
             Ok(())

@@ -3,6 +3,7 @@
 ghost use Rattle.std.specs.Prelude.{◌≡◌, ◌≤◌, None, false, OnErr, OnOk};
 ghost use Rattle.nq_model.specs.Hear.{cancelled, cancels, goes_on, spends};
 ghost use Rattle.nq_model.specs.Table.{same_who};
+ghost use Rattle.nq_client.specs.Finishing.{HasRooms};
 ghost use Rattle.nq_client.specs.Hearing.{is_wanted};
 ghost use Rattle.nq_client.specs.Prepared.{IsPrepared};
 ghost use Rattle.nq_client.specs.Receiving.{Counts, IsHeeded, at_stake, on_call, on_heard, on_notice, on_reply};
@@ -12,6 +13,7 @@ ghost use Rattle.nq_client.specs.Tied.{Tied};
 
 use crate::asked::Asked;
 use crate::counting::wants;
+use crate::rooms::Rooms;
 use crate::step::Step;
 use nq_base::{FileId, NoMemory, Reply, Request, Tag, Who};
 use nq_datagrams::Heard;
@@ -59,18 +61,20 @@ impl Step {
     }
 
     /// What comes after a datagram that counted: what needs no packet, and the next request.
-    pub(crate) fn goes_on(&mut self)
+    pub(crate) fn goes_on(&mut self, rooms: &mut Rooms)
+        requires rooms { HasRooms rooms.old }
         requires room { HasRoom self.old }
         requires tied { Tied self.old.state.asked self.old.state.dirty.push }
         requires numbers { HasNumbers 2 self.old.state }
         ensures { step_of self.new ≡ goes_on (step_of self.old) }
     {
-        self.settle();
-        self.send_next(false);
+        self.settle(&mut rooms.kept);
+        self.send_next(false, &mut rooms.sent);
     }
 
     /// Takes a notice in that counts.
-    fn hears_notice(&mut self, file: FileId, tag: Tag)
+    fn hears_notice(&mut self, file: FileId, tag: Tag, rooms: &mut Rooms)
+        requires rooms { HasRooms rooms.old }
         requires begun { IsBegun self.old }
         requires room { HasRoom self.old }
         requires notices { 1 ≤ self.old.state.notices.spare }
@@ -80,11 +84,12 @@ impl Step {
     {
         self.cancels(file);
         self.evicted(file, tag);
-        self.goes_on();
+        self.goes_on(rooms);
     }
 
     /// Takes a call of the server in, of which a notice alone counts.
-    fn hears_call(&mut self, request: &Request)
+    fn hears_call(&mut self, request: &Request, rooms: &mut Rooms)
+        requires rooms { HasRooms rooms.old }
         requires begun { IsBegun self.old }
         requires room { HasRoom self.old }
         requires notices { 1 ≤ self.old.state.notices.spare }
@@ -93,13 +98,14 @@ impl Step {
         ensures { step_of self.new ≡ on_call (client_of self.old.state) request.now }
     {
         match request {
-            Request::Evicted { file, tag, .. } => self.hears_notice(*file, *tag),
+            Request::Evicted { file, tag, .. } => self.hears_notice(*file, *tag, rooms),
             _ => {}
         }
     }
 
     /// Takes a reply in that counts, in the packet of this number.
-    fn hears_reply(&mut self, packet: u64, reply: &Reply) -> Result<(), NoMemory>
+    fn hears_reply(&mut self, packet: u64, reply: &Reply, rooms: &mut Rooms) -> Result<(), NoMemory>
+        requires rooms { HasRooms rooms.old }
         requires begun { IsBegun self.old }
         requires prepared { IsPrepared (at_stake self.old.state.asked) self.old }
         requires tied { Tied self.old.state.asked self.old.state.dirty.push }
@@ -109,7 +115,7 @@ impl Step {
         ensures refused { OnErr result (self.new ≡ self.old) }
     {
         self.replied(packet, reply)?;
-        self.goes_on();
+        self.goes_on(rooms);
         Ok(())
     }
 
@@ -118,7 +124,13 @@ impl Step {
     /// # Errors
     ///
     /// Only want of memory, and then nothing changed.
-    pub(crate) fn hears(&mut self, packet: u64, heard: &Heard) -> Result<(), NoMemory>
+    pub(crate) fn hears(
+        &mut self,
+        packet: u64,
+        heard: &Heard,
+        rooms: &mut Rooms,
+    ) -> Result<(), NoMemory>
+        requires rooms { HasRooms rooms.old }
         requires begun { IsBegun self.old }
         requires prepared { IsPrepared (at_stake self.old.state.asked) self.old }
         requires notices { 1 ≤ self.old.state.notices.spare }
@@ -130,10 +142,10 @@ impl Step {
     {
         match heard {
             Heard::Notice { request, .. } => {
-                self.hears_call(request);
+                self.hears_call(request, rooms);
                 Ok(())
             }
-            Heard::Reply { reply, .. } => self.hears_reply(packet, reply),
+            Heard::Reply { reply, .. } => self.hears_reply(packet, reply, rooms),
         }
     }
 }

@@ -45,7 +45,7 @@ fn add_listed(dirty: &Dirty, place: usize, file: FileId, into: &mut Losses) -> R
     ensures { OnOk result (into.new.items ≡ into.old.items ++ map loss_of (push_of file (slice_get dirty.now.dirty place))) }
 {
     match dirty.nth(place) {
-        Some(push) if push.file == file => into.push(loss_of(&push)),
+        Some(loss) if loss.file == file => into.push(loss),
         _ => Ok(()),
     }
 }

@@ -12,21 +12,23 @@ ghost use Rattle.nq_client.specs.Step.{HasNumbers, step_of};
 
 use crate::asked::Job;
 use crate::step::Step;
-use nq_base::{FileId, Mode, Request};
+use nq_base::{FileId, Mode, Request, Spare};
 use nq_held::Held;
 
 impl Step {
     /// Pushes the first delayed writes of a file, if there is a file; whether it sent some.
-    fn pushes_due(&mut self, file: Option<FileId>) -> bool
+    fn pushes_due(&mut self, file: Option<FileId>, room: &mut Spare) -> bool
+        requires block { room.old ≡ true }
         requires idle { self.old.state.asked ≡ None }
         requires none { self.old.state.dirty.push ≡ None }
         requires numbers { HasNumbers 1 self.old.state }
         ensures step { step_of self.new ≡ pushes_due (step_of self.old) file }
         ensures sent { IsTrue result → is_some self.new.state.asked ≡ true }
         ensures quiet { result ≡ false → self.new ≡ self.old }
+        ensures kept { result ≡ false → room.new ≡ room.old }
     {
         match file {
-            Some(file) => self.pushes(file),
+            Some(file) => self.pushes(file, room),
             None => false,
         }
     }
@@ -86,7 +88,8 @@ impl Step {
 
     /// The next request, where none is under way: a push for the least file with a notice; else one for the least file whose
     /// lease is about to end; else the call's request; else, in a tick's step, a renewal.
-    pub(crate) fn send_next(&mut self, in_tick: bool)
+    pub(crate) fn send_next(&mut self, in_tick: bool, room: &mut Spare)
+        requires block { room.old ≡ true }
         requires none { self.old.state.asked ≡ None → self.old.state.dirty.push ≡ None }
         requires numbers { HasNumbers 1 self.old.state }
         ensures { step_of self.new ≡ send_next in_tick (step_of self.old) }
@@ -95,14 +98,14 @@ impl Step {
             return;
         }
         let noticed = self.state.notices.first();
-        if self.pushes_due(noticed) {
+        if self.pushes_due(noticed, room) {
             return;
         }
         let ending = self.state.leases.ending(self.state.time, &self.state.dirty);
-        if self.pushes_due(ending) {
+        if self.pushes_due(ending, room) {
             return;
         }
-        if self.calls() {
+        if self.calls(room) {
             return;
         }
         if in_tick {

@@ -1,15 +1,15 @@
 //! Reads that are answered from what a client has.
 
-ghost use Rattle.std.specs.Prelude.{◌≡◌, ◌&&◌, is_some, nat_lt, unwrap_or, if◌then◌else◌};
+ghost use Rattle.std.specs.Prelude.{◌≡◌, ◌&&◌, is_some, nat_lt, true, if◌then◌else◌};
 ghost use Rattle.nq_model.specs.CachedAtOnce.{has_cached};
-ghost use Rattle.nq_model.specs.Client.{lease_on};
-ghost use Rattle.nq_model.specs.Settle.{after_read, body_in, clean_after_read};
+ghost use Rattle.nq_model.specs.Client.{clean_at, lease_on};
+ghost use Rattle.nq_model.specs.Settle.{after_read, body_in, clean_after_read, clean_body, looked_up};
 ghost use Rattle.nq_client.specs.Reading.{lets_read_block};
 ghost use Rattle.nq_client.specs.State.{client_of};
 
 use crate::leases::Leases;
 use crate::state::State;
-use nq_base::{Block, BlockNo, FileId, Ticks};
+use nq_base::{Block, BlockNo, FileId, Spare, Ticks};
 use nq_cache::Cache;
 use nq_dirty::Dirty;
 
@@ -24,37 +24,57 @@ pub(crate) fn may_read(leases: &Leases, time: Ticks, file: FileId, block: BlockN
     }
 }
 
-/// Copies a block that is delayed, under way or clean. A clean one comes to the front.
+/// A copy of a block that is delayed, under way or clean, in room that is there. A clean one comes to the front.
 pub(crate) fn read_held(
     dirty: &Dirty,
     cache: &mut Cache,
     file: FileId,
     block: BlockNo,
-    into: &mut Block,
-) -> bool
-    ensures found { result ≡ is_some (body_in file block dirty.now.dirty dirty.now.push cache.old.clean) }
-    ensures body { into.new ≡ unwrap_or (body_in file block dirty.now.dirty dirty.now.push cache.old.clean) into.old }
+    room: &mut Spare,
+) -> Option<Block>
+    requires { room.old ≡ true }
+    ensures body { result ≡ body_in file block dirty.now.dirty dirty.now.push cache.old.clean }
     ensures cache { cache.new ≡ record cache.old { clean = clean_after_read file block dirty.now.dirty dirty.now.push cache.old.clean } }
 {
-    dirty.get(file, block, into) || cache.get(file, block, into)
+    match dirty.get(file, block) {
+        Some(body) => Some(body.copied_in(room)),
+        None => read_clean(cache, file, block, room),
+    }
 }
 
-/// Reads a block from what a client has, where no call is under way and a lease lets it.
+/// A copy of a clean block, in room that is there. It comes to the front.
+fn read_clean(cache: &mut Cache, file: FileId, block: BlockNo, room: &mut Spare) -> Option<Block>
+    requires { room.old ≡ true }
+    ensures body { result ≡ clean_body (clean_at file block cache.old.clean) }
+    ensures cache { cache.new ≡ record cache.old { clean = looked_up file block cache.old.clean } }
+{
+    let body = match cache.get(file, block) {
+        Some(body) => Some(body.copied_in(room)),
+        None => None,
+    };
+    cache.touch(file, block);
+    body
+}
+
+/// Reads a block from what a client has, where no call is under way and a lease lets it. The copy is made in room that is there.
 #[tactic(auto, unfolding(nq_model::specs::Settle::after_read))]
-pub(crate) fn read_cached(state: &mut State, file: FileId, block: BlockNo, into: &mut Block) -> bool
-    ensures found { result ≡ is_some (has_cached (client_of state.old) file block) }
-    ensures body { into.new ≡ unwrap_or (has_cached (client_of state.old) file block) into.old }
-    ensures client { client_of state.new ≡ (if result then after_read (client_of state.old) file block else client_of state.old) }
+pub(crate) fn read_cached(
+    state: &mut State,
+    file: FileId,
+    block: BlockNo,
+    room: &mut Spare,
+) -> Option<Block>
+    requires { room.old ≡ true }
+    ensures body { result ≡ has_cached (client_of state.old) file block }
+    ensures client { client_of state.new ≡ (if is_some result then after_read (client_of state.old) file block else client_of state.old) }
 {
     if !state.attached || state.call.is_some() {
-        return false;
+        return None;
     }
     if !may_read(&state.leases, state.time, file, block) {
-        return false;
+        return None;
     }
-    if !read_held(&state.dirty, &mut state.cache, file, block, into) {
-        return false;
-    }
+    let body = read_held(&state.dirty, &mut state.cache, file, block, room)?;
     state.leases.mark_used(file);
-    true
+    Some(body)
 }

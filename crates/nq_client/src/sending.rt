@@ -12,7 +12,7 @@ ghost use Rattle.nq_client.specs.Step.{HasNumbers, step_of};
 use crate::asked::{Asked, Job};
 use crate::leases::Leases;
 use crate::step::Step;
-use nq_base::{FileId, Push, PushBase, Request, Rev, Seq};
+use nq_base::{FileId, Push, PushBase, Request, Rev, Seq, Spare};
 use nq_cache::Cache;
 use nq_held::Held;
 
@@ -46,6 +46,20 @@ fn revision(cache: &Cache, file: FileId) -> Rev
     }
 }
 
+/// A copy of delayed writes, in room that is there.
+fn copied(push: &Push, room: &mut Spare) -> Push
+    requires { room.old ≡ true }
+    ensures { result ≡ push.now }
+{
+    Push {
+        file: push.file,
+        block: push.block,
+        first: push.first,
+        last: push.last,
+        body: push.body.copied_in(room),
+    }
+}
+
 #[tactic(auto, unfolding(nq_model::specs::Send::sends_request, nq_model::specs::Send::after_seq, nq_model::specs::Send::takes_push))]
 impl Step {
     /// Sends a request. It takes no memory.
@@ -67,17 +81,22 @@ impl Step {
         }
     }
 
-    /// Pushes the first delayed writes of a file, and says whether it has some.
-    pub(crate) fn pushes(&mut self, file: FileId) -> bool
+    /// Pushes the first delayed writes of a file, with a copy of their block in room that is there, and says whether it has
+    /// some.
+    pub(crate) fn pushes(&mut self, file: FileId, room: &mut Spare) -> bool
+        requires block { room.old ≡ true }
         requires idle { self.old.state.asked ≡ None }
         requires none { self.old.state.dirty.push ≡ None }
         requires numbers { HasNumbers 1 self.old.state }
         ensures step { step_of self.new ≡ pushes (step_of self.old) file }
         ensures sent { IsTrue result → is_some self.new.state.asked ≡ true }
         ensures quiet { result ≡ false → self.new ≡ self.old }
+        ensures kept { result ≡ false → room.new ≡ room.old }
     {
-        match self.state.dirty.next(file) {
+        self.state.dirty.next(file);
+        match self.state.dirty.under_way() {
             Some(push) => {
+                let push = copied(push, room);
                 self.sends_push(push);
                 true
             }

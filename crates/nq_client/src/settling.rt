@@ -1,11 +1,10 @@
 //! What the call under way needs no packet for: cached reads, delayed writes, and syncs of clean files.
 
-ghost use Rattle.std.specs.Prelude.{◌≡◌, ◌≤◌, ◌<◌, ◌+◌, ◌^◌, false, Some, option_map};
+ghost use Rattle.std.specs.Prelude.{◌≡◌, ◌≤◌, ◌<◌, ◌+◌, ◌^◌, true, false, Some, option_map};
 ghost use Rattle.nq_base.specs.Plain.{plain_answer, plain_said};
 ghost use Rattle.nq_base.specs.declared.Answer.{Answer};
 ghost use Rattle.nq_base.specs.declared.Answer.TheVariants.{Ok as ok};
 ghost use Rattle.nq_base.specs.declared.Value.{Value};
-ghost use Rattle.nq_client.specs.Given.{answer_of_brief};
 ghost use Rattle.nq_model.specs.Client.{in_state, lease_on};
 ghost use Rattle.nq_model.specs.Settle.{body_in, delays, is_full_in, settle, ticket_is_for_call};
 ghost use Rattle.nq_client.specs.Prepared.{Leaves};
@@ -14,11 +13,11 @@ ghost use Rattle.nq_client.specs.State.{under_way};
 ghost use Rattle.nq_client.specs.Step.{HasNumbers, HasRoom, step_of};
 
 use crate::asked::{Asked, Job};
-use crate::given::Brief;
 use crate::leases::Leases;
+use crate::reading::read_held;
 use crate::state::UnderWay;
 use crate::step::Step;
-use nq_base::{Block, BlockNo, Call, Entry, FileId, Number, Said, Ticks};
+use nq_base::{Answer, Block, BlockNo, Call, Entry, FileId, Number, Said, Spare, Ticks, Value};
 
 /// What the lease on a file lets a call do with a block without a packet.
 #[derive(Clone, Copy)]
@@ -77,22 +76,24 @@ fn is_for_call(asked: &Option<Asked>) -> bool
     }
 }
 
-/// The block that the call under way writes; zeros where it writes none.
-pub(crate) fn called_body(call: &Option<UnderWay>) -> Block
+/// A copy of the block that the call under way writes, in room that is there; zeros where it writes none.
+pub(crate) fn called_body(call: &Option<UnderWay>, room: &mut Spare) -> Block
+    requires { room.old ≡ true }
     ensures { result ≡ called_body (option_map under_way call.now) }
 {
     match call {
-        Some(u) => body_of_call(&u.call),
+        Some(u) => body_of_call(&u.call, room),
         None => Block::fill(0),
     }
 }
 
-/// The block that a call writes; zeros where it writes none.
-fn body_of_call(call: &Call) -> Block
+/// A copy of the block that a call writes, in room that is there; zeros where it writes none.
+fn body_of_call(call: &Call, room: &mut Spare) -> Block
+    requires { room.old ≡ true }
     ensures { result ≡ body_of_call call.now }
 {
     match call {
-        Call::Write { body, .. } | Call::WriteSync { body, .. } => body.copied(),
+        Call::Write { body, .. } | Call::WriteSync { body, .. } => body.copied_in(room),
         Call::Create { .. }
         | Call::Lookup { .. }
         | Call::Attr { .. }
@@ -107,25 +108,15 @@ fn body_of_call(call: &Call) -> Block
 #[tactic(auto, unfolding(nq_model::specs::Settle::answers))]
 impl Step {
     /// An answer, as a journal tells it, ends the call under way.
-    pub(crate) fn ends_call(&mut self, q: u64, brief: Brief, said: Said)
+    pub(crate) fn ends_call(&mut self, q: u64, answer: Answer, said: Said)
         requires { 1 ≤ self.old.entries.spare }
-        ensures step { step_of self.new ≡ ended (step_of self.old) q (plain_answer (answer_of_brief brief)) (plain_said said) }
+        ensures step { step_of self.new ≡ ended (step_of self.old) q (plain_answer answer) (plain_said said) }
         ensures left { Leaves 1 self.old self.new }
         ensures leases { self.old.state.leases.spare ≤ self.new.state.leases.spare }
         ensures cache { self.new.state.cache ≡ self.old.state.cache }
     {
         self.tells_answer(q, said);
-        self.answer.put(brief);
-    }
-
-    /// An answer that brings a block, as a journal tells it, ends the call under way.
-    pub(crate) fn ends_call_with(&mut self, q: u64, body: &Block, said: Said)
-        requires { 1 ≤ self.old.entries.spare }
-        ensures step { step_of self.new ≡ ended (step_of self.old) q (ok (Value.Body body.now)) (plain_said said) }
-        ensures left { Leaves 1 self.old self.new }
-    {
-        self.tells_answer(q, said);
-        self.answer.put_body(body);
+        self.answer = Some(answer);
     }
 
     /// No call is under way any more, and a journal tells the answer.
@@ -145,20 +136,21 @@ impl Step {
     }
 
     /// What the call under way needs no packet for.
-    pub(crate) fn settle(&mut self)
+    pub(crate) fn settle(&mut self, room: &mut Spare)
         requires room { HasRoom self.old }
+        requires block { room.old ≡ true }
         requires numbers { HasNumbers 1 self.old.state }
         ensures { step_of self.new ≡ settle (step_of self.old) }
     {
         if self.state.call.is_some() && !is_for_call(&self.state.asked) {
-            self.settle_under_way();
+            self.settle_under_way(room);
         }
     }
 
-    /// What the call under way needs no packet for, where the request under way is not its own. The call stays where it is: it
-    /// is large.
-    fn settle_under_way(&mut self)
+    /// What the call under way needs no packet for, where the request under way is not its own.
+    fn settle_under_way(&mut self, room: &mut Spare)
         requires room { HasRoom self.old }
+        requires block { room.old ≡ true }
         requires numbers { HasNumbers 1 self.old.state }
         requires free { ticket_is_for_call self.old.state.asked ≡ false }
         ensures { step_of self.new ≡ settle (step_of self.old) }
@@ -167,16 +159,16 @@ impl Step {
             Some(u) => match &u.call {
                 Call::Read { file, block } | Call::Fetch { file, block } => {
                     let (q, file, block) = (u.q, *file, *block);
-                    self.settle_read(q, file, block);
+                    self.settle_read(q, file, block, room);
                 }
                 Call::Write { file, block, .. } => {
                     let (q, through, file, block) = (u.q, u.through, *file, *block);
-                    self.settle_write(q, through, false, file, block);
+                    self.settle_write(q, through, false, file, block, room);
                 }
                 Call::WriteSync { file, block, .. } => {
                     let (q, through, written) = (u.q, u.through, u.written);
                     let (file, block) = (*file, *block);
-                    self.settle_put(q, written, through, file, block);
+                    self.settle_put(q, written, through, file, block, room);
                 }
                 Call::Sync { file } => {
                     let (q, file) = (u.q, *file);
@@ -193,29 +185,31 @@ impl Step {
     }
 
     /// A read, by the lease that is held.
-    fn settle_read(&mut self, q: u64, file: FileId, block: BlockNo)
+    fn settle_read(&mut self, q: u64, file: FileId, block: BlockNo, room: &mut Spare)
         requires room { HasRoom self.old }
+        requires block { room.old ≡ true }
         ensures { step_of self.new ≡ settles_read (step_of self.old) q file block (lease_on file self.old.state.leases.items) }
     {
         match leave_to_read(&self.state.leases, self.state.time, file, block) {
             Leave::None => {}
-            Leave::PastEnd => self.ends_call(q, Brief::Range, Said::Range),
-            Leave::Granted => self.settle_body(q, file, block),
+            Leave::PastEnd => self.ends_call(q, Answer::Range, Said::Range),
+            Leave::Granted => self.settle_body(q, file, block, room),
         }
     }
 
     /// A read under a lease that lets it, by what the client has.
     #[tactic(auto, unfolding(nq_model::specs::Settle::answers, nq_model::specs::Settle::after_read))]
-    fn settle_body(&mut self, q: u64, file: FileId, block: BlockNo)
+    fn settle_body(&mut self, q: u64, file: FileId, block: BlockNo, room: &mut Spare)
         requires room { HasRoom self.old }
+        requires block { room.old ≡ true }
         ensures { step_of self.new ≡ settles_body (step_of self.old) q file block (body_in file block self.old.state.dirty.dirty self.old.state.dirty.push self.old.state.cache.clean) }
     {
         let state = &mut self.state;
-        match self
-            .answer
-            .put_held(&state.dirty, &mut state.cache, file, block)
-        {
-            Some(value) => self.tells_read(q, file, block, value),
+        match read_held(&state.dirty, &mut state.cache, file, block, room) {
+            Some(body) => {
+                self.tells_read(q, file, block, body.value());
+                self.answer = Some(Answer::Ok(Value::Body(body)));
+            }
             None => {}
         }
     }
@@ -239,21 +233,39 @@ impl Step {
     }
 
     /// A put: its write is delayed, or waits until it is stored.
-    fn settle_put(&mut self, q: u64, written: bool, through: bool, file: FileId, block: BlockNo)
+    fn settle_put(
+        &mut self,
+        q: u64,
+        written: bool,
+        through: bool,
+        file: FileId,
+        block: BlockNo,
+        room: &mut Spare,
+    )
         requires room { HasRoom self.old }
+        requires block { room.old ≡ true }
         requires numbers { HasNumbers 1 self.old.state }
         ensures { step_of self.new ≡ settles_put (step_of self.old) q written through file block (called_body (step_of self.old).client.call) }
     {
         if written {
             self.settle_sync(q, file);
         } else {
-            self.settle_write(q, through, true, file, block);
+            self.settle_write(q, through, true, file, block, room);
         }
     }
 
     /// A write, by the lease that is held: it is delayed, unless it is to go through or a notice waits.
-    fn settle_write(&mut self, q: u64, through: bool, sync: bool, file: FileId, block: BlockNo)
+    fn settle_write(
+        &mut self,
+        q: u64,
+        through: bool,
+        sync: bool,
+        file: FileId,
+        block: BlockNo,
+        room: &mut Spare,
+    )
         requires room { HasRoom self.old }
+        requires block { room.old ≡ true }
         requires numbers { HasNumbers 1 self.old.state }
         ensures { step_of self.new ≡ settles_write (step_of self.old) q through sync file block (called_body (step_of self.old).client.call) (lease_on file self.old.state.leases.items) }
     {
@@ -262,37 +274,40 @@ impl Step {
         }
         match leave_to_write(&self.state.leases, self.state.time, file, block) {
             Leave::None => {}
-            Leave::PastEnd => self.ends_call(q, Brief::Range, Said::Range),
-            Leave::Granted => self.writes(q, sync, file, block),
+            Leave::PastEnd => self.ends_call(q, Answer::Range, Said::Range),
+            Leave::Granted => self.writes(q, sync, file, block, room),
         }
     }
 
     /// A write under a lease that lets it, where there is room for it.
-    fn writes(&mut self, q: u64, sync: bool, file: FileId, block: BlockNo)
+    fn writes(&mut self, q: u64, sync: bool, file: FileId, block: BlockNo, room: &mut Spare)
         requires room { HasRoom self.old }
+        requires block { room.old ≡ true }
         requires numbers { HasNumbers 1 self.old.state }
         ensures { step_of self.new ≡ writes (step_of self.old) q sync file block (called_body (step_of self.old).client.call) }
     {
         if self.state.dirty.is_full(file, block) {
-            self.ends_call(q, Brief::DirtyFull, Said::DirtyFull);
+            self.ends_call(q, Answer::DirtyFull, Said::DirtyFull);
         } else {
-            self.delays(file, block);
+            self.delays(file, block, room);
             self.after_delay(q, sync);
         }
     }
 
     /// Delays the write of the call under way.
     #[tactic(auto, unfolding(nq_model::specs::Settle::after_write))]
-    fn delays(&mut self, file: FileId, block: BlockNo)
+    fn delays(&mut self, file: FileId, block: BlockNo, room: &mut Spare)
         requires room { HasRoom self.old }
+        requires block { room.old ≡ true }
         requires numbers { HasNumbers 1 self.old.state }
         requires place { is_full_in file block self.old.state.dirty.dirty self.old.state.dirty.push ≡ false }
         ensures step { step_of self.new ≡ delays (step_of self.old) file block (called_body (step_of self.old).client.call) }
         ensures spare { self.old.entries.spare ≡ self.new.entries.spare + 1 }
     {
-        let body = called_body(&self.state.call);
+        let body = called_body(&self.state.call, room);
+        let value = body.value();
         let number = self.state.number;
-        self.state.dirty.write(file, block, number, &body).unwrap();
+        self.state.dirty.write(file, block, number, body).unwrap();
         self.state.number = Number(number.0 + 1);
         self.state.leases.mark_used(file);
         self.state.cache.remove(file, block);
@@ -301,7 +316,7 @@ impl Step {
             file,
             block,
             number,
-            value: body.value(),
+            value,
             through: false,
         });
     }
@@ -314,7 +329,7 @@ impl Step {
         if sync {
             self.marks_written();
         } else {
-            self.ends_call(q, Brief::Nothing, Said::Ok);
+            self.ends_call(q, Answer::Ok(Value::Nothing), Said::Ok);
         }
     }
 
@@ -334,7 +349,7 @@ impl Step {
         ensures { step_of self.new ≡ settles_sync (step_of self.old) q file }
     {
         if self.state.dirty.is_clean(file) {
-            self.ends_call(q, Brief::Nothing, Said::Ok);
+            self.ends_call(q, Answer::Ok(Value::Nothing), Said::Ok);
         }
     }
 }

@@ -61,12 +61,12 @@ pub(crate) fn begin(
     ensures fit { OnOk result (All FitsMessage (starts who term time).sends) }
     ensures refused { OnErr result (out.new.datagrams ≡ out.old.datagrams) }
 {
-    letters.reserve()?;
+    letters.reserve(alloc)?;
     out.reserve(2)?;
     let mut log = Journal::new(alloc)?;
     let mut step = first_step(alloc, who, term, time)?;
     step.finish(letters, out, &mut log);
     // No call is under way, so there is no answer to give.
-    step.answer.clear();
+    step.answer = None;
     Ok(step)
 }

@@ -4,8 +4,8 @@ ghost use Rattle.std.specs.Prelude.{◌≡◌};
 ghost use Rattle.nq_client.specs.Step.{IsBegun};
 
 use crate::entries::Entries;
-use crate::given::Given;
 use crate::state::State;
+use nq_base::Answer;
 use nq_evict::Vacancy;
 
 /// A vacated message with its number.
@@ -24,7 +24,7 @@ pub(crate) struct Step {
     /// Whether it sends the request under way, for the first time or again.
     pub(crate) asks: bool,
     pub(crate) entries: Entries,
-    pub(crate) answer: Given,
+    pub(crate) answer: Option<Answer>,
     /// Whether a read was answered from what the client has.
     pub(crate) cached: bool,
 }
@@ -41,7 +41,7 @@ impl Step {
             vacated: None,
             asks: false,
             entries: Entries::new(alloc),
-            answer: Given::none(),
+            answer: None,
             cached: false,
         }
     }

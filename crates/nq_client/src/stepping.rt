@@ -4,7 +4,7 @@ ghost use Rattle.std.specs.Prelude.{◌≡◌, ◌≤◌, ◌<◌, ◌+◌, ◌^
 ghost use Rattle.nq_base.specs.Plain.{plain_answer};
 ghost use Rattle.nq_model.specs.ClientStep.{client_call, client_tick};
 ghost use Rattle.nq_client.specs.Calling.{IsNamedFor};
-ghost use Rattle.nq_client.specs.Finishing.{Grows, HasLetters, HasRoomFor};
+ghost use Rattle.nq_client.specs.Finishing.{Grows, HasLetters, HasRoomFor, HasRooms};
 ghost use Rattle.nq_client.specs.Receiving.{HasRoomForFiles, IsHeeded, most_entries, on_heard};
 ghost use Rattle.nq_client.specs.State.{client_of};
 ghost use Rattle.nq_client.specs.Step.{HasNumbers, IsBegun, step_of};
@@ -33,9 +33,10 @@ pub(crate) fn reserve(
     ensures datagrams { out.new.datagrams ≡ out.old.datagrams }
     ensures entries { log.new.entries ≡ log.old.entries }
     ensures letters { OnOk result (HasLetters letters.new) }
+    ensures rooms { OnOk result (HasRooms letters.new.rooms) }
     ensures room { OnOk result (HasRoomFor entries step.new out.new log.new) }
 {
-    letters.reserve()?;
+    letters.reserve(step.state.alloc)?;
     step.reserve(entries, out, log)
 }
 
@@ -54,6 +55,7 @@ pub(crate) fn room_for_call(
     ensures datagrams { out.new.datagrams ≡ out.old.datagrams }
     ensures entries { log.new.entries ≡ log.old.entries }
     ensures letters { OnOk result (HasLetters letters.new) }
+    ensures rooms { OnOk result (HasRooms letters.new.rooms) }
     ensures room { OnOk result (HasRoomFor 3 step.new out.new log.new) }
     ensures named { IfOk result (λ n. IsNamedFor n call.now step.new.state.losses.items) }
 {
@@ -65,24 +67,25 @@ pub(crate) fn room_for_call(
 pub(crate) fn make_call(
     step: &mut Step,
     letters: &mut Letters,
-    call: &Call,
+    call: Call,
     named: Named,
     out: &mut Outbox,
     log: &mut Journal,
 )
     requires begun { IsBegun step.old }
     requires letters { HasLetters letters.old }
+    requires rooms { HasRooms letters.old.rooms }
     requires room { HasRoomFor 3 step.old out.old log.old }
     requires numbers { HasNumbers 2 step.old.state }
     requires calls { step.old.state.calls < 2 ^ 62 }
-    requires named { IsNamedFor named call.now step.old.state.losses.items }
+    requires named { IsNamedFor named call step.old.state.losses.items }
     requires tied { Tied step.old.state.asked step.old.state.dirty.push }
     ensures begun { IsBegun (record step.new { answer = None }) }
-    ensures client { client_of step.new.state ≡ (client_call (client_of step.old.state) call.now).client }
-    ensures grows { Grows (client_call (client_of step.old.state) call.now) out.old out.new log.old log.new }
-    ensures answer { option_map plain_answer step.new.answer ≡ (client_call (client_of step.old.state) call.now).answer }
+    ensures client { client_of step.new.state ≡ (client_call (client_of step.old.state) call).client }
+    ensures grows { Grows (client_call (client_of step.old.state) call) out.old out.new log.old log.new }
+    ensures answer { option_map plain_answer step.new.answer ≡ (client_call (client_of step.old.state) call).answer }
 {
-    step.call(call, named);
+    step.call(call, named, &mut letters.rooms);
     step.finish(letters, out, log);
 }
 
@@ -96,6 +99,7 @@ pub(crate) fn make_tick(
 )
     requires begun { IsBegun step.old }
     requires letters { HasLetters letters.old }
+    requires rooms { HasRooms letters.old.rooms }
     requires room { HasRoomFor 2 step.old out.old log.old }
     requires numbers { HasNumbers 2 step.old.state }
     requires early { now < 2 ^ 62 }
@@ -105,7 +109,7 @@ pub(crate) fn make_tick(
     ensures grows { Grows (client_tick (client_of step.old.state) now) out.old out.new log.old log.new }
     ensures answer { option_map plain_answer step.new.answer ≡ (client_tick (client_of step.old.state) now).answer }
 {
-    step.tick(now);
+    step.tick(now, &mut letters.rooms);
     step.finish(letters, out, log);
 }
 
@@ -123,6 +127,7 @@ fn room_for_heard(
     ensures datagrams { out.new.datagrams ≡ out.old.datagrams }
     ensures entries { log.new.entries ≡ log.old.entries }
     ensures letters { OnOk result (HasLetters letters.new) }
+    ensures rooms { OnOk result (HasRooms letters.new.rooms) }
     ensures room { OnOk result (HasRoomFor (most_entries (client_of step.old.state)) step.new out.new log.new) }
     ensures files { OnOk result (HasRoomForFiles step.new) }
 {
@@ -144,6 +149,7 @@ fn make_heard(
 ) -> Result<(), NoMemory>
     requires begun { IsBegun step.old }
     requires letters { HasLetters letters.old }
+    requires rooms { HasRooms letters.old.rooms }
     requires room { HasRoomFor (most_entries (client_of step.old.state)) step.old out.old log.old }
     requires files { HasRoomForFiles step.old }
     requires numbers { HasNumbers 3 step.old.state }
@@ -155,7 +161,7 @@ fn make_heard(
     ensures answer { OnOk result (option_map plain_answer step.new.answer ≡ (on_heard (client_of step.old.state) packet heard.now).answer) }
     ensures refused { OnErr result ((step.new ≡ step.old) × (out.new ≡ out.old) × (log.new ≡ log.old)) }
 {
-    step.hears(packet, heard)?;
+    step.hears(packet, heard, &mut letters.rooms)?;
     step.finish(letters, out, log);
     Ok(())
 }

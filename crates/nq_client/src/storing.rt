@@ -14,6 +14,7 @@ use nq_base::{Block, BlockNo, FileId, NoMemory, Refusal, Rev};
 use nq_cache::Cache;
 use nq_dirty::Dirty;
 use nq_held::Held;
+use std::alloc::Global;
 
 /// Whether a caching lease is held, live or not.
 fn holds_caching(held: &Held) -> bool
@@ -47,6 +48,7 @@ fn is_revision_before(cache: &Cache, file: FileId, rev: Rev) -> bool
 fn caches_written(
     leases: &Leases,
     cache: &mut Cache,
+    alloc: Global,
     file: FileId,
     block: BlockNo,
     body: &Block,
@@ -56,7 +58,7 @@ fn caches_written(
     ensures refused { OnErr result (cache.new ≡ cache.old) }
 {
     if holds_caching(&leases.on(file)) && is_revision_before(cache, file, rev) {
-        return cache.put(file, block, body);
+        return cache.put(file, block, body.copied(alloc)?);
     }
     cache.purge(file);
     Ok(())
@@ -66,6 +68,7 @@ fn caches_written(
 fn caches_stored(
     dirty: &Dirty,
     cache: &mut Cache,
+    alloc: Global,
     file: FileId,
     block: BlockNo,
     body: &Block,
@@ -76,7 +79,7 @@ fn caches_stored(
     if dirty.holds(file, block) {
         return Ok(());
     }
-    cache.put(file, block, body)
+    cache.put(file, block, body.copied(alloc)?)
 }
 
 #[tactic(auto, unfolding(nq_model::specs::Hear::caches_block, nq_model::specs::Hear::purges, nq_model::specs::Hear::knows_revision, nq_model::specs::Hear::ends_push))]
@@ -102,6 +105,7 @@ impl Step {
         caches_written(
             &self.state.leases,
             &mut self.state.cache,
+            self.state.alloc,
             file,
             block,
             body,
@@ -133,7 +137,14 @@ impl Step {
         ensures left { OnOk result (Leaves 0 self.old self.new) }
         ensures refused { OnErr result (self.new ≡ self.old) }
     {
-        caches_stored(&self.state.dirty, &mut self.state.cache, file, block, body)?;
+        caches_stored(
+            &self.state.dirty,
+            &mut self.state.cache,
+            self.state.alloc,
+            file,
+            block,
+            body,
+        )?;
         self.state.dirty.stored(file);
         self.state.cache.retag(file, rev).unwrap();
         self.vacates_if_clean(file);

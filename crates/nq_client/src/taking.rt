@@ -131,7 +131,8 @@ impl Step {
         match grant {
             Some(given) => {
                 let Taking { held, losing } = ready_to_take(&self.state, file, given, sent)?;
-                caches_read(&mut self.state.cache, file, block, body, grant)?;
+                let alloc = self.state.alloc;
+                caches_read(&mut self.state.cache, alloc, file, block, body, grant)?;
                 self.breaks_with(file, losing);
                 self.keeps(file, given, sent, held);
                 Ok(())

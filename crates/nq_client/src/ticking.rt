@@ -3,11 +3,13 @@
 ghost use Rattle.std.specs.Prelude.{◌≡◌, ◌≤◌, ◌<◌, ◌+◌, ◌^◌, false, nat_le, option_map, if◌then◌else◌};
 ghost use Rattle.nq_model.specs.Client.{begun};
 ghost use Rattle.nq_model.specs.ClientStep.{client_tick, tick_asking};
+ghost use Rattle.nq_client.specs.Finishing.{HasRooms};
 ghost use Rattle.nq_client.specs.Step.{HasNumbers, HasRoom, step_of};
 ghost use Rattle.nq_client.specs.Ticking.{is_due, sent_at};
 ghost use Rattle.nq_client.specs.Tied.{Tied};
 
 use crate::asked::Asked;
+use crate::rooms::Rooms;
 use crate::step::Step;
 use nq_base::Ticks;
 
@@ -29,7 +31,8 @@ fn asks_again(asked: &mut Option<Asked>, now: Ticks) -> bool
 impl Step {
     /// A tick of the client's clock, which now shows this time.
     #[tactic(auto, unfolding(nq_model::specs::ClientStep::at_time))]
-    pub(crate) fn tick(&mut self, now: Ticks)
+    pub(crate) fn tick(&mut self, now: Ticks, rooms: &mut Rooms)
+        requires rooms { HasRooms rooms.old }
         requires room { HasRoom self.old }
         requires numbers { HasNumbers 2 self.old.state }
         requires early { now < 2 ^ 62 }
@@ -39,12 +42,13 @@ impl Step {
         ensures { step_of self.new ≡ client_tick (step_of self.old).client now }
     {
         self.state.time = now;
-        self.ticks();
+        self.ticks(rooms);
     }
 
     /// The request under way is sent again where it is due; where there is none, the call goes on.
     #[tactic(auto, unfolding(nq_model::specs::ClientStep::sends_again))]
-    fn ticks(&mut self)
+    fn ticks(&mut self, rooms: &mut Rooms)
+        requires rooms { HasRooms rooms.old }
         requires room { HasRoom self.old }
         requires numbers { HasNumbers 2 self.old.state }
         requires silent { self.old.asks ≡ false }
@@ -54,8 +58,8 @@ impl Step {
         match &self.state.asked {
             Some(_) => self.asks = asks_again(&mut self.state.asked, self.state.time),
             None => {
-                self.settle();
-                self.send_next(true);
+                self.settle(&mut rooms.kept);
+                self.send_next(true, &mut rooms.sent);
             }
         }
     }

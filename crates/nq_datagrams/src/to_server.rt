@@ -1,6 +1,6 @@
 //! What a datagram is to the server.
 
-ghost use Rattle.std.specs.Prelude.{◌≡◌, Ok};
+ghost use Rattle.std.specs.Prelude.{◌≡◌, true, Ok};
 ghost use Rattle.nq_rpc.specs.Lent.{lent_message};
 ghost use Rattle.nq_datagrams.specs.Incoming.{asked_as, called_as, datagram_in, read_as};
 ghost use Rattle.nq_datagrams.specs.Told.{told, told_as};
@@ -10,10 +10,9 @@ ghost use Rattle.nq_wire.specs.Reading.{left_in};
 use crate::numbers::{
     EVICTED, LAST_PROCEDURE, LONGEST_DATAGRAM, PROGRAM, RPC_VERSION, VACATED, VERSION,
 };
-use nq_base::Request;
+use nq_base::{Request, Spare};
 use nq_rpc::{LentCall, LentMessage, RpcFault, decode_in_place};
 use nq_wire::{WireFault, decode_request_into};
-use std::alloc::Global;
 
 /// What a datagram is to the server: the classes stand in the order in which they are tried.
 #[derive(Drop)]
@@ -65,10 +64,11 @@ pub enum Class {
     Request { xid: u32 },
 }
 
-/// Reads a datagram that came to the server. A request is read into `into`, which after every other class may hold anything. It
-/// takes no memory.
+/// Reads a datagram that came to the server. A request is read into `into`, which after every other class may hold anything. A
+/// body goes into `room`, so no memory is wanted.
 #[tactic(auto, unfolding(crate::specs::Incoming::datagram_in))]
-pub fn read_incoming_into(datagram: &[u8], into: &mut Request) -> Class
+pub fn read_incoming_into(datagram: &[u8], room: &mut Spare, into: &mut Request) -> Class
+    requires { room.old ≡ true }
     ensures { told_as result into.new ≡ datagram_in datagram.now }
 {
     if datagram.len() > LONGEST_DATAGRAM {
@@ -76,22 +76,24 @@ pub fn read_incoming_into(datagram: &[u8], into: &mut Request) -> Class
     }
     match decode_in_place(datagram) {
         Err(fault) => Class::NoMessage(fault),
-        Ok(message) => of_message(message, into),
+        Ok(message) => of_message(message, room, into),
     }
 }
 
-fn of_message(message: LentMessage<'_>, into: &mut Request) -> Class
+fn of_message(message: LentMessage<'_>, room: &mut Spare, into: &mut Request) -> Class
+    requires { room.old ≡ true }
     ensures { told_as result into.new ≡ read_as (Ok (lent_message message.entry)) }
 {
     match message {
         LentMessage::Reply(_) => Class::NoCall,
-        LentMessage::Call(call) => called(call, into),
+        LentMessage::Call(call) => called(call, room, into),
     }
 }
 
 /// A call, by its numbers in the order in which they are tested.
 #[tactic(auto, unfolding(crate::specs::Incoming::called_as))]
-fn called(call: LentCall<'_>, into: &mut Request) -> Class
+fn called(call: LentCall<'_>, room: &mut Spare, into: &mut Request) -> Class
+    requires { room.old ≡ true }
     ensures { told_as result into.new ≡ called_as (record { head = call.entry.head; rpcvers = call.entry.rpcvers; arguments = call.entry.arguments.now }) }
 {
     let LentCall {
@@ -112,7 +114,7 @@ fn called(call: LentCall<'_>, into: &mut Request) -> Class
     if head.procedure == EVICTED || head.procedure > LAST_PROCEDURE {
         return Class::UnknownProcedure { xid };
     }
-    let read = decode_request_into(head.procedure, arguments, into);
+    let read = decode_request_into(head.procedure, arguments, room, into);
     asked(xid, head.procedure, read)
 }
 
@@ -127,12 +129,13 @@ fn asked(xid: u32, procedure: u32, read: Result<(), WireFault>) -> Class
     }
 }
 
-/// Reads a datagram that came to the server. It takes no memory.
-pub fn read_incoming(_alloc: Global, datagram: &[u8]) -> Incoming
+/// Reads a datagram that came to the server. A body goes into `room`, so no memory is wanted.
+pub fn read_incoming(datagram: &[u8], room: &mut Spare) -> Incoming
+    requires { room.old ≡ true }
     ensures { told result ≡ datagram_in datagram.now }
 {
     let mut request = Request::Null;
-    match read_incoming_into(datagram, &mut request) {
+    match read_incoming_into(datagram, room, &mut request) {
         Class::TooLong => Incoming::TooLong,
         Class::NoMessage(fault) => Incoming::NoMessage(fault),
         Class::NoCall => Incoming::NoCall,

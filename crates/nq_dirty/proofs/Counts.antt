@@ -1,5 +1,5 @@
 -- How many delayed writes of a file there are, with the push under way.
-use Rattle.std.proofs.Common.{◌≡◌, ◌≤◌, ℕ, ◌+◌, Bool, true, false, cond, List, [], ◌∷◌, length, filter, Option, Some, None, is_some, if◌then◌else◌, refl, sym, ap, ◌∙◌, arith, length-append, add-one}
+use Rattle.std.proofs.Common.{◌≡◌, ◌≤◌, ℕ, ◌+◌, Bool, true, false, cond, List, [], ◌∷◌, length, filter, Option, Some, None, is_some, if◌then◌else◌, refl, arith, length-append, add-one}
 use Rattle.nq_base.specs.declared.Push.{Push}
 use Rattle.nq_model.specs.Client.{is_push_of, push_passes}
 use Rattle.nq_model.specs.Hear.{push_of, all_dirty_in}

@@ -1,5 +1,5 @@
 -- Entries as delayed writes: a block is found where its key is, and at one place only.
-use Rattle.std.proofs.Common.{suc, ◌≡◌, ◌≤◌, ℕ, ◌+◌, ◌==◌, Bool, true, false, not, ◌&&◌, ◌||◌, cond, List, [], ◌∷◌, ◌++◌, length, filter, map, Option, Some, None, is_some, refl, sym, ap, ◌∙◌, arith, append_assoc, add-one}
+use Rattle.std.proofs.Common.{suc, ◌≡◌, ℕ, ◌+◌, ◌==◌, Bool, true, false, not, ◌&&◌, ◌||◌, cond, List, [], ◌∷◌, ◌++◌, length, filter, map, Option, Some, None, is_some, refl, sym, ap, ◌∙◌, arith, append_assoc, add-one}
 use Rattle.std.specs.Cmp.{IsEquivalence}
 use Rattle.std.specs.List.{list_any, find, IsDistinct, slice_get}
 use Rattle.std.specs.Map.{keys_of, lookup, lookup_entry, remove_entry, set_value}
@@ -16,7 +16,7 @@ use Rattle.nq_dirty.specs.Entries.{push_of, delayed, is_of_other}
 use Rattle.nq_dirty.specs.declared.entries.Key.{Key}
 use Rattle.nq_dirty.specs.declared.entries.Writes.{Writes}
 use Rattle.nq_dirty.proofs.KeyLaws.{same, same_key}
-use Rattle.nq_model.specs.Client.{is_push_of, is_push_at, dirty_at, first_dirty, drop_dirty, other_dirty}
+use Rattle.nq_model.specs.Client.{is_push_of, dirty_at, first_dirty, drop_dirty, other_dirty}
 use Rattle.nq_model.specs.Hear.{loss_of}
 use Rattle.nq_model.specs.Settle.{overwritten_at, with_write, write_in}
 
@@ -72,13 +72,13 @@ value-entry key (e ∷ es) = value-step (same key e.0) e (lookup (same key) es) 
 pub is_there : (key : Key) (es : List (Key × Writes)) → is_some (dirty_at key.file key.block (delayed es)) ≡ is_some (lookup (same key) es)
 is_there key es = ap is_some (dirty_at-entries key es) ∙ mapped push_of (lookup_entry (same key) es) ∙ sym (ap is_some (value-entry key es) ∙ mapped (λ f. f.1) (lookup_entry (same key) es))
 
-body-step : (o : Option (Key × Writes)) → option_map (λ p. p.body) (option_map push_of o) ≡ option_map (λ w. w.body.value) (option_map (λ f. f.1) o)
+body-step : (o : Option (Key × Writes)) → option_map (λ p. p.body) (option_map push_of o) ≡ option_map (λ w. w.body) (option_map (λ f. f.1) o)
 body-step None = refl
 body-step (Some e) = refl
 
 -- the body of a block is that of its key
-pub body_at-entries : (key : Key) (es : List (Key × Writes)) → option_map (λ p. p.body) (dirty_at key.file key.block (delayed es)) ≡ option_map (λ w. w.body.value) (lookup (same key) es)
-body_at-entries key es = ap (option_map (λ p. p.body)) (dirty_at-entries key es) ∙ body-step (lookup_entry (same key) es) ∙ ap (option_map (λ w. w.body.value)) (sym (value-entry key es))
+pub body_at-entries : (key : Key) (es : List (Key × Writes)) → option_map (λ p. p.body) (dirty_at key.file key.block (delayed es)) ≡ option_map (λ w. w.body) (lookup (same key) es)
+body_at-entries key es = ap (option_map (λ p. p.body)) (dirty_at-entries key es) ∙ body-step (lookup_entry (same key) es) ∙ ap (option_map (λ w. w.body)) (sym (value-entry key es))
 
 parts : (a b m n : ℕ) → ((a == b) && (m == n)) ≡ true → (a ≡ b) × (m ≡ n)
 parts a b m n h = grind (arith, nat_tests)
@@ -133,7 +133,7 @@ none-written key number body (e ∷ es) none = let off : (e.0.file == key.file &
 
 -- delayed writes of a block with another last one
 abbrev pub IsRewritten : (number : ℕ) (body : List ℕ) → (before after : Writes) → Type 0
-IsRewritten number body before after = (after.first ≡ before.first) × (after.last ≡ number) × (after.body.value ≡ body)
+IsRewritten number body before after = (after.first ≡ before.first) × (after.last ≡ number) × (after.body ≡ body)
 
 rewritten : (number : ℕ) (body : List ℕ) (key : Key) (before after : Writes) → IsRewritten number body before after → push_of (key, after) ≡ record (push_of (key, before)) { last = number; body = body }
 rewritten number body key before after h = rw (h.0, h.1, h.2) refl
@@ -173,7 +173,7 @@ written-new key number body dirty None h = refl
 written-new key number body dirty (Some p) h = absurd cc
 
 -- the write of another block
-pub write_in-new : (key : Key) (number : ℕ) (body : List ℕ) (w : Writes) (es : List (Key × Writes)) → is_some (dirty_at key.file key.block (delayed es)) ≡ false → w.first ≡ number → w.last ≡ number → w.body.value ≡ body → delayed (es ++ (key, w) ∷ []) ≡ write_in key.file key.block number body (delayed es)
+pub write_in-new : (key : Key) (number : ℕ) (body : List ℕ) (w : Writes) (es : List (Key × Writes)) → is_some (dirty_at key.file key.block (delayed es)) ≡ false → w.first ≡ number → w.last ≡ number → w.body ≡ body → delayed (es ++ (key, w) ∷ []) ≡ write_in key.file key.block number body (delayed es)
 write_in-new key number body w es absent f l b =
     map_push push_of es (key, w)
     ∙ rw (f, l, b) (sym (written-new key number body (delayed es) (dirty_at key.file key.block (delayed es)) absent))

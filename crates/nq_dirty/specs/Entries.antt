@@ -6,7 +6,7 @@ use Rattle.nq_dirty.specs.declared.entries.Writes.{Writes}
 
 -- the delayed writes of an entry
 abbrev pub push_of : Key × Writes → Push
-push_of e = record { file = e.0.file; block = e.0.block; first = e.1.first; last = e.1.last; body = e.1.body.value }
+push_of e = record { file = e.0.file; block = e.0.block; first = e.1.first; last = e.1.last; body = e.1.body }
 
 -- the delayed writes of the entries
 abbrev pub delayed : List (Key × Writes) → List Push

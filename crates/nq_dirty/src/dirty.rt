@@ -1,9 +1,8 @@
 //! The delayed writes of a client.
 
-ghost use Rattle.std.specs.Prelude.{◌≡◌, ◌≤◌, ◌<◌, ◌+◌, ◌++◌, ◌↔◌, [], None, false, length, is_some, slice_get, unwrap_or, IsTrue, IsSome, IfSome, IfNone, IsOk, IfOk, OnOk, OnErr};
-ghost use Rattle.std.specs.Option.{option_copied};
+ghost use Rattle.std.specs.Prelude.{◌≡◌, ◌≤◌, ◌<◌, ◌+◌, ◌++◌, ◌↔◌, [], None, false, length, is_some, slice_get, option_copied, option_map, IsTrue, IsSome, IfSome, IsOk, IfOk, OnOk, OnErr};
 ghost use Rattle.nq_model.specs.Client.{is_push_of, push_passes, dirty_at, first_dirty, drop_dirty, other_dirty, is_clean_in};
-ghost use Rattle.nq_model.specs.Hear.{all_dirty_in, losses_in, other_push};
+ghost use Rattle.nq_model.specs.Hear.{all_dirty_in, loss_of, losses_in, other_push};
 ghost use Rattle.nq_model.specs.Profile.{most_dirty};
 ghost use Rattle.nq_model.specs.Settle.{dirty_body, pending_in, is_full_in, write_in};
 ghost use Rattle.nq_dirty.specs.declared.fault.DirtyFault.{DirtyFault};
@@ -15,7 +14,7 @@ use crate::entries::{
 };
 use crate::fault::DirtyFault;
 use crate::under_way;
-use nq_base::{Block, BlockNo, FileId, Losses, NoMemory, Number, Push};
+use nq_base::{Block, BlockNo, FileId, Loss, Losses, NoMemory, Number, Push};
 use std::alloc::Global;
 use std::marker::Model;
 
@@ -25,11 +24,10 @@ use std::marker::Model;
 pub struct Dirty {
     entries: Entries,
     push: Option<Push>,
-    free: Vec<Box<Block>>,
 }
 
 impl Model for Dirty {
-    ghost use Rattle.std.specs.Prelude.{◌≤◌, min, vec_len};
+    ghost use Rattle.std.specs.Prelude.{◌≤◌};
     ghost use Rattle.indexmap.specs.IndexMap.{spare};
     ghost use Rattle.nq_model.specs.Profile.{most_dirty};
     ghost use Rattle.nq_model.specs.Settle.{pending_in};
@@ -38,7 +36,7 @@ impl Model for Dirty {
 
     ghost Value = { Delayed };
 
-    ghost view = { λ d. record { dirty = delayed d.entries.entries; push = d.push; spare = min (spare d.entries) (vec_len d.free) } };
+    ghost view = { λ d. record { dirty = delayed d.entries.entries; push = d.push; spare = spare d.entries } };
 
     ghost invariant = { λ d. pending_in (delayed d.entries.entries) d.push ≤ most_dirty };
 }
@@ -55,7 +53,6 @@ impl Dirty {
         Ok(Dirty {
             entries: Entries::new(alloc),
             push: None,
-            free: Vec::new(alloc),
         })
     }
 
@@ -71,7 +68,7 @@ impl Dirty {
         ensures succeeds { blocks ≤ self.old.spare → IsOk result }
         ensures spare { self.old.spare ≤ self.new.spare }
     {
-        reserve(&mut self.entries, &mut self.free, blocks)
+        reserve(&mut self.entries, blocks)
     }
 
     /// Delays a write. A block that is in the list keeps its place and its first write; another goes to the end.
@@ -85,9 +82,9 @@ impl Dirty {
         file: FileId,
         block: BlockNo,
         number: Number,
-        body: &Block,
+        body: Block,
     ) -> Result<(), DirtyFault>
-        ensures written { OnOk result (self.new.dirty ≡ write_in file block number body.now self.old.dirty) }
+        ensures written { OnOk result (self.new.dirty ≡ write_in file block number body self.old.dirty) }
         ensures refused { OnErr result (self.new.dirty ≡ self.old.dirty) }
         ensures push { self.new.push ≡ self.old.push }
 
@@ -97,30 +94,29 @@ impl Dirty {
         ensures spare { self.old.spare ≤ self.new.spare + 1 }
     {
         let key = Key { file, block };
-        if overwrite(&mut self.entries, &key, number, body) {
+        let Some(body) = overwrite(&mut self.entries, &key, number, body) else {
             return Ok(());
-        }
+        };
         if self.pending() == Dirty::MOST {
             return Err(DirtyFault::Full);
         }
-        reserve(&mut self.entries, &mut self.free, 1)?;
-        add(&mut self.entries, &mut self.free, key, number, body);
+        reserve(&mut self.entries, 1)?;
+        add(&mut self.entries, key, number, body);
         Ok(())
     }
 
-    /// Moves the first delayed writes of a file from the list to the push under way; None where the list has none of
-    /// the file. The order of the rest stays.
-    pub fn next(&mut self, file: FileId) -> Option<Push>
+    /// Moves the first delayed writes of a file from the list to the push under way; whether the list has some of the
+    /// file. The order of the rest stays.
+    pub fn next(&mut self, file: FileId) -> bool
         requires { self.old.push ≡ None }
-        ensures first { result ≡ first_dirty file self.old.dirty }
-        ensures others { IfSome result (λ p. self.new.dirty ≡ drop_dirty p.file p.block self.old.dirty) }
-        ensures under_way { self.new.push ≡ result }
-        ensures unchanged { IfNone result (self.new ≡ self.old) }
+        ensures found { result ≡ is_some (first_dirty file self.old.dirty) }
+        ensures under_way { self.new.push ≡ first_dirty file self.old.dirty }
+        ensures others { IfSome self.new.push (λ p. self.new.dirty ≡ drop_dirty p.file p.block self.old.dirty) }
+        ensures unchanged { result ≡ false → self.new ≡ self.old }
         ensures spare { self.old.spare ≤ self.new.spare }
     {
-        let push = take_first(&mut self.entries, file)?;
-        self.push = Some(under_way::copy_of(&push));
-        Some(push)
+        self.push = take_first(&mut self.entries, file);
+        self.push.is_some()
     }
 
     /// The push under way, if there is one.
@@ -159,13 +155,15 @@ impl Dirty {
         Ok(())
     }
 
-    /// Whether a block has delayed writes, in the list or under way. The body of the last one is then copied.
-    pub fn get(&self, file: FileId, block: BlockNo, into: &mut Block) -> bool
-        ensures found { result ≡ is_some (dirty_body file block self.now.dirty self.now.push) }
-        ensures body { into.new ≡ unwrap_or (dirty_body file block self.now.dirty self.now.push) into.old }
+    /// The block as it was last written, where it has delayed writes in the list, else where it is under way.
+    pub fn get(&self, file: FileId, block: BlockNo) -> Option<&Block>
+        ensures { option_copied result ≡ dirty_body file block self.now.dirty self.now.push }
     {
         let key = Key { file, block };
-        read(&self.entries, &key, into) || under_way::read(&self.push, &key, into)
+        match read(&self.entries, &key) {
+            Some(body) => Some(body),
+            None => under_way::read(&self.push, &key),
+        }
     }
 
     /// Whether a block is in the list.
@@ -203,9 +201,9 @@ impl Dirty {
         }
     }
 
-    /// The delayed writes at a place of the list; None where the place is not below its length.
-    pub fn nth(&self, place: usize) -> Option<Push>
-        ensures { result ≡ slice_get self.now.dirty place }
+    /// The delayed writes at a place of the list, without their body; None where the place is not below its length.
+    pub fn nth(&self, place: usize) -> Option<Loss>
+        ensures { result ≡ option_map loss_of (slice_get self.now.dirty place) }
     {
         nth(&self.entries, place)
     }

@@ -1,6 +1,6 @@
 //! Delayed writes on an `IndexMap`: it keeps the order in which blocks became dirty.
 
-ghost use Rattle.std.specs.Prelude.{◌≡◌, ◌≤◌, ◌<◌, ◌+◌, ◌==◌, ◌++◌, not, false, length, filter, map, is_some, slice_get, unwrap_or, vec_len, IsTrue, IsOk, OnOk, IfSome, IfNone};
+ghost use Rattle.std.specs.Prelude.{◌≡◌, ◌≤◌, ◌<◌, ◌+◌, ◌==◌, ◌++◌, not, false, length, filter, map, is_some, slice_get, option_copied, IsTrue, IsSome, IsNone, IsOk, OnOk, IfSome, IfNone};
 ghost use Rattle.std.specs.List.{find, list_any};
 ghost use Rattle.std.specs.Option.{option_map};
 ghost use Rattle.indexmap.specs.IndexMap.{keys, spare};
@@ -11,7 +11,6 @@ ghost use Rattle.nq_dirty.specs.Entries.{delayed};
 
 use indexmap::IndexMap;
 use nq_base::{Block, BlockNo, FileId, Loss, Losses, NoMemory, Number, Push};
-use std::alloc::Global;
 
 /// What tells blocks apart.
 #[derive(Clone, Copy, PartialEq, Eq, Hash)]
@@ -25,48 +24,34 @@ pub(crate) struct Key {
 pub(crate) struct Writes {
     pub(crate) first: Number,
     pub(crate) last: Number,
-    pub(crate) body: Box<Block>,
+    pub(crate) body: Block,
 }
 
 /// The delayed writes by their blocks.
 pub(crate) type Entries = IndexMap<Key, Writes>;
 
-/// Makes room for so many more blocks: their places and boxes.
-pub(crate) fn reserve(
-    entries: &mut Entries,
-    free: &mut Vec<Box<Block>>,
-    blocks: usize,
-) -> Result<(), NoMemory>
+/// Makes room for so many more blocks.
+pub(crate) fn reserve(entries: &mut Entries, blocks: usize) -> Result<(), NoMemory>
     ensures entries { entries.new.entries ≡ entries.old.entries }
     ensures places { OnOk result (blocks ≤ spare entries.new) }
-    ensures boxes { OnOk result (blocks ≤ vec_len free.new) }
-    ensures succeeds { blocks ≤ spare entries.old → blocks ≤ vec_len free.old → IsOk result }
+    ensures succeeds { blocks ≤ spare entries.old → IsOk result }
     ensures more_places { spare entries.old ≤ spare entries.new }
-    ensures more_boxes { vec_len free.old ≤ vec_len free.new }
 {
     entries.reserve(blocks)?;
-    let alloc = *entries.allocator();
-    while free.len() < blocks {
-        add_box(alloc, free)?;
-    }
     Ok(())
 }
 
-/// Makes one more box. It is apart, since a block is large, and mostly the boxes are there.
-fn add_box(alloc: Global, free: &mut Vec<Box<Block>>) -> Result<(), NoMemory>
-    ensures added { OnOk result (vec_len free.new ≡ vec_len free.old + 1) }
-    ensures kept { vec_len free.old ≤ vec_len free.new }
-{
-    let fresh = Box::new(alloc, Block::fill(0))?;
-    free.push(fresh)?;
-    Ok(())
-}
-
-/// Gives a block that is there another last write, with its body.
-pub(crate) fn overwrite(entries: &mut Entries, key: &Key, number: Number, body: &Block) -> bool
-    ensures found { result ≡ is_some (dirty_at key.now.file key.now.block (delayed entries.old.entries)) }
-    ensures written { IsTrue result → delayed entries.new.entries ≡ write_in key.now.file key.now.block number body.now (delayed entries.old.entries) }
-    ensures absent { result ≡ false → entries.new ≡ entries.old }
+/// Gives a block that is there another last write, with its body. Where it is not there the body comes back.
+pub(crate) fn overwrite(
+    entries: &mut Entries,
+    key: &Key,
+    number: Number,
+    body: Block,
+) -> Option<Block>
+    ensures found { is_some (dirty_at key.now.file key.now.block (delayed entries.old.entries)) ≡ not (is_some result) }
+    ensures written { IsNone result → delayed entries.new.entries ≡ write_in key.now.file key.now.block number body (delayed entries.old.entries) }
+    ensures body { IfSome result (λ b. b ≡ body) }
+    ensures absent { IsSome result → entries.new ≡ entries.old }
     ensures count { length entries.new.entries ≡ length entries.old.entries }
     ensures room { spare entries.new ≡ spare entries.old }
 {
@@ -74,35 +59,25 @@ pub(crate) fn overwrite(entries: &mut Entries, key: &Key, number: Number, body: 
     match entries.get_mut(key) {
         Some(writes) => {
             writes.last = number;
-            writes.body.copy_from(body);
-            true
+            writes.body = body;
+            None
         }
-        None => false,
+        None => Some(body),
     }
 }
 
 /// Puts a block that is not there at the end.
-pub(crate) fn add(
-    entries: &mut Entries,
-    free: &mut Vec<Box<Block>>,
-    key: Key,
-    number: Number,
-    body: &Block,
-)
+pub(crate) fn add(entries: &mut Entries, key: Key, number: Number, body: Block)
     requires absent { is_some (dirty_at key.file key.block (delayed entries.old.entries)) ≡ false }
     requires places { 0 < spare entries.old }
-    requires boxes { 0 < vec_len free.old }
-    ensures added { delayed entries.new.entries ≡ write_in key.file key.block number body.now (delayed entries.old.entries) }
+    ensures added { delayed entries.new.entries ≡ write_in key.file key.block number body (delayed entries.old.entries) }
     ensures count { length entries.new.entries ≡ length entries.old.entries + 1 }
     ensures places { spare entries.old ≤ spare entries.new + 1 }
-    ensures boxes { vec_len free.old ≡ vec_len free.new + 1 }
 {
-    let mut fresh = free.pop().unwrap();
-    fresh.copy_from(body);
     let writes = Writes {
         first: number,
         last: number,
-        body: fresh,
+        body,
     };
     let _none = entries.insert(key, writes).unwrap();
 }
@@ -114,31 +89,26 @@ pub(crate) fn holds(entries: &Entries, key: &Key) -> bool
     entries.contains_key(key)
 }
 
-/// Copies the body of a block, if it is there.
-pub(crate) fn read(entries: &Entries, key: &Key, into: &mut Block) -> bool
-    ensures found { result ≡ is_some (dirty_at key.now.file key.now.block (delayed entries.now.entries)) }
-    ensures body { into.new ≡ unwrap_or (option_map (λ p. p.body) (dirty_at key.now.file key.now.block (delayed entries.now.entries))) into.old }
+/// The body of a block, if it is there.
+pub(crate) fn read<'a>(entries: &'a Entries, key: &Key) -> Option<&'a Block>
+    ensures { option_copied result ≡ option_map (λ p. p.body) (dirty_at key.now.file key.now.block (delayed entries.now.entries)) }
 {
     match entries.get(key) {
-        Some(writes) => {
-            into.copy_from(&writes.body);
-            true
-        }
-        None => false,
+        Some(writes) => Some(&writes.body),
+        None => None,
     }
 }
 
-/// The delayed writes at a place.
-pub(crate) fn nth(entries: &Entries, place: usize) -> Option<Push>
-    ensures { result ≡ slice_get (delayed entries.now.entries) place }
+/// The delayed writes at a place, without their body.
+pub(crate) fn nth(entries: &Entries, place: usize) -> Option<Loss>
+    ensures { result ≡ option_map loss_of (slice_get (delayed entries.now.entries) place) }
 {
     let (key, writes) = entries.get_index(place)?;
-    Some(Push {
+    Some(Loss {
         file: key.file,
         block: key.block,
         first: writes.first,
         last: writes.last,
-        body: writes.body.copied(),
     })
 }
 
@@ -179,7 +149,7 @@ pub(crate) fn take_first(entries: &mut Entries, file: FileId) -> Option<Push>
         block: key.block,
         first,
         last,
-        body: Box::into_inner(body),
+        body,
     })
 }
 

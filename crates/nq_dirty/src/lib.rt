@@ -11,6 +11,3 @@ mod under_way;
 pub use clean::Clean;
 pub use dirty::Dirty;
 pub use fault::DirtyFault;
-
-#[cfg(test)]
-mod tests;

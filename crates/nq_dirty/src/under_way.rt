@@ -1,25 +1,12 @@
 //! The push under way.
 
-ghost use Rattle.std.specs.Prelude.{◌≡◌, ◌≤◌, ◌+◌, ◌++◌, length, map, is_some, unwrap_or};
+ghost use Rattle.std.specs.Prelude.{◌≡◌, ◌≤◌, ◌+◌, ◌++◌, length, map, option_copied};
 ghost use Rattle.nq_model.specs.Client.{is_push_of, push_passes};
 ghost use Rattle.nq_model.specs.Hear.{push_of, other_push, loss_of};
 ghost use Rattle.nq_model.specs.Settle.{pushed_body};
 
 use crate::entries::Key;
 use nq_base::{Block, FileId, Loss, Losses, Push};
-
-/// A second push of the same writes.
-pub(crate) fn copy_of(push: &Push) -> Push
-    ensures { result ≡ push.now }
-{
-    Push {
-        file: push.file,
-        block: push.block,
-        first: push.first,
-        last: push.last,
-        body: push.body.copied(),
-    }
-}
 
 /// Whether the push under way, if there is one, is of this file.
 pub(crate) fn is_of(push: &Option<Push>, file: FileId) -> bool
@@ -31,17 +18,13 @@ pub(crate) fn is_of(push: &Option<Push>, file: FileId) -> bool
     }
 }
 
-/// Copies the body of a block, if it is under way.
-pub(crate) fn read(push: &Option<Push>, key: &Key, into: &mut Block) -> bool
-    ensures found { result ≡ is_some (pushed_body key.now.file key.now.block push.now) }
-    ensures body { into.new ≡ unwrap_or (pushed_body key.now.file key.now.block push.now) into.old }
+/// The body of a block, if it is under way.
+pub(crate) fn read<'a>(push: &'a Option<Push>, key: &Key) -> Option<&'a Block>
+    ensures { option_copied result ≡ pushed_body key.now.file key.now.block push.now }
 {
     match push {
-        Some(push) if push.file == key.file && push.block == key.block => {
-            into.copy_from(&push.body);
-            true
-        }
-        _ => false,
+        Some(push) if push.file == key.file && push.block == key.block => Some(&push.body),
+        _ => None,
     }
 }
 

@@ -53,7 +53,7 @@ fn fence_file<K: Keeper>(keeper: &mut K, file: FileId) -> Result<(), KeepFault>
         return Ok(());
     };
     let change = fencing(&row);
-    keeper.commit(&change)
+    keeper.commit(change)
 }
 
 /// What is told of a lease that ended at this time.

@@ -7,6 +7,3 @@ mod ends;
 
 pub use ending::{Fence, end_writing};
 pub use ends::{due, end_reading};
-
-#[cfg(test)]
-mod tests;

@@ -59,9 +59,9 @@ pub(crate) fn write<K: Keeper>(
     file: FileId,
     block: BlockNo,
     base: Option<PushBase>,
-    body: &Block,
+    body: Block,
 ) -> Result<Effect, KeepFault>
-    ensures told { ForSome (K.content keeper.old) (λ kept. IfOk result (λ effect. effect ≡ capped (effect_of_write boot conflict held (row_of_found (find_file file kept.files)) block base body.now))) }
+    ensures told { ForSome (K.content keeper.old) (λ kept. IfOk result (λ effect. effect ≡ capped (effect_of_write boot conflict held (row_of_found (find_file file kept.files)) block base body))) }
     ensures reads { Reads result (K.content keeper.old) (K.content keeper.new) (K.faults keeper.old) (K.faults keeper.new) }
     ensures follows { K.follows keeper.old keeper.new }
     ensures leaves { LeavesOne (K.content keeper.old) (K.leaves keeper.old keeper.new) }
@@ -109,9 +109,9 @@ fn write_recovering<K: Keeper>(
     file: FileId,
     block: BlockNo,
     base: Option<PushBase>,
-    body: &Block,
+    body: Block,
 ) -> Result<Effect, KeepFault>
-    ensures told { ForSome (K.content keeper.old) (λ kept. IfOk result (λ effect. effect ≡ capped (effect_of_write_recovering opened (row_of_found (find_file file kept.files)) block base body.now))) }
+    ensures told { ForSome (K.content keeper.old) (λ kept. IfOk result (λ effect. effect ≡ capped (effect_of_write_recovering opened (row_of_found (find_file file kept.files)) block base body))) }
     ensures reads { Reads result (K.content keeper.old) (K.content keeper.new) (K.faults keeper.old) (K.faults keeper.new) }
     ensures follows { K.follows keeper.old keeper.new }
     ensures leaves { LeavesOne (K.content keeper.old) (K.leaves keeper.old keeper.new) }
@@ -125,10 +125,10 @@ fn write_recovering<K: Keeper>(
 /// What a fresh request comes to while the server recovers, after the boot `opened`.
 fn while_recovering<K: Keeper>(
     keeper: &mut K,
-    request: &Request,
+    request: Request,
     opened: u32,
 ) -> Result<Effect, KeepFault>
-    ensures told { ForSome (K.content keeper.old) (λ kept. IfOk result (λ effect. effect ≡ capped (effect_of kept (Gate.Recovering opened) request.now))) }
+    ensures told { ForSome (K.content keeper.old) (λ kept. IfOk result (λ effect. effect ≡ capped (effect_of kept (Gate.Recovering opened) request))) }
     ensures reads { Reads result (K.content keeper.old) (K.content keeper.new) (K.faults keeper.old) (K.faults keeper.new) }
     ensures follows { K.follows keeper.old keeper.new }
     ensures leaves { LeavesOne (K.content keeper.old) (K.leaves keeper.old keeper.new) }
@@ -141,7 +141,7 @@ fn while_recovering<K: Keeper>(
             push,
             body,
             ..
-        } => write_recovering(keeper, opened, *file, *block, *push, body),
+        } => write_recovering(keeper, opened, file, block, push, body),
         _ => Ok(effects::none(Verdict::TryLater)),
     }
 }
@@ -149,37 +149,28 @@ fn while_recovering<K: Keeper>(
 /// What a fresh request comes to while this boot serves.
 fn while_serving<K: Keeper>(
     keeper: &mut K,
-    request: &Request,
+    request: Request,
     boot: u32,
     conflict: bool,
     writing_row: bool,
 ) -> Result<Effect, KeepFault>
-    ensures told { ForSome (K.content keeper.old) (λ kept. IfOk result (λ effect. effect ≡ capped (effect_of kept (Gate.Serving boot conflict writing_row) request.now))) }
+    ensures told { ForSome (K.content keeper.old) (λ kept. IfOk result (λ effect. effect ≡ capped (effect_of kept (Gate.Serving boot conflict writing_row) request))) }
     ensures reads { Reads result (K.content keeper.old) (K.content keeper.new) (K.faults keeper.old) (K.faults keeper.new) }
     ensures follows { K.follows keeper.old keeper.new }
     ensures leaves { LeavesOne (K.content keeper.old) (K.leaves keeper.old keeper.new) }
 {
     match request {
         Request::Attach { .. } => Ok(effects::none(Verdict::Done)),
-        Request::Create { name, blocks, .. } => create(keeper, name, *blocks),
+        Request::Create { name, blocks, .. } => create(keeper, &name, blocks),
         Request::Write {
             file,
             block,
             push,
             body,
             ..
-        } => write(
-            keeper,
-            boot,
-            conflict,
-            writing_row,
-            *file,
-            *block,
-            *push,
-            body,
-        ),
-        Request::Resize { file, blocks, .. } => resize(keeper, conflict, *file, *blocks),
-        Request::Remove { file, .. } => remove(keeper, conflict, *file),
+        } => write(keeper, boot, conflict, writing_row, file, block, push, body),
+        Request::Resize { file, blocks, .. } => resize(keeper, conflict, file, blocks),
+        Request::Remove { file, .. } => remove(keeper, conflict, file),
         _ => Ok(effects::none(Verdict::TryLater)),
     }
 }
@@ -187,10 +178,10 @@ fn while_serving<K: Keeper>(
 /// What a fresh request comes to.
 pub(crate) fn effect<K: Keeper>(
     keeper: &mut K,
-    request: &Request,
+    request: Request,
     gate: Gate,
 ) -> Result<Effect, KeepFault>
-    ensures told { ForSome (K.content keeper.old) (λ kept. IfOk result (λ effect. effect ≡ capped (effect_of kept gate request.now))) }
+    ensures told { ForSome (K.content keeper.old) (λ kept. IfOk result (λ effect. effect ≡ capped (effect_of kept gate request))) }
     ensures reads { Reads result (K.content keeper.old) (K.content keeper.new) (K.faults keeper.old) (K.faults keeper.new) }
     ensures follows { K.follows keeper.old keeper.new }
     ensures leaves { LeavesOne (K.content keeper.old) (K.leaves keeper.old keeper.new) }

@@ -32,22 +32,22 @@ fn conclude<K: Keeper>(
         value: effect.value,
     };
     let change = effects::change_of(who, seq, effect);
-    keeper.commit(&change)?;
+    keeper.commit(change)?;
     Ok(decided)
 }
 
 /// Decides a fresh request, and keeps it.
 fn decide_fresh<K: Keeper>(
     keeper: &mut K,
-    request: &Request,
+    request: Request,
     gate: Gate,
     who: Who,
     seq: Seq,
 ) -> Result<Decided, KeepFault>
     requires { who.host < most_hosts }
-    ensures gives { Gives (λ kept. or_fresh None (effect_of kept gate request.now)) (λ kept. Some (change_with who seq (effect_of kept gate request.now))) result (K.content keeper.old) (K.content keeper.new) (K.faults keeper.old) (K.faults keeper.new) }
+    ensures gives { Gives (λ kept. or_fresh None (effect_of kept gate request)) (λ kept. Some (change_with who seq (effect_of kept gate request))) result (K.content keeper.old) (K.content keeper.new) (K.faults keeper.old) (K.faults keeper.new) }
     ensures follows { K.follows keeper.old keeper.new }
-    ensures leaves { LeavesGiven (λ kept. Some (change_with who seq (effect_of kept gate request.now))) (K.content keeper.old) (K.leaves keeper.old keeper.new) }
+    ensures leaves { LeavesGiven (λ kept. Some (change_with who seq (effect_of kept gate request))) (K.content keeper.old) (K.leaves keeper.old keeper.new) }
 {
     let effect = asking::effect(keeper, request, gate)?;
     conclude(keeper, who, seq, effect)
@@ -56,15 +56,15 @@ fn decide_fresh<K: Keeper>(
 /// Decides a request of this sequence.
 fn decide_sequence<K: Keeper>(
     keeper: &mut K,
-    request: &Request,
     gate: Gate,
     who: Who,
     seq: Seq,
+    request: Request,
 ) -> Result<Decided, KeepFault>
     requires { who.host < most_hosts }
-    ensures gives { Gives (λ kept. sequence_decided who seq (host_row kept who.host) (effect_of kept gate request.now)) (λ kept. if_fresh (sequence_decided who seq (host_row kept who.host) (effect_of kept gate request.now)) (change_with who seq (effect_of kept gate request.now))) result (K.content keeper.old) (K.content keeper.new) (K.faults keeper.old) (K.faults keeper.new) }
+    ensures gives { Gives (λ kept. sequence_decided who seq (host_row kept who.host) (effect_of kept gate request)) (λ kept. if_fresh (sequence_decided who seq (host_row kept who.host) (effect_of kept gate request)) (change_with who seq (effect_of kept gate request))) result (K.content keeper.old) (K.content keeper.new) (K.faults keeper.old) (K.faults keeper.new) }
     ensures follows { K.follows keeper.old keeper.new }
-    ensures leaves { LeavesGiven (λ kept. if_fresh (sequence_decided who seq (host_row kept who.host) (effect_of kept gate request.now)) (change_with who seq (effect_of kept gate request.now))) (K.content keeper.old) (K.leaves keeper.old keeper.new) }
+    ensures leaves { LeavesGiven (λ kept. if_fresh (sequence_decided who seq (host_row kept who.host) (effect_of kept gate request)) (change_with who seq (effect_of kept gate request))) (K.content keeper.old) (K.leaves keeper.old keeper.new) }
 {
     let line = keeper.host(who.host)?;
     match effects::said_before(&who, seq, &line) {
@@ -95,23 +95,19 @@ fn attach<K: Keeper>(keeper: &mut K, who: Who) -> Result<Decided, KeepFault>
 
 /// Decides an ATTACH, CREATE, WRITE, RESIZE or REMOVE of a host below 64. A fresh one is kept with its effect in one change;
 /// the others change nothing.
-pub fn decide<K: Keeper>(
-    keeper: &mut K,
-    request: &Request,
-    gate: Gate,
-) -> Result<Decided, KeepFault>
-    requires once { is_decided_once request.now ≡ true }
-    requires host { IsOfHost request.now }
-    ensures gives { Gives (λ kept. decided kept gate request.now) (λ kept. change_of kept gate request.now) result (K.content keeper.old) (K.content keeper.new) (K.faults keeper.old) (K.faults keeper.new) }
+pub fn decide<K: Keeper>(keeper: &mut K, request: Request, gate: Gate) -> Result<Decided, KeepFault>
+    requires once { is_decided_once request ≡ true }
+    requires host { IsOfHost request }
+    ensures gives { Gives (λ kept. decided kept gate request) (λ kept. change_of kept gate request) result (K.content keeper.old) (K.content keeper.new) (K.faults keeper.old) (K.faults keeper.new) }
     ensures follows { K.follows keeper.old keeper.new }
-    ensures leaves { LeavesGiven (λ kept. change_of kept gate request.now) (K.content keeper.old) (K.leaves keeper.old keeper.new) }
+    ensures leaves { LeavesGiven (λ kept. change_of kept gate request) (K.content keeper.old) (K.leaves keeper.old keeper.new) }
 {
-    match request {
+    match &request {
         Request::Attach { who } => attach(keeper, *who),
-        Request::Create { who, seq, .. } => decide_sequence(keeper, request, gate, *who, *seq),
-        Request::Write { who, seq, .. } => decide_sequence(keeper, request, gate, *who, *seq),
-        Request::Resize { who, seq, .. } => decide_sequence(keeper, request, gate, *who, *seq),
-        Request::Remove { who, seq, .. } => decide_sequence(keeper, request, gate, *who, *seq),
+        Request::Create { who, seq, .. } => decide_sequence(keeper, gate, *who, *seq, request),
+        Request::Write { who, seq, .. } => decide_sequence(keeper, gate, *who, *seq, request),
+        Request::Resize { who, seq, .. } => decide_sequence(keeper, gate, *who, *seq, request),
+        Request::Remove { who, seq, .. } => decide_sequence(keeper, gate, *who, *seq, request),
         _ => Ok(Decided::NotAttached),
     }
 }

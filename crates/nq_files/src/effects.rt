@@ -67,14 +67,14 @@ fn made(heads: &Heads, name: &Name, blocks: u32) -> Effect
 
 /// A block is written.
 #[tactic(auto, unfolding(nq_model::specs::Decided::block_write, nq_model::specs::Change::raised_row, crate::specs::Capped::capped, nq_keeper::specs::Capped::capped_row))]
-fn written(row: &FileRow, block: BlockNo, body: &Block) -> Effect
-    ensures { result ≡ capped (block_write row.now block body.now) }
+fn written(row: &FileRow, block: BlockNo, body: Block) -> Effect
+    ensures { result ≡ capped (block_write row.now block body) }
 {
     let value = row.rev.0.saturating_add(1);
     let change = BlockChange {
         file: row.id,
         block,
-        body: body.copied(),
+        body,
     };
     Effect {
         verdict: Verdict::Done,
@@ -147,9 +147,9 @@ fn push(
     row: &FileRow,
     block: BlockNo,
     base: &PushBase,
-    body: &Block,
+    body: Block,
 ) -> Effect
-    ensures { result ≡ capped (effect_of_push boot held row.now block base.now body.now) }
+    ensures { result ≡ capped (effect_of_push boot held row.now block base.now body) }
 {
     if held && base.boot == boot && base.base == row.rev {
         written(row, block, body)
@@ -166,9 +166,9 @@ fn write_in(
     row: &FileRow,
     block: BlockNo,
     base: Option<PushBase>,
-    body: &Block,
+    body: Block,
 ) -> Effect
-    ensures { result ≡ capped (effect_of_write_in boot conflict held row.now block base body.now) }
+    ensures { result ≡ capped (effect_of_write_in boot conflict held row.now block base body) }
 {
     match base {
         Some(base) => push(boot, held, row, block, &base, body),
@@ -185,9 +185,9 @@ pub(crate) fn write(
     row: Option<FileRow>,
     block: BlockNo,
     base: Option<PushBase>,
-    body: &Block,
+    body: Block,
 ) -> Effect
-    ensures { result ≡ capped (effect_of_write boot conflict held row block base body.now) }
+    ensures { result ≡ capped (effect_of_write boot conflict held row block base body) }
 {
     let Some(row) = row else {
         return none(Verdict::Stale);

@@ -14,6 +14,3 @@ pub use deciding::decide;
 pub use laws::{repeats_are_met, requests_are_decided_once, what_is_kept_is_said};
 pub use nq_base::{Decided, Gate};
 pub use reading::{ReadOut, getattr, lookup, read_block};
-
-#[cfg(test)]
-mod tests;

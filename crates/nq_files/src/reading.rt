@@ -2,19 +2,19 @@
 
 ghost use Rattle.std.specs.Prelude.{◌≡◌, ◌<◌, ℕ, IfOk, Some};
 ghost use Rattle.std.specs.Option.{ForSome};
-ghost use Rattle.nq_keeper.specs.Keeping.{Reads, LeavesOne, body_at};
+ghost use Rattle.nq_keeper.specs.Keeping.{Reads, LeavesOne};
 ghost use Rattle.nq_model.specs.Change.{row_of_found};
 ghost use Rattle.nq_model.specs.Kept.{find_file, find_name};
-ghost use Rattle.nq_files.specs.Reading.{HasRead, read_out};
+ghost use Rattle.nq_files.specs.Reading.{read_out};
 
-use nq_base::{Block, BlockNo, FileId, FileRow, Name, Rev};
+use nq_base::{Block, BlockNo, FileId, FileRow, Name};
 use nq_keeper::{KeepFault, Keeper};
 
 /// What was read of a block.
-#[derive(Clone, Copy, PartialEq, Eq)]
+#[derive(Drop)]
 pub enum ReadOut {
-    /// The block was read, of a file of this revision.
-    Got(Rev),
+    /// The block was read, of a file of this row.
+    Got { row: FileRow, body: Block },
     /// The file is not kept (RFC 1813, NFS3ERR_STALE).
     Stale,
     /// The block is not below the file's length (RFC 1813, NFS3ERR_INVAL).
@@ -41,16 +41,13 @@ pub fn getattr<K: Keeper>(keeper: &mut K, file: FileId) -> Result<Option<FileRow
     keeper.file(file)
 }
 
-/// Reads a block of a file into `into`, which holds it where the answer is Got; after a fault it may hold anything, and
-/// else it is as before.
+/// Reads a block of a file.
 pub fn read_block<K: Keeper>(
     keeper: &mut K,
     file: FileId,
     block: BlockNo,
-    into: &mut Block,
 ) -> Result<ReadOut, KeepFault>
-    ensures told { ForSome (K.content keeper.old) (λ kept. IfOk result (λ out. out ≡ read_out (find_file file kept.files) block)) }
-    ensures body { ForSome (K.content keeper.old) (λ kept. IfOk result (λ out. HasRead out into.old into.new (body_at block (find_file file kept.files)))) }
+    ensures told { ForSome (K.content keeper.old) (λ kept. IfOk result (λ out. out ≡ read_out block (find_file file kept.files))) }
     ensures reads { Reads result (K.content keeper.old) (K.content keeper.new) (K.faults keeper.old) (K.faults keeper.new) }
     ensures follows { K.follows keeper.old keeper.new }
     ensures leaves { LeavesOne (K.content keeper.old) (K.leaves keeper.old keeper.new) }
@@ -61,6 +58,6 @@ pub fn read_block<K: Keeper>(
     if block.0 >= row.blocks {
         return Ok(ReadOut::Invalid);
     }
-    keeper.block(file, block, into)?;
-    Ok(ReadOut::Got(row.rev))
+    let body = keeper.block(file, block)?;
+    Ok(ReadOut::Got { row, body })
 }

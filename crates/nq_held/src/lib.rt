@@ -9,6 +9,3 @@ mod taken;
 pub use held::Held;
 pub use lease::Lease;
 pub use taken::{Take, Taken};
-
-#[cfg(test)]
-mod tests;

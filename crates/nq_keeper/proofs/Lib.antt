@@ -2,7 +2,6 @@ pub mod Called
 pub mod Calling
 pub mod CappedRows
 pub mod Edits
-pub mod FirstFile
 pub mod Fitting
 pub mod Leaving
 pub mod Naming

@@ -1,5 +1,5 @@
 -- The laws of a keeper, of one in memory.
-use Rattle.std.proofs.Common.{◌≡◌, ◌⊎◌, Option, Some, refl, sym, subst, ◌∙◌, inl, inr, arith}
+use Rattle.std.proofs.Common.{◌≤◌, ◌≡◌, ◌⊎◌, Option, Some, refl, sym, subst, ◌∙◌, inl, inr, arith}
 use Rattle.nq_keeper.specs.StoredKeeper.{StoredKeeper, GoesOn, LeavesEither, told_of}
 use Rattle.nq_keeper.specs.Shape.{told-shape}
 use Rattle.nq_model.specs.Change.{IsOrderly}
@@ -20,6 +20,9 @@ goes-on-further first second third one two =
       rises = omega arith;
       never = λ none. two.never (one.stays ∙ none) ∙ one.never none;
     }
+
+pub faults-rise : (first last : StoredKeeper) → GoesOn first last → first.calls.faults ≤ last.calls.faults
+faults-rise first last goes = goes.rises
 
 pub leaves-kept : (keeper : StoredKeeper) (kept : Kept) (found : Option Kept) → Some (told_of keeper.kept) ≡ Some kept → LeavesEither keeper keeper found → found ≡ Some kept
 leaves-kept keeper kept found e (inl left) = left ∙ e

@@ -89,11 +89,11 @@ fn row_at(files: &[StoredFile], place: usize) -> Option<FileRow>
     }
 }
 
-/// Writes a body over a block of the file at a place.
-fn write_at(files: &mut Vec<StoredFile>, place: usize, block: BlockNo, body: &Block)
+/// Puts a body in the place of a block of the file at a place.
+fn write_at(files: &mut Vec<StoredFile>, place: usize, block: BlockNo, body: Block)
     requires within { place < vec_len files.old }
     requires block { ForSome (slice_get files.old.items place) (λ f. block < blocks_of f) }
-    ensures { ForSome (slice_get files.old.items place) (λ f. files.new.items ≡ slice_set files.old.items place (with_body f block body.now)) }
+    ensures { ForSome (slice_get files.old.items place) (λ f. files.new.items ≡ slice_set files.old.items place (with_body f block body)) }
 {
     let file = &mut files[place];
     file.write(block, body);
@@ -157,16 +157,16 @@ fn put(
     Ok(had)
 }
 
-/// Writes a body over a block of a file.
-fn write(files: &mut Vec<StoredFile>, change: &BlockChange)
+/// Puts a body in the place of a block of a file.
+fn write(files: &mut Vec<StoredFile>, change: BlockChange)
     requires apart { AreApart files.old.items }
-    requires block { HasBlock change.now.block (find_file change.now.file files.old.items) }
-    ensures { files.new.items ≡ with_block change.now files.old.items }
+    requires block { HasBlock change.block (find_file change.file files.old.items) }
+    ensures { files.new.items ≡ with_block change files.old.items }
 {
     let Some(place) = find(files.as_slice(), change.file) else {
         unreachable!()
     };
-    write_at(files, place, change.block, &change.body);
+    write_at(files, place, change.block, change.body);
 }
 
 /// Takes a file away with its name, and gives the number of blocks that it had.
@@ -199,10 +199,10 @@ fn put_if(files: &mut Files, alloc: Global, row: &Option<FileRow>) -> Result<(),
     }
 }
 
-/// Writes a body over a block of a file, if one is given.
-fn write_if(files: &mut Files, change: &Option<BlockChange>)
-    requires { ForSome change.now (λ b. HasBlock b.block (find_file b.file files.old)) }
-    ensures { files.new ≡ blocks_with change.now files.old }
+/// Puts a body in the place of a block of a file, if one is given.
+fn write_if(files: &mut Files, change: Option<BlockChange>)
+    requires { ForSome change (λ b. HasBlock b.block (find_file b.file files.old)) }
+    ensures { files.new ≡ blocks_with change files.old }
 {
     match change {
         Some(change) => files.write(change),
@@ -256,15 +256,15 @@ impl Files {
         }
     }
 
-    /// Reads a block of a file.
-    pub(crate) fn read(&self, id: FileId, block: BlockNo, into: &mut Block)
+    /// A copy of a block of a file.
+    pub(crate) fn read(&self, alloc: Global, id: FileId, block: BlockNo) -> Result<Block, NoMemory>
         requires { HasBlock block (find_file id self.now) }
-        ensures { Some into.new ≡ body_at block (find_file id self.now) }
+        ensures { IfOk result (λ body. Some body ≡ body_at block (find_file id self.now)) }
     {
         let Some(place) = find(self.stored.as_slice(), id) else {
             unreachable!()
         };
-        self.stored[place].read(block, into);
+        self.stored[place].read(alloc, block)
     }
 
     /// Puts the file of a row there: with the blocks that it had, or a new one of zeros.
@@ -278,10 +278,10 @@ impl Files {
         Ok(())
     }
 
-    /// Writes a body over a block of a file.
-    pub(crate) fn write(&mut self, change: &BlockChange)
-        requires { HasBlock change.now.block (find_file change.now.file self.old) }
-        ensures { self.new ≡ with_block change.now self.old }
+    /// Puts a body in the place of a block of a file.
+    pub(crate) fn write(&mut self, change: BlockChange)
+        requires { HasBlock change.block (find_file change.file self.old) }
+        ensures { self.new ≡ with_block change self.old }
     {
         write(&mut self.stored, change);
     }
@@ -295,11 +295,11 @@ impl Files {
     }
 
     /// Makes the part of a change that is of files: whole, or nothing of it.
-    pub(crate) fn change(&mut self, alloc: Global, change: &Change) -> Result<(), NoMemory>
-        requires file { ForSome change.now.file (λ row. FitsAmong row self.old) }
-        requires block { ForSome change.now.block (λ b. HasBlock b.block (find_file b.file (files_with change.now.file self.old))) }
-        requires alone { ForSome change.now.removed (λ id. (change.now.file ≡ None) × (change.now.block ≡ None)) }
-        ensures ok { OnOk result (self.new ≡ blocks_with change.now.block (files_with change.now.file (files_without change.now.removed self.old))) }
+    pub(crate) fn change(&mut self, alloc: Global, change: Change) -> Result<(), NoMemory>
+        requires file { ForSome change.file (λ row. FitsAmong row self.old) }
+        requires block { ForSome change.block (λ b. HasBlock b.block (find_file b.file (files_with change.file self.old))) }
+        requires alone { ForSome change.removed (λ id. (change.file ≡ None) × (change.block ≡ None)) }
+        ensures ok { OnOk result (self.new ≡ blocks_with change.block (files_with change.file (files_without change.removed self.old))) }
         ensures err { OnErr result (self.new ≡ self.old) }
     {
         if let Some(id) = change.removed {
@@ -307,7 +307,7 @@ impl Files {
             return Ok(());
         }
         put_if(self, alloc, &change.file)?;
-        write_if(self, &change.block);
+        write_if(self, change.block);
         Ok(())
     }
 }

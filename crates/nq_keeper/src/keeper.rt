@@ -1,6 +1,6 @@
 //! The trait of what keeps the state of a server.
 
-ghost use Rattle.std.specs.Prelude.{◌≡◌, ◌⊎◌, ◌<◌, ℕ, Option, Some, IfOk, OnOk};
+ghost use Rattle.std.specs.Prelude.{◌≡◌, ◌⊎◌, ◌<◌, ◌≤◌, ℕ, Option, Some, IfOk};
 ghost use Rattle.std.specs.Option.{ForSome};
 ghost use Rattle.nq_model.specs.Change.{Fits, HasBlock, IsOrderly, row_of_found, file_after, heads_of, space_of};
 ghost use Rattle.nq_model.specs.Kept.{Kept, find_file, find_name, host_row};
@@ -75,21 +75,21 @@ pub trait Keeper {
         ensures follows { follows self.old self.new }
         ensures leaves { LeavesOne (content self.old) (leaves self.old self.new) };
 
-    /// Reads a block of a file into `into`, which after a fault may hold anything.
-    fn block(&mut self, id: FileId, block: BlockNo, into: &mut Block) -> Result<(), KeepFault>
+    /// A block of a file.
+    fn block(&mut self, id: FileId, block: BlockNo) -> Result<Block, KeepFault>
         requires { ForSome (content self.old) (λ kept. HasBlock block (find_file id kept.files)) }
-        ensures told { ForSome (content self.old) (λ kept. OnOk result (Some into.new ≡ body_at block (find_file id kept.files))) }
+        ensures told { ForSome (content self.old) (λ kept. IfOk result (λ body. Some body ≡ body_at block (find_file id kept.files))) }
         ensures reads { Reads result (content self.old) (content self.new) (faults self.old) (faults self.new) }
         ensures follows { follows self.old self.new }
         ensures leaves { LeavesOne (content self.old) (leaves self.old self.new) };
 
     /// Keeps a change whole, or nothing of it.
-    fn commit(&mut self, change: &Change) -> Result<(), KeepFault>
-        requires host { NamesHost change.now }
-        requires fits { ForSome (content self.old) (λ kept. Fits kept change.now) }
-        ensures commits { Commits result change.now (content self.old) (content self.new) (faults self.old) (faults self.new) }
+    fn commit(&mut self, change: Change) -> Result<(), KeepFault>
+        requires host { NamesHost change }
+        requires fits { ForSome (content self.old) (λ kept. Fits kept change) }
+        ensures commits { Commits result change (content self.old) (content self.new) (faults self.old) (faults self.new) }
         ensures follows { follows self.old self.new }
-        ensures leaves { LeavesTwo change.now (content self.old) (leaves self.old self.new) };
+        ensures leaves { LeavesTwo change (content self.old) (leaves self.old self.new) };
 
     /// What is kept has the shape of a kept state.
     ghost orderly: { (keeper : Self) (kept : Kept) → content keeper ≡ Some kept → IsOrderly kept };
@@ -99,6 +99,9 @@ pub trait Keeper {
 
     /// What follows one that follows, follows.
     ghost follows_on: { (first second third : Self) → follows first second → follows second third → follows first third };
+
+    /// The count of faults never falls.
+    ghost faults_rise: { (first last : Self) → follows first last → faults first ≤ faults last };
 
     /// At one moment a stop leaves what is kept.
     ghost leaves_kept: { (keeper : Self) (kept : Kept) (found : Option Kept) → content keeper ≡ Some kept → leaves keeper keeper found → found ≡ Some kept };

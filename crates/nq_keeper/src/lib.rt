@@ -16,6 +16,3 @@ pub use keeper::{KeepFault, Keeper};
 pub use list_keeper::ListKeeper;
 pub use nq_base::{BlockChange, Change, FileRow, Heads, HostChange, HostRow, Space, Verdict};
 pub use raising::raised;
-
-#[cfg(test)]
-mod tests;

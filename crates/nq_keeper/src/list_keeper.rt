@@ -9,7 +9,7 @@ ghost use Rattle.nq_keeper.specs.StoredKeeper.{GoesOn, LeavesEither, after_commi
 ghost use Rattle.nq_model.specs.Change.{Fits, HasBlock, file_after, heads_of, heads_with, hosts_with, row_of_found, space_of};
 ghost use Rattle.nq_model.specs.Kept.{find_file, find_name, fresh_row, host_row};
 ghost use Rattle.nq_model.specs.Profile.{most_hosts};
-ghost use Rattle.nq_keeper.specs.KeeperLaws.{told-is-orderly, goes-on-itself, goes-on-further, leaves-kept, may-leave, leaves-parts};
+ghost use Rattle.nq_keeper.specs.KeeperLaws.{told-is-orderly, goes-on-itself, goes-on-further, faults-rise, leaves-kept, may-leave, leaves-parts};
 
 use crate::files::Files;
 use crate::keeper::{KeepFault, Keeper};
@@ -36,7 +36,7 @@ const FRESH_ROW: HostRow = HostRow {
 };
 
 /// A keeper in memory, which always tells what it keeps. It fails exactly the calls that it is told to fail. Files are
-/// looked up by halving, and a block is copied once on its way in or out.
+/// looked up by halving. A block moves in, and is copied once on its way out.
 #[derive(Drop)]
 pub struct ListKeeper {
     alloc: Global,
@@ -240,43 +240,42 @@ impl Keeper for ListKeeper {
         Ok(self.files.space())
     }
 
-    fn block(&mut self, id: FileId, block: BlockNo, into: &mut Block) -> Result<(), KeepFault>
+    fn block(&mut self, id: FileId, block: BlockNo) -> Result<Block, KeepFault>
         requires { ForSome (Some (told_of self.old.kept)) (λ kept. HasBlock block (find_file id kept.files)) }
 
         // As of any keeper.
-        ensures told { ForSome (Some (told_of self.old.kept)) (λ kept. OnOk result (Some into.new ≡ body_at block (find_file id kept.files))) }
+        ensures told { ForSome (Some (told_of self.old.kept)) (λ kept. IfOk result (λ body. Some body ≡ body_at block (find_file id kept.files))) }
         ensures reads { Reads result (Some (told_of self.old.kept)) (Some (told_of self.new.kept)) self.old.calls.faults self.new.calls.faults }
         ensures follows { GoesOn self.old self.new }
         ensures leaves { LeavesOne (Some (told_of self.old.kept)) (LeavesEither self.old self.new) }
 
         // Of this one.
-        ensures answer { result ≡ answer_of self.old.calls tt }
-        ensures body { OnOk result (Some into.new ≡ body_at block (find_file id self.old.kept.files)) }
-        ensures stays { OnErr result (into.new ≡ into.old) }
+        ensures failed { (result ≡ Err KeepFault.Failed) ↔ IsTrue (is_next_listed self.old.calls) }
+        ensures body { IfOk result (λ body. Some body ≡ body_at block (find_file id self.old.kept.files)) }
         ensures keeper { self.new ≡ after_reading self.old }
     {
         ask(&mut self.calls)?;
-        self.files.read(id, block, into);
-        Ok(())
+        Ok(self.files.read(self.alloc, id, block)?)
     }
 
-    fn commit(&mut self, change: &Change) -> Result<(), KeepFault>
-        requires host { NamesHost change.now }
-        requires fits { ForSome (Some (told_of self.old.kept)) (λ kept. Fits kept change.now) }
+    fn commit(&mut self, change: Change) -> Result<(), KeepFault>
+        requires host { NamesHost change }
+        requires fits { ForSome (Some (told_of self.old.kept)) (λ kept. Fits kept change) }
 
         // As of any keeper.
-        ensures commits { Commits result change.now (Some (told_of self.old.kept)) (Some (told_of self.new.kept)) self.old.calls.faults self.new.calls.faults }
+        ensures commits { Commits result change (Some (told_of self.old.kept)) (Some (told_of self.new.kept)) self.old.calls.faults self.new.calls.faults }
         ensures follows { GoesOn self.old self.new }
-        ensures leaves { LeavesTwo change.now (Some (told_of self.old.kept)) (LeavesEither self.old self.new) }
+        ensures leaves { LeavesTwo change (Some (told_of self.old.kept)) (LeavesEither self.old self.new) }
 
         // Of this one.
         ensures failed { (result ≡ Err KeepFault.Failed) ↔ IsTrue (is_next_listed self.old.calls) }
-        ensures keeper { self.new ≡ after_commit self.old change.now result }
+        ensures keeper { self.new ≡ after_commit self.old change result }
     {
         ask(&mut self.calls)?;
+        let Change { host, heads, .. } = change;
         self.files.change(self.alloc, change)?;
-        set_row(&mut self.hosts, &change.host);
-        self.heads = heads_after(&self.heads, &change.heads);
+        set_row(&mut self.hosts, &host);
+        self.heads = heads_after(&self.heads, &heads);
         Ok(())
     }
 
@@ -285,6 +284,8 @@ impl Keeper for ListKeeper {
     ghost follows_itself = { goes-on-itself };
 
     ghost follows_on = { goes-on-further };
+
+    ghost faults_rise = { faults-rise };
 
     ghost leaves_kept = { leaves-kept };
 

@@ -59,14 +59,13 @@ fn set_length(blocks: &mut Vec<Block>, count: usize) -> Result<(), NoMemory>
     Ok(())
 }
 
-/// Writes a body over a block.
-fn write_over(blocks: &mut Vec<Block>, place: usize, body: &Block)
+/// Puts a body in the place of a block.
+fn write_over(blocks: &mut Vec<Block>, place: usize, body: Block)
     requires { place < vec_len blocks.old }
-    ensures items { blocks.new.items ≡ slice_set blocks.old.items place body.now }
+    ensures items { blocks.new.items ≡ slice_set blocks.old.items place body }
     ensures len { vec_len blocks.new ≡ vec_len blocks.old }
 {
-    let block = &mut blocks[place];
-    block.copy_from(body);
+    blocks[place] = body;
 }
 
 #[tactic(auto, unfolding(nq_model::specs::Change::file_of, nq_model::specs::Change::with_body))]
@@ -112,18 +111,18 @@ impl StoredFile {
         }
     }
 
-    /// Reads a block of it.
-    pub(crate) fn read(&self, block: BlockNo, into: &mut Block)
+    /// A copy of a block of it.
+    pub(crate) fn read(&self, alloc: Global, block: BlockNo) -> Result<Block, NoMemory>
         requires { block < blocks_of self.now }
-        ensures { slice_get self.now.bodies block ≡ Some into.new }
+        ensures { IfOk result (λ body. slice_get self.now.bodies block ≡ Some body) }
     {
-        into.copy_from(&self.blocks[block.0 as usize]);
+        self.blocks[block.0 as usize].copied(alloc)
     }
 
-    /// Writes a body over a block of it.
-    pub(crate) fn write(&mut self, block: BlockNo, body: &Block)
+    /// Puts a body in the place of a block of it.
+    pub(crate) fn write(&mut self, block: BlockNo, body: Block)
         requires { block < blocks_of self.old }
-        ensures { self.new ≡ with_body self.old block body.now }
+        ensures { self.new ≡ with_body self.old block body }
     {
         write_over(&mut self.blocks, block.0 as usize, body);
     }

@@ -64,8 +64,19 @@ pub(crate) fn deliver<K: Keeper>(
     ensures follows { K.follows world.old.server.keeper world.new.server.keeper }
     ensures settings { HasSettings (length world.old.clients) world.old.skew.window world.old.term world.new }
 {
-    // A variable of its own: a borrowed value of this size would be copied.
     let event = Event::Deliver(packet);
+    take(world, delivered, &event)
+}
+
+/// Gives a tick of the server's clock to a world.
+fn tick_server<K: Keeper>(world: &mut World<K>, delivered: &mut Delivered) -> Stepped
+    ensures goes { (head : Head) (events : List Event) → IsAt head events world.old (K.content world.old.server.keeper) delivered.old
+        → Goes result (play_event head Event.ServerTick events) (λ es. IsAt head es world.new (K.content world.new.server.keeper) delivered.new) }
+    ensures faults { CountsFaults result (K.faults world.old.server.keeper) (K.faults world.new.server.keeper) }
+    ensures follows { K.follows world.old.server.keeper world.new.server.keeper }
+    ensures settings { HasSettings (length world.old.clients) world.old.skew.window world.old.term world.new }
+{
+    let event = Event::ServerTick;
     take(world, delivered, &event)
 }
 
@@ -120,9 +131,8 @@ fn round<K: Keeper>(world: &mut World<K>, delivered: &mut Delivered, hosts: u32)
     ensures follows { K.follows world.old.server.keeper world.new.server.keeper }
     ensures settings { HasSettings (length world.old.clients) world.old.skew.window world.old.term world.new }
 {
-    let event = Event::ServerTick;
     match tick_hosts(world, delivered, hosts) {
-        Stepped::Done => take(world, delivered, &event),
+        Stepped::Done => tick_server(world, delivered),
         other => other,
     }
 }

@@ -1,16 +1,15 @@
--- The event that was kept last.
-use Rattle.std.proofs.Common.{◌≡◌, ℕ, List, [], ◌∷◌, ◌++◌, length, Some, refl, sym, ◌∙◌}
-use Rattle.std.specs.Prelude.{slice_get}
+-- What the events of a loop write.
+use Rattle.std.proofs.Common.{ℕ}
+use Rattle.nq_base.specs.declared.Event.{Event}
+use Rattle.nq_loop.specs.Holding.{IsLooped}
+use Rattle.nq_script.specs.Lines.{IsFilledEvent}
+use Rattle.nq_storm.proofs.Passing.{filled_call}
 
-last_kept : {A : Type 0} (xs : List A) (x : A) → slice_get (xs ++ x ∷ []) (length xs) ≡ Some x
-last_kept [] x = refl
-last_kept (y ∷ xs) x = last_kept xs x
-
-at_end : {A : Type 0} (before after : List A) (last : A) (place : ℕ) → length before ≡ place → after ≡ before ++ last ∷ [] → slice_get after place ≡ Some last
-at_end before after last place many same = rw same (rw (sym many) (last_kept before last))
-
--- what stands at the place behind the former ones is what was added
-pub found : {A : Type 0} (before after : List A) (last here : A) (place : ℕ) → length before ≡ place → after ≡ before ++ last ∷ [] → slice_get after place ≡ Some here → last ≡ here
-found before after last here place many same is =
-    let both : Some last ≡ Some here = sym (at_end before after last place many same) ∙ is in
-    cc
+-- what an event of a loop writes is filled with a number
+pub filled_event : (hosts : ℕ) (event : Event) → IsLooped hosts event → IsFilledEvent event
+filled_event hosts (Event.Call host call) looped = filled_call call looped.1
+filled_event hosts (Event.Deliver packet) looped = tt
+filled_event hosts Event.ServerTick looped = tt
+filled_event hosts (Event.ClientTick host) looped = tt
+filled_event hosts (Event.Restart host) looped = absurd looped
+filled_event hosts (Event.Crash longest) looped = absurd looped

@@ -1,11 +1,12 @@
 //! Giving events to the world of a loop.
 
-ghost use Rattle.std.specs.Prelude.{◌≡◌, ◌<◌, ◌≤◌, ◌-◌, ◌++◌, ◌∷◌, [], ℕ, List, length, take, Ok, IfOk, OnErr, OnOk};
+ghost use Rattle.std.specs.Prelude.{◌≡◌, ◌<◌, ◌≤◌, ◌-◌, ◌++◌, ◌∷◌, [], ℕ, List, length, take, Ok, OnErr, OnOk};
 ghost use Rattle.nq_base.specs.declared.Event.{Event};
 ghost use Rattle.nq_loop.specs.Holding.{GivesTo, IsLooped, IsLooping, Keeps, loop_of};
 ghost use Rattle.nq_loop.specs.Looping.{halt_of, moved};
 ghost use Rattle.nq_model.specs.World.{Head};
 ghost use Rattle.nq_play.specs.Delivering.{Marks};
+ghost use Rattle.nq_script.specs.Lines.{IsFilledEvent};
 
 use crate::sending::send_from;
 use crate::state::LoopState;
@@ -36,9 +37,30 @@ pub(crate) fn give<K: Keeper, L: Link>(
     ensures keeps { Keeps result (K.faults world.old.server.keeper) (K.faults world.new.server.keeper)
         (length world.old.clients) (length world.new.clients) (length state.old.begun) (length state.new.begun) }
 {
+    give_event(alloc, world, links, state, ran, &event)
+}
+
+/// Gives an event that is lent to the world, and keeps it where the world took it in.
+fn give_event<K: Keeper, L: Link>(
+    alloc: Global,
+    world: &mut World<K>,
+    links: &mut [L],
+    state: &mut LoopState,
+    ran: &mut Schedule,
+    event: &Event,
+) -> Result<bool, Halt>
+    requires hosts { length world.old.clients ≡ length state.old.begun }
+    requires looped { IsLooped (length state.old.begun) event.now }
+    ensures gives { (head : Head) → head.hosts ≡ length state.old.begun
+        → IsLooping head (loop_of K.content L.sent L.waiting L.faults world.old state.old ran.old links.old)
+        → GivesTo head event.now result (loop_of K.content L.sent L.waiting L.faults world.old state.old ran.old links.old)
+        (loop_of K.content L.sent L.waiting L.faults world.new state.new ran.new links.new) }
+    ensures keeps { Keeps result (K.faults world.old.server.keeper) (K.faults world.new.server.keeper)
+        (length world.old.clients) (length world.new.clients) (length state.old.begun) (length state.new.begun) }
+{
     let sent = world.packets().len();
     match keep(state, ran, sent as usize, event) {
-        Ok(event) => give_last(alloc, world, links, state, ran, &event, sent),
+        Ok(()) => give_last(alloc, world, links, state, ran, event, sent),
         Err(_) => Err(Halt::Memory),
     }
 }
@@ -48,21 +70,17 @@ fn keep(
     state: &mut LoopState,
     ran: &mut Schedule,
     sent: usize,
-    event: Event,
-) -> Result<Event, NoMemory>
-    ensures kept { IfOk result (λ kept. (kept ≡ event) × (ran.new ≡ ran.old ++ event ∷ [])) }
+    event: &Event,
+) -> Result<(), NoMemory>
+    requires { IsFilledEvent event.now }
+    ensures kept { OnOk result (ran.new ≡ ran.old ++ event.now ∷ []) }
     ensures refused { OnErr result (ran.new ≡ ran.old) }
     ensures same { (events : List Event) → Marks state.old.flags events → Marks state.new.flags events }
     ensures begun { state.new.begun ≡ state.old.begun }
     ensures reached { OnOk result (sent ≤ length state.new.flags) }
 {
     state.reach(sent)?;
-    let place = ran.len();
-    ran.push(event)?;
-    match ran.get(place) {
-        Some(event) => Ok(event),
-        None => unreachable!(),
-    }
+    ran.push_filled(event)
 }
 
 /// Gives the event at the end of `ran` to the world, where so many packets were sent. Where the world does not take it in, it is dropped

@@ -76,7 +76,7 @@ fn push_event_at(
     ensures { OnOk result ((event : _) × (line : List ℕ) × (slice_get ran.now place ≡ Some event) × SpellsEvent 1 event line × (text.new.items ≡ text.old.items ++ text_of (line ∷ []))) }
 {
     match ran.get(place) {
-        Some(event) => push_event(alloc, text, &event),
+        Some(event) => push_event(alloc, text, event),
         None => unreachable!(),
     }
 }

@@ -4,7 +4,7 @@ use Rattle.std.proofs.lemmas.List.{take_all, take-append-le, drop-append-le, dro
 use Rattle.std.proofs.lemmas.List.Elements.{All-head, All-tail}
 use Rattle.std.specs.List.{All}
 use Rattle.nq_net.specs.Marks.{between, datagram_at, IsWithin}
-use Rattle.nq_net.specs.Runs.{repeats}
+use Rattle.nq_xdr.specs.Words.{repeats}
 use Rattle.nq_net.specs.declared.packets.Mark.{Mark}
 
 -- the bytes at a place, whatever stands behind all

@@ -1,7 +1,7 @@
 -- Where the bytes of a datagram stand among those of all: some before a word that is repeated, and some behind it.
 use Rattle.std.specs.Prelude.{◌≡◌, ℕ, ◌≤◌, ◌<◌, ◌-◌, ◌+◌, ◌*◌, ◌^◌, ◌++◌, List, length, take, drop}
 use Rattle.nq_net.specs.Packets.{Datagram}
-use Rattle.nq_net.specs.Runs.{repeats}
+use Rattle.nq_xdr.specs.Words.{repeats}
 use Rattle.nq_net.specs.declared.packets.Mark.{Mark}
 
 -- the bytes between two places

@@ -2,8 +2,9 @@
 
 ghost use Rattle.std.specs.Prelude.{◌≡◌, ◌+◌, ◌≤◌, [], ◌∷◌, ◌++◌, length, slice_get, vec_len, vec_capacity, Some, IsOk, IfOk, OnOk, OnErr, IsNone, IfSome, IsTrue, ◌↔◌};
 
-use crate::runs::{Run, push_words};
+use crate::runs::Run;
 use crate::{NoMemory, Party};
+use nq_xdr::push_words;
 use std::alloc::Global;
 use std::marker::Model;
 
@@ -21,7 +22,7 @@ pub struct Packet<'a> {
 impl<'a> Model for Packet<'a> {
     ghost use Rattle.std.specs.Prelude.{◌≡◌, ◌+◌, ◌*◌, ◌<◌, ◌^◌, ◌++◌, length};
     ghost use Rattle.nq_net.specs.Packets.{Datagram};
-    ghost use Rattle.nq_net.specs.Runs.{repeats};
+    ghost use Rattle.nq_xdr.specs.Words.{repeats};
 
     ghost Value = { Datagram };
 

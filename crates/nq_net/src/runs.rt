@@ -1,7 +1,8 @@
 //! A word of four bytes that is repeated within a datagram.
 
 ghost use Rattle.std.specs.Prelude.{◌≡◌, ℕ, ◌+◌, ◌-◌, ◌*◌, ◌^◌, ◌<◌, ◌≤◌, ◌++◌, List, length, take, drop, vec_len, vec_capacity};
-ghost use Rattle.nq_net.specs.Runs.{repeats, many, IsRepeated};
+ghost use Rattle.nq_xdr.specs.Words.{repeats};
+ghost use Rattle.nq_net.specs.Runs.{IsRepeated};
 
 /// A place at which a word is repeated.
 #[derive(Clone, Copy)]
@@ -110,51 +111,4 @@ fn run_at(bytes: &[u8], at: usize, end: usize) -> Run
         times: ((end - at) / 4) as u32,
         word: [bytes[at], bytes[at + 1], bytes[at + 2], bytes[at + 3]],
     }
-}
-
-/// How many words are written at once.
-const MANY: usize = 64;
-
-/// Adds a word at the end, so many times. There is room for them.
-pub(crate) fn push_words(out: &mut Vec<u8>, word: [u8; 4], times: usize)
-    requires { vec_len out.old + 4 * times ≤ vec_capacity out.old }
-    ensures words { out.new.items ≡ out.old.items ++ repeats times word }
-    ensures capacity { vec_capacity out.old ≤ vec_capacity out.new }
-{
-    if times == 0 {
-        return;
-    }
-    let many = many_of(word);
-    for _round in 0..times / MANY {
-        out.extend_from_slice(&many).unwrap();
-    }
-    out.extend_from_slice(&many[..4 * (times % MANY)]).unwrap();
-}
-
-/// A word, 64 times over.
-fn many_of(word: [u8; 4]) -> [u8; 4 * MANY]
-    ensures { result ≡ many word }
-{
-    let mut bytes = [0; 4 * MANY];
-    bytes[0] = word[0];
-    bytes[1] = word[1];
-    bytes[2] = word[2];
-    bytes[3] = word[3];
-    double(&mut bytes, 1);
-    double(&mut bytes, 2);
-    double(&mut bytes, 4);
-    double(&mut bytes, 8);
-    double(&mut bytes, 16);
-    double(&mut bytes, 32);
-    bytes
-}
-
-/// Copies the first words, so many of them, behind themselves.
-fn double(bytes: &mut [u8], words: usize)
-    requires { 4 * (words + words) ≤ length bytes.old }
-    ensures doubled { (word : List ℕ) → take (4 * words) bytes.old ≡ repeats words word → take (4 * (words + words)) bytes.new ≡ repeats (words + words) word }
-    ensures size { length bytes.new ≡ length bytes.old }
-{
-    let done = 4 * words;
-    bytes.copy_within(0..done, done);
 }

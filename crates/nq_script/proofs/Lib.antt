@@ -6,7 +6,6 @@ pub mod CallWords
 pub mod HeadReading
 pub mod LineReading
 pub mod Fitting
-pub mod Keeping
 pub mod FileLines
 pub mod Splitting
 pub mod HeadLines

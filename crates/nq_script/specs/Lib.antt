@@ -1,7 +1,6 @@
 pub mod Calls
 pub mod Faults
 pub mod Heads
-pub mod Kept
 pub mod Lines
 pub mod Progress
 pub mod Reading

@@ -9,7 +9,6 @@
 mod calls;
 mod faults;
 mod heads;
-mod kept;
 mod laws;
 mod lines;
 mod print;

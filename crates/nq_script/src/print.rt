@@ -5,14 +5,12 @@ ghost use Rattle.std.specs.Fmt.{decimal};
 ghost use Rattle.nq_base.specs.Name.{IsName};
 ghost use Rattle.nq_script.specs.Calls.{FitsCall, call_words};
 ghost use Rattle.nq_script.specs.Heads.{FitsHead, file_line, head_lines, longest_lines};
-ghost use Rattle.nq_script.specs.Kept.{IsCallIn, IsEventIn, call_in, event_in};
 ghost use Rattle.nq_script.specs.Lines.{HasEvent, HasLine, FitsEvent, SpellsEvent, TellsLine, event_words, longest_words};
 ghost use Rattle.nq_script.specs.Text.{IsVersion, spaced, text_of};
 
 use crate::heads::Head;
-use crate::kept::{KeptCall, KeptEvent, call_of, event_of, value_of};
 use crate::lines::Line;
-use nq_base::{Block, BlockNo, Call, Event, FileId, FileList, Host, Name, NoMemory};
+use nq_base::{BlockNo, Call, Event, FileId, FileList, Name, NoMemory};
 use std::alloc::Global;
 
 /// Appends bytes.
@@ -148,107 +146,16 @@ fn append_crash(text: &mut Vec<u8>, longest: u32, version: u32) -> Result<(), No
     }
 }
 
-/// Appends the words of a call that is kept.
-fn append_kept_call(
+/// Appends the line of an event, with its line feed, in a version that can tell it.
+pub(crate) fn append_event_line(
     text: &mut Vec<u8>,
-    names: &[Name],
-    bodies: &[Block],
-    kept: KeptCall,
-) -> Result<(), NoMemory>
-    requires { IsCallIn names.now bodies.now kept }
-    ensures written { OnOk result (text.new.items ≡ text.old.items ++ spaced (call_words (call_in names.now bodies.now kept))) }
-    ensures fits { OnOk result (FitsCall (call_in names.now bodies.now kept)) }
-{
-    match kept {
-        KeptCall::Write { file, block, body } => {
-            append_write(text, b"write", file, block, value_of(bodies, body))
-        }
-        KeptCall::WriteSync { file, block, body } => {
-            append_write(text, b"put", file, block, value_of(bodies, body))
-        }
-        other => append_whole_call(text, names, bodies, other),
-    }
-}
-
-/// Appends the words of a call that is kept, of which a second one is made.
-fn append_whole_call(
-    text: &mut Vec<u8>,
-    names: &[Name],
-    bodies: &[Block],
-    kept: KeptCall,
-) -> Result<(), NoMemory>
-    requires { IsCallIn names.now bodies.now kept }
-    ensures written { OnOk result (text.new.items ≡ text.old.items ++ spaced (call_words (call_in names.now bodies.now kept))) }
-    ensures fits { OnOk result (FitsCall (call_in names.now bodies.now kept)) }
-{
-    append_call(text, &call_of(names, bodies, kept))
-}
-
-/// Appends the words of a call at a host, which is kept.
-fn append_kept_host(
-    text: &mut Vec<u8>,
-    names: &[Name],
-    bodies: &[Block],
-    host: Host,
-    kept: KeptCall,
-) -> Result<(), NoMemory>
-    requires { IsCallIn names.now bodies.now kept }
-    ensures written { OnOk result (text.new.items ≡ text.old.items ++ spaced (codes "call" ∷ decimal host ∷ call_words (call_in names.now bodies.now kept))) }
-    ensures fits { OnOk result ((host < 2 ^ 32) × FitsCall (call_in names.now bodies.now kept)) }
-{
-    append_words(text, b"call", &[u64::from(host.0)])?;
-    append(text, b" ")?;
-    append_kept_call(text, names, bodies, kept)
-}
-
-/// Appends the words of an event that is kept, once.
-fn append_kept(
-    text: &mut Vec<u8>,
-    names: &[Name],
-    bodies: &[Block],
-    kept: KeptEvent,
+    event: &Event,
     version: u32,
 ) -> Result<(), NoMemory>
-    requires { IsEventIn names.now bodies.now kept }
-    ensures written { OnOk result (text.new.items ≡ text.old.items ++ spaced (event_words version (event_in names.now bodies.now kept) 1)) }
-    ensures fits { OnOk result (FitsEvent (event_in names.now bodies.now kept)) }
+    requires has { HasEvent version event.now }
+    ensures { OnOk result ((line : List ℕ) × SpellsEvent version event.now line × (text.new.items ≡ text.old.items ++ text_of (line ∷ []))) }
 {
-    match kept {
-        KeptEvent::Call { host, call } => append_kept_host(text, names, bodies, host, call),
-        KeptEvent::Deliver(packet) => append_words(text, b"deliver", &[packet]),
-        other => append_whole(text, names, bodies, other, version),
-    }
-}
-
-/// Appends the words of an event that is kept, once. A second one is made of it.
-fn append_whole(
-    text: &mut Vec<u8>,
-    names: &[Name],
-    bodies: &[Block],
-    kept: KeptEvent,
-    version: u32,
-) -> Result<(), NoMemory>
-    requires { IsEventIn names.now bodies.now kept }
-    ensures written { OnOk result (text.new.items ≡ text.old.items ++ spaced (event_words version (event_in names.now bodies.now kept) 1)) }
-    ensures fits { OnOk result (FitsEvent (event_in names.now bodies.now kept)) }
-{
-    append_event(text, &event_of(names, bodies, kept), 1, version)
-}
-
-/// Appends the line of an event that is kept, with its line feed, in a version that can tell it.
-pub(crate) fn append_kept_line(
-    text: &mut Vec<u8>,
-    names: &[Name],
-    bodies: &[Block],
-    kept: KeptEvent,
-    version: u32,
-) -> Result<(), NoMemory>
-    requires there { IsEventIn names.now bodies.now kept }
-    requires has { HasEvent version (event_in names.now bodies.now kept) }
-    ensures { OnOk result ((line : List ℕ) × SpellsEvent version (event_in names.now bodies.now kept) line
-        × (text.new.items ≡ text.old.items ++ text_of (line ∷ []))) }
-{
-    append_kept(text, names, bodies, kept, version)?;
+    append_event(text, event, 1, version)?;
     append(text, b"\n")
 }
 

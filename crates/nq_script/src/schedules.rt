@@ -1,35 +1,29 @@
 //! Schedules: lists of events.
 
-ghost use Rattle.std.specs.Prelude.{◌≡◌, ◌↔◌, ◌++◌, ◌∷◌, ◌-◌, ◌<◌, [], ℕ, List, Some, length, slice_get, take, IsOk, IfOk, IsTrue, OnErr, OnOk};
+ghost use Rattle.std.specs.Prelude.{◌≡◌, ◌↔◌, ◌++◌, ◌∷◌, ◌-◌, ◌<◌, ◌≤◌, [], ℕ, List, Some, length, slice_get, take, IsOk, IfOk, IsNone, IfSome, IsTrue, OnErr, OnOk};
 ghost use Rattle.nq_base.specs.declared.Event.{Event};
+ghost use Rattle.nq_script.specs.Calls.{IsFilled, IsFilledCall};
 ghost use Rattle.nq_script.specs.Lines.{HasEvent, IsFilledEvent, SpellsEvent};
 ghost use Rattle.nq_script.specs.Text.{text_of};
 
-use crate::kept::{KeptEvent, event_of, push, push_filled};
-use crate::print::append_kept_line;
-use nq_base::{Block, Event, Name, NoMemory};
+use crate::print::append_event_line;
+use nq_base::{Block, Call, Event, NoMemory};
 use std::alloc::Global;
 use std::marker::Model;
 
-/// A schedule: a list of events. A block that a number fills is kept as the number. Clauses see the list.
+/// A schedule: a list of events, as clauses see it. A block that a number fills takes no memory in it.
 #[derive(Drop)]
 pub struct Schedule {
-    events: Vec<KeptEvent>,
-    names: Vec<Name>,
-    bodies: Vec<Block>,
+    events: Vec<Event>,
 }
 
 impl Model for Schedule {
-    ghost use Rattle.std.specs.Prelude.{List, map};
-    ghost use Rattle.std.specs.List.{AllByRecursion};
+    ghost use Rattle.std.specs.Prelude.{List};
     ghost use Rattle.nq_base.specs.declared.Event.{Event};
-    ghost use Rattle.nq_script.specs.Kept.{event_in, IsEventIn};
 
     ghost Value = { List Event };
 
-    ghost view = { λ s. map (event_in s.names.items s.bodies.items) s.events.items };
-
-    ghost invariant = { λ s. AllByRecursion (IsEventIn s.names.items s.bodies.items) s.events.items };
+    ghost view = { λ s. s.events.items };
 }
 
 impl Schedule {
@@ -40,8 +34,6 @@ impl Schedule {
     {
         Ok(Schedule {
             events: Vec::new(alloc),
-            names: Vec::new(alloc),
-            bodies: Vec::new(alloc),
         })
     }
 
@@ -50,7 +42,7 @@ impl Schedule {
         ensures ok { OnOk result (self.new ≡ self.old ++ event ∷ []) }
         ensures err { OnErr result (self.new ≡ self.old) }
     {
-        push(&mut self.events, &mut self.names, &mut self.bodies, event)
+        push(&mut self.events, event)
     }
 
     /// Adds an event like this one at the end. Its body, if it has one, is one that `Block::fill` gives.
@@ -59,11 +51,10 @@ impl Schedule {
         ensures ok { OnOk result (self.new ≡ self.old ++ event.now ∷ []) }
         ensures err { OnErr result (self.new ≡ self.old) }
     {
-        push_filled(&mut self.events, &mut self.names, event)
+        push(&mut self.events, filled_event(event))
     }
 
     /// Takes the last event away, if there is one.
-    #[tactic(auto, using(crate::proofs::Keeping::all_of_front))]
     pub fn drop_last(&mut self)
         ensures { self.new ≡ take (length self.old - 1) self.old }
     {
@@ -85,14 +76,12 @@ impl Schedule {
         self.events.is_empty()
     }
 
-    /// The one at a place; None where the place is not below the length.
-    pub fn get(&self, place: usize) -> Option<Event>
-        ensures { result ≡ slice_get self.now place }
+    /// The one at a place; None exactly where the place is not below the length.
+    pub fn get(&self, place: usize) -> Option<&Event>
+        ensures none { IsNone result ↔ (length self.now ≤ place) }
+        ensures some { IfSome result (λ event. slice_get self.now place ≡ Some event.now) }
     {
-        match self.events.get(place) {
-            Some(kept) => Some(event_of(&self.names, &self.bodies, *kept)),
-            None => None,
-        }
+        self.events.get(place)
     }
 
     /// Appends the line of the event at a place, with its line feed, in a version that can tell the event.
@@ -108,8 +97,89 @@ impl Schedule {
             × SpellsEvent version event line × (text.new.items ≡ text.old.items ++ text_of (line ∷ []))) }
     {
         match self.events.get(place) {
-            Some(kept) => append_kept_line(text, &self.names, &self.bodies, *kept, version),
+            Some(event) => append_event_line(text, event, version),
             None => unreachable!(),
         }
     }
+}
+
+/// Adds an event at the end.
+fn push(events: &mut Vec<Event>, event: Event) -> Result<(), NoMemory>
+    ensures ok { OnOk result (events.new.items ≡ events.old.items ++ event ∷ []) }
+    ensures err { OnErr result (events.new.items ≡ events.old.items) }
+{
+    // By cases, so that the prover meets the types of a call and a body.
+    let pushed = match event {
+        Event::Call { host, call } => events.push(Event::Call { host, call }),
+        other => events.push(other),
+    };
+    match pushed {
+        Ok(()) => Ok(()),
+        Err(_) => Err(NoMemory::Memory),
+    }
+}
+
+/// A second event like one whose body, if it has one, a number fills.
+fn filled_event(event: &Event) -> Event
+    requires { IsFilledEvent event.now }
+    ensures { result ≡ event.now }
+{
+    match event {
+        Event::Call { host, call } => Event::Call {
+            host: *host,
+            call: filled_call(call),
+        },
+        Event::Deliver(packet) => Event::Deliver(*packet),
+        Event::ServerTick => Event::ServerTick,
+        Event::ClientTick(host) => Event::ClientTick(*host),
+        Event::Restart(host) => Event::Restart(*host),
+        Event::Crash { longest } => Event::Crash { longest: *longest },
+    }
+}
+
+/// A second call like one whose body, if it has one, a number fills.
+fn filled_call(call: &Call) -> Call
+    requires { IsFilledCall call.now }
+    ensures { result ≡ call.now }
+{
+    match call {
+        Call::Create { name, blocks } => Call::Create {
+            name: *name,
+            blocks: *blocks,
+        },
+        Call::Lookup { name } => Call::Lookup { name: *name },
+        Call::Attr { file } => Call::Attr { file: *file },
+        Call::Read { file, block } => Call::Read {
+            file: *file,
+            block: *block,
+        },
+        Call::Fetch { file, block } => Call::Fetch {
+            file: *file,
+            block: *block,
+        },
+        Call::Write { file, block, body } => Call::Write {
+            file: *file,
+            block: *block,
+            body: filled_body(body),
+        },
+        Call::WriteSync { file, block, body } => Call::WriteSync {
+            file: *file,
+            block: *block,
+            body: filled_body(body),
+        },
+        Call::Sync { file } => Call::Sync { file: *file },
+        Call::Resize { file, blocks } => Call::Resize {
+            file: *file,
+            blocks: *blocks,
+        },
+        Call::Remove { file } => Call::Remove { file: *file },
+    }
+}
+
+/// A second block like one that a number fills.
+fn filled_body(body: &Block) -> Block
+    requires { IsFilled body.now }
+    ensures { result ≡ body.now }
+{
+    Block::fill(body.value())
 }

@@ -1,8 +1,6 @@
 -- READ and GETLEASE, by what was found of the file.
-use Rattle.std.proofs.Common.{◌≡◌, ◌≤◌, ℕ, Bool, true, false, List, Option, Some, None, if◌then◌else◌, refl, sym, ap, ◌∙◌, arith}
-use Rattle.std.specs.Prelude.{nat_lt, slice_get}
-use Rattle.std.proofs.lemmas.Bool.Decides.{nat_tests}
-use Rattle.std.proofs.lemmas.Option.{slice_get_past}
+use Rattle.std.proofs.Common.{◌≡◌, ℕ, List, Option, Some, None, refl, sym, ap, ◌∙◌}
+use Rattle.std.specs.Prelude.{slice_get}
 use Rattle.nq_base.specs.declared.Access.{Access}
 use Rattle.nq_base.specs.declared.Asked.{Asked}
 use Rattle.nq_base.specs.declared.FileRow.{FileRow}
@@ -11,17 +9,17 @@ use Rattle.nq_base.specs.declared.Refusal.{Refusal}
 use Rattle.nq_base.specs.declared.Reply.{Reply as Answer}
 use Rattle.nq_base.specs.declared.Want.{Want}
 use Rattle.nq_base.specs.declared.Who.{Who}
-use Rattle.nq_keeper.specs.Keeping.{body_at}
+use Rattle.nq_files.specs.Reading.{read_in, read_out}
+use Rattle.nq_files.specs.declared.ReadOut.{ReadOut}
 use Rattle.nq_model.specs.Ask.{ask}
 use Rattle.nq_model.specs.Change.{row_of, row_of_found}
-use Rattle.nq_model.specs.Kept.{File, Kept, blocks_of}
+use Rattle.nq_model.specs.Kept.{File, Kept}
 use Rattle.nq_model.specs.Message.{reply}
 use Rattle.nq_model.specs.Server.{Server, ServerStep, says, after_notices, with_table}
 use Rattle.nq_model.specs.ServerStep.{get_lease, lease_asked, leases, read, read_asked, read_block, read_of, to_read, serves, tells_later}
 use Rattle.nq_model.specs.Table.{Table}
 use Rattle.nq_server.proofs.LeasedSteps.{read-alike}
-use Rattle.nq_server.specs.declared.leasing.Found.{Found}
-use Rattle.nq_server.specs.Leasing.{asks, file_asked, found_at}
+use Rattle.nq_server.specs.Leasing.{asks, file_asked}
 use Rattle.nq_server.specs.State.{Beside, server_of}
 
 -- ---- what is kept
@@ -58,31 +56,29 @@ get-lease-found held kept who xid want (Some file) row q h is =
 
 -- ---- READ
 
-pub read-stale : (s : Server) (who : Who) (xid next call block : ℕ) (want : Option Want) (found : Option File) → Found.Stale ≡ found_at block found → read s who xid next call block want found ≡ says s who.host (reply xid (Answer.Refused who.inc Refusal.Stale))
+pub read-stale : (s : Server) (who : Who) (xid next call block : ℕ) (want : Option Want) (found : Option File) → ReadOut.Stale ≡ read_out block found → read s who xid next call block want found ≡ says s who.host (reply xid (Answer.Refused who.inc Refusal.Stale))
 read-stale s who xid next call block want None h = refl
-read-stale s who xid next call block want (Some file) h = step (nat_lt block (blocks_of file)) h
+read-stale s who xid next call block want (Some file) h = step (slice_get file.bodies block) h
   where
-    step : (b : Bool) → Found.Stale ≡ (if b then Found.Got (row_of file) else Found.Invalid) → read s who xid next call block want (Some file) ≡ says s who.host (reply xid (Answer.Refused who.inc Refusal.Stale))
-    step true e = absurd (cc)
-    step false e = absurd (cc)
+    step : (o : Option (List ℕ)) → ReadOut.Stale ≡ read_in file o → read s who xid next call block want (Some file) ≡ says s who.host (reply xid (Answer.Refused who.inc Refusal.Stale))
+    step None e = absurd (cc)
+    step (Some body) e = absurd (cc)
 
-not-below : (block blocks : ℕ) → nat_lt block blocks ≡ false → blocks ≤ block
-not-below block blocks h = grind (arith, nat_tests)
-
-pub read-invalid : (s : Server) (who : Who) (xid next call block : ℕ) (want : Option Want) (found : Option File) → Found.Invalid ≡ found_at block found → read s who xid next call block want found ≡ says s who.host (reply xid (Answer.Refused who.inc Refusal.Inval))
+pub read-invalid : (s : Server) (who : Who) (xid next call block : ℕ) (want : Option Want) (found : Option File) → ReadOut.Invalid ≡ read_out block found → read s who xid next call block want found ≡ says s who.host (reply xid (Answer.Refused who.inc Refusal.Inval))
 read-invalid s who xid next call block want None h = absurd (cc)
-read-invalid s who xid next call block want (Some file) h = step (nat_lt block (blocks_of file)) refl h
+read-invalid s who xid next call block want (Some file) h = step (slice_get file.bodies block) refl h
   where
-    step : (b : Bool) → nat_lt block (blocks_of file) ≡ b → Found.Invalid ≡ (if b then Found.Got (row_of file) else Found.Invalid) → read s who xid next call block want (Some file) ≡ says s who.host (reply xid (Answer.Refused who.inc Refusal.Inval))
-    step true d e = absurd (cc)
-    step false d e = ap (read_block s who xid next call file block want) (slice_get_past file.bodies block (not-below block (blocks_of file) d))
+    step : (o : Option (List ℕ)) → slice_get file.bodies block ≡ o → ReadOut.Invalid ≡ read_in file o → read s who xid next call block want (Some file) ≡ says s who.host (reply xid (Answer.Refused who.inc Refusal.Inval))
+    step None d e = ap (read_block s who xid next call file block want) d
+    step (Some body) d e = absurd (cc)
 
-got-row : (block : ℕ) (file : File) (row : FileRow) → Found.Got row ≡ found_at block (Some file) → row_of file ≡ row
-got-row block file row h = step (nat_lt block (blocks_of file)) h
+-- the row and the body are those of the file
+got-both : (block : ℕ) (file : File) (row : FileRow) (body : List ℕ) → ReadOut.Got row body ≡ read_out block (Some file) → (row_of file ≡ row) × (slice_get file.bodies block ≡ Some body)
+got-both block file row body h = step (slice_get file.bodies block) refl h
   where
-    step : (b : Bool) → Found.Got row ≡ (if b then Found.Got (row_of file) else Found.Invalid) → row_of file ≡ row
-    step true e = cc
-    step false e = absurd (cc)
+    step : (o : Option (List ℕ)) → slice_get file.bodies block ≡ o → ReadOut.Got row body ≡ read_in file o → (row_of file ≡ row) × (slice_get file.bodies block ≡ Some body)
+    step None d e = absurd (cc)
+    step (Some found) d e = let own : row_of file ≡ row = cc in let same : found ≡ body = cc in (own, d ∙ ap Some same)
 
 -- what a question gives
 abbrev served : Server → (xid next call block : ℕ) → (file : File) → (body : List ℕ) → Question → ServerStep
@@ -92,12 +88,13 @@ served s xid next call block file body q =
 read-has : (s : Server) (who : Who) (xid next call block : ℕ) (want : Option Want) (file : File) (body : List ℕ) → slice_get file.bodies block ≡ Some body → read s who xid next call block want (Some file) ≡ read_of s who xid next call file block body want (ask s.table (to_read s who file want))
 read-has s who xid next call block want file body has = ap (read_block s who xid next call file block want) has
 
-pub read-found : (held : Beside) (kept : Kept) (who : Who) (xid next call block : ℕ) (want : Option Want) (found : Option File) (row : FileRow) (body : List ℕ) (q : Question) → Found.Got row ≡ found_at block found → Some body ≡ body_at block found → q ≡ asks held who row want → read (server_of held kept) who xid next call block want found ≡ read_asked (server_of held kept) q.who xid next call (file_asked q) block body q.access (ask held.table q).table (ask held.table q).asked
-read-found held kept who xid next call block want None row body q h has is = absurd (cc)
-read-found held kept who xid next call block want (Some file) row body q h has is =
+pub read-found : (held : Beside) (kept : Kept) (who : Who) (xid next call block : ℕ) (want : Option Want) (found : Option File) (row : FileRow) (body : List ℕ) (q : Question) → ReadOut.Got row body ≡ read_out block found → q ≡ asks held who row want → read (server_of held kept) who xid next call block want found ≡ read_asked (server_of held kept) q.who xid next call (file_asked q) block body q.access (ask held.table q).table (ask held.table q).asked
+read-found held kept who xid next call block want None row body q h is = absurd (cc)
+read-found held kept who xid next call block want (Some file) row body q h is =
     let s = server_of held kept in
-    let own : row_of file ≡ row = got-row block file row h in
+    let both = got-both block file row body h in
+    let own : row_of file ≡ row = both.0 in
     let asked : q ≡ asks held who (row_of file) want = is ∙ ap (λ r. asks held who r want) (sym own) in
-    read-has s who xid next call block want file body (sym has)
+    read-has s who xid next call block want file body both.1
     ∙ ap (served s xid next call block file body) (sym asked)
     ∙ read-alike s q.who xid next call file (file_asked q) block body q.access (ask held.table q).table (ask held.table q).asked (sym (ap (λ x. x.file) asked)) (sym (ap (λ x. x.rev) asked))

@@ -15,3 +15,4 @@ pub mod DecidedOnce
 pub mod SentRequests
 pub mod AskedStates
 pub mod PushedPackets
+pub mod ToldRequests

@@ -1,6 +1,6 @@
 -- Requests that are decided once, as the server carries them out.
 use Rattle.std.specs.Prelude.{◌≡◌, ◌≤◌, ℕ, Bool, true, false, List, [], ◌∷◌, Option, Some, None, length}
-use Rattle.nq_base.specs.Block.{value_of}
+use Rattle.nq_base.specs.Block.{filled, value_of}
 use Rattle.nq_base.specs.declared.Decided.{Decided}
 use Rattle.nq_base.specs.declared.Decided.TheVariants.{Fresh, Again, Old, OldIncarnation, NotAttached}
 use Rattle.nq_base.specs.declared.Entry.{Entry}
@@ -21,8 +21,6 @@ use Rattle.nq_model.specs.Server.{Server, ServerStep}
 use Rattle.nq_model.specs.Table.{find_row, put_row, drop_host, drop_rows_of}
 use Rattle.nq_server.specs.declared.deciding.Ready.{Ready}
 use Rattle.nq_server.specs.declared.received.Taken.{Taken}
-use Rattle.nq_server.specs.declared.verdicts.Short.{Short}
-use Rattle.nq_server.specs.declared.verdicts.Short.TheVariants as short
 use Rattle.nq_server.specs.Leasing.{MakesBeside}
 use Rattle.nq_server.specs.State.{Beside}
 use Rattle.nq_server.specs.Stepping.{Enters, Sends, outcome_of}
@@ -38,16 +36,6 @@ file_to_tell other = None
 abbrev pub length_in : Kept → Option ℕ → ℕ
 length_in kept None = 0
 length_in kept (Some file) = kept_length (row_of_found (find_file file kept.files))
-
--- a reply that has no body
-abbrev pub short_reply : (inc : ℕ) → Short → Answer
-short_reply inc short.Null = Answer.Null
-short_reply inc short.Attach = Answer.Attach inc
-short_reply inc (short.Create file) = Answer.Create inc file
-short_reply inc (short.Write rev) = Answer.Write inc rev
-short_reply inc (short.Resize rev) = Answer.Resize inc rev
-short_reply inc short.Remove = Answer.Remove inc
-short_reply inc (short.Refused status) = Answer.Refused inc status
 
 -- the reply to a request that was decided so: none where a later incarnation is attached
 abbrev pub answer_to : Who → Request → Decided → Option Answer
@@ -130,6 +118,11 @@ recovery_after other now recovery = recovery
 abbrev pub entries_recovering : Who → Request → (now : ℕ) → List Entry
 entries_recovering who (Write w seq file block first last push body) now = Entry.S who file block first last now ∷ []
 entries_recovering who other now = []
+
+-- a request of which the body is handed on: the block that repeats its value stands in its place
+abbrev pub as_told : Request → Request
+as_told (Write who seq file block first last push body) = Write who seq file block first last push (filled (value_of body))
+as_told other = other
 
 -- a request that was decided is answered so
 pub record Concludes (step : ServerStep) (how : Taken) (after : Beside) (out out' : Datagrams) (log log' : EntryList) : Type 0 where

@@ -1,10 +1,9 @@
 -- Requests for a lease, and what a call does that makes a step which keeps what is kept.
-use Rattle.std.specs.Prelude.{◌≡◌, ◌<◌, ◌≤◌, ◌^◌, ℕ, List, [], Option, Some, None, Result, Ok, Err, find, is_some, nat_lt, if◌then◌else◌}
+use Rattle.std.specs.Prelude.{◌≡◌, ◌<◌, ◌≤◌, ◌^◌, ℕ, [], Option, Some, None, Result, Ok, Err, find, is_some, if◌then◌else◌}
 use Rattle.nq_base.specs.declared.Asked.{Asked}
 use Rattle.nq_base.specs.declared.FileRow.{FileRow}
 use Rattle.nq_base.specs.declared.Grant.{Grant}
 use Rattle.nq_base.specs.declared.Question.{Question}
-use Rattle.nq_base.specs.declared.Reply.{Reply as Answer}
 use Rattle.nq_base.specs.declared.Row.{Row}
 use Rattle.nq_base.specs.declared.Want.{Want}
 use Rattle.nq_base.specs.declared.Who.{Who}
@@ -12,12 +11,10 @@ use Rattle.nq_evict.specs.declared.NoticeTo.{NoticeTo}
 use Rattle.nq_evict.specs.declared.NoticeTo.TheVariants.{Others, Own}
 use Rattle.nq_journal.specs.Items.{EntryList}
 use Rattle.nq_model.specs.Ask.{conflicts}
-use Rattle.nq_model.specs.Change.{row_of}
-use Rattle.nq_model.specs.Kept.{File, blocks_of}
+use Rattle.nq_model.specs.Kept.{File}
 use Rattle.nq_model.specs.Server.{ServerStep, serving}
 use Rattle.nq_model.specs.ServerStep.{access_of}
 use Rattle.nq_model.specs.Table.{Table, find_row}
-use Rattle.nq_server.specs.declared.leasing.Found.{Found}
 use Rattle.nq_server.specs.declared.received.Halt.{Halt}
 use Rattle.nq_server.specs.declared.received.Halt.TheVariants as halt
 use Rattle.nq_server.specs.declared.received.Taken.{Taken}
@@ -93,28 +90,3 @@ pub record HasRoom (entries : ℕ) (out out' : Datagrams) (log log' : EntryList)
   pub nothing : SaysNothing out out' log log'
   pub datagram : 1 ≤ out'.spare
   pub lines : entries ≤ log'.spare
-
--- what was found of a block: the row of its file, or why there is nothing to read
-abbrev pub found_at : (block : ℕ) → Option File → Found
-found_at block None = Found.Stale
-found_at block (Some file) = if nat_lt block (blocks_of file) then Found.Got (row_of file) else Found.Invalid
-
--- the buffer has the body where the block was found
-abbrev pub HasBody : Found → List ℕ → Option (List ℕ) → Type 0
-HasBody (Found.Got row) buffer body = Some buffer ≡ body
-HasBody Found.Stale buffer body = Unit {0}
-HasBody Found.Invalid buffer body = Unit {0}
-
--- a reply is one to a READ
-abbrev pub IsRead : Answer → Type 0
-IsRead (Answer.Read inc rev body grant) = Unit {0}
-IsRead other = ⊥
-
--- the body of a reply to a READ
-abbrev pub body_in : Answer → List ℕ
-body_in (Answer.Read inc rev body grant) = body
-body_in other = []
-
--- a reply to a READ of this incarnation has a body, but no revision and no grant yet
-abbrev pub IsBlank : (inc : ℕ) → Answer → Type 0
-IsBlank inc said = said ≡ Answer.Read inc 0 (body_in said) None

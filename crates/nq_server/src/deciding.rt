@@ -12,7 +12,7 @@ ghost use Rattle.nq_model.specs.Decided.{decided as decided_of, decided_step, ga
 ghost use Rattle.nq_model.specs.Kept.{Kept};
 ghost use Rattle.nq_model.specs.Message.{Packet};
 ghost use Rattle.nq_server.specs.Answering.{Finds, IsSilent};
-ghost use Rattle.nq_server.specs.Deciding.{Concludes, IsReady, Warns, file_to_tell as told_file, is_put_off, length_in, warnings_if};
+ghost use Rattle.nq_server.specs.Deciding.{Concludes, IsReady, Warns, as_told, file_to_tell as told_file, is_put_off, length_in, warnings_if};
 ghost use Rattle.nq_server.specs.Sound.{IsSound};
 ghost use Rattle.nq_server.specs.State.{beside_of, phase_of, server_of};
 ghost use Rattle.nq_server.specs.Stepping.{LeavesStep, SaysNothing, Sends, Takes};
@@ -24,11 +24,11 @@ use crate::finding;
 use crate::gates::{file_to_change, file_to_tell, gate};
 use crate::leasing::make_room;
 use crate::received::{Halt, Reason, Taken};
-use crate::replying::Caller;
+use crate::replying::{Caller, end_reply};
 use crate::state::{Phase, State};
 use crate::ticks::halt_of;
-use crate::verdicts::{answer_to, end_short};
-use nq_base::{Access, Decided, FileId, Heads, NoMemory, Request, Verdict, Who};
+use crate::verdicts::answer_to;
+use nq_base::{Access, Block, Decided, FileId, Heads, NoMemory, Request, Verdict, Who};
 use nq_datagrams::BegunReply;
 use nq_evict::{NoticeTo, notices};
 use nq_files::decide;
@@ -198,7 +198,7 @@ fn conclude(
     let Some(said) = answer_to(&who, request, decided) else {
         return Taken::Dropped(Reason::OldIncarnation);
     };
-    end_short(who.host, begun, &said, out);
+    end_reply(who.host, begun, &said, out);
     do_if_fresh(state, who, request, decided, blocks, notice, log);
     Taken::Done
 }
@@ -213,28 +213,96 @@ fn give_up(fault: KeepFault, len: usize, out: &mut Outbox) -> Halt
     halt_of(fault)
 }
 
-/// Decides a request that is decided once, and answers it. At most one change is kept, and all memory is taken before it.
-pub(crate) fn decide_once<K: Keeper>(
+/// A request of which the body is handed on: a block that repeats its value stands in its place, for the journal tells of the
+/// value alone.
+fn without_body(request: &Request) -> Request
+    requires { is_decided_once request.now ≡ true }
+    ensures { result ≡ as_told request.now }
+{
+    match request {
+        Request::Attach { who } => Request::Attach { who: *who },
+        Request::Create {
+            who,
+            seq,
+            name,
+            blocks,
+        } => Request::Create {
+            who: *who,
+            seq: *seq,
+            name: *name,
+            blocks: *blocks,
+        },
+        Request::Write {
+            who,
+            seq,
+            file,
+            block,
+            first,
+            last,
+            push,
+            body,
+        } => Request::Write {
+            who: *who,
+            seq: *seq,
+            file: *file,
+            block: *block,
+            first: *first,
+            last: *last,
+            push: *push,
+            body: Block::fill(body.value()),
+        },
+        Request::Resize {
+            who,
+            seq,
+            call,
+            file,
+            blocks,
+        } => Request::Resize {
+            who: *who,
+            seq: *seq,
+            call: *call,
+            file: *file,
+            blocks: *blocks,
+        },
+        Request::Remove {
+            who,
+            seq,
+            call,
+            file,
+        } => Request::Remove {
+            who: *who,
+            seq: *seq,
+            call: *call,
+            file: *file,
+        },
+        _ => unreachable!(),
+    }
+}
+
+/// Decides a request, and answers it by what is told of it.
+fn decide_told<K: Keeper>(
     alloc: Global,
     keeper: &mut K,
     state: &mut State,
     caller: Caller,
-    request: &Request,
+    request: Request,
+    told: &Request,
     out: &mut Outbox,
     log: &mut Journal,
 ) -> Result<Taken, Halt>
     requires sound { IsSound state.old }
-    requires once { is_decided_once request.now ≡ true }
-    requires host { IsOfHost request.now }
-    ensures takes { Takes (λ kept. decided_step (server_of (beside_of state.old) kept) caller.who caller.xid request.now (decided_of kept (gate_of (server_of (beside_of state.old) kept) caller.who request.now) request.now)) result (K.content keeper.old) (K.content keeper.new) (K.faults keeper.old) (K.faults keeper.new) (beside_of state.old) (beside_of state.new) out.old out.new log.old log.new }
+    requires once { is_decided_once request ≡ true }
+    requires host { IsOfHost request }
+    requires told { told.now ≡ as_told request }
+    ensures takes { Takes (λ kept. decided_step (server_of (beside_of state.old) kept) caller.who caller.xid request (decided_of kept (gate_of (server_of (beside_of state.old) kept) caller.who request) request)) result (K.content keeper.old) (K.content keeper.new) (K.faults keeper.old) (K.faults keeper.new) (beside_of state.old) (beside_of state.new) out.old out.new log.old log.new }
     ensures sound { IsSound state.new }
     ensures drawn { state.new.table.drawn ≡ state.old.table.drawn }
     ensures follows { K.follows keeper.old keeper.new }
-    ensures leaves { LeavesStep (λ kept. decided_step (server_of (beside_of state.old) kept) caller.who caller.xid request.now (decided_of kept (gate_of (server_of (beside_of state.old) kept) caller.who request.now) request.now)) (K.content keeper.old) (K.leaves keeper.old keeper.new) }
+    ensures leaves { LeavesStep (λ kept. decided_step (server_of (beside_of state.old) kept) caller.who caller.xid request (decided_of kept (gate_of (server_of (beside_of state.old) kept) caller.who request) request)) (K.content keeper.old) (K.leaves keeper.old keeper.new) }
 {
-    let before = read_before(keeper, request)?;
-    let gate = gate(state, &before.heads, &caller.who, file_to_change(request));
-    let ready = match prepare(alloc, state, caller, request, out, log) {
+    let before = read_before(keeper, told)?;
+    let gate = gate(state, &before.heads, &caller.who, file_to_change(&request));
+    let ready = match prepare(alloc, state, caller, told, out, log) {
         Ok(ready) => ready,
         Err(NoMemory::Memory) => return Err(Halt::Memory),
     };
@@ -243,7 +311,7 @@ pub(crate) fn decide_once<K: Keeper>(
         Ok(decided) => Ok(conclude(
             state,
             caller,
-            request,
+            told,
             &decided,
             ready,
             before.length,
@@ -251,4 +319,27 @@ pub(crate) fn decide_once<K: Keeper>(
             log,
         )),
     }
+}
+
+/// Decides a request that is decided once, and answers it. At most one change is kept, and all memory is taken before it.
+pub(crate) fn decide_once<K: Keeper>(
+    alloc: Global,
+    keeper: &mut K,
+    state: &mut State,
+    caller: Caller,
+    request: Request,
+    out: &mut Outbox,
+    log: &mut Journal,
+) -> Result<Taken, Halt>
+    requires sound { IsSound state.old }
+    requires once { is_decided_once request ≡ true }
+    requires host { IsOfHost request }
+    ensures takes { Takes (λ kept. decided_step (server_of (beside_of state.old) kept) caller.who caller.xid request (decided_of kept (gate_of (server_of (beside_of state.old) kept) caller.who request) request)) result (K.content keeper.old) (K.content keeper.new) (K.faults keeper.old) (K.faults keeper.new) (beside_of state.old) (beside_of state.new) out.old out.new log.old log.new }
+    ensures sound { IsSound state.new }
+    ensures drawn { state.new.table.drawn ≡ state.old.table.drawn }
+    ensures follows { K.follows keeper.old keeper.new }
+    ensures leaves { LeavesStep (λ kept. decided_step (server_of (beside_of state.old) kept) caller.who caller.xid request (decided_of kept (gate_of (server_of (beside_of state.old) kept) caller.who request) request)) (K.content keeper.old) (K.leaves keeper.old keeper.new) }
+{
+    let told = without_body(&request);
+    decide_told(alloc, keeper, state, caller, request, &told, out, log)
 }

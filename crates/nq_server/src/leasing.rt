@@ -2,17 +2,16 @@
 
 ghost use Rattle.std.specs.Prelude.{◌≡◌, ◌<◌, ◌≤◌, ◌+◌, ◌^◌, ℕ, OnOk, OnErr, IfOk};
 ghost use Rattle.std.specs.Option.{ForSome};
-ghost use Rattle.nq_base.specs.Block.{value_of};
-ghost use Rattle.nq_base.specs.declared.Reply.{Reply as Answer};
 ghost use Rattle.nq_evict.specs.Telling.{told_rows};
+ghost use Rattle.nq_files.specs.Reading.{read_out};
 ghost use Rattle.nq_journal.specs.Items.{EntryList};
-ghost use Rattle.nq_keeper.specs.Keeping.{LeavesOne, body_at};
+ghost use Rattle.nq_keeper.specs.Keeping.{LeavesOne};
 ghost use Rattle.nq_model.specs.Ask.{ask as asked_of};
 ghost use Rattle.nq_model.specs.Kept.{Kept, find_file};
 ghost use Rattle.nq_model.specs.Server.{Server, serving};
 ghost use Rattle.nq_model.specs.ServerStep.{access_of as access_as, get_lease as gets_lease, grants, lease_asked, leases, read as reads, read_asked, serves, tells_later};
 ghost use Rattle.nq_server.specs.Answering.{Finds};
-ghost use Rattle.nq_server.specs.Leasing.{Does, HasBody, HasRoom, IsBlank, IsRead, MakesBeside, MayAsk, asks, body_in, file_asked, found_at, granted_in as grant_of, to_tell as to_tell_of};
+ghost use Rattle.nq_server.specs.Leasing.{Does, HasRoom, MakesBeside, MayAsk, asks, file_asked, granted_in as grant_of, to_tell as to_tell_of};
 ghost use Rattle.nq_server.specs.Sound.{IsSound};
 ghost use Rattle.nq_server.specs.State.{beside_of, phase_of, server_of};
 ghost use Rattle.nq_server.specs.Stepping.{Enters, SaysNothing, Takes, next_of};
@@ -22,11 +21,12 @@ use crate::received::{Halt, Taken};
 use crate::replying::{Caller, end_reply, put_off, refuse};
 use crate::state::State;
 use nq_base::{
-    Access, Asked, Block, BlockNo, Entry, FileId, FileRow, Grant, Inc, Mode, NoMemory, Question,
-    Refusal, Reply, Rev, RowKey, Want, Who,
+    Access, Asked, Block, BlockNo, Entry, FileId, FileRow, Grant, Mode, NoMemory, Question,
+    Refusal, Reply, RowKey, Want, Who,
 };
 use nq_datagrams::BegunReply;
 use nq_evict::NoticeTo;
+use nq_files::{ReadOut, read_block};
 use nq_grant::{ask, conflict};
 use nq_journal::Journal;
 use nq_keeper::{KeepFault, Keeper};
@@ -279,111 +279,17 @@ pub(crate) fn get_lease<K: Keeper>(
     }
 }
 
-/// What was found of a block.
-#[derive(Clone, Copy)]
-enum Found {
-    /// The file is not kept.
-    Stale,
-    /// The block is not below the file's length.
-    Invalid,
-    /// It was read, of a file of this row.
-    Got(FileRow),
-}
-
-/// Reads a block of a file into `into`.
-fn find_block<K: Keeper>(
-    keeper: &mut K,
-    file: FileId,
-    block: BlockNo,
-    into: &mut Block,
-) -> Result<Found, Halt>
-    ensures told { ForSome (K.content keeper.old) (λ kept. IfOk result (λ found. found ≡ found_at block (find_file file kept.files))) }
-    ensures body { ForSome (K.content keeper.old) (λ kept. IfOk result (λ found. HasBody found into.new (body_at block (find_file file kept.files)))) }
+/// Reads a block of a file.
+fn find_block<K: Keeper>(keeper: &mut K, file: FileId, block: BlockNo) -> Result<ReadOut, Halt>
+    ensures told { ForSome (K.content keeper.old) (λ kept. IfOk result (λ out. out ≡ read_out block (find_file file kept.files))) }
     ensures finds { Finds result (K.content keeper.old) (K.content keeper.new) (K.faults keeper.old) (K.faults keeper.new) }
     ensures follows { K.follows keeper.old keeper.new }
     ensures leaves { LeavesOne (K.content keeper.old) (K.leaves keeper.old keeper.new) }
 {
-    let Some(row) = finding::file(keeper, file)? else {
-        return Ok(Found::Stale);
-    };
-    if block.0 >= row.blocks {
-        return Ok(Found::Invalid);
-    }
-    match keeper.block(file, block, into) {
-        Ok(()) => Ok(Found::Got(row)),
+    match read_block(keeper, file, block) {
+        Ok(out) => Ok(out),
         Err(KeepFault::Failed) => Err(Halt::Fault),
         Err(KeepFault::Memory) => Err(Halt::Memory),
-    }
-}
-
-/// The reply to a READ of which only the body is known so far. The body stands in it from the beginning, and is copied no more
-/// until it is spelled.
-fn blank(inc: Inc) -> Reply
-    ensures blank { IsBlank inc result }
-    ensures read { IsRead result }
-{
-    Reply::Read {
-        inc,
-        rev: Rev(0),
-        body: Block::fill(0),
-        grant: None,
-    }
-}
-
-/// Makes a reply one to a READ of which only the body is known so far. The reply to an earlier READ lends its body, which is
-/// written over.
-fn make_blank(said: &mut Reply, asker: Inc)
-    ensures blank { IsBlank asker said.new }
-    ensures read { IsRead said.new }
-{
-    if let Reply::Read {
-        inc,
-        rev,
-        grant,
-        ..
-    } = said
-    {
-        *inc = asker;
-        *rev = Rev(0);
-        *grant = None;
-        return;
-    }
-    *said = blank(asker);
-}
-
-/// Reads the block that a READ asks for into the body of its reply.
-fn find_body<K: Keeper>(keeper: &mut K, wish: &Wish, said: &mut Reply) -> Result<Found, Halt>
-    requires { IsRead said.old }
-    ensures blank { (inc : ℕ) → IsBlank inc said.old → IsBlank inc said.new }
-    ensures told { ForSome (K.content keeper.old) (λ kept. IfOk result (λ found. found ≡ found_at wish.now.block (find_file wish.now.file kept.files))) }
-    ensures body { ForSome (K.content keeper.old) (λ kept. IfOk result (λ found. HasBody found (body_in said.new) (body_at wish.now.block (find_file wish.now.file kept.files)))) }
-    ensures finds { Finds result (K.content keeper.old) (K.content keeper.new) (K.faults keeper.old) (K.faults keeper.new) }
-    ensures follows { K.follows keeper.old keeper.new }
-    ensures leaves { LeavesOne (K.content keeper.old) (K.leaves keeper.old keeper.new) }
-{
-    match said {
-        Reply::Read { body, .. } => find_block(keeper, wish.file, wish.block, body),
-        _ => unreachable!(),
-    }
-}
-
-/// The number in the body of a reply to a READ.
-fn value_in(said: &Reply) -> u32
-    ensures { result ≡ value_of (body_in said.now) }
-{
-    match said {
-        Reply::Read { body, .. } => body.value(),
-        _ => 0,
-    }
-}
-
-/// Writes what was wanting into the reply to a READ.
-fn complete(said: &mut Reply, at: Rev, granted: Option<Grant>)
-    ensures { (inc : ℕ) → IsBlank inc said.old → said.new ≡ Answer.Read inc at (body_in said.old) granted }
-{
-    if let Reply::Read { rev, grant, .. } = said {
-        *rev = at;
-        *grant = granted;
     }
 }
 
@@ -393,26 +299,30 @@ fn serve_in_room(
     state: &mut State,
     question: &Question,
     wish: &Wish,
-    said: &mut Reply,
+    body: Block,
     begun: BegunReply,
     out: &mut Outbox,
     log: &mut Journal,
 )
     requires may { MayAsk state.old question.now }
-    requires blank { IsBlank question.now.who.inc said.old }
     requires room { 4164 ≤ begun.room }
     requires datagram { 1 ≤ out.old.spare }
     requires lines { 2 ≤ log.old.spare }
-    ensures makes { (kept : Kept) → MakesBeside (serves (server_of (beside_of state.old) kept) question.now.who begun.xid (next_of out.old) wish.now.call (file_asked question.now) wish.now.block (body_in said.old) (asked_of state.old.table question.now).table (grant_of (asked_of state.old.table question.now).asked)) (beside_of state.new) out.old out.new log.old log.new }
+    ensures makes { (kept : Kept) → MakesBeside (serves (server_of (beside_of state.old) kept) question.now.who begun.xid (next_of out.old) wish.now.call (file_asked question.now) wish.now.block body (asked_of state.old.table question.now).table (grant_of (asked_of state.old.table question.now).asked)) (beside_of state.new) out.old out.new log.old log.new }
     ensures sound { IsSound state.new }
     ensures drawn { state.new.table.drawn ≤ state.old.table.drawn + 1 }
 {
-    let value = value_in(said);
+    let value = body.value();
     let number = out.next();
     let who = question.who;
     let grant = granted_in(ask(&mut state.table, question));
-    complete(said, question.rev, grant);
-    end_reply(who.host, begun, said, out);
+    let said = Reply::Read {
+        inc: who.inc,
+        rev: question.rev,
+        body,
+        grant,
+    };
+    end_reply(who.host, begun, &said, out);
     enter_grant(log, question, &grant);
     let entry = Entry::R {
         who,
@@ -433,20 +343,19 @@ fn serve(
     question: &Question,
     xid: u32,
     wish: &Wish,
-    said: &mut Reply,
+    body: Block,
     out: &mut Outbox,
     log: &mut Journal,
 ) -> Result<Taken, Halt>
     requires may { MayAsk state.old question.now }
-    requires blank { IsBlank question.now.who.inc said.old }
-    ensures does { (kept : Kept) → Does (serves (server_of (beside_of state.old) kept) question.now.who xid (next_of out.old) wish.now.call (file_asked question.now) wish.now.block (body_in said.old) (asked_of state.old.table question.now).table (grant_of (asked_of state.old.table question.now).asked)) result (beside_of state.old) (beside_of state.new) out.old out.new log.old log.new }
+    ensures does { (kept : Kept) → Does (serves (server_of (beside_of state.old) kept) question.now.who xid (next_of out.old) wish.now.call (file_asked question.now) wish.now.block body (asked_of state.old.table question.now).table (grant_of (asked_of state.old.table question.now).asked)) result (beside_of state.old) (beside_of state.new) out.old out.new log.old log.new }
     ensures sound { IsSound state.new }
     ensures drawn { state.new.table.drawn ≤ state.old.table.drawn + 1 }
 {
     match make_room(alloc, xid, LONGEST_RESULTS, 2, out, log) {
         Err(NoMemory::Memory) => Err(Halt::Memory),
         Ok(begun) => {
-            serve_in_room(state, question, wish, said, begun, out, log);
+            serve_in_room(state, question, wish, body, begun, out, log);
             Ok(Taken::Done)
         }
     }
@@ -459,30 +368,28 @@ fn read_found(
     question: &Question,
     xid: u32,
     wish: &Wish,
-    said: &mut Reply,
+    body: Block,
     out: &mut Outbox,
     log: &mut Journal,
 ) -> Result<Taken, Halt>
     requires may { MayAsk state.old question.now }
-    requires blank { IsBlank question.now.who.inc said.old }
-    ensures does { (kept : Kept) → Does (read_asked (server_of (beside_of state.old) kept) question.now.who xid (next_of out.old) wish.now.call (file_asked question.now) wish.now.block (body_in said.old) question.now.access (asked_of state.old.table question.now).table (asked_of state.old.table question.now).asked) result (beside_of state.old) (beside_of state.new) out.old out.new log.old log.new }
+    ensures does { (kept : Kept) → Does (read_asked (server_of (beside_of state.old) kept) question.now.who xid (next_of out.old) wish.now.call (file_asked question.now) wish.now.block body question.now.access (asked_of state.old.table question.now).table (asked_of state.old.table question.now).asked) result (beside_of state.old) (beside_of state.new) out.old out.new log.old log.new }
     ensures sound { IsSound state.new }
     ensures drawn { state.new.table.drawn ≤ state.old.table.drawn + 1 }
 {
     match to_tell(&state.table, question) {
         Some(to) => later(alloc, state, question, to, xid, out),
-        None => serve(alloc, state, question, xid, wish, said, out, log),
+        None => serve(alloc, state, question, xid, wish, body, out, log),
     }
 }
 
-/// Answers a READ. Its reply is made in `said`, which may hold any reply before and after.
+/// Answers a READ.
 pub(crate) fn read<K: Keeper>(
     alloc: Global,
     keeper: &mut K,
     state: &mut State,
     caller: Caller,
     wish: &Wish,
-    said: &mut Reply,
     out: &mut Outbox,
     log: &mut Journal,
 ) -> Result<Taken, Halt>
@@ -496,13 +403,12 @@ pub(crate) fn read<K: Keeper>(
     ensures leaves { LeavesOne (K.content keeper.old) (K.leaves keeper.old keeper.new) }
 {
     let who = caller.who;
-    make_blank(said, who.inc);
-    match find_body(keeper, wish, said)? {
-        Found::Stale => refuse(alloc, who, caller.xid, Refusal::Stale, out),
-        Found::Invalid => refuse(alloc, who, caller.xid, Refusal::Inval, out),
-        Found::Got(row) => {
+    match find_block(keeper, wish.file, wish.block)? {
+        ReadOut::Stale => refuse(alloc, who, caller.xid, Refusal::Stale, out),
+        ReadOut::Invalid => refuse(alloc, who, caller.xid, Refusal::Inval, out),
+        ReadOut::Got { row, body } => {
             let question = question(state, who, &row, wish.want);
-            read_found(alloc, state, &question, caller.xid, wish, said, out, log)
+            read_found(alloc, state, &question, caller.xid, wish, body, out, log)
         }
     }
 }

@@ -1,6 +1,6 @@
 //! Datagrams to a server.
 
-ghost use Rattle.std.specs.Prelude.{◌<◌, ◌≤◌, ◌+◌, ◌^◌};
+ghost use Rattle.std.specs.Prelude.{◌≡◌, ◌<◌, ◌≤◌, ◌+◌, ◌^◌};
 ghost use Rattle.nq_datagrams.specs.Incoming.{datagram_in};
 ghost use Rattle.nq_datagrams.specs.Told.{told_as};
 ghost use Rattle.nq_model.specs.ServerStep.{receive};
@@ -12,7 +12,7 @@ use crate::received::{Halt, Reason, Taken};
 use crate::replying::say_error;
 use crate::requests::answer;
 use crate::state::State;
-use nq_base::{Host, Reply, Request};
+use nq_base::{Host, Request, Spare};
 use nq_datagrams::{Class, ErrorReply, read_incoming_into};
 use nq_journal::Journal;
 use nq_keeper::Keeper;
@@ -27,18 +27,17 @@ fn take<K: Keeper>(
     state: &mut State,
     sender: Host,
     class: Class,
-    request: &Request,
-    said: &mut Reply,
+    request: Request,
     out: &mut Outbox,
     log: &mut Journal,
 ) -> Result<Taken, Halt>
     requires sound { IsSound state.old }
     requires drawn { state.old.table.drawn < 2 ^ 62 }
-    ensures takes { Takes (λ kept. receive (server_of (beside_of state.old) kept) sender (next_of out.old) (told_as class request.now)) result (K.content keeper.old) (K.content keeper.new) (K.faults keeper.old) (K.faults keeper.new) (beside_of state.old) (beside_of state.new) out.old out.new log.old log.new }
+    ensures takes { Takes (λ kept. receive (server_of (beside_of state.old) kept) sender (next_of out.old) (told_as class request)) result (K.content keeper.old) (K.content keeper.new) (K.faults keeper.old) (K.faults keeper.new) (beside_of state.old) (beside_of state.new) out.old out.new log.old log.new }
     ensures sound { IsSound state.new }
     ensures drawn { state.new.table.drawn ≤ state.old.table.drawn + 1 }
     ensures follows { K.follows keeper.old keeper.new }
-    ensures leaves { LeavesStep (λ kept. receive (server_of (beside_of state.old) kept) sender (next_of out.old) (told_as class request.now)) (K.content keeper.old) (K.leaves keeper.old keeper.new) }
+    ensures leaves { LeavesStep (λ kept. receive (server_of (beside_of state.old) kept) sender (next_of out.old) (told_as class request)) (K.content keeper.old) (K.leaves keeper.old keeper.new) }
 {
     match class {
         Class::TooLong => Ok(Taken::Dropped(Reason::TooLong)),
@@ -58,22 +57,18 @@ fn take<K: Keeper>(
         Class::Garbage { xid } => {
             say_error(alloc, sender, xid, ErrorReply::GarbageArguments, out)
         }
-        Class::Request { xid } => {
-            answer(alloc, keeper, state, sender, xid, request, said, out, log)
-        }
+        Class::Request { xid } => { answer(alloc, keeper, state, sender, xid, request, out, log) }
     }
 }
 
-/// Reads a datagram from a host, and takes it in. A request is read into `request`, and the
-/// reply to a READ is made in `said`; both may hold anything before and after.
+/// Reads a datagram from a host, and takes it in. A body goes into `room`, which is made first.
 pub(crate) fn take_in<K: Keeper>(
     alloc: Global,
     keeper: &mut K,
     state: &mut State,
     sender: Host,
     datagram: &[u8],
-    request: &mut Request,
-    said: &mut Reply,
+    room: &mut Spare,
     out: &mut Outbox,
     log: &mut Journal,
 ) -> Result<Taken, Halt>
@@ -85,6 +80,10 @@ pub(crate) fn take_in<K: Keeper>(
     ensures follows { K.follows keeper.old keeper.new }
     ensures leaves { LeavesStep (λ kept. receive (server_of (beside_of state.old) kept) sender (next_of out.old) (datagram_in datagram.now)) (K.content keeper.old) (K.leaves keeper.old keeper.new) }
 {
-    let class = read_incoming_into(datagram, request);
-    take(alloc, keeper, state, sender, class, request, said, out, log)
+    let Ok(()) = room.reserve(alloc) else {
+        return Err(Halt::Memory);
+    };
+    let mut request = Request::Null;
+    let class = read_incoming_into(datagram, room, &mut request);
+    take(alloc, keeper, state, sender, class, request, out, log)
 }

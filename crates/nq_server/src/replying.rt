@@ -30,8 +30,7 @@ pub(crate) struct Caller {
     pub(crate) xid: u32,
 }
 
-/// Adds a reply to a host. Where memory is wanting the datagrams are as before. It is inlined, as what it calls is.
-#[inline(always)]
+/// Adds a reply to a host. Where memory is wanting the datagrams are as before.
 fn reply(
     alloc: Global,
     host: Host,
@@ -46,8 +45,7 @@ fn reply(
     out.push(Party::Client(host), bytes)
 }
 
-/// Answers a request with a reply, and does nothing else. It is inlined, as what it calls is.
-#[inline(always)]
+/// Answers a request with a reply, and does nothing else.
 pub(crate) fn answer(
     alloc: Global,
     host: Host,
@@ -111,9 +109,7 @@ fn push_error(
     out.push(Party::Client(host), bytes)
 }
 
-/// Ends a reply to a host, for which there is room. It takes no memory. It is inlined, so that a caller's reply that has no block
-/// needs no room for one.
-#[inline(always)]
+/// Ends a reply to a host, for which there is room. It takes no memory.
 pub(crate) fn end_reply(host: Host, begun: BegunReply, said: &Reply, out: &mut Outbox)
     requires room { results_len said.now ≤ begun.room }
     requires datagram { 1 ≤ out.old.spare }
@@ -121,6 +117,18 @@ pub(crate) fn end_reply(host: Host, begun: BegunReply, said: &Reply, out: &mut O
 {
     let bytes = begun.end(said);
     out.push(Party::Client(host), bytes).unwrap();
+}
+
+/// Adds the refusal of a request that is put off. Where memory is wanting the datagrams are as before.
+fn reply_later(alloc: Global, who: Who, xid: u32, out: &mut Outbox) -> Result<(), NoMemory>
+    ensures sends { OnOk result (Sends (to_host who.host (reply_to xid (Answer.Refused who.inc Status.TryLater)) ∷ []) out.old out.new) }
+    ensures refused { OnErr result (IsSilent out.old out.new) }
+{
+    let said = Reply::Refused {
+        inc: who.inc,
+        status: Refusal::TryLater,
+    };
+    reply(alloc, who.host, xid, &said, out)
 }
 
 /// Puts a request about a file off: notices to the holders of its rows, with numbers from `notice` on, and then the
@@ -143,11 +151,7 @@ pub(crate) fn put_off(
     let before = *notice;
     let len = out.len();
     notices(alloc, table, file, to, notice, out)?;
-    let said = Reply::Refused {
-        inc: who.inc,
-        status: Refusal::TryLater,
-    };
-    match reply(alloc, who.host, xid, &said, out) {
+    match reply_later(alloc, who, xid, out) {
         Ok(()) => Ok(()),
         Err(fault) => {
             out.cut(len);

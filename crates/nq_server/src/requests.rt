@@ -87,7 +87,6 @@ fn look<K: Keeper>(
     state: &mut State,
     caller: Caller,
     request: &Request,
-    said: &mut Reply,
     out: &mut Outbox,
     log: &mut Journal,
 ) -> Result<Taken, Halt>
@@ -120,7 +119,7 @@ fn look<K: Keeper>(
                 block: *block,
                 want: *want,
             };
-            read(alloc, keeper, state, caller, &wish, said, out, log)
+            read(alloc, keeper, state, caller, &wish, out, log)
         }
         Request::GetLease { file, want, .. } => {
             get_lease(alloc, keeper, state, caller, *file, *want, out, log)
@@ -137,7 +136,6 @@ fn perform<K: Keeper>(
     state: &mut State,
     caller: Caller,
     request: &Request,
-    said: &mut Reply,
     out: &mut Outbox,
     log: &mut Journal,
 ) -> Result<Taken, Halt>
@@ -156,7 +154,7 @@ fn perform<K: Keeper>(
             Ok(Taken::Done)
         }
         (Request::Null | Request::Evicted { .. }, _) => Ok(Taken::Done),
-        (_, Phase::Serving(_)) => look(alloc, keeper, state, caller, request, said, out, log),
+        (_, Phase::Serving(_)) => look(alloc, keeper, state, caller, request, out, log),
         (_, Phase::Recovering { .. }) => {
             refuse(alloc, caller.who, caller.xid, Refusal::TryLater, out)
         }
@@ -184,7 +182,6 @@ fn admit<K: Keeper>(
     state: &mut State,
     caller: Caller,
     request: &Request,
-    said: &mut Reply,
     out: &mut Outbox,
     log: &mut Journal,
 ) -> Result<Taken, Halt>
@@ -206,7 +203,7 @@ fn admit<K: Keeper>(
     if is_newer(&who, &line) {
         return not_attached(alloc, caller, request, out);
     }
-    perform(alloc, keeper, state, caller, request, said, out, log)
+    perform(alloc, keeper, state, caller, request, out, log)
 }
 
 /// The hosts that there can be.
@@ -226,37 +223,35 @@ fn is_of_sender(who: &Who, sender: Host) -> bool
     who.host == sender && is_known(who.host)
 }
 
-/// Answers a request that came from this host. At most one change is kept, and all memory is taken before it. The reply to a
-/// READ is made in `said`, which may hold any reply before and after.
+/// Answers a request that came from this host. At most one change is kept, and all memory is taken before it.
 pub(crate) fn answer<K: Keeper>(
     alloc: Global,
     keeper: &mut K,
     state: &mut State,
     sender: Host,
     xid: u32,
-    request: &Request,
-    said: &mut Reply,
+    request: Request,
     out: &mut Outbox,
     log: &mut Journal,
 ) -> Result<Taken, Halt>
     requires sound { IsSound state.old }
     requires drawn { state.old.table.drawn < 2 ^ 62 }
-    ensures takes { Takes (λ kept. answer_request (server_of (beside_of state.old) kept) sender xid (next_of out.old) request.now (asked_by request.now)) result (K.content keeper.old) (K.content keeper.new) (K.faults keeper.old) (K.faults keeper.new) (beside_of state.old) (beside_of state.new) out.old out.new log.old log.new }
+    ensures takes { Takes (λ kept. answer_request (server_of (beside_of state.old) kept) sender xid (next_of out.old) request (asked_by request)) result (K.content keeper.old) (K.content keeper.new) (K.faults keeper.old) (K.faults keeper.new) (beside_of state.old) (beside_of state.new) out.old out.new log.old log.new }
     ensures sound { IsSound state.new }
     ensures drawn { state.new.table.drawn ≤ state.old.table.drawn + 1 }
     ensures follows { K.follows keeper.old keeper.new }
-    ensures leaves { LeavesStep (λ kept. answer_request (server_of (beside_of state.old) kept) sender xid (next_of out.old) request.now (asked_by request.now)) (K.content keeper.old) (K.leaves keeper.old keeper.new) }
+    ensures leaves { LeavesStep (λ kept. answer_request (server_of (beside_of state.old) kept) sender xid (next_of out.old) request (asked_by request)) (K.content keeper.old) (K.leaves keeper.old keeper.new) }
 {
-    let Some(who) = asker(request) else {
+    let Some(who) = asker(&request) else {
         return replying::answer(alloc, sender, xid, &Reply::Null, out);
     };
     if !is_of_sender(&who, sender) {
         return Ok(Taken::Dropped(Reason::WrongHost));
     }
     let caller = Caller { who, xid };
-    if is_decided_once(request) {
+    if is_decided_once(&request) {
         decide_once(alloc, keeper, state, caller, request, out, log)
     } else {
-        admit(alloc, keeper, state, caller, request, said, out, log)
+        admit(alloc, keeper, state, caller, &request, out, log)
     }
 }

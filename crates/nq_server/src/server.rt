@@ -20,7 +20,7 @@ use crate::reading::take_in;
 use crate::received::{Halt, Received, Taken};
 use crate::state::{Phase, State};
 use crate::ticks::tick;
-use nq_base::{FileId, FileRow, Host, Inc, Reply, Request, Ticks};
+use nq_base::{FileId, FileRow, Host, Inc, Spare, Ticks};
 use nq_boot::StartFault;
 use nq_journal::Journal;
 use nq_keeper::{KeepFault, Keeper};
@@ -36,10 +36,8 @@ pub struct Server<K> {
     pub(crate) keeper: K,
     pub(crate) state: State,
     pub(crate) taken: u64,
-    /// The request that came last, so that none is moved.
-    pub(crate) request: Request,
-    /// The reply to the READ that came last, so that each body is read into the same place.
-    pub(crate) said: Reply,
+    /// Room for the body of the next WRITE, taken before its datagram is read.
+    pub(crate) room: Spare,
 }
 
 impl<K> Model for Server<K> {
@@ -122,8 +120,7 @@ impl<K: Keeper> Server<K> {
                 keeper,
                 state: state_after(begun, None, longest, now),
                 taken: 0,
-                request: Request::Null,
-                said: Reply::Null,
+                room: Spare::none(),
             }),
             Err(StartFault::Failed) => Err(BootFault::Failed(keeper)),
             Err(StartFault::Memory) => Err(BootFault::Memory(keeper)),
@@ -161,8 +158,7 @@ impl<K: Keeper> Server<K> {
             &mut self.state,
             sender,
             datagram,
-            &mut self.request,
-            &mut self.said,
+            &mut self.room,
             out,
             log,
         ) {
@@ -242,8 +238,7 @@ impl<K: Keeper> Server<K> {
             keeper,
             state: _,
             taken: _,
-            request: _,
-            said: _,
+            room: _,
         } = self;
         keeper
     }

@@ -39,7 +39,7 @@ pub can_come : {K : Type 0} (event : Event) (w : WorldOver K) → HasSettings 4 
 can_come event w settings stormy = rw (settings.hosts_are, settings.longest_is) (of-menus event stormy)
 
 -- what a storm writes is filled with a number
-filled_call : (call : Call) → WritesNumber call → IsFilledCall call
+pub filled_call : (call : Call) → WritesNumber call → IsFilledCall call
 filled_call (Call.Write file block body) writes = writes
 filled_call (Call.WriteSync file block body) writes = writes
 filled_call other writes = tt
@@ -136,9 +136,9 @@ all_with [] event all one = (one, tt)
 all_with (e ∷ events) event all one = (all.0, all_with events event all.1 one)
 
 -- the events are all of a menu, whether the last was kept or dropped
-pub all_behind : (ended : Stormed) (before middle after : List Event) (event : Event) → middle ≡ before ++ event ∷ [] → (ended ≡ Stormed.Done → after ≡ middle) → ((ended ≡ Stormed.Done → ⊥) → after ≡ before) → IsStormy event
+pub all_behind : (ended : Stormed) (before after : List Event) (event : Event) → (ended ≡ Stormed.Done → after ≡ before ++ event ∷ []) → ((ended ≡ Stormed.Done → ⊥) → after ≡ before) → IsStormy event
     → AllByRecursion IsStormy before → AllByRecursion IsStormy after
-all_behind Stormed.Done before middle after event same kept dropped one all = subst (λ events. AllByRecursion IsStormy events) (sym (kept refl ∙ same)) (all_with before event all one)
-all_behind (Stormed.Limit limit) before middle after event same kept dropped one all = subst (λ events. AllByRecursion IsStormy events) (sym (dropped (λ is. cc))) all
-all_behind Stormed.Fault before middle after event same kept dropped one all = subst (λ events. AllByRecursion IsStormy events) (sym (dropped (λ is. cc))) all
-all_behind Stormed.Memory before middle after event same kept dropped one all = subst (λ events. AllByRecursion IsStormy events) (sym (dropped (λ is. cc))) all
+all_behind Stormed.Done before after event kept dropped one all = subst (λ events. AllByRecursion IsStormy events) (sym (kept refl)) (all_with before event all one)
+all_behind (Stormed.Limit limit) before after event kept dropped one all = subst (λ events. AllByRecursion IsStormy events) (sym (dropped (λ is. cc))) all
+all_behind Stormed.Fault before after event kept dropped one all = subst (λ events. AllByRecursion IsStormy events) (sym (dropped (λ is. cc))) all
+all_behind Stormed.Memory before after event kept dropped one all = subst (λ events. AllByRecursion IsStormy events) (sym (dropped (λ is. cc))) all

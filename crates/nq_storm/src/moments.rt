@@ -91,6 +91,29 @@ fn give_last<K: Keeper>(
     }
 }
 
+/// Keeps an event at the end of `ran`, and gives it to the world. Where the world does not take it in, it is dropped from `ran`.
+fn give<K: Keeper>(
+    world: &mut World<K>,
+    delivered: &mut Delivered,
+    ran: &mut Schedule,
+    event: &Event,
+) -> Stormed
+    requires stormy { IsStormy event.now }
+    requires settings { HasSettings 4 60 30 world.old }
+    ensures gives { (head : Head) (events : List Event) → IsAt head events world.old (K.content world.old.server.keeper) delivered.old
+        → length world.old.datagrams ≤ length delivered.old
+        → Gives result head events event.now world.new (K.content world.new.server.keeper) delivered.new }
+    ensures kept { result ≡ Stormed.Done → ran.new ≡ ran.old ++ event.now ∷ [] }
+    ensures same { (result ≡ Stormed.Done → ⊥) → ran.new ≡ ran.old }
+    ensures faults { CountsFaults result (K.faults world.old.server.keeper) (K.faults world.new.server.keeper) }
+    ensures settings { HasSettings 4 60 30 world.new }
+{
+    match ran.push_filled(event) {
+        Ok(()) => give_last(world, delivered, ran, event),
+        Err(_) => Stormed::Memory,
+    }
+}
+
 /// Gives the event that a fate chooses to the world. It stands at the end of `ran` if the world took it in.
 pub(crate) fn pass_moment<K: Keeper>(
     world: &mut World<K>,
@@ -123,8 +146,5 @@ pub(crate) fn pass_moment<K: Keeper>(
     };
     let offer = offer_of(world, delivered, word);
     let event = choose_event(fate, &offer, earlier + 1);
-    match ran.push_filled(&event) {
-        Ok(()) => give_last(world, delivered, ran, &event),
-        Err(_) => Stormed::Memory,
-    }
+    give(world, delivered, ran, &event)
 }

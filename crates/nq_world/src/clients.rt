@@ -17,8 +17,8 @@ use std::alloc::Global;
 use std::mem;
 
 /// What an answer to a call means for the event.
-fn called(answer: Answer) -> Result<(), Halt>
-    ensures { result ≡ called answer }
+fn called(answer: &Answer) -> Result<(), Halt>
+    ensures { result ≡ called answer.now }
 {
     match answer {
         Answer::Memory | Answer::Spent => Err(Halt::Memory),
@@ -27,8 +27,8 @@ fn called(answer: Answer) -> Result<(), Halt>
 }
 
 /// What is heard of a tick or a datagram means for the event.
-fn heeded(heard: Heard) -> Result<(), Halt>
-    ensures { result ≡ heeded heard }
+fn heeded(heard: &Heard) -> Result<(), Halt>
+    ensures { result ≡ heeded heard.now }
 {
     match heard {
         Heard::Memory | Heard::Spent => Err(Halt::Memory),
@@ -50,7 +50,7 @@ pub(crate) fn call(
     ensures hosts { length clients.new.items ≡ length clients.old.items }
 {
     let client = &mut clients[host.0 as usize];
-    called(client.call(op, out, log))
+    called(&client.call(op, out, log))
 }
 
 /// The clock of a host ticks, and the test of skew follows.
@@ -72,7 +72,7 @@ pub(crate) fn tick(
     let Some(time) = time_after(client.time()) else {
         return Err(Halt::Memory);
     };
-    heeded(client.tick(time, out, log))?;
+    heeded(&client.tick(time, out, log))?;
     skew.client_tick(host);
     Ok(())
 }
@@ -95,7 +95,7 @@ pub(crate) fn hear(
         return Ok(());
     }
     let client = &mut clients[place];
-    heeded(client.receive(number, datagram, out, log))
+    heeded(&client.receive(number, datagram, out, log))
 }
 
 /// The incarnation after this one; None where there is no number for it.

@@ -86,7 +86,7 @@ fn keep_longest<K: Keeper>(keeper: &mut K, longest: u32) -> Result<(), KeepFault
     ensures follows { K.follows keeper.old keeper.new }
 {
     let change = heads_change(longest, 1);
-    keeper.commit(&change)
+    keeper.commit(change)
 }
 
 /// Keeps the file at a place, behind those before it.
@@ -106,7 +106,7 @@ fn keep_file<K: Keeper>(
     match files.get(place) {
         Some((name, blocks)) => {
             let change = file_change(longest, place as u32 + 1, name, blocks);
-            keeper.commit(&change)
+            keeper.commit(change)
         }
         None => unreachable!(),
     }
@@ -136,7 +136,7 @@ fn keep_hosts<K: Keeper>(keeper: &mut K, hosts: u32) -> Result<(), KeepFault>
 {
     for host in 0..hosts {
         let change = host_change(host);
-        keeper.commit(&change)?;
+        keeper.commit(change)?;
     }
     Ok(())
 }

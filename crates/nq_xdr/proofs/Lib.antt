@@ -3,3 +3,4 @@ pub mod Steps
 pub mod Numbers
 pub mod Opaque
 pub mod Follows
+pub mod Repeats

@@ -2,3 +2,4 @@ pub mod Item
 pub mod Reading
 pub mod Fault
 pub mod Buffer
+pub mod Words

@@ -8,9 +8,11 @@
 mod fault;
 pub mod laws;
 mod reader;
+mod words;
 mod writer;
 
 pub use fault::XdrFault;
 pub use nq_memory::NoMemory;
 pub use reader::Reader;
+pub use words::push_words;
 pub use writer::Writer;

@@ -1,9 +1,11 @@
 //! Writing items.
 
-ghost use Rattle.std.specs.Prelude.{◌≡◌, ◌+◌, ◌-◌, ◌<◌, ◌≤◌, ◌^◌, [], ◌++◌, length, vec_len, vec_capacity, IfOk, IsOk, OnOk, OnErr};
+ghost use Rattle.std.specs.Prelude.{◌≡◌, ◌+◌, ◌-◌, ◌*◌, ◌<◌, ◌≤◌, ◌^◌, [], ◌++◌, length, vec_len, vec_capacity, IfOk, IsOk, OnOk, OnErr};
 ghost use Rattle.nq_xdr.specs.Item.{word, hyper, boolean, residual, padding, opaque, opaque_len};
+ghost use Rattle.nq_xdr.specs.Words.{repeats};
 
 use crate::NoMemory;
+use crate::words::push_words;
 use byteorder::{BigEndian, ByteOrder};
 use std::alloc::Global;
 use std::marker::Model;
@@ -130,6 +132,32 @@ impl Writer {
         self.append(bytes).unwrap();
         self.append(&[0; 3][..residual]).unwrap();
         Ok(())
+    }
+
+    /// Writes variable-length opaque data (RFC 1014 section 3.9) that is one unsigned integer, so many times over.
+    pub fn opaque_words(&mut self, value: u32, count: usize) -> Result<(), NoMemory>
+        requires { 4 * count < 2 ^ 32 - 4 }
+        ensures written { OnOk result (self.new.bytes ≡ self.old.bytes ++ opaque (repeats count (word value))) }
+        ensures refused { OnErr result (self.new ≡ self.old) }
+        ensures succeeds { 4 + 4 * count ≤ self.old.spare → IsOk result }
+        ensures spare { self.old.spare ≤ self.new.spare + (4 + 4 * count) }
+    {
+        self.reserve(4 + 4 * count)?;
+        self.u32((4 * count) as u32).unwrap();
+        self.words(value, count);
+        Ok(())
+    }
+
+    /// Writes an unsigned integer so many times. There is room.
+    #[tactic(auto, unfolding(crate::specs::Item::word))]
+    fn words(&mut self, value: u32, count: usize)
+        requires { 4 * count ≤ self.old.spare }
+        ensures written { self.new.bytes ≡ self.old.bytes ++ repeats count (word value) }
+        ensures spare { self.old.spare ≤ self.new.spare + 4 * count }
+    {
+        let mut number = [0; 4];
+        BigEndian::write_u32(&mut number, value);
+        push_words(&mut self.bytes, number, count);
     }
 
     /// The bytes that were written so far.

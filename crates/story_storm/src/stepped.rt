@@ -51,7 +51,7 @@ fn take_all<K: Keeper>(world: &mut World<K>, ran: &Schedule) -> bool
         let Some(event) = ran.get(place) else {
             return false;
         };
-        if !take(world, &event) {
+        if !take(world, event) {
             return false;
         }
     }

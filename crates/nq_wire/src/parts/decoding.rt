@@ -1,6 +1,6 @@
 //! Reading the parts of arguments and results.
 
-ghost use Rattle.std.specs.Prelude.{◌≡◌, ◌↔◌, [], length, IfSome, IfOk, IsOk};
+ghost use Rattle.std.specs.Prelude.{◌≡◌, ◌↔◌, [], true, length, IfSome, IfOk, IsOk};
 ghost use Rattle.nq_base.specs.Name.{IsName};
 ghost use Rattle.nq_xdr.specs.Item.{opaque};
 ghost use Rattle.nq_xdr.specs.Reading.{Gives};
@@ -9,7 +9,7 @@ ghost use Rattle.nq_wire.specs.Reading.{Reads, head_at, tag_at, wanted_mode, wan
 
 use crate::PushBase;
 use crate::fault::Garbage;
-use nq_base::{Block, Grant, Host, Inc, Mode, Name, Rev, Tag, Want, Who};
+use nq_base::{Block, Grant, Host, Inc, Mode, Name, Rev, Spare, Tag, Want, Who};
 use nq_xdr::Reader;
 
 /// Who asks.
@@ -167,15 +167,15 @@ pub(crate) fn name(reader: &mut Reader) -> Result<Name, Garbage>
     Ok(name)
 }
 
-/// The body of a block. It is inlined, since the block is else moved once more on its way to the caller.
-#[inline(always)]
+/// The body of a block, in room that was taken ahead.
 #[tactic(auto, unfolding(crate::specs::Reading::body_at))]
-pub(crate) fn body(reader: &mut Reader) -> Result<Block, Garbage>
+pub(crate) fn body(reader: &mut Reader, room: &mut Spare) -> Result<Block, Garbage>
+    requires { room.old ≡ true }
     ensures found { Reads opaque (λ b. length b ≡ 4096) reader.old reader.new result }
     ensures step { Gives (λ b. (b, reader.new)) result (body_at reader.old) }
 {
     let bytes = reader.opaque(4096)?;
-    let Some(block) = Block::from_bytes(bytes) else {
+    let Some(block) = Block::from_bytes_in(bytes, room) else {
         return Err(Garbage);
     };
     Ok(block)

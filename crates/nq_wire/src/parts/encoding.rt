@@ -1,12 +1,13 @@
 //! Writing the parts of arguments and results.
 
 ghost use Rattle.std.specs.Prelude.{◌≡◌, ◌+◌, ◌≤◌, ◌++◌, length, IfSome, OnOk, IsOk};
+ghost use Rattle.nq_base.specs.Block.{filled};
 ghost use Rattle.nq_base.specs.Name.{IsName};
 ghost use Rattle.nq_xdr.specs.Item.{opaque, opaque_len};
 ghost use Rattle.nq_wire.specs.Parts.{head, tag_bytes, mode_number, want_bytes, grant_bytes, base_bytes, optional, optional_len, IsWho, IsTag, IsWant, IsGrant, IsPushBase};
 
 use crate::{NoMemory, PushBase};
-use nq_base::{Block, Grant, Mode, Name, Tag, Want, Who};
+use nq_base::{Block, Grant, Mode, Name, Seen, Tag, Want, Who};
 use nq_xdr::Writer;
 
 #[tactic(auto, unfolding(crate::specs::Parts::head))]
@@ -144,12 +145,24 @@ pub(crate) fn put_name(name: &Name, out: &mut Writer) -> Result<(), NoMemory>
     out.opaque(name.as_bytes())
 }
 
-/// Writes the body of a block, which is copied once.
+/// Writes the body of a block.
 pub(crate) fn put_body(body: &Block, out: &mut Writer) -> Result<(), NoMemory>
     ensures written { OnOk result (out.new.bytes ≡ out.old.bytes ++ opaque body.now) }
     ensures fits { OnOk result (length body.now ≡ 4096) }
     ensures succeeds { 4100 ≤ out.old.spare → IsOk result }
     ensures spare { out.old.spare ≤ out.new.spare + 4100 }
 {
-    out.opaque(body.as_bytes())
+    match body.seen() {
+        Seen::Filled(value) => put_filled(value, out),
+        Seen::Bytes(bytes) => out.opaque(bytes),
+    }
+}
+
+/// Writes the body of a block that repeats a word.
+fn put_filled(value: u32, out: &mut Writer) -> Result<(), NoMemory>
+    ensures written { OnOk result (out.new.bytes ≡ out.old.bytes ++ opaque (filled value)) }
+    ensures succeeds { 4100 ≤ out.old.spare → IsOk result }
+    ensures spare { out.old.spare ≤ out.new.spare + 4100 }
+{
+    out.opaque_words(value, 1024)
 }

@@ -1,6 +1,6 @@
 //! Reading results.
 
-ghost use Rattle.std.specs.Prelude.{◌≡◌, ◌≢◌, ◌<◌, ◌≤◌, ◌↔◌, IfOk};
+ghost use Rattle.std.specs.Prelude.{◌≡◌, ◌≢◌, true, ◌<◌, ◌≤◌, ◌↔◌, IfOk};
 ghost use Rattle.nq_base.specs.declared.Reply.{Reply};
 ghost use Rattle.nq_xdr.specs.Reading.{Gives};
 ghost use Rattle.nq_wire.specs.Reply.{results, IsRefusable, IsResults, ReadsReply, ReadsResults};
@@ -9,9 +9,8 @@ ghost use Rattle.nq_wire.specs.Reading.{found_at, created_at, attributes_at, blo
 use crate::fault::Garbage;
 use crate::parts::decoding::{body, end, optional_grant};
 use crate::{Procedure, Reply, WireFault, status};
-use nq_base::{FileId, Inc, Rev};
+use nq_base::{FileId, Inc, Rev, Spare};
 use nq_xdr::Reader;
-use std::alloc::Global;
 
 #[tactic(auto, unfolding(crate::specs::Reading::found_at, crate::specs::Reply::results))]
 fn found(inc: Inc, reader: &mut Reader, into: &mut Reply) -> Result<(), Garbage>
@@ -57,12 +56,13 @@ fn attributes(inc: Inc, reader: &mut Reader, into: &mut Reply) -> Result<(), Gar
 }
 
 #[tactic(auto, unfolding(crate::specs::Reading::block_at, crate::specs::Reply::results))]
-fn block(inc: Inc, reader: &mut Reader, into: &mut Reply) -> Result<(), Garbage>
+fn block(inc: Inc, reader: &mut Reader, room: &mut Spare, into: &mut Reply) -> Result<(), Garbage>
+    requires { room.old ≡ true }
     ensures found { ReadsResults Procedure.Read inc reader.old reader.new (left_in into.new result) }
     ensures step { Gives (λ r. (r, reader.new)) (left_in into.new result) (block_at inc reader.old) }
 {
     let rev = reader.u64()?;
-    let body = body(reader)?;
+    let body = body(reader, room)?;
     let grant = optional_grant(reader)?;
     *into = Reply::Read {
         inc,
@@ -109,8 +109,10 @@ fn results(
     procedure: Procedure,
     inc: Inc,
     reader: &mut Reader,
+    room: &mut Spare,
     into: &mut Reply,
 ) -> Result<(), Garbage>
+    requires { room.old ≡ true }
     ensures found { ReadsResults procedure inc reader.old reader.new (left_in into.new result) }
     ensures step { Gives (λ r. (r, reader.new)) (left_in into.new result) (results_at procedure inc reader.old) }
 {
@@ -122,7 +124,7 @@ fn results(
         Procedure::Lookup => found(inc, reader, into),
         Procedure::Create => created(inc, reader, into),
         Procedure::GetAttr => attributes(inc, reader, into),
-        Procedure::Read => block(inc, reader, into),
+        Procedure::Read => block(inc, reader, room, into),
         Procedure::Write => written(inc, reader, into),
         Procedure::GetLease => lease(inc, reader, into),
         Procedure::Resize => resized(inc, reader, into),
@@ -136,14 +138,20 @@ fn results(
 
 /// The incarnation and the status, and what follows them.
 #[tactic(auto, unfolding(crate::specs::Reading::answer_at, crate::specs::Reply::results, crate::specs::Reply::ok))]
-fn answer(procedure: Procedure, reader: &mut Reader, into: &mut Reply) -> Result<(), Garbage>
+fn answer(
+    procedure: Procedure,
+    reader: &mut Reader,
+    room: &mut Spare,
+    into: &mut Reply,
+) -> Result<(), Garbage>
+    requires { room.old ≡ true }
     ensures found { IsRefusable procedure → ReadsReply procedure reader.old reader.new (left_in into.new result) }
     ensures step { Gives (λ r. (r, reader.new)) (left_in into.new result) (answer_at procedure reader.old) }
 {
     let inc = Inc(reader.u32()?);
     let number = reader.u32()?;
     if number == status::OK {
-        return results(procedure, inc, reader, into);
+        return results(procedure, inc, reader, room, into);
     }
     let status = status::refusal(number)?;
     *into = Reply::Refused { inc, status };
@@ -151,7 +159,13 @@ fn answer(procedure: Procedure, reader: &mut Reader, into: &mut Reply) -> Result
 }
 
 #[tactic(auto, unfolding(crate::specs::Reply::results))]
-fn reply(procedure: Procedure, reader: &mut Reader, into: &mut Reply) -> Result<(), Garbage>
+fn reply(
+    procedure: Procedure,
+    reader: &mut Reader,
+    room: &mut Spare,
+    into: &mut Reply,
+) -> Result<(), Garbage>
+    requires { room.old ≡ true }
     ensures found { ReadsReply procedure reader.old reader.new (left_in into.new result) }
     ensures step { Gives (λ r. (r, reader.new)) (left_in into.new result) (reply_at procedure reader.old) }
 {
@@ -161,18 +175,25 @@ fn reply(procedure: Procedure, reader: &mut Reader, into: &mut Reply) -> Result<
             Ok(())
         }
         Procedure::Vacated | Procedure::Evicted => Err(Garbage),
-        _ => answer(procedure, reader, into),
+        _ => answer(procedure, reader, room, into),
     }
 }
 
 /// Reads the reply whose results are all of the bytes into `into`, which after a fault may hold anything. The number is that of
-/// the procedure that was called. The body of a block is copied once, and no memory is wanted.
+/// the procedure that was called. The body of a block goes into `room`, so no memory is wanted.
 ///
 /// # Errors
 ///
 /// `NoSuchProc` exactly where the number is above 11, else `Garbage` exactly where the bytes are not the
 /// procedure's results, as always of VACATED and EVICTED, which have no reply.
-pub fn decode_reply_into(procedure: u32, bytes: &[u8], into: &mut Reply) -> Result<(), WireFault>
+pub fn decode_reply_into(
+    procedure: u32,
+    bytes: &[u8],
+    room: &mut Spare,
+    into: &mut Reply,
+) -> Result<(), WireFault>
+    requires { room.old ≡ true }
+
     // What is read is spelled so, and what is spelled so is read.
     ensures found { IfOk (left_in into.new result) (λ r. IsResults procedure r bytes.now) }
     ensures only { (r : Reply) → IsResults procedure r bytes.now → left_in into.new result ≡ Ok r }
@@ -190,19 +211,21 @@ pub fn decode_reply_into(procedure: u32, bytes: &[u8], into: &mut Reply) -> Resu
         return Err(WireFault::NoSuchProc);
     };
     let mut reader = Reader::new(bytes);
-    reply(called, &mut reader, into)?;
+    reply(called, &mut reader, room, into)?;
     end(reader)?;
     Ok(())
 }
 
 /// The reply whose results are all of the bytes, by the number of the procedure that was called. The body
-/// of a block is copied once. Replies hold no memory, so none is wanted.
+/// of a block goes into `room`, so no memory is wanted.
 ///
 /// # Errors
 ///
 /// `NoSuchProc` exactly where the number is above 11, else `Garbage` exactly where the bytes are not the
 /// procedure's results, as always of VACATED and EVICTED, which have no reply.
-pub fn decode_reply(_alloc: Global, procedure: u32, bytes: &[u8]) -> Result<Reply, WireFault>
+pub fn decode_reply(procedure: u32, bytes: &[u8], room: &mut Spare) -> Result<Reply, WireFault>
+    requires { room.old ≡ true }
+
     // What is read is spelled so, and what is spelled so is read.
     ensures found { IfOk result (λ r. IsResults procedure r bytes.now) }
     ensures only { (r : Reply) → IsResults procedure r bytes.now → result ≡ Ok r }
@@ -217,7 +240,7 @@ pub fn decode_reply(_alloc: Global, procedure: u32, bytes: &[u8]) -> Result<Repl
     ensures step { result ≡ reply_in procedure bytes.now }
 {
     let mut reply = Reply::Null;
-    match decode_reply_into(procedure, bytes, &mut reply) {
+    match decode_reply_into(procedure, bytes, room, &mut reply) {
         Ok(()) => Ok(reply),
         Err(fault) => Err(fault),
     }

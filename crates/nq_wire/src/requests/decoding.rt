@@ -1,6 +1,6 @@
 //! Reading arguments.
 
-ghost use Rattle.std.specs.Prelude.{◌≡◌, ◌≢◌, ◌<◌, ◌≤◌, ◌++◌, ◌↔◌, IfOk, IfSome};
+ghost use Rattle.std.specs.Prelude.{◌≡◌, ◌≢◌, true, ◌<◌, ◌≤◌, ◌++◌, ◌↔◌, IfOk, IfSome};
 ghost use Rattle.nq_base.specs.declared.Request.{Request};
 ghost use Rattle.nq_xdr.specs.Reading.{Gives};
 ghost use Rattle.nq_xdr.specs.Item.{hyper};
@@ -11,9 +11,8 @@ ghost use Rattle.nq_wire.specs.Reading.{attach_at, lookup_at, create_at, get_att
 use crate::fault::Garbage;
 use crate::parts::decoding::{body, end, name, optional_push, optional_want, tag, want, who};
 use crate::{Procedure, PushBase, Request, WireFault};
-use nq_base::{BlockNo, FileId, Number, Seq};
+use nq_base::{BlockNo, FileId, Number, Seq, Spare};
 use nq_xdr::Reader;
-use std::alloc::Global;
 
 #[tactic(auto, unfolding(crate::specs::Reading::attach_at, crate::specs::Request::arguments))]
 fn attach(reader: &mut Reader, into: &mut Request) -> Result<(), Garbage>
@@ -105,7 +104,8 @@ fn span(reader: &mut Reader) -> Result<(u64, u64, Option<PushBase>), Garbage>
 }
 
 #[tactic(auto, unfolding(crate::specs::Reading::write_at, crate::specs::Request::arguments))]
-fn write(reader: &mut Reader, into: &mut Request) -> Result<(), Garbage>
+fn write(reader: &mut Reader, room: &mut Spare, into: &mut Request) -> Result<(), Garbage>
+    requires { room.old ≡ true }
     ensures found { ReadsRequest Procedure.Write reader.old reader.new (left_in into.new result) }
     ensures step { Gives (λ r. (r, reader.new)) (left_in into.new result) (write_at reader.old) }
 {
@@ -114,7 +114,7 @@ fn write(reader: &mut Reader, into: &mut Request) -> Result<(), Garbage>
     let file = reader.u32()?;
     let block = reader.u32()?;
     let (first, last, push) = span(reader)?;
-    let body = body(reader)?;
+    let body = body(reader, room)?;
     *into = Request::Write {
         who,
         seq: Seq(seq),
@@ -215,7 +215,13 @@ fn remove(reader: &mut Reader, into: &mut Request) -> Result<(), Garbage>
 }
 
 #[tactic(auto, unfolding(crate::specs::Request::arguments))]
-fn request(procedure: Procedure, reader: &mut Reader, into: &mut Request) -> Result<(), Garbage>
+fn request(
+    procedure: Procedure,
+    reader: &mut Reader,
+    room: &mut Spare,
+    into: &mut Request,
+) -> Result<(), Garbage>
+    requires { room.old ≡ true }
     ensures found { ReadsRequest procedure reader.old reader.new (left_in into.new result) }
     ensures step { Gives (λ r. (r, reader.new)) (left_in into.new result) (request_at procedure reader.old) }
 {
@@ -229,7 +235,7 @@ fn request(procedure: Procedure, reader: &mut Reader, into: &mut Request) -> Res
         Procedure::Create => create(reader, into),
         Procedure::GetAttr => get_attr(reader, into),
         Procedure::Read => read(reader, into),
-        Procedure::Write => write(reader, into),
+        Procedure::Write => write(reader, room, into),
         Procedure::GetLease => get_lease(reader, into),
         Procedure::Vacated => vacated(reader, into),
         Procedure::Evicted => evicted(reader, into),
@@ -239,7 +245,7 @@ fn request(procedure: Procedure, reader: &mut Reader, into: &mut Request) -> Res
 }
 
 /// Reads the request whose arguments are all of the bytes into `into`, which after a fault may hold anything. The number is that
-/// of the procedure that is called. The body of a block is copied once, and no memory is wanted.
+/// of the procedure that is called. The body of a block goes into `room`, so no memory is wanted.
 ///
 /// # Errors
 ///
@@ -248,8 +254,11 @@ fn request(procedure: Procedure, reader: &mut Reader, into: &mut Request) -> Res
 pub fn decode_request_into(
     procedure: u32,
     bytes: &[u8],
+    room: &mut Spare,
     into: &mut Request,
 ) -> Result<(), WireFault>
+    requires { room.old ≡ true }
+
     // What is read is spelled so, and what is spelled so is read.
     ensures found { IfOk (left_in into.new result) (λ r. IsArguments procedure r bytes.now) }
     ensures only { (r : Request) → IsArguments procedure r bytes.now → left_in into.new result ≡ Ok r }
@@ -267,19 +276,21 @@ pub fn decode_request_into(
         return Err(WireFault::NoSuchProc);
     };
     let mut reader = Reader::new(bytes);
-    request(called, &mut reader, into)?;
+    request(called, &mut reader, room, into)?;
     end(reader)?;
     Ok(())
 }
 
 /// The request whose arguments are all of the bytes, by the number of the procedure that is called. The
-/// body of a block is copied once. Requests hold no memory, so none is wanted.
+/// body of a block goes into `room`, so no memory is wanted.
 ///
 /// # Errors
 ///
 /// `NoSuchProc` exactly where the number is above 11, else `Garbage` exactly where the bytes are not the
 /// procedure's arguments.
-pub fn decode_request(_alloc: Global, procedure: u32, bytes: &[u8]) -> Result<Request, WireFault>
+pub fn decode_request(procedure: u32, bytes: &[u8], room: &mut Spare) -> Result<Request, WireFault>
+    requires { room.old ≡ true }
+
     // What is read is spelled so, and what is spelled so is read.
     ensures found { IfOk result (λ r. IsArguments procedure r bytes.now) }
     ensures only { (r : Request) → IsArguments procedure r bytes.now → result ≡ Ok r }
@@ -294,7 +305,7 @@ pub fn decode_request(_alloc: Global, procedure: u32, bytes: &[u8]) -> Result<Re
     ensures step { result ≡ request_in procedure bytes.now }
 {
     let mut request = Request::Null;
-    match decode_request_into(procedure, bytes, &mut request) {
+    match decode_request_into(procedure, bytes, room, &mut request) {
         Ok(()) => Ok(request),
         Err(fault) => Err(fault),
     }

@@ -1,4 +1,4 @@
-use Rattle.std.proofs.Common.{◌≡◌, ◌+◌, None, sym, ◌∙◌, ap, refl, length}
+use Rattle.std.proofs.Common.{◌≡◌, None, ◌∙◌, ap, refl, length}
 use Rattle.std.specs.Map.{lookup}
 use Rattle.std.proofs.lemmas.List.{length_push}
 use Rattle.indexmap.proofs.CallerLemmas.{insert_entry-new}
@@ -11,7 +11,7 @@ pub returns-clause-added : goal.returns-clause-added
 returns-clause-added c =
     let none : lookup (same c.args.key) c.args.entries.now.entries ≡ None = none-at c.args.key c.args.entries.now.entries c.requires.absent in
     ap delayed ((rw c.unwrap-none.ensures at c.insert.ensures.entries) ∙ insert_entry-new same c.args.entries.now c.args.key _ none)
-    ∙ write_in-new c.args.key c.args.number c.args.body.now _ c.args.entries.now.entries c.requires.absent refl refl c.copy_from.ensures
+    ∙ write_in-new c.args.key c.args.number c.args.body _ c.args.entries.now.entries c.requires.absent refl refl refl
 
 pub returns-clause-count : goal.returns-clause-count
 returns-clause-count c =

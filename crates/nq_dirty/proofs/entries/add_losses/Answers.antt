@@ -1,9 +1,7 @@
-use Rattle.std.proofs.Common.{◌≡◌, ◌≤◌, ◌∷◌, ◌++◌, [], refl, sym, ◌∙◌, ap, subst, length, map, arith, append-nil}
+use Rattle.std.proofs.Common.{◌≡◌, ◌≤◌, ◌++◌, refl, sym, ◌∙◌, ap, subst, length, map, arith, append-nil}
 use Rattle.std.proofs.lemmas.Map.Iter.{rest_more, rest_all}
 use Rattle.std.specs.Map.Iter.{deref_pair}
-use Rattle.nq_dirty.proofs.OfEntries.{lost, lost_count, lost-more, lost_count-more, lost-less}
-use Rattle.nq_dirty.specs.Entries.{delayed}
-use Rattle.nq_model.specs.Client.{is_push_of}
+use Rattle.nq_dirty.proofs.OfEntries.{lost, lost-more, lost_count-more, lost-less}
 use Rattle.nq_model.specs.Hear.{loss_of}
 use Rattle.nq_dirty.proofs.entries.add_losses.Goals as goal
 

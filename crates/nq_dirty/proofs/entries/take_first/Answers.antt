@@ -17,7 +17,7 @@ returns-clause-first c =
     let first = first-at c.args.file c.in_ok-key.key c.args.entries.now.entries (sym c.in_ok-key.ensures) in
     let v : Some c.unwrap-first.result ≡ Some first.0 = sym c.unwrap-first.ensures ∙ c.shift_remove.ensures.value ∙ first.1 in
     let w : c.unwrap-first.result ≡ first.0 = cc in
-    rw c.into_inner.ensures (ap (λ x. Some (push_of (c.in_ok-key.key, x))) w) ∙ sym first.2
+    ap (λ x. Some (push_of (c.in_ok-key.key, x))) w ∙ sym first.2
 
 pub returns-clause-others : goal.returns-clause-others
 returns-clause-others c =

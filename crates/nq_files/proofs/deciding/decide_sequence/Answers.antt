@@ -6,7 +6,7 @@ use Rattle.nq_files.proofs.deciding.decide_sequence.Goals as goal
 pub returns-in-None-clause-leaves : goal.returns-in-None-clause-leaves
 returns-in-None-clause-leaves g c =
     λ kept e within found left.
-    leaves-later c.args.who c.args.seq (effect_of kept c.args.gate c.args.request.now) (change_with c.args.who c.args.seq (effect_of kept c.args.gate c.args.request.now)) c.in_ok-line.line _ _ found kept
+    leaves-later c.args.who c.args.seq (effect_of kept c.args.gate c.args.request) (change_with c.args.who c.args.seq (effect_of kept c.args.gate c.args.request)) c.in_ok-line.line _ _ found kept
     (c.in_ok-line.ensures.told kept e)
     (sym c.in-None.ensures)
     (g.met.K.Keeper.parts _ c.host.new.self _ found c.host.ensures.follows c.decide_fresh.ensures.follows left)

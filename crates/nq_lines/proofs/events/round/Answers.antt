@@ -9,7 +9,7 @@ unfolding play_round
 returns-in-Done-clause-goes g c = λ head events hosts at.
     let same : and_then (play_ticks head 0 c.args.hosts events) (play_event head Event.ServerTick) ≡ play_round head events = rw (← hosts) refl in
     let on = goes-on (play_ticks head 0 c.args.hosts events) (play_event head Event.ServerTick) _ (play_round head events) (c.in-Done.ensures.goes head events at) same in
-    goes-same c.take.result (play_event head Event.ServerTick on.events) (play_round head events) _ on.same (c.take.ensures.goes head on.events on.here)
+    goes-same c.tick_server.result (play_event head Event.ServerTick on.events) (play_round head events) _ on.same (c.tick_server.ensures.goes head on.events on.here)
 
 pub returns-in_default : goal.returns-in_default
 unfolding play_round

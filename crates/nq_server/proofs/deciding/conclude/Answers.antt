@@ -12,11 +12,11 @@ use Rattle.nq_server.proofs.deciding.conclude.Goals as goal
 pub returns-clause-makes : goal.returns-clause-makes
 returns-clause-makes c =
     λ kept before entries ready warns is.
-    concluded (server_of (beside_of c.args.state.now) kept) c.args.caller.who c.args.caller.xid c.args.request.now c.in-Some.said before c.keep_warnings.new.out c.end_short.new.out entries c.args.log.now
-    (c.end_short.ensures.first ∙ c.keep_warnings.ensures.first ∙ warns.told.first)
-    (subst (λ xid. c.end_short.new.out.datagrams ≡ c.keep_warnings.new.out.datagrams ++ sent (to_host c.args.caller.who.host (reply xid c.in-Some.said)) ∷ []) c.requires.number c.end_short.ensures.added)
+    concluded (server_of (beside_of c.args.state.now) kept) c.args.caller.who c.args.caller.xid c.args.request.now c.in-Some.said before c.keep_warnings.new.out c.end_reply.new.out entries c.args.log.now
+    (c.end_reply.ensures.first ∙ c.keep_warnings.ensures.first ∙ warns.told.first)
+    (subst (λ xid. c.end_reply.new.out.datagrams ≡ c.keep_warnings.new.out.datagrams ++ sent (to_host c.args.caller.who.host (reply xid c.in-Some.said)) ∷ []) c.requires.number c.end_reply.ensures.added)
     ready.entries
-    (subst (λ xid. FitsMessage (reply xid c.in-Some.said)) c.requires.number (All-head FitsPacket _ [] c.end_short.ensures.fit))
+    (subst (λ xid. FitsMessage (reply xid c.in-Some.said)) c.requires.number (All-head FitsPacket _ [] c.end_reply.ensures.fit))
     c.args.decided.now
     (beside_of c.do_if_fresh.new.state)
     c.do_if_fresh.new.log

@@ -1,7 +1,6 @@
-use Rattle.std.proofs.Common.{sym, ap, subst, ◌∙◌}
+use Rattle.std.proofs.Common.{sym, ap, ◌∙◌}
 use Rattle.nq_base.specs.declared.Refusal.{Refusal}
 use Rattle.nq_base.specs.declared.Reply.{Reply as Answer}
-use Rattle.nq_keeper.specs.Keeping.{body_at}
 use Rattle.nq_model.specs.Ask.{ask}
 use Rattle.nq_model.specs.Kept.{find_file}
 use Rattle.nq_model.specs.Message.{reply}
@@ -9,32 +8,34 @@ use Rattle.nq_model.specs.ServerStep.{read, read_asked}
 use Rattle.nq_server.proofs.AnsweredSteps.{takes-answered}
 use Rattle.nq_server.proofs.LeasedFinds.{read-keeps, read-stale, read-invalid, read-found}
 use Rattle.nq_server.proofs.LeasedSteps.{takes-does}
-use Rattle.nq_server.specs.Leasing.{HasBody, body_in, file_asked}
+use Rattle.nq_server.specs.Leasing.{file_asked}
 use Rattle.nq_server.specs.State.{beside_of, server_of}
 use Rattle.nq_server.specs.Stepping.{next_of}
 use Rattle.nq_server.proofs.leasing.read.Goals as goal
 
 pub returns-in-Stale-clause-takes : goal.returns-in-Stale-clause-takes
 returns-in-Stale-clause-takes g c =
-    takes-answered c.args.caller.who.host (reply c.args.caller.xid (Answer.Refused c.args.caller.who.inc Refusal.Stale)) c.refuse.result (λ kept. read (server_of (beside_of c.args.state.now) kept) c.args.caller.who c.args.caller.xid (next_of c.args.out.now) c.args.wish.now.call c.args.wish.now.block c.args.wish.now.want (find_file c.args.wish.now.file kept.files)) (g.K.Keeper.content c.args.keeper.now) _ _ _ (beside_of c.args.state.now) c.args.out.now _ c.args.log.now c.in_ok-find_body.ensures.finds.0 c.in_ok-find_body.ensures.finds.1 c.refuse.ensures
-    (λ kept told. read-stale (server_of (beside_of c.args.state.now) kept) c.args.caller.who c.args.caller.xid (next_of c.args.out.now) c.args.wish.now.call c.args.wish.now.block c.args.wish.now.want (find_file c.args.wish.now.file kept.files) (sym c.in-Stale.is ∙ c.in_ok-find_body.ensures.told kept told))
+    takes-answered c.args.caller.who.host (reply c.args.caller.xid (Answer.Refused c.args.caller.who.inc Refusal.Stale)) c.refuse.result (λ kept. read (server_of (beside_of c.args.state.now) kept) c.args.caller.who c.args.caller.xid (next_of c.args.out.now) c.args.wish.now.call c.args.wish.now.block c.args.wish.now.want (find_file c.args.wish.now.file kept.files)) (g.K.Keeper.content c.args.keeper.now) _ _ _ (beside_of c.args.state.now) c.args.out.now _ c.args.log.now c.in_ok-find_block.ensures.finds.0 c.in_ok-find_block.ensures.finds.1 c.refuse.ensures
+    (λ kept told. read-stale (server_of (beside_of c.args.state.now) kept) c.args.caller.who c.args.caller.xid (next_of c.args.out.now) c.args.wish.now.call c.args.wish.now.block c.args.wish.now.want (find_file c.args.wish.now.file kept.files) (sym c.in-Stale.is ∙ c.in_ok-find_block.ensures.told kept told))
 
 pub returns-in-Invalid-clause-takes : goal.returns-in-Invalid-clause-takes
 returns-in-Invalid-clause-takes g c =
-    takes-answered c.args.caller.who.host (reply c.args.caller.xid (Answer.Refused c.args.caller.who.inc Refusal.Inval)) c.refuse-in-Invalid.result (λ kept. read (server_of (beside_of c.args.state.now) kept) c.args.caller.who c.args.caller.xid (next_of c.args.out.now) c.args.wish.now.call c.args.wish.now.block c.args.wish.now.want (find_file c.args.wish.now.file kept.files)) (g.K.Keeper.content c.args.keeper.now) _ _ _ (beside_of c.args.state.now) c.args.out.now _ c.args.log.now c.in_ok-find_body.ensures.finds.0 c.in_ok-find_body.ensures.finds.1 c.refuse-in-Invalid.ensures
-    (λ kept told. read-invalid (server_of (beside_of c.args.state.now) kept) c.args.caller.who c.args.caller.xid (next_of c.args.out.now) c.args.wish.now.call c.args.wish.now.block c.args.wish.now.want (find_file c.args.wish.now.file kept.files) (sym c.in-Invalid.is ∙ c.in_ok-find_body.ensures.told kept told))
+    takes-answered c.args.caller.who.host (reply c.args.caller.xid (Answer.Refused c.args.caller.who.inc Refusal.Inval)) c.refuse-in-Invalid.result (λ kept. read (server_of (beside_of c.args.state.now) kept) c.args.caller.who c.args.caller.xid (next_of c.args.out.now) c.args.wish.now.call c.args.wish.now.block c.args.wish.now.want (find_file c.args.wish.now.file kept.files)) (g.K.Keeper.content c.args.keeper.now) _ _ _ (beside_of c.args.state.now) c.args.out.now _ c.args.log.now c.in_ok-find_block.ensures.finds.0 c.in_ok-find_block.ensures.finds.1 c.refuse-in-Invalid.ensures
+    (λ kept told. read-invalid (server_of (beside_of c.args.state.now) kept) c.args.caller.who c.args.caller.xid (next_of c.args.out.now) c.args.wish.now.call c.args.wish.now.block c.args.wish.now.want (find_file c.args.wish.now.file kept.files) (sym c.in-Invalid.is ∙ c.in_ok-find_block.ensures.told kept told))
 
-pub read_found-requires-clause-may : goal.read_found-requires-clause-may
-read_found-requires-clause-may g c = record {
-  sound = c.requires.sound;
-  serves = c.requires.serves;
-  drawn = c.requires.drawn;
-  asked = record { time = ap (λ q. q.time) c.question-question.ensures; longest = ap (λ q. q.longest) c.question-question.ensures };
+pub read_found-requires : goal.read_found-requires
+read_found-requires g c = record {
+  may = record {
+    sound = c.requires.sound;
+    serves = c.requires.serves;
+    drawn = c.requires.drawn;
+    asked = record { time = ap (λ q. q.time) c.question-question.ensures; longest = ap (λ q. q.longest) c.question-question.ensures };
+  };
 }
 
 pub returns-in-Got-clause-takes : goal.returns-in-Got-clause-takes
 returns-in-Got-clause-takes g c =
     let q = c.question-question.result in
-    takes-does (λ kept. read (server_of (beside_of c.args.state.now) kept) c.args.caller.who c.args.caller.xid (next_of c.args.out.now) c.args.wish.now.call c.args.wish.now.block c.args.wish.now.want (find_file c.args.wish.now.file kept.files)) (λ kept. read_asked (server_of (beside_of c.args.state.now) kept) q.who c.args.caller.xid (next_of c.args.out.now) c.args.wish.now.call (file_asked q) c.args.wish.now.block (body_in c.find_body.new.said) q.access (ask c.args.state.now.table q).table (ask c.args.state.now.table q).asked) c.read_found.result (g.K.Keeper.content c.args.keeper.now) _ _ _ (beside_of c.args.state.now) (beside_of c.read_found.new.state) c.args.out.now c.read_found.new.out c.args.log.now c.read_found.new.log c.in_ok-find_body.ensures.finds.0 c.in_ok-find_body.ensures.finds.1 c.read_found.ensures.does
-    (λ kept told. read-found (beside_of c.args.state.now) kept c.args.caller.who c.args.caller.xid (next_of c.args.out.now) c.args.wish.now.call c.args.wish.now.block c.args.wish.now.want (find_file c.args.wish.now.file kept.files) c.in-Got.row (body_in c.find_body.new.said) q (sym c.in-Got.is ∙ c.in_ok-find_body.ensures.told kept told) (subst (λ f. HasBody f (body_in c.find_body.new.said) (body_at c.args.wish.now.block (find_file c.args.wish.now.file kept.files))) c.in-Got.is (c.in_ok-find_body.ensures.body kept told)) c.question-question.ensures)
-    (λ kept. read-keeps (server_of (beside_of c.args.state.now) kept) q.who c.args.caller.xid (next_of c.args.out.now) c.args.wish.now.call (file_asked q) c.args.wish.now.block (body_in c.find_body.new.said) q.access (ask c.args.state.now.table q).table (ask c.args.state.now.table q).asked)
+    takes-does (λ kept. read (server_of (beside_of c.args.state.now) kept) c.args.caller.who c.args.caller.xid (next_of c.args.out.now) c.args.wish.now.call c.args.wish.now.block c.args.wish.now.want (find_file c.args.wish.now.file kept.files)) (λ kept. read_asked (server_of (beside_of c.args.state.now) kept) q.who c.args.caller.xid (next_of c.args.out.now) c.args.wish.now.call (file_asked q) c.args.wish.now.block c.in-Got.body q.access (ask c.args.state.now.table q).table (ask c.args.state.now.table q).asked) c.read_found.result (g.K.Keeper.content c.args.keeper.now) _ _ _ (beside_of c.args.state.now) (beside_of c.read_found.new.state) c.args.out.now c.read_found.new.out c.args.log.now c.read_found.new.log c.in_ok-find_block.ensures.finds.0 c.in_ok-find_block.ensures.finds.1 c.read_found.ensures.does
+    (λ kept told. read-found (beside_of c.args.state.now) kept c.args.caller.who c.args.caller.xid (next_of c.args.out.now) c.args.wish.now.call c.args.wish.now.block c.args.wish.now.want (find_file c.args.wish.now.file kept.files) c.in-Got.row c.in-Got.body q (sym c.in-Got.is ∙ c.in_ok-find_block.ensures.told kept told) c.question-question.ensures)
+    (λ kept. read-keeps (server_of (beside_of c.args.state.now) kept) q.who c.args.caller.xid (next_of c.args.out.now) c.args.wish.now.call (file_asked q) c.args.wish.now.block c.in-Got.body q.access (ask c.args.state.now.table q).table (ask c.args.state.now.table q).asked)

@@ -1,6 +1,6 @@
 use Rattle.std.proofs.Common.{refl, sym, subst}
 use Rattle.nq_server.proofs.LeasedSteps.{read-later, read-given}
-use Rattle.nq_server.specs.Leasing.{Does, body_in, file_asked}
+use Rattle.nq_server.specs.Leasing.{Does, file_asked}
 use Rattle.nq_server.specs.State.{beside_of, server_of}
 use Rattle.nq_server.specs.Stepping.{next_of}
 use Rattle.nq_server.proofs.leasing.read_found.Goals as goal
@@ -10,7 +10,7 @@ returns-in-Some-clause-does c =
     λ kept.
     subst
     (λ step. Does step c.later.result (beside_of c.args.state.now) (beside_of c.later.new.state) c.args.out.now c.later.new.out c.args.log.now c.args.log.now)
-    (read-later (server_of (beside_of c.args.state.now) kept) c.args.xid (next_of c.args.out.now) c.args.wish.now.call c.args.question.now (file_asked c.args.question.now) c.args.wish.now.block (body_in c.args.said.now) c.in-Some.to refl (sym c.in-Some.ensures))
+    (read-later (server_of (beside_of c.args.state.now) kept) c.args.xid (next_of c.args.out.now) c.args.wish.now.call c.args.question.now (file_asked c.args.question.now) c.args.wish.now.block c.args.body c.in-Some.to refl (sym c.in-Some.ensures))
     (c.later.ensures.does kept c.args.log.now)
 
 pub returns-in-None-clause-does : goal.returns-in-None-clause-does
@@ -18,5 +18,5 @@ returns-in-None-clause-does c =
     λ kept.
     subst
     (λ step. Does step c.serve.result (beside_of c.args.state.now) (beside_of c.serve.new.state) c.args.out.now c.serve.new.out c.args.log.now c.serve.new.log)
-    (read-given (server_of (beside_of c.args.state.now) kept) c.args.xid (next_of c.args.out.now) c.args.wish.now.call c.args.question.now (file_asked c.args.question.now) c.args.wish.now.block (body_in c.args.said.now) (sym c.in-None.ensures))
+    (read-given (server_of (beside_of c.args.state.now) kept) c.args.xid (next_of c.args.out.now) c.args.wish.now.call c.args.question.now (file_asked c.args.question.now) c.args.wish.now.block c.args.body (sym c.in-None.ensures))
     (c.serve.ensures.does kept)

@@ -16,21 +16,21 @@ use Rattle.nq_server.proofs.requests.answer.Goals as goal
 
 pub returns-in_default-clause-takes : goal.returns-in_default-clause-takes
 returns-in_default-clause-takes g c =
-    takes-answered c.args.sender (reply c.args.xid Answer.Null) c.answer.result (λ kept. answer_request (server_of (beside_of c.args.state.now) kept) c.args.sender c.args.xid (next_of c.args.out.now) c.args.request.now (asker c.args.request.now)) (g.K.Keeper.content c.args.keeper.now) (g.K.Keeper.content c.args.keeper.now) (g.K.Keeper.faults c.args.keeper.now) (g.K.Keeper.faults c.args.keeper.now) (beside_of c.args.state.now) c.args.out.now c.answer.new.out c.args.log.now refl refl c.answer.ensures
-    (λ kept told. ap (answer_request (server_of (beside_of c.args.state.now) kept) c.args.sender c.args.xid (next_of c.args.out.now) c.args.request.now) (sym c.asker.ensures ∙ c.in_default.is))
+    takes-answered c.args.sender (reply c.args.xid Answer.Null) c.answer.result (λ kept. answer_request (server_of (beside_of c.args.state.now) kept) c.args.sender c.args.xid (next_of c.args.out.now) c.args.request (asker c.args.request)) (g.K.Keeper.content c.args.keeper.now) (g.K.Keeper.content c.args.keeper.now) (g.K.Keeper.faults c.args.keeper.now) (g.K.Keeper.faults c.args.keeper.now) (beside_of c.args.state.now) c.args.out.now c.answer.new.out c.args.log.now refl refl c.answer.ensures
+    (λ kept told. ap (answer_request (server_of (beside_of c.args.state.now) kept) c.args.sender c.args.xid (next_of c.args.out.now) c.args.request) (sym c.asker.ensures ∙ c.in_default.is))
 
 pub returns-then-not-is_of_sender-clause-takes : goal.returns-then-not-is_of_sender-clause-takes
 returns-then-not-is_of_sender-clause-takes g c =
-    takes-dropped reason.WrongHost (λ kept. answer_request (server_of (beside_of c.args.state.now) kept) c.args.sender c.args.xid (next_of c.args.out.now) c.args.request.now (asker c.args.request.now)) (g.K.Keeper.content c.args.keeper.now) (g.K.Keeper.content c.args.keeper.now) (g.K.Keeper.faults c.args.keeper.now) (g.K.Keeper.faults c.args.keeper.now) (beside_of c.args.state.now) c.args.out.now c.args.log.now refl refl
+    takes-dropped reason.WrongHost (λ kept. answer_request (server_of (beside_of c.args.state.now) kept) c.args.sender c.args.xid (next_of c.args.out.now) c.args.request (asker c.args.request)) (g.K.Keeper.content c.args.keeper.now) (g.K.Keeper.content c.args.keeper.now) (g.K.Keeper.faults c.args.keeper.now) (g.K.Keeper.faults c.args.keeper.now) (beside_of c.args.state.now) c.args.out.now c.args.log.now refl refl
     (λ kept told.
-    ap (answer_request (server_of (beside_of c.args.state.now) kept) c.args.sender c.args.xid (next_of c.args.out.now) c.args.request.now) (sym c.in-Some.ensures)
-    ∙ answers-nobody (server_of (beside_of c.args.state.now) kept) c.args.sender c.args.xid (next_of c.args.out.now) c.args.request.now c.in-Some.who (sym c.is_of_sender.ensures ∙ c.if-not-is_of_sender.true))
+    ap (answer_request (server_of (beside_of c.args.state.now) kept) c.args.sender c.args.xid (next_of c.args.out.now) c.args.request) (sym c.in-Some.ensures)
+    ∙ answers-nobody (server_of (beside_of c.args.state.now) kept) c.args.sender c.args.xid (next_of c.args.out.now) c.args.request c.in-Some.who (sym c.is_of_sender.ensures ∙ c.if-not-is_of_sender.true))
 
 pub returns-then-is_decided_once-clause-takes : goal.returns-then-is_decided_once-clause-takes
 returns-then-is_decided_once-clause-takes g c =
     let held = beside_of c.args.state.now in
     let who = c.in-Some.who in
-    let r = c.args.request.now in
+    let r = c.args.request in
     let step : Kept → ServerStep = λ kept. answer_request (server_of held kept) c.args.sender c.args.xid (next_of c.args.out.now) r (asker r) in
     let base : Kept → ServerStep = λ kept. decided_step (server_of held kept) who c.args.xid r (decided kept (gate_of (server_of held kept) who r) r) in
     let ours = sym c.is_of_sender.ensures ∙ c.if-not-is_of_sender.false in
@@ -42,7 +42,7 @@ pub returns-then-is_decided_once-clause-leaves : goal.returns-then-is_decided_on
 returns-then-is_decided_once-clause-leaves g c =
     let held = beside_of c.args.state.now in
     let who = c.in-Some.who in
-    let r = c.args.request.now in
+    let r = c.args.request in
     let ours = sym c.is_of_sender.ensures ∙ c.if-not-is_of_sender.false in
     λ kept told within found left.
     leaves-as found kept (decided_step (server_of held kept) who c.args.xid r (decided kept (gate_of (server_of held kept) who r) r)) (answer_request (server_of held kept) c.args.sender c.args.xid (next_of c.args.out.now) r (asker r))

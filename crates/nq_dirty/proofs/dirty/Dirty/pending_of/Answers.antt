@@ -1,4 +1,4 @@
-use Rattle.std.proofs.Common.{◌≡◌, ◌+◌, length, sym, ◌∙◌, arith}
+use Rattle.std.proofs.Common.{sym, ◌∙◌, arith}
 use Rattle.nq_dirty.proofs.Counts.{count-with-push, count-without-push, all-few}
 use Rattle.nq_dirty.proofs.OfEntries.{count_of_file}
 use Rattle.nq_dirty.specs.Entries.{delayed}

@@ -1,7 +1,7 @@
 use Rattle.std.proofs.Common.{◌≡◌, ◌+◌, ◌*◌, ◌++◌, ◌∙◌, length, vec_len, arith}
 use Rattle.std.proofs.lemmas.List.{length-append}
-use Rattle.nq_net.specs.Runs.{repeats}
-use Rattle.nq_net.proofs.Repeating.{repeats-length}
+use Rattle.nq_xdr.specs.Words.{repeats}
+use Rattle.nq_xdr.proofs.Repeats.{repeats-length}
 use Rattle.nq_net.proofs.packets.Packet.bytes_into.Goals as goal
 
 pub push_words-requires : goal.push_words-requires

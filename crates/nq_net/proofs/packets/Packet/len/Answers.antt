@@ -1,7 +1,7 @@
 use Rattle.std.proofs.Common.{◌++◌, arith}
 use Rattle.std.proofs.lemmas.List.{length-append}
-use Rattle.nq_net.specs.Runs.{repeats}
-use Rattle.nq_net.proofs.Repeating.{repeats-length}
+use Rattle.nq_xdr.specs.Words.{repeats}
+use Rattle.nq_xdr.proofs.Repeats.{repeats-length}
 use Rattle.nq_net.proofs.packets.Packet.len.Goals as goal
 
 pub returns : goal.returns

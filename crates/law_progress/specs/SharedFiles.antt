@@ -1,0 +1,45 @@
+-- What keeps notices few: a file that somebody shares or waits for comes to be cached by nobody, until his row goes; and whoever is put
+-- off waits with a row.
+use Rattle.std.specs.Prelude.{◌≡◌, ◌<◌, ℕ, true, false, List, Some, length}
+use Rattle.nq_base.specs.declared.Asked.{Asked}
+use Rattle.nq_base.specs.declared.Clash.{Clash}
+use Rattle.nq_base.specs.declared.Question.{Question}
+use Rattle.nq_base.specs.declared.Row.{Row}
+use Rattle.nq_base.specs.declared.Want.{Want}
+use Rattle.nq_model.specs.Ask.{ask}
+use Rattle.nq_model.specs.Message.{Datagram}
+use Rattle.nq_model.specs.Profile.{most_rows}
+use Rattle.nq_model.specs.Server.{Server}
+use Rattle.nq_model.specs.ServerStep.{receive}
+use Rattle.nq_model.specs.Table.{Table, caches, find_row}
+
+-- a host has a row of a file
+pub record HasRow (rows : List Row) (file host : ℕ) : Type 0 where
+  pub row : Row
+  pub there : find_row file host rows ≡ Some row
+
+-- a host has a row of a file that lets it cache
+pub record HasCachingRow (rows : List Row) (file host : ℕ) : Type 0 where
+  pub row : Row
+  pub there : find_row file host rows ≡ Some row
+  pub caching : caches row.mode ≡ true
+
+-- in every state of the server, where a host has a row that does not let it cache: whoever has a row of that file after a datagram that
+-- lets him cache had one before
+abbrev pub SharedFilesStayShared : Type 0
+SharedFilesStayShared =
+    (s : Server) (sender next : ℕ) (d : Datagram) (file host : ℕ) (row : Row)
+    → find_row file host s.table.rows ≡ Some row
+    → caches row.mode ≡ false
+    → (other : ℕ)
+    → HasCachingRow (receive s sender next d).server.table.rows file other
+    → HasCachingRow s.table.rows file other
+
+-- whoever wants a lease and is put off has a row of the file then, where the table had room for one more
+abbrev pub WhoIsPutOffHasRow : Type 0
+WhoIsPutOffHasRow =
+    (table : Table) (q : Question) (want : Want) (clash : Clash)
+    → q.want ≡ Some want
+    → length table.rows < most_rows
+    → (ask table q).asked ≡ Asked.TryLater clash
+    → HasRow (ask table q).table.rows q.file q.who.host

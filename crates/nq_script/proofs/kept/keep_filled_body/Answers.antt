@@ -1,9 +1,0 @@
-use Rattle.std.proofs.Common.{ap, sym, ◌∙◌}
-use Rattle.nq_base.specs.Block.{filled, value_of}
-use Rattle.nq_base.proofs.Filling.{filled-value}
-use Rattle.nq_script.proofs.kept.keep_filled_body.Goals as goal
-
-pub returns-clause-is : goal.returns-clause-is
-returns-clause-is c = λ bodies.
-    let is = c.requires.2 in
-    ap filled (c.value.ensures ∙ ap value_of is ∙ filled-value c.requires.0) ∙ sym is

@@ -1,0 +1,3 @@
+pub mod Again
+mod Filled
+pub mod Writes

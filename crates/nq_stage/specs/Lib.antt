@@ -1,0 +1,5 @@
+pub mod Messages
+pub mod Reading
+pub mod Lent
+pub mod Writes
+pub mod Laws
