@@ -2,3 +2,4 @@ pub mod Promised
 pub mod Hosting
 pub mod Storming
 pub mod Looping
+pub mod Frames

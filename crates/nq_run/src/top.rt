@@ -1,6 +1,6 @@
 //! Running what the words say.
 
-ghost use Rattle.std.specs.Prelude.{◌≡◌, ◌+◌, ◌<◌, ◌≤◌, ℕ, List, Some, length, map};
+ghost use Rattle.std.specs.Prelude.{◌≡◌, ◌+◌, ◌<◌, ◌≤◌, ℕ, List, Some, false, length, map};
 ghost use Rattle.nq_base.specs.declared.Event.{Event};
 ghost use Rattle.nq_base.specs.declared.SkewBroken.{SkewBroken};
 ghost use Rattle.nq_command.specs.Commands.{IsCheck, IsReplay, command_of};
@@ -12,6 +12,7 @@ ghost use Rattle.nq_replay.specs.Lines.{PrintsLine, usage_line};
 ghost use Rattle.nq_replay.specs.Replay.{BreaksSkew, FaultyLine, OfInput, Passes, Runs};
 ghost use Rattle.nq_replay.specs.declared.Ending.{Ending};
 ghost use Rattle.nq_replay.specs.declared.Bound.{Bound};
+ghost use Rattle.nq_run.specs.Frames.{reads_clock, reads_input, uses_link, uses_links};
 ghost use Rattle.nq_run.specs.Hosting.{Attends, ServesFor};
 ghost use Rattle.nq_run.specs.Looping.{LoopsFor, LoopsLawfully};
 ghost use Rattle.nq_run.specs.Promised.{PrintsLawfully, PrintsSound, most_bytes};
@@ -41,7 +42,8 @@ const MOST_BYTES: usize = 16_777_216;
 /// first fate of the kind, as [`run_storm`] tells, and `loop` over the clock and the links, of which the server's is the first, as
 /// [`run_loop`] tells. The headline of `nq_laws` holds at each moment of the run whose journal `replay`, `storm` or `loop` printed, and that
 /// journal is sound for `check`: leases, ticks, restarts and crashes included. That the schedule is within skew and keeps to the bounds
-/// is no premise, since the run itself tests it. The exit statuses:
+/// is no premise, since the run itself tests it. What the words have no use for stays as it was: the input, the link, the links of a loop, the
+/// clock. The exit statuses:
 ///
 /// - 0: the journal of the run was printed, and of a storm or a loop its schedule before it and its counts behind it; or `yes`, since the
 ///   journal that was read is sound; or the turns of the server, or the answers of the client.
@@ -128,6 +130,10 @@ pub fn run<S: Source, K: Sink, P: Keeper + Drop, L: Link, C: Clock>(
         → LoopsLawfully hosts turns (C.readings clock.old) (C.readings clock.new)
         (map (told_of L.sent L.waiting L.faults) links.old) (map (told_of L.sent L.waiting L.faults) links.new)
         (K.held out.old) (K.held out.new) }
+    ensures input { reads_input (command_of words.now) ≡ false → input.new ≡ input.old }
+    ensures link { uses_link (command_of words.now) ≡ false → link.new ≡ link.old }
+    ensures hosts { uses_links (command_of words.now) ≡ false → links.new ≡ links.old }
+    ensures clock { reads_clock (command_of words.now) ≡ false → clock.new ≡ clock.old }
 {
     match words.command() {
         Some(Command::Replay) => replay(alloc, input, out, MOST_BYTES).status(),

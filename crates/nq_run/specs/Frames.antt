@@ -1,0 +1,28 @@
+-- What each command uses. All else that `run` is handed stays as it was.
+use Rattle.std.specs.Prelude.{Bool, true, false, Option, Some, None}
+use Rattle.nq_command.specs.declared.Command.{Command}
+
+-- a replay, a judgement and a client read the input
+abbrev pub reads_input : Option Command → Bool
+reads_input (Some Command.Replay) = true
+reads_input (Some Command.Check) = true
+reads_input (Some (Command.Client host inc turns)) = true
+reads_input other = false
+
+-- a server and a client use the one link
+abbrev pub uses_link : Option Command → Bool
+uses_link (Some (Command.Serve turns longest)) = true
+uses_link (Some (Command.Client host inc turns)) = true
+uses_link other = false
+
+-- a loop uses the links of its server and its hosts
+abbrev pub uses_links : Option Command → Bool
+uses_links (Some (Command.Loop hosts turns)) = true
+uses_links other = false
+
+-- a server, a client and a loop read the clock
+abbrev pub reads_clock : Option Command → Bool
+reads_clock (Some (Command.Serve turns longest)) = true
+reads_clock (Some (Command.Client host inc turns)) = true
+reads_clock (Some (Command.Loop hosts turns)) = true
+reads_clock other = false
