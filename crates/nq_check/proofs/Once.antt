@@ -13,7 +13,7 @@ use Rattle.nq_model.specs.JournalTest.{covers, each, exists, throughout}
 use Rattle.nq_model.proofs.JournalTests.{tells_covers, tells_exists}
 use Rattle.nq_check.specs.Covered.{Accounts, IsAnew, IsCoveredTo}
 use Rattle.nq_check.specs.Marks.{IsMarked, Spot, mark_at, same_spot, spot}
-use Rattle.nq_check.proofs.Places.{taken_here}
+use Rattle.nq_rules.proofs.Places.{taken_here}
 
 -- ---- spots
 
@@ -171,13 +171,6 @@ exists_there test xs k x e t =
 throughout_later : (test : Entry → List Entry → Bool) (ys zs : List Entry) → throughout test (ys ++ zs) ≡ true → throughout test zs ≡ true
 throughout_later test [] zs h = h
 throughout_later test (y ∷ ys) zs h = throughout_later test ys zs (and_parts (test y (ys ++ zs)) (throughout test (ys ++ zs)) h).1
-
--- what holds throughout holds at a place
-pub throughout_there : (test : Entry → List Entry → Bool) (xs : List Entry) (k : ℕ) (x : Entry) → slice_get xs k ≡ Some x → throughout test (reverse xs) ≡ true → test x (reverse (take k xs)) ≡ true
-throughout_there test xs k x e h =
-    let there : throughout test (x ∷ reverse (take k xs)) ≡ true =
-    throughout_later test (reverse (drop (k + 1) xs)) (x ∷ reverse (take k xs)) (subst (λ l. throughout test l ≡ true) (parted xs k x e) h) in
-    (and_parts (test x (reverse (take k xs))) (throughout test (reverse (take k xs))) there).0
 
 -- what is told of a result that is Ok
 pub ok_so : {X E : Type 0} (r : Result X E) (P Q : X → Type 0) → ((x : X) → P x → Q x) → IfOk r P → IfOk r Q

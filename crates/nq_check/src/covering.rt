@@ -1,15 +1,15 @@
 //! A fast pass over the entries that account for the delayed writes which they cover.
-#![tactic(auto, using(crate::proofs::Backwards::last_first, crate::proofs::Once::stored_once, crate::proofs::Once::lost_once, crate::proofs::Once::exists_there))]
+#![tactic(auto, using(nq_rules::proofs::Backwards::last_first, crate::proofs::Once::stored_once, crate::proofs::Once::lost_once, crate::proofs::Once::exists_there))]
 
 ghost use Rattle.std.specs.Prelude.{◌≡◌, true, reverse, slice_get, Some, IfOk, IfSome, IsTrue};
 ghost use Rattle.nq_check.specs.Covered.{Accounts, IsAnew};
 ghost use Rattle.nq_check.specs.Fronts.{KeepsBelow};
-ghost use Rattle.nq_check.specs.declared.rules.Rule.{Rule};
+ghost use Rattle.nq_rules.specs.declared.Rule.{Rule};
 ghost use Rattle.nq_model.specs.JournalTest.{covers, exists};
 
-use crate::entries::covers;
 use crate::marks::{Marks, Spot, mark_at, set_mark, spot};
 use nq_base::{BlockNo, Entry, FileId, NoMemory, Number, Who};
+use nq_rules::entries::covers;
 use std::alloc::Global;
 use std::collections::HashMap;
 

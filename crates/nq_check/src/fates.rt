@@ -4,11 +4,11 @@
 ghost use Rattle.std.specs.Prelude.{◌≡◌, ◌<◌, length};
 ghost use Rattle.nq_check.specs.Tables.{AreTables};
 
-use crate::entries::covers;
 use crate::links::{Heads, Key, head_at, own_key, set_head};
 use crate::sought::call_along;
 use crate::tables::Tables;
 use nq_base::{BlockNo, Entry, FileId, NoMemory, Said, Told, Who};
+use nq_rules::entries::covers;
 use std::alloc::Global;
 use std::collections::HashMap;
 

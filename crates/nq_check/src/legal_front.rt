@@ -4,21 +4,21 @@ ghost use Rattle.std.specs.Prelude.{◌≡◌, ◌+◌, ◌-◌, ◌<◌, ◌≤
 ghost use Rattle.std.specs.List.{slice_get};
 ghost use Rattle.nq_check.specs.Fronts.{KeepsBelow};
 ghost use Rattle.nq_check.specs.Tables.{AreTables, HasBetween, NoneBetween};
-ghost use Rattle.nq_check.specs.declared.rules.Rule.{Rule};
+ghost use Rattle.nq_rules.specs.declared.Rule.{Rule};
 ghost use Rattle.nq_model.specs.Journal.{call_of, cuts};
 ghost use Rattle.nq_model.specs.JournalTest.{is_counted, is_lost, is_stored};
 ghost use Rattle.nq_model.specs.LegalTest.{is_counted_by, is_counted_with, is_legal_answer, is_legal_at, is_legal_read, is_reading};
 ghost use Rattle.nq_model.specs.StandsTest.{standing_value, stands};
 
-use crate::calls::is_reading;
-use crate::entries::{cuts, is_read_by, is_through, is_write_by, is_write_on, value_written};
 use crate::fates::{Fates, fate_at};
-use crate::legal::Reading;
 use crate::links::{Kind, block_key, call_key};
 use crate::settled::{is_lost_at, is_stored_at};
 use crate::sought::{Sought, back_from, call_along, is_before, is_somewhere, last_of};
 use crate::tables::Tables;
 use nq_base::{BlockNo, Entry, Said, Who};
+use nq_rules::calls::is_reading;
+use nq_rules::entries::{cuts, is_read_by, is_through, is_write_by, is_write_on, value_written};
+use nq_rules::legal::Reading;
 
 /// Whether an entry is a counted read.
 fn is_counted(tables: &Tables, whole: &[Entry], entry: &Entry) -> bool

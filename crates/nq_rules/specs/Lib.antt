@@ -1,0 +1,6 @@
+pub mod Grants
+pub mod Kept
+pub mod Named
+pub mod Rules
+pub mod Verdict
+pub mod Words
