@@ -12,7 +12,7 @@ use Rattle.nq_check.specs.Leases.{HasEnd, HasEndBetween, IsStorePast}
 use Rattle.nq_check.specs.Links.{IsFree, is_link}
 use Rattle.nq_check.specs.Marks.{Spot, same_spot, spot}
 use Rattle.nq_check.specs.Rising.{IsNoLater, Rises}
-use Rattle.nq_check.specs.declared.excused.Granted.{Granted}
+use Rattle.nq_rules.specs.declared.excused.Granted.{Granted}
 use Rattle.nq_check.specs.declared.links.Kind.TheVariants.{Grants, Stores, Own}
 use Rattle.nq_check.proofs.Climbs.{climb, link_call}
 use Rattle.nq_check.proofs.Followed.{taken_last}

@@ -1,24 +1,26 @@
 -- The rules of the judge and the laws of the definitions agree in a journal that is ordered.
-use Rattle.std.proofs.Common.{◌≡◌, ℕ, Bool, true, false, not, ◌&&◌, ◌||◌, ◌==◌, List, [], ◌∷◌, Option, Some, None, refl, sym, ◌∙◌, ap, subst}
-use Rattle.std.specs.Prelude.{⊤}
+use Rattle.std.proofs.Common.{◌≡◌, ◌≤◌, ℕ, ◌+◌, Bool, true, false, not, ◌&&◌, ◌||◌, ◌==◌, List, [], ◌∷◌, Option, Some, None, refl, sym, ◌∙◌, ap, subst, arith}
+use Rattle.std.specs.Prelude.{⊤, if◌then◌else◌, nat_le}
 use mathlib.Core.Logic.{inl, inr}
-use Rattle.std.proofs.lemmas.Bool.{and_parts, or_cases, eqb-true}
+use Rattle.std.proofs.lemmas.Bool.{and_parts, or_cases, eq-eqb, eqb-true, le-leb}
 use Rattle.nq_base.specs.declared.Entry.{Entry}
-use Rattle.nq_base.specs.declared.Entry.TheVariants.{C, W, L, A}
+use Rattle.nq_base.specs.declared.Entry.TheVariants.{C, W, R, L, A}
 use Rattle.nq_base.specs.declared.Loss.{Loss}
 use Rattle.nq_base.specs.declared.Said.TheVariants.{Ok, OkValue, OkBy, Lost}
 use Rattle.nq_base.specs.declared.Told.{Told}
 use Rattle.nq_base.specs.declared.Told.TheVariants.{WriteSync}
 use Rattle.nq_base.specs.declared.Who.{Who}
 use Rattle.nq_model.specs.Journal.{Throughout, AtEachPlace, call_of}
-use Rattle.nq_model.specs.JournalTest.{each, exists, somewhere, throughout, is_answer, is_call, is_open, is_stored, is_through}
-use Rattle.nq_model.specs.OrderedTest.{is_before_call, is_in_order, is_no_other, is_numbered, is_write_in_order, is_write_of, open_call, writes}
+use Rattle.nq_model.specs.JournalTest.{each, exists, number_of, somewhere, throughout, is_answer, is_call, is_counted, is_open, is_read_by, is_stored, is_through}
+use Rattle.nq_model.specs.LegalTest.{is_counted_by, is_counted_with, is_legal_answer as is_legal_answer_by_law, is_legal_at as is_legal_at_by_law, is_reading}
+use Rattle.nq_model.specs.OrderedTest.{is_before_call, is_in_order, is_no_other, is_numbered, is_read_in_order, is_write_in_order, is_write_of, open_call, writes}
 use Rattle.nq_model.specs.Reported.{loss_told}
 use Rattle.nq_model.specs.ReportedTest.{is_named_next, is_reported_in, must_report, names, is_reported_at as is_reported_by_law}
 use Rattle.nq_model.specs.SynchronizedTest.{is_kept as is_kept_by_law, is_kept_at as is_kept_at_by_law, is_put_kept as is_put_kept_by_law}
 use Rattle.nq_model.specs.Table.{same_who}
 use Rattle.nq_model.proofs.JournalTests.{tells_answer, tells_who}
 use Rattle.nq_rules.specs.Kept.{is_kept, is_kept_at, is_put_kept}
+use Rattle.nq_rules.specs.Legal.{is_legal_answer, is_legal_at}
 use Rattle.nq_rules.specs.Named.{is_named_at_once, is_reported, is_reported_at}
 
 -- ---- what holds at each place, seen from a place
@@ -156,6 +158,87 @@ kept_same whole (A who q Ok) before h = kept_call whole before who q (call_of wh
 kept_same whole (A who q (OkValue value)) before h = kept_call whole before who q (call_of whole who q) h
 kept_same whole (A who q (OkBy value packet)) before h = kept_call whole before who q (call_of whole who q) h
 kept_same whole other before h = refl
+
+-- ---- answers to reads
+
+none_if : (b e : Bool) (n : ℕ) → not (b || e) ≡ true → (not e ≡ true → n ≡ 0) → (if b then 1 + n else n) ≡ 0
+none_if true e n h f = absurd (cc)
+none_if false e n h f = f h
+
+none_of : (test : Entry → Bool) (xs : List Entry) → not (exists test xs) ≡ true → number_of test xs ≡ 0
+none_of test [] h = refl
+none_of test (x ∷ xs) h = none_if (test x) (exists test xs) (number_of test xs) h (none_of test xs)
+
+some_if : (b e : Bool) (n : ℕ) → (b || e) ≡ true → (e ≡ true → 1 ≤ n) → 1 ≤ (if b then 1 + n else n)
+some_if true e n h f = omega arith
+some_if false e n h f = f h
+
+some_of : (test : Entry → Bool) (xs : List Entry) → exists test xs ≡ true → 1 ≤ number_of test xs
+some_of test [] h = absurd (cc)
+some_of test (x ∷ xs) h = some_if (test x) (exists test xs) (number_of test xs) h (some_of test xs)
+
+one_if : (b : Bool) (n : ℕ) → n ≤ 1 → (b ≡ true → n ≡ 0) → (if b then 1 + n else n) ≤ 1
+one_if true n l f = let none : n ≡ 0 = f refl in omega arith
+one_if false n l f = l
+
+fewer_if : (a b : Bool) (n m : ℕ) → (a ≡ true → b ≡ true) → n ≤ m → (if a then 1 + n else n) ≤ (if b then 1 + m else m)
+fewer_if true true n m f l = omega arith
+fewer_if true false n m f l = absurd (let t = f refl in cc)
+fewer_if false true n m f l = omega arith
+fewer_if false false n m f l = l
+
+fewer : (t u : Entry → Bool) (xs : List Entry) → ((x : Entry) → t x ≡ true → u x ≡ true) → number_of t xs ≤ number_of u xs
+fewer t u [] f = omega arith
+fewer t u (x ∷ xs) f = fewer_if (t x) (u x) (number_of t xs) (number_of u xs) (f x) (fewer t u xs f)
+
+or_second : (a b : Bool) → (not a || b) ≡ true → a ≡ true → b ≡ true
+or_second true b h t = h
+or_second false b h t = absurd (cc)
+
+-- a counted read that stands in order is the first of its call
+counted_first : (whole after : List Entry) (who : Who) (q : ℕ) (entry : Entry) (before : List Entry) → is_in_order whole after entry before ≡ true → is_counted_by whole who q entry ≡ true → number_of (is_counted_by whole who q) before ≡ 0
+counted_first whole after who q (R by n file block value served) before o e =
+    let read : Entry = R by n file block value served in
+    let h = and_parts (is_read_by who q read) (is_counted whole read) e in
+    let r = and_parts (same_who by who) (n == q) h.0 in
+    let w : by ≡ who = (tells_who {a = by} {b = who}).sound r.0 in
+    let m : n ≡ q = eqb-true n q r.1 in
+    let in_order = or_second (is_counted whole read) (is_read_in_order whole before by n) o h.1 in
+    let none : not (exists (is_counted_by whole by n) before) ≡ true = (and_parts (is_open before by n) (not (exists (is_counted_by whole by n) before)) in_order).1 in
+    let of_who = subst (λ (z : Who). not (exists (is_counted_by whole z n) before) ≡ true) w none in
+    none_of (is_counted_by whole who q) before (subst (λ (k : ℕ). not (exists (is_counted_by whole who k) before) ≡ true) m of_who)
+counted_first whole after who q other before o e = absurd (cc)
+
+one_counted : (whole after journal : List Entry) (who : Who) (q : ℕ) → AtEachPlace (InOrder whole) after journal → number_of (is_counted_by whole who q) journal ≤ 1
+one_counted whole after [] who q h = omega arith
+one_counted whole after (entry ∷ before) who q h =
+    one_if (is_counted_by whole who q entry) (number_of (is_counted_by whole who q) before)
+    (one_counted whole (entry ∷ after) before who q h.1) (counted_first whole after who q entry before h.0)
+
+with_by : (whole : List Entry) (who : Who) (q value : ℕ) (entry : Entry) → is_counted_with whole who q value entry ≡ true → is_counted_by whole who q entry ≡ true
+with_by whole who q value (R by n file block v served) h = (and_parts (v == value) (is_counted_by whole who q (R by n file block v served)) h).1
+with_by whole who q value other h = absurd (cc)
+
+-- where a call has one counted read at most, that is of a value where exactly one is
+one_with : (found : Bool) (own all : ℕ) → own ≤ all → all ≤ 1 → (found ≡ true → 1 ≤ own) → (not found ≡ true → own ≡ 0) → (own == 1) ≡ (found && nat_le all 1)
+one_with true own all l m some none =
+    let least : 1 ≤ own = some refl in
+    let one : own ≡ 1 = omega arith in
+    eq-eqb own 1 one ∙ sym (le-leb all 1 m)
+one_with false own all l m some none = let zero : own ≡ 0 = none refl in rw zero refl
+
+answer_same : (whole : List Entry) (who : Who) (q value : ℕ) → AtEachPlace (InOrder whole) [] whole → is_legal_answer whole who q value ≡ is_legal_answer_by_law whole who q value
+answer_same whole who q value h =
+    one_with (exists (is_counted_with whole who q value) whole) (number_of (is_counted_with whole who q value) whole) (number_of (is_counted_by whole who q) whole)
+    (fewer (is_counted_with whole who q value) (is_counted_by whole who q) whole (with_by whole who q value))
+    (one_counted whole [] whole who q h)
+    (some_of (is_counted_with whole who q value) whole)
+    (none_of (is_counted_with whole who q value) whole)
+
+pub legal_same : (whole : List Entry) (entry : Entry) (before : List Entry) → AtEachPlace (InOrder whole) [] whole → is_legal_at whole entry before ≡ is_legal_at_by_law whole entry before
+legal_same whole (A who q (OkValue value)) before h = ap (λ b. not (is_reading (call_of whole who q)) || b) (answer_same whole who q value h)
+legal_same whole (A who q (OkBy value packet)) before h = ap (λ b. not (is_reading (call_of whole who q)) || b) (answer_same whole who q value h)
+legal_same whole other before h = refl
 
 -- ---- both, at each place
 

@@ -10,7 +10,7 @@ use Rattle.nq_model.specs.CutOffTest.{is_cut_off}
 use Rattle.nq_model.specs.FateTest.{is_accounted_at}
 use Rattle.nq_model.specs.Journal.{AtEachPlace}
 use Rattle.nq_model.specs.JournalTest.{at_each_place, throughout}
-use Rattle.nq_model.specs.LegalTest.{is_legal_at}
+use Rattle.nq_model.specs.LegalTest.{is_legal_at as is_legal_at_by_law}
 use Rattle.nq_model.specs.OrderedTest.{is_in_order}
 use Rattle.nq_model.specs.ReportedTest.{is_reported_at as is_reported_by_law}
 use Rattle.nq_model.specs.Sound.{IsSound}
@@ -19,8 +19,9 @@ use Rattle.nq_model.proofs.LegalTest.{tells_legal}
 use Rattle.nq_model.proofs.LossTests.{tells_accounted, tells_excused, tells_reported}
 use Rattle.nq_model.proofs.OrderedTest.{tells_ordered}
 use Rattle.nq_model.proofs.SynchronizedTest.{tells_synchronized}
-use Rattle.nq_rules.proofs.Agreeing.{InOrder, Same, all_same}
+use Rattle.nq_rules.proofs.Agreeing.{InOrder, Same, all_same, legal_same}
 use Rattle.nq_rules.specs.Kept.{is_kept_at}
+use Rattle.nq_rules.specs.Legal.{is_legal_at}
 use Rattle.nq_rules.specs.Named.{is_reported_at}
 use Rattle.nq_rules.specs.Rules.{first_rule}
 use Rattle.nq_rules.specs.Verdict.{fault_at, least_fault, verdict}
@@ -113,7 +114,7 @@ no_fault whole after (entry ∷ before) h = rw (no_fault whole (entry ∷ after)
 
 -- each law of the definitions, as tests that are true at each place
 record Lawful (journal : List Entry) : Type 0 where
-  legal : AtEachPlace (λ a e b. is_legal_at journal e b ≡ true) [] journal
+  legal : AtEachPlace (λ a e b. is_legal_at_by_law journal e b ≡ true) [] journal
   ordered : AtEachPlace (InOrder journal) [] journal
   accounted : AtEachPlace (λ a e b. is_accounted_at journal e b ≡ true) [] journal
   excused : AtEachPlace (λ a e b. is_cut_off a e b ≡ true) [] journal
@@ -122,7 +123,7 @@ record Lawful (journal : List Entry) : Type 0 where
 
 lawful_sound : (journal : List Entry) → Lawful journal → IsSound journal
 lawful_sound journal l = record {
-  legal = (tells_legal journal).sound (throughout_true (is_legal_at journal) [] journal l.legal);
+  legal = (tells_legal journal).sound (throughout_true (is_legal_at_by_law journal) [] journal l.legal);
   ordered = (tells_ordered journal).sound (each_true (is_in_order journal) [] journal l.ordered);
   accounted = (tells_accounted journal).sound (throughout_true (is_accounted_at journal) [] journal l.accounted);
   excused = (tells_excused journal).sound (each_true is_cut_off [] journal l.excused);
@@ -132,7 +133,7 @@ lawful_sound journal l = record {
 
 sound_lawful : (journal : List Entry) → IsSound journal → Lawful journal
 sound_lawful journal s = record {
-  legal = throughout_so (is_legal_at journal) [] journal ((tells_legal journal).complete s.legal);
+  legal = throughout_so (is_legal_at_by_law journal) [] journal ((tells_legal journal).complete s.legal);
   ordered = each_so (is_in_order journal) [] journal ((tells_ordered journal).complete s.ordered);
   accounted = throughout_so (is_accounted_at journal) [] journal ((tells_accounted journal).complete s.accounted);
   excused = each_so is_cut_off [] journal ((tells_excused journal).complete s.excused);
@@ -150,7 +151,7 @@ faultless_lawful journal f =
     let both_hold = both (Faultless journal) (Same journal) [] journal f same in
     let Both : List Entry → Entry → List Entry → Type 0 = λ a e b. Faultless journal a e b × Same journal a e b in
     record {
-      legal = at_each (Faultless journal) (λ a e b. is_legal_at journal e b ≡ true) (λ a e b h. h.legal) [] journal f;
+      legal = at_each (Faultless journal) (λ a e b. is_legal_at_by_law journal e b ≡ true) (λ a e b h. sym (legal_same journal e b ordered) ∙ h.legal) [] journal f;
       ordered = ordered;
       accounted = at_each (Faultless journal) (λ a e b. is_accounted_at journal e b ≡ true) (λ a e b h. h.accounted) [] journal f;
       excused = at_each (Faultless journal) (λ a e b. is_cut_off a e b ≡ true) (λ a e b h. h.excused) [] journal f;
@@ -163,14 +164,14 @@ sound_where_faultless journal v = lawful_sound journal (faultless_lawful journal
 
 -- what the tests of the laws say of an entry, together
 record Held (whole after : List Entry) (entry : Entry) (before : List Entry) : Type 0 where
-  legal : is_legal_at whole entry before ≡ true
+  legal : is_legal_at_by_law whole entry before ≡ true
   ordered : is_in_order whole after entry before ≡ true
   accounted : is_accounted_at whole entry before ≡ true
   excused : is_cut_off after entry before ≡ true
   reported : is_reported_by_law whole after entry before ≡ true
   kept : is_kept_at_by_law whole entry before ≡ true
 
-held : (whole after journal : List Entry) → AtEachPlace (λ a e b. is_legal_at whole e b ≡ true) after journal → AtEachPlace (InOrder whole) after journal → AtEachPlace (λ a e b. is_accounted_at whole e b ≡ true) after journal → AtEachPlace (λ a e b. is_cut_off a e b ≡ true) after journal → AtEachPlace (λ a e b. is_reported_by_law whole a e b ≡ true) after journal → AtEachPlace (λ a e b. is_kept_at_by_law whole e b ≡ true) after journal → AtEachPlace (Held whole) after journal
+held : (whole after journal : List Entry) → AtEachPlace (λ a e b. is_legal_at_by_law whole e b ≡ true) after journal → AtEachPlace (InOrder whole) after journal → AtEachPlace (λ a e b. is_accounted_at whole e b ≡ true) after journal → AtEachPlace (λ a e b. is_cut_off a e b ≡ true) after journal → AtEachPlace (λ a e b. is_reported_by_law whole a e b ≡ true) after journal → AtEachPlace (λ a e b. is_kept_at_by_law whole e b ≡ true) after journal → AtEachPlace (Held whole) after journal
 held whole after [] l o a x r k = tt
 held whole after (entry ∷ before) l o a x r k = (
   record { legal = l.0; ordered = o.0; accounted = a.0; excused = x.0; reported = r.0; kept = k.0 },
@@ -183,7 +184,7 @@ lawful_faultless journal l =
     let all : AtEachPlace (Held journal) [] journal = held journal [] journal l.legal l.ordered l.accounted l.excused l.reported l.kept in
     let Both : List Entry → Entry → List Entry → Type 0 = λ a e b. Held journal a e b × Same journal a e b in
     at_each Both (Faultless journal)
-    (λ a e b h. record { legal = h.0.legal; ordered = h.0.ordered; accounted = h.0.accounted; excused = h.0.excused; reported = h.1.reported ∙ h.0.reported; kept = h.1.kept ∙ h.0.kept })
+    (λ a e b h. record { legal = legal_same journal e b l.ordered ∙ h.0.legal; ordered = h.0.ordered; accounted = h.0.accounted; excused = h.0.excused; reported = h.1.reported ∙ h.0.reported; kept = h.1.kept ∙ h.0.kept })
     [] journal (both (Held journal) (Same journal) [] journal all same)
 
 pub faultless_where_sound : (journal : List Entry) → IsSound journal → verdict journal ≡ None

@@ -1,5 +1,6 @@
 pub mod Grants
 pub mod Kept
+pub mod Legal
 pub mod Named
 pub mod Rules
 pub mod Verdict

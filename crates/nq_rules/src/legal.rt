@@ -3,9 +3,10 @@
 
 ghost use Rattle.std.specs.Prelude.{◌≡◌, reverse};
 ghost use Rattle.std.specs.List.{list_any};
-ghost use Rattle.nq_model.specs.JournalTest.{at_most_one, exists, is_answer_by, is_counted, is_lost, is_stored, store_covers};
-ghost use Rattle.nq_model.specs.LegalTest.{is_answer_with, is_counted_by, is_counted_with, is_legal_answer, is_legal_at, is_legal_read};
+ghost use Rattle.nq_model.specs.JournalTest.{exists, is_answer_by, is_counted, is_lost, is_stored, store_covers};
+ghost use Rattle.nq_model.specs.LegalTest.{is_answer_with, is_counted_by, is_counted_with, is_legal_read};
 ghost use Rattle.nq_model.specs.StandsTest.{standing_value, stands};
+ghost use Rattle.nq_rules.specs.Legal.{is_legal_answer, is_legal_at};
 
 use crate::calls::{call_of, is_reading};
 use crate::entries::{
@@ -66,31 +67,6 @@ fn is_counted_with(whole: &[Entry], by: &Who, n: u64, v: u32, entry: &Entry) -> 
         Entry::R { value, .. } => *value == v && is_counted_by(whole, by, n, entry),
         _ => false,
     }
-}
-
-/// Whether a counted read by a call, of a value, stands in the journal.
-fn has_counted_with(whole: &[Entry], by: &Who, n: u64, v: u32) -> bool
-    ensures { result ≡ exists (is_counted_with (reverse whole.now) by.now n v) (reverse whole.now) }
-{
-    let mut found = false;
-    for entry in whole {
-        let here = is_counted_with(whole, by, n, v, entry);
-        found = here || found;
-    }
-    found
-}
-
-/// Whether a call has one counted read at most.
-fn has_one_counted(whole: &[Entry], by: &Who, n: u64) -> bool
-    ensures { result ≡ at_most_one (is_counted_by (reverse whole.now) by.now n) (reverse whole.now) }
-{
-    let mut number: usize = 0;
-    for entry in whole {
-        if is_counted_by(whole, by, n, entry) {
-            number += 1;
-        }
-    }
-    number <= 1
 }
 
 /// Whether an S that covers a write is one of the entries. The first that is ends the search.
@@ -169,11 +145,17 @@ fn is_legal_read(whole: &[Entry], before: &[Entry], read: &Reading) -> bool
         && is_answered_with(whole, read.who, read.q, read.value)
 }
 
-/// Whether an answer that says ok with a value to a `read` or `fetch` is legal.
+/// Whether exactly one counted read is of a call and a value.
 fn is_legal_answer(whole: &[Entry], by: &Who, n: u64, v: u32) -> bool
     ensures { result ≡ is_legal_answer (reverse whole.now) by.now n v }
 {
-    has_counted_with(whole, by, n, v) && has_one_counted(whole, by, n)
+    let mut number: usize = 0;
+    for entry in whole {
+        if is_counted_with(whole, by, n, v, entry) {
+            number += 1;
+        }
+    }
+    number == 1
 }
 
 /// Whether an entry is legal at its place.

@@ -7,4 +7,4 @@ use Rattle.nq_check.proofs.covering.accounted_front.Given as goal
 
 abbrev pub invariant-loop-place : goal.invariant-loop-place
 invariant-loop-place l =
-    Each (IsCoveredTo l.marks.entries) (reverse (take l.place l.whole)) × KeepsBelow Accounted l.whole l.place
+    Each (IsCoveredTo 18446744073709551615 l.reach) (reverse (take l.place l.whole)) × KeepsBelow Accounted l.whole l.place
