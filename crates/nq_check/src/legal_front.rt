@@ -250,6 +250,7 @@ fn counted(number: usize, here: bool) -> usize
     if here { number + 1 } else { number }
 }
 
+#[tactic(auto, unfolding(nq_rules::specs::Legal::is_legal_answer))]
 /// Whether exactly one counted read is of a call and a value.
 fn is_legal_answer(tables: &Tables, whole: &[Entry], by: &Who, n: u64, v: u32) -> bool
     requires tables { AreTables whole.now tables.now }

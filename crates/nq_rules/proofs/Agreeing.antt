@@ -228,6 +228,7 @@ one_with true own all l m some none =
 one_with false own all l m some none = let zero : own ≡ 0 = none refl in rw zero refl
 
 answer_same : (whole : List Entry) (who : Who) (q value : ℕ) → AtEachPlace (InOrder whole) [] whole → is_legal_answer whole who q value ≡ is_legal_answer_by_law whole who q value
+unfolding is_legal_answer
 answer_same whole who q value h =
     one_with (exists (is_counted_with whole who q value) whole) (number_of (is_counted_with whole who q value) whole) (number_of (is_counted_by whole who q) whole)
     (fewer (is_counted_with whole who q value) (is_counted_by whole who q) whole (with_by whole who q value))

@@ -10,7 +10,7 @@ use Rattle.nq_model.specs.JournalTest.{is_counted, number_of}
 use Rattle.nq_model.specs.LegalTest.{is_counted_with, is_legal_read, is_reading}
 
 -- exactly one counted read is of this call and value
-abbrev pub is_legal_answer : (whole : List Entry) (who : Who) (q value : ℕ) → Bool
+unfoldable pub is_legal_answer : (whole : List Entry) (who : Who) (q value : ℕ) → Bool
 is_legal_answer whole who q value = number_of (is_counted_with whole who q value) whole == 1
 
 -- what is asked of a counted read, and of an A that says ok with a value to a `read` or `fetch`

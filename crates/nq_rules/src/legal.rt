@@ -145,6 +145,7 @@ fn is_legal_read(whole: &[Entry], before: &[Entry], read: &Reading) -> bool
         && is_answered_with(whole, read.who, read.q, read.value)
 }
 
+#[tactic(auto, using(crate::proofs::Backwards::last_first), unfolding(crate::specs::Legal::is_legal_answer))]
 /// Whether exactly one counted read is of a call and a value.
 fn is_legal_answer(whole: &[Entry], by: &Who, n: u64, v: u32) -> bool
     ensures { result ≡ is_legal_answer (reverse whole.now) by.now n v }
