@@ -85,12 +85,7 @@ fn extend(reach: &mut Reach, at: Spot, first: Number, last: Number) -> Result<()
 }
 
 /// Whether numbers are above all that are covered on a block, or below them. Then they are taken in.
-fn covers_anew(
-    reach: &mut Reach,
-    at: Spot,
-    first: Number,
-    last: Number,
-) -> Result<bool, NoMemory>
+fn covers_anew(reach: &mut Reach, at: Spot, first: Number, last: Number) -> Result<bool, NoMemory>
     ensures { IfOk result (λ anew. IsTrue anew → IsAnew 18446744073709551615 at first last reach.old reach.new) }
 {
     if !is_outside(reach, at, first, last) {
