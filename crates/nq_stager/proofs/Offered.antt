@@ -1,5 +1,5 @@
 -- The first delayed write that is not acknowledged, looked for place by place.
-use Rattle.std.proofs.Common.{◌≡◌, ◌≤◌, ℕ, ◌+◌, true, false, List, [], ◌∷◌, length, drop, Option, Some, None, is_some, zero, suc, refl, sym, ap, ◌∙◌, arith, add-one, if◌then◌else◌}
+use Rattle.std.proofs.Common.{◌≡◌, ◌≤◌, ℕ, List, [], ◌∷◌, length, drop, Option, Some, None, is_some, zero, suc, refl, sym, arith, add-one, if◌then◌else◌}
 use Rattle.std.specs.List.{slice_get}
 use Rattle.std.specs.Option.{option_map}
 use Rattle.nq_base.specs.declared.Loss.{Loss}

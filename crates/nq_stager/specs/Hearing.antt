@@ -30,6 +30,7 @@ abbrev pub again_from : (inc : ℕ) → Option Shortened → List ℕ → Option
 again_from inc None bytes = None
 again_from inc (Some s) bytes = if is_unstaged_in s.xid inc bytes then Some s.write else None
 
+-- by what the bytes are: a reply to a STAGE comes before an UNSTAGED
 abbrev pub told_as : Option (Written × ℕ) → Option (List ℕ) → Told
 told_as (Some a) write = acknowledged a.0 a.1
 told_as None (Some write) = again write

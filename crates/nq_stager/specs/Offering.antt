@@ -1,7 +1,7 @@
 -- Which body is offered next. What is delayed does not change by it.
-use Rattle.std.specs.Prelude.{◌≡◌, ℕ, ◌+◌, min, List, [], ◌∷◌, Option, Some, None, is_some, Result, Ok, Err, if◌then◌else◌}
+use Rattle.std.specs.Prelude.{◌≡◌, ℕ, ◌+◌, min, List, [], ◌∷◌, Option, Some, None, is_some, Result, Ok, Err, Vec, if◌then◌else◌}
 use Rattle.std.specs.Option.{option_map}
-use Rattle.nq_base.specs.declared.NoMemory.{NoMemory}
+use Rattle.std.specs.Global.{Global}
 use Rattle.nq_base.specs.declared.Push.{Push}
 use Rattle.nq_base.specs.declared.Who.{Who}
 use Rattle.nq_model.specs.Settle.{dirty_body}
@@ -41,7 +41,7 @@ offered s w body =
 
 -- What was offered of these delayed writes, and what is kept then. Where nothing is offered, and where memory is wanting,
 -- nothing changes.
-abbrev pub Offers : List Push → Option Push → Result (Option (Vec ℕ)) NoMemory → (old new : Staged) → Type 0
+abbrev pub Offers : {E : Type 0} → List Push → Option Push → Result (Option (Vec ℕ Global)) E → (old new : Staged) → Type 0
 Offers dirty push (Ok None) old new = (offer_of old dirty push ≡ None) × (new ≡ old)
 Offers dirty push (Ok (Some v)) old new = option_map (λ o. offered old o.0 o.1) (offer_of old dirty push) ≡ Some (v.items, new)
 Offers dirty push (Err e) old new = new ≡ old

@@ -1,8 +1,9 @@
 -- Which push a COMMIT may stand for.
-use Rattle.std.specs.Prelude.{◌≡◌, ℕ, List, Option, Some, None, Result, Ok, Err}
+use Rattle.std.specs.Prelude.{◌≡◌, ℕ, List, Option, Some, None, Result, Ok, Err, Vec}
 use Rattle.std.specs.Option.{option_map}
-use Rattle.nq_base.specs.declared.NoMemory.{NoMemory}
+use Rattle.std.specs.Global.{Global}
 use Rattle.nq_stage.specs.declared.Pushed.{Pushed}
+use Rattle.nq_stage.specs.declared.Written.{Written}
 use Rattle.nq_stage.specs.Messages.{commit_bytes, written_of}
 use Rattle.nq_stage.specs.Reading.{push_in}
 use Rattle.nq_stager.specs.Acknowledged.{verifier_of}
@@ -29,7 +30,7 @@ shortened s p verifier write =
 
 -- What bytes were shortened to, and what is kept then. Where they are not shortened, and where memory is wanting, nothing
 -- changes.
-abbrev pub Shortens : List ℕ → Result (Option (Vec ℕ)) NoMemory → (old new : Staged) → Type 0
+abbrev pub Shortens : {E : Type 0} → List ℕ → Result (Option (Vec ℕ Global)) E → (old new : Staged) → Type 0
 Shortens bytes (Ok None) old new = (shortening old bytes ≡ None) × (new ≡ old)
 Shortens bytes (Ok (Some v)) old new = option_map (λ s. shortened old s.0 s.1 bytes) (shortening old bytes) ≡ Some (v.items, new)
 Shortens bytes (Err e) old new = new ≡ old

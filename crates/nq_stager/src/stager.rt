@@ -1,9 +1,10 @@
 //! The stager.
 
-ghost use Rattle.std.specs.Prelude.{◌≡◌, OnErr, IfOk, option_copied};
+ghost use Rattle.std.specs.Prelude.{◌≡◌, OnErr, IfOk};
+ghost use Rattle.std.specs.Option.{option_map};
 ghost use Rattle.nq_stager.specs.Hearing.{Hears, acknowledging, again_from};
-ghost use Rattle.nq_stager.specs.Offering.{Offers, first_unknown, offer_of, offered, written_by};
-ghost use Rattle.nq_stager.specs.Shortening.{Shortens, shortened, shortening};
+ghost use Rattle.nq_stager.specs.Offering.{Offers, first_unknown, offered};
+ghost use Rattle.nq_stager.specs.Shortening.{Shortens, shortened};
 ghost use Rattle.nq_stager.specs.Staged.{new_stager};
 
 use crate::acknowledged::{Acknowledged, find, note};
@@ -218,7 +219,7 @@ impl Stager {
 
     /// The push to be sent whole, where a datagram is an UNSTAGED to it.
     fn sends_again(&self, alloc: Global, datagram: &[u8]) -> Result<Option<Vec<u8>>, NoMemory>
-        ensures { IfOk result (λ v. option_items v ≡ again_from self.now.who.inc self.now.shortened datagram.now) }
+        ensures { IfOk result (λ v. option_map (λ w. w.items) v ≡ again_from self.now.who.inc self.now.shortened datagram.now) }
     {
         match &self.shortened {
             Some(push) if is_unstaged(push.xid, self.who.inc.0, datagram) => {
