@@ -46,7 +46,7 @@ fn sides_of<K: Keeper>(alloc: Global, world: &World<K>, hosts: u32) -> Result<Ve
             host: Host(host),
             inc: world.inc(Host(host)),
         };
-        let stager = Stager::new(alloc, who)?;
+        let stager = Stager::new(alloc, who);
         sides.push(Side { stager, last: None })?;
     }
     Ok(sides)
@@ -365,7 +365,7 @@ impl<K: Keeper> StagedWorld<K> {
                     inc: self.world.inc(*host),
                 };
                 self.sides[host.0 as usize] = Side {
-                    stager: Stager::new(self.alloc, who)?,
+                    stager: Stager::new(self.alloc, who),
                     last: None,
                 };
             }

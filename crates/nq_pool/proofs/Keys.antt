@@ -1,8 +1,9 @@
 -- Bodies are kept by their writes: what the map puts in front is what is kept.
-use Rattle.std.proofs.Common.{◌≡◌, ◌≤◌, ◌<◌, ℕ, ◌+◌, ◌-◌, ◌==◌, Bool, true, false, not, ◌&&◌, cond, List, [], ◌∷◌, length, take, filter, Option, Some, None, zero, suc, refl, sym, ap, ◌∙◌, arith, add-one}
+use Rattle.std.proofs.Common.{◌≡◌, ◌≤◌, ◌<◌, ℕ, ◌+◌, ◌-◌, ◌==◌, Bool, true, false, not, ◌&&◌, cond, List, [], ◌∷◌, length, take, Option, Some, None, zero, suc, refl, sym, ap, ◌∙◌, arith, add-one}
 use Rattle.std.specs.List.{IsDistinct}
 use Rattle.std.specs.Map.{keys_of, lookup_entry, remove_entry}
 use Rattle.std.specs.Option.{option_map_or, option_to_list}
+use Rattle.std.proofs.lemmas.Bool.Decides.{nat_tests}
 use Rattle.std.proofs.lemmas.List.{take_all}
 use Rattle.std.proofs.lemmas.Map.{NonePasses}
 use Rattle.std.proofs.lemmas.Map.Entries.{none_past_head}
@@ -91,3 +92,14 @@ module _ (eq : Written → Written → Bool) (test : IsTest eq) where
     -- a body that is put is in front, and what the map loses is what is not kept
     pub put-bodies : (c : LruCache Written (List ℕ)) (body : List ℕ) (most : ℕ) → c.cap ≡ most → 0 < most → IsDistinct eq (keys_of c.entries) → length c.entries ≤ most → put_entries eq c w body ≡ with_body_of most w body c.entries
     put-bodies c body most room some d few = put-step c body most (lookup_entry (eq w) c.entries) refl room some d few
+
+right-nested : (a b c d e f g h i j : ℕ) → (a == b && (c == d && (e == f && (g == h && i == j)))) ≡ (a == b && c == d && e == f && g == h && i == j)
+right-nested a b c d e f g h i j = grind (arith, nat_tests)
+
+-- the test of keys is that of the writes
+pub keys-test : (v w : Written) → (v.host == w.host && (v.inc == w.inc && (v.file == w.file && (v.block == w.block && v.last == w.last)))) ≡ is_same v w
+keys-test v w = right-nested v.host w.host v.inc w.inc v.file w.file v.block w.block v.last w.last
+
+-- what the map puts is what is kept, whatever its test is
+pub put-kept : {eq : Written → Written → Bool} (w : Written) (c : LruCache Written (List ℕ)) (body : List ℕ) (most : ℕ) → IsDistinct eq (keys_of c.entries) → IsTest eq → c.cap ≡ most → 0 < most → length c.entries ≤ most → put_entries eq c w body ≡ with_body_of most w body c.entries
+put-kept {eq} w c body most d test room some few = put-bodies eq test w c body most room some d few

@@ -1,6 +1,5 @@
 -- A body that is found is that of the newest STAGE of its write.
-use Rattle.std.proofs.Common.{◌≡◌, ℕ, ◌==◌, Bool, true, false, not, cond, List, [], ◌∷◌, take, filter, Option, Some, None, zero, suc, refl, sym, ap, ◌∙◌, if◌then◌else◌}
-use Rattle.std.specs.Map.{lookup}
+use Rattle.std.proofs.Common.{◌≡◌, ℕ, ◌==◌, Bool, true, false, not, cond, List, [], ◌∷◌, take, Option, Some, None, zero, suc, refl, ◌∙◌, if◌then◌else◌}
 use Rattle.std.proofs.lemmas.Bool.{eqb-true}
 use Rattle.nq_stage.specs.declared.Commit.{Commit}
 use Rattle.nq_stage.specs.declared.Written.{Written}
@@ -9,8 +8,8 @@ use Rattle.nq_stage.specs.Reading.{Stage}
 use Rattle.nq_stage.specs.Writes.{is_same}
 use Rattle.nq_stage.proofs.Writes.{same_write}
 use Rattle.nq_pool.specs.Bodies.{Bodies, others, most_bodies, with_body_of, with_body, body_of}
-use Rattle.nq_pool.specs.Answering.{Answer, write, unstaged, own_stage, staged, body_for, answered_as, answered}
-use Rattle.nq_pool.specs.Laws.{after, pool_after, body_or, newest, IsOfBoot, AnswersWithItsBoot}
+use Rattle.nq_pool.specs.Answering.{write, own_stage, body_for, answered_as}
+use Rattle.nq_pool.specs.Laws.{after, pool_after, body_or, newest, AnswersWithItsBoot}
 
 -- what is found among the first ones is found among all
 taken-step : (b : Bool) (e : Written × List ℕ) (x : List ℕ) (some all : Option (List ℕ)) → (some ≡ Some x → all ≡ Some x) → cond b (Some e.1) some ≡ Some x → cond b (Some e.1) all ≡ Some x

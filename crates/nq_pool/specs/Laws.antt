@@ -1,13 +1,12 @@
 -- What a pool never answers with: a body of an earlier boot, of another incarnation or of another write.
 use Rattle.std.specs.Prelude.{◌≡◌, ℕ, List, [], ◌∷◌, Option, Some, None, if◌then◌else◌}
-use Rattle.std.specs.Option.{option_map, option_map_or}
 use Rattle.nq_stage.specs.declared.Commit.{Commit}
 use Rattle.nq_stage.specs.declared.Written.{Written}
 use Rattle.nq_stage.specs.Messages.{write_bytes, written_of}
 use Rattle.nq_stage.specs.Reading.{Stage}
 use Rattle.nq_stage.specs.Writes.{is_same}
 use Rattle.nq_pool.specs.Bodies.{Bodies}
-use Rattle.nq_pool.specs.Answering.{own_stage, own_commit, staged, answered, write}
+use Rattle.nq_pool.specs.Answering.{own_stage, staged, answered, write}
 
 -- a pool after bytes from a host: after a STAGE what is kept then, else the pool
 abbrev pub after : Bodies → Option Stage → Bodies

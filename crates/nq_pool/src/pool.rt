@@ -107,7 +107,7 @@ impl Pool {
 
     /// Keeps the body of a STAGE, and gives the reply.
     fn take(&mut self, alloc: Global, stage: LentStage<'_>) -> Result<Vec<u8>, NoMemory>
-        requires { length stage.entry.body.now ≡ 4096 }
+        requires { length stage.body.now ≡ 4096 }
         ensures taken { IfOk result (λ v. (v.items, self.new) ≡ staged self.old (lent_stage stage.entry)) }
         ensures refused { OnErr result (self.new ≡ self.old) }
     {

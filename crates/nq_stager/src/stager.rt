@@ -11,9 +11,7 @@ use crate::acknowledged::{Acknowledged, find, note};
 use nq_base::{Block, Loss, NoMemory, Who};
 use nq_dirty::Dirty;
 use nq_rpc::Bytes;
-use nq_stage::{
-    Pushed, Written, commit_bytes, is_unstaged, read_push, read_verifier, stage_bytes,
-};
+use nq_stage::{Pushed, Written, commit_bytes, is_unstaged, read_push, read_verifier, stage_bytes};
 use std::alloc::Global;
 use std::marker::Model;
 
@@ -73,20 +71,16 @@ pub enum HeardStage {
 
 impl Stager {
     /// The stager of an incarnation: nothing was offered. It takes no memory.
-    ///
-    /// # Errors
-    ///
-    /// Only want of memory, which does not come.
-    pub fn new(alloc: Global, who: Who) -> Result<Stager, NoMemory>
-        ensures { IfOk result (λ s. s ≡ new_stager who) }
+    pub fn new(alloc: Global, who: Who) -> Stager
+        ensures { result ≡ new_stager who }
     {
-        Ok(Stager {
+        Stager {
             who,
             next: FIRST_XID,
             offered: None,
             shortened: None,
             acknowledged: Acknowledged::new(alloc),
-        })
+        }
     }
 
     /// The STAGE of the first delayed write, in their order, of which the server did not acknowledge the body; None exactly

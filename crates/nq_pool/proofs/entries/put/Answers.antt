@@ -1,6 +1,6 @@
-use Rattle.std.proofs.Common.{ap, ◌∙◌, refl, sym, arith}
+use Rattle.std.proofs.Common.{ap, ◌∙◌, sym, arith}
 use Rattle.nq_pool.specs.Bodies.{most_bodies}
-use Rattle.nq_pool.proofs.Keys.{put-bodies, with_body-is}
+use Rattle.nq_pool.proofs.Keys.{keys-test, put-kept, with_body-is}
 use Rattle.nq_pool.proofs.entries.put.Goals as goal
 
 pub returns-clause-put : goal.returns-clause-put
@@ -8,5 +8,5 @@ returns-clause-put c =
     let room = c.requires in
     let few = c.len-distinct.ensures.valid.1 in
     ap (λ x. x.entries) c.in_ok-put.ensures.entries
-    ∙ put-bodies _ (λ v w. refl) c.args.written c.args.entries.now c.args.body most_bodies room (omega arith) c.len-distinct.ensures.valid.0 (omega (arith, few, room))
+    ∙ put-kept c.args.written c.args.entries.now c.args.body most_bodies c.len-distinct.ensures.valid.0 keys-test room (omega arith) (omega (arith, few, room))
     ∙ sym (with_body-is c.args.written c.args.body c.args.entries.now.entries)
