@@ -1,3 +1,5 @@
 pub mod Checks
+pub mod KeptWalks
 pub mod Names
+pub mod Places
 pub mod Walks

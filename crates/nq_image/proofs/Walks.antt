@@ -6,8 +6,8 @@ use Rattle.std.specs.List.{sum_by, All}
 use Rattle.std.proofs.lemmas.Bool.Decides.{nat_tests}
 use Rattle.std.proofs.Math.Seq.{drop-cons}
 use Rattle.nq_base.specs.declared.HostRow.{HostRow}
-use Rattle.nq_image.specs.Check.{tested, judged}
-use Rattle.nq_image.specs.Hosts.{host_checks, host_of, hosts_checks}
+use Rattle.nq_image.specs.Check.{tested}
+use Rattle.nq_image.specs.Hosts.{host_checks, host_of, hosts_checks, hosts_of}
 use Rattle.nq_image.specs.Layout.{piece, word_in, are_zeros}
 use Rattle.nq_image.specs.Rows.{blocks_of, row_checks, rows_checks, slot_of, slots_of}
 use Rattle.nq_image.specs.Tables.{is_entry, marked, marks_behind, table_checks, table_of, is_id, ids_checks, ids_of, slot_checks, slot_table, slot_marks, tables_checks, tables_blocks, tables_marks}
@@ -18,30 +18,42 @@ use Rattle.nq_image.specs.declared.rows.Version.{Version}
 use Rattle.nq_image.specs.Reading.{Reads}
 use Rattle.nq_image.proofs.Checks.{passes, fails, tested-value}
 
-one-less : (count i : ℕ) → i < count → count - i ≡ suc (count - (i + 1))
+pub one-less : (count i : ℕ) → i < count → count - i ≡ suc (count - (i + 1))
 one-less count i lt = omega arith
 
 -- a host row that is right leaves the answer to those behind it
-pub host-passes : (count i place : ℕ) (rest : List ℕ) (row : HostRow) (whole : Result Unit ℕ) → i < count → tested (host_checks place (take 32 rest)) (host_of (take 32 rest)) ≡ Ok row → judged (hosts_checks (count - i) place rest) ≡ whole → judged (hosts_checks (count - (i + 1)) (place + 32) (drop 32 rest)) ≡ whole
-unfolding hosts_checks
-host-passes count i place rest row whole lt right same =
-    let P : ℕ → Type 0 = λ n. judged (hosts_checks n place rest) ≡ whole in
-    sym (passes (host_checks place (take 32 rest)) (hosts_checks (count - (i + 1)) (place + 32) (drop 32 rest)) (host_of (take 32 rest)) row tt right) ∙ subst P (one-less count i lt) same
+pub host-passes : (count i at : ℕ) (hosts : List HostRow) (rest : List ℕ) (row : HostRow) (whole : Result (List HostRow) ℕ) → i < count → tested (host_checks at (take 32 rest)) (host_of (take 32 rest)) ≡ Ok row → tested (hosts_checks (count - i) at rest) (hosts ++ hosts_of (count - i) rest) ≡ whole → tested (hosts_checks (count - (i + 1)) (at + 32) (drop 32 rest)) ((hosts ++ row ∷ []) ++ hosts_of (count - (i + 1)) (drop 32 rest)) ≡ whole
+unfolding hosts_checks hosts_of
+host-passes count i at hosts rest row whole lt right same =
+    let n = count - (i + 1) in
+    let behind = drop 32 rest in
+    let own = host_of (take 32 rest) in
+    let P : ℕ → Type 0 = λ m. tested (hosts_checks m at rest) (hosts ++ hosts_of m rest) ≡ whole in
+    let s = subst P (one-less count i lt) same in
+    let p = sym (passes (host_checks at (take 32 rest)) (hosts_checks n (at + 32) behind) own row (hosts ++ own ∷ hosts_of n behind) right) ∙ s in
+    let R : List HostRow → Type 0 = λ v. tested (hosts_checks n (at + 32) behind) v ≡ whole in
+    let Q : HostRow → Type 0 = λ o. tested (hosts_checks n (at + 32) behind) ((hosts ++ o ∷ []) ++ hosts_of n behind) ≡ whole in
+    subst Q (tested-value (host_checks at (take 32 rest)) own row right) (subst R (sym (append_assoc hosts (own ∷ []) (hosts_of n behind))) p)
 
 -- one that is wrong is the answer
-pub host-fails : (count i place : ℕ) (rest : List ℕ) (p : ℕ) (whole : Result Unit ℕ) → i < count → tested (host_checks place (take 32 rest)) (host_of (take 32 rest)) ≡ Err p → judged (hosts_checks (count - i) place rest) ≡ whole → Err p ≡ whole
-unfolding hosts_checks
-host-fails count i place rest p whole lt wrong same =
-    let P : ℕ → Type 0 = λ n. judged (hosts_checks n place rest) ≡ whole in
-    sym (fails (host_checks place (take 32 rest)) (hosts_checks (count - (i + 1)) (place + 32) (drop 32 rest)) (host_of (take 32 rest)) tt p wrong) ∙ subst P (one-less count i lt) same
+pub host-fails : (count i at : ℕ) (hosts : List HostRow) (rest : List ℕ) (p : ℕ) (whole : Result (List HostRow) ℕ) → i < count → tested (host_checks at (take 32 rest)) (host_of (take 32 rest)) ≡ Err p → tested (hosts_checks (count - i) at rest) (hosts ++ hosts_of (count - i) rest) ≡ whole → Err p ≡ whole
+unfolding hosts_checks hosts_of
+host-fails count i at hosts rest p whole lt wrong same =
+    let n = count - (i + 1) in
+    let behind = drop 32 rest in
+    let own = host_of (take 32 rest) in
+    let P : ℕ → Type 0 = λ m. tested (hosts_checks m at rest) (hosts ++ hosts_of m rest) ≡ whole in
+    sym (fails (host_checks at (take 32 rest)) (hosts_checks n (at + 32) behind) own (hosts ++ own ∷ hosts_of n behind) p wrong) ∙ subst P (one-less count i lt) same
 
 -- behind the last row no field is wrong
-pub none-left : (count i place : ℕ) (rest : List ℕ) (whole : Result Unit ℕ) → count ≤ i → judged (hosts_checks (count - i) place rest) ≡ whole → Ok tt ≡ whole
-unfolding hosts_checks
-none-left count i place rest whole le same =
-    let P : ℕ → Type 0 = λ n. judged (hosts_checks n place rest) ≡ whole in
+pub no-host-left : (count i at : ℕ) (hosts : List HostRow) (rest : List ℕ) (whole : Result (List HostRow) ℕ) → count ≤ i → tested (hosts_checks (count - i) at rest) (hosts ++ hosts_of (count - i) rest) ≡ whole → whole ≡ Ok hosts
+unfolding hosts_checks hosts_of
+no-host-left count i at hosts rest whole le same =
+    let P : ℕ → Type 0 = λ m. tested (hosts_checks m at rest) (hosts ++ hosts_of m rest) ≡ whole in
     let none : count - i ≡ 0 = omega arith in
-    subst P none same
+    let s : Ok (hosts ++ []) ≡ whole = subst P none same in
+    let Q : List HostRow → Type 0 = λ v. whole ≡ Ok v in
+    subst Q (append-nil hosts) (sym s)
 
 -- ---- answers
 
@@ -154,7 +166,7 @@ no-mark-left count i marks rest last le same =
 
 -- ---- ids
 
-one-more : {X : Type 0} (xs : List X) (i : ℕ) (x : X) → i < length xs → x ≡ get_or xs i x → drop i xs ≡ x ∷ drop (i + 1) xs
+pub one-more : {X : Type 0} (xs : List X) (i : ℕ) (x : X) → i < length xs → x ≡ get_or xs i x → drop i xs ≡ x ∷ drop (i + 1) xs
 one-more xs i x lt is =
     let e : drop i xs ≡ get_or xs i x ∷ drop (suc i) xs = drop-cons xs i x lt in
     let f : suc i ≡ i + 1 = omega arith in
@@ -182,7 +194,7 @@ length-zero : {X : Type 0} (xs : List X) → length xs ≡ 0 → xs ≡ []
 length-zero [] e = refl
 length-zero (x ∷ xs) e = absurd (omega arith)
 
-drop-all : {X : Type 0} (xs : List X) (i : ℕ) → length xs ≤ i → drop i xs ≡ []
+pub drop-all : {X : Type 0} (xs : List X) (i : ℕ) → length xs ≤ i → drop i xs ≡ []
 drop-all xs i le = length-zero (drop i xs) (omega (arith, length-drop i xs))
 
 pub no-id-left : (next at i : ℕ) (ids rest : List ℕ) (slots : List (Option Slot)) (whole : Result (List ℕ) ℕ) → length slots ≤ i → are_zeros rest ≡ true → tested (ids_checks next at ids (drop i slots) rest) (ids ++ ids_of (drop i slots) rest) ≡ whole → whole ≡ Ok ids

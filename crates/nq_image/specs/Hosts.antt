@@ -1,6 +1,5 @@
 -- The rows of the hosts in an image.
-use Rattle.std.specs.Prelude.{ℕ, ◌+◌, ◌-◌, ◌*◌, ◌==◌, List, [], ◌∷◌, ◌++◌, Option, Some, None, take, drop, nat_lt, is_some, unwrap_or, zero, suc, replicate, if◌then◌else◌}
-use Rattle.std.specs.Int.{w32, w64, to_be_bytes}
+use Rattle.std.specs.Prelude.{ℕ, ◌+◌, ◌==◌, List, [], ◌∷◌, ◌++◌, Option, Some, None, take, drop, nat_lt, is_some, unwrap_or, zero, suc, if◌then◌else◌}
 use Rattle.nq_base.specs.declared.HostRow.{HostRow}
 use Rattle.nq_base.specs.declared.Verdict.{Verdict}
 use Rattle.nq_image.specs.Check.{Check, check}
@@ -17,16 +16,6 @@ verdict_of n =
     else if n == 5 then Some Verdict.Stale
     else if n == 6 then Some Verdict.TryLater
     else None
-
--- the number of a verdict
-abbrev pub number_of : Verdict → ℕ
-number_of Verdict.Done = 0
-number_of Verdict.Fenced = 1
-number_of Verdict.Exist = 2
-number_of Verdict.NoSpace = 3
-number_of Verdict.Invalid = 4
-number_of Verdict.Stale = 5
-number_of Verdict.TryLater = 6
 
 -- what a host's row has to be: its incarnation is below 2^31, its verdict is one, its sequence is below 2^61, and its last
 -- eight bytes are zeros. Its value may be any
@@ -46,15 +35,6 @@ host_of row = record {
   verdict = unwrap_or (verdict_of (word_in 4 row)) Verdict.Done;
   value = hyper_in 16 row;
 }
-
--- the 32 bytes of a host row
-unfoldable pub host_bytes : HostRow → List ℕ
-host_bytes row =
-    to_be_bytes w32 row.inc
-    ++ to_be_bytes w32 (number_of row.verdict)
-    ++ to_be_bytes w64 row.seq
-    ++ to_be_bytes w64 row.value
-    ++ replicate 8 0
 
 -- what so many rows have to be, of which the first stands at a place
 unfoldable pub hosts_checks : (count place : ℕ) (rows : List ℕ) → List Check

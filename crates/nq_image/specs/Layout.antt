@@ -3,15 +3,7 @@ use Rattle.std.specs.Prelude.{ℕ, ◌+◌, ◌*◌, ◌-◌, ◌/◌, ◌==◌,
 use Rattle.std.specs.Int.{w32, w64, from_be_bytes}
 use Rattle.std.specs.List.{list_all}
 
--- the row of a host
-abbrev pub host_place : (host : ℕ) → ℕ
-host_place host = 64 + 32 * host
-
--- the row of a file
-abbrev pub row_place : (row : ℕ) → ℕ
-row_place row = 2112 + 96 * row
-
--- a block
+-- where a physical block begins
 abbrev pub block_place : (block : ℕ) → ℕ
 block_place block = 40960 + 4096 * block
 

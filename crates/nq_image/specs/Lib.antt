@@ -2,7 +2,10 @@ pub mod Check
 pub mod Heads
 pub mod Hosts
 pub mod Image
+pub mod Kept
 pub mod Layout
 pub mod Reading
 pub mod Rows
+pub mod Seen
 pub mod Tables
+pub mod Whole

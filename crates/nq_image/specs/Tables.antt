@@ -3,7 +3,7 @@ use Rattle.std.specs.Prelude.{ℕ, ◌+◌, ◌-◌, ◌*◌, ◌==◌, Bool, tr
 use Rattle.std.specs.List.{list_any}
 use Rattle.nq_image.specs.declared.rows.Slot.{Slot}
 use Rattle.nq_image.specs.Check.{Check, check}
-use Rattle.nq_image.specs.Layout.{piece, word_in, are_zeros, whole_blocks}
+use Rattle.nq_image.specs.Layout.{block_place, piece, word_in, are_zeros, whole_blocks}
 
 -- how many physical blocks there are: those of all files, and those of the tables
 abbrev pub most_physical : ℕ
@@ -105,7 +105,7 @@ marked_from block marks = position (λ mark. mark) (drop block marks)
 -- every block that a mark names is held, or the place of the least that is not
 abbrev pub held_from : (block : ℕ) → Option ℕ → Result Unit ℕ
 held_from block None = Ok tt
-held_from block (Some behind) = Err (40960 + 4096 * (block + behind))
+held_from block (Some behind) = Err (block_place (block + behind))
 
 -- a disk of so many bytes holds every block that has a mark whole, or the place of the least that it does not
 unfoldable pub held : (size : ℕ) (marks : List Bool) → Result Unit ℕ

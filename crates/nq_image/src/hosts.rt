@@ -1,12 +1,14 @@
 //! The rows of the hosts.
 
 ghost use Rattle.std.specs.Prelude.{◌≡◌, ◌<◌, ◌+◌, ◌^◌, ◌*◌, length};
-ghost use Rattle.nq_image.specs.Check.{judged, tested};
-ghost use Rattle.nq_image.specs.Hosts.{verdict_of as verdict_at, host_checks, host_of, hosts_checks};
+ghost use Rattle.nq_image.specs.Check.{tested};
+ghost use Rattle.nq_image.specs.Hosts.{verdict_of as verdict_at, host_checks, host_of, hosts_checks, hosts_of};
+ghost use Rattle.nq_image.specs.Reading.{Reads};
 
-use crate::fault::WrongField;
+use crate::fault::{ImageFault, WrongField};
 use crate::fields::{are_zeros, hyper_in, word_in};
 use nq_base::{HostRow, Inc, Seq, Verdict};
+use std::alloc::Global;
 
 #[tactic(auto, unfolding(crate::specs::Hosts::verdict_of))]
 fn verdict_of(number: u32) -> Option<Verdict>
@@ -57,23 +59,30 @@ pub fn read_host(row: &[u8], place: u64) -> Result<HostRow, WrongField>
     })
 }
 
-/// Tests so many host rows, of which the first stands at `place` of an image.
+/// So many host rows, of which the first stands at `place` of an image.
 ///
 /// # Errors
 ///
-/// The place of the first field that is wrong.
-pub fn check_hosts(rows: &[u8], count: usize, place: u64) -> Result<(), WrongField>
+/// `BadField` at the first field that is wrong; `Memory`.
+pub fn read_hosts(
+    alloc: Global,
+    rows: &[u8],
+    count: usize,
+    place: u64,
+) -> Result<Vec<HostRow>, ImageFault>
     requires size { length rows.now ≡ 32 * count }
     requires room { place + 32 * count < 2 ^ 64 }
-    ensures { result ≡ judged (hosts_checks count place rows.now) }
+    ensures { Reads (λ hosts. hosts.items) result (tested (hosts_checks count place rows.now) (hosts_of count rows.now)) }
 {
+    let mut hosts = Vec::new(alloc);
     let mut rest = rows;
     let mut at = place;
     for _ in 0..count {
         let (row, behind) = rest.split_at(32);
-        read_host(row, at)?;
+        let host = read_host(row, at)?;
+        hosts.push(host)?;
         rest = behind;
         at += 32;
     }
-    Ok(())
+    Ok(hosts)
 }

@@ -1,6 +1,6 @@
 //! The block of the ids, and which blocks a disk holds, in an image of version 2.
 
-ghost use Rattle.std.specs.Prelude.{◌≡◌, ◌==◌, position, IfSome, ◌<◌, ◌≤◌, ◌+◌, ◌^◌, ◌*◌, [], length};
+ghost use Rattle.std.specs.Prelude.{◌≡◌, ◌==◌, position, IfOk, IfSome, ◌<◌, ◌≤◌, ◌+◌, ◌^◌, ◌*◌, [], length};
 ghost use Rattle.std.specs.List.{list_any};
 ghost use Rattle.nq_image.specs.Check.{tested};
 ghost use Rattle.nq_image.specs.Layout.{whole_blocks as whole_in};
@@ -44,7 +44,8 @@ pub fn read_ids(
 ) -> Result<Vec<u32>, ImageFault>
     requires size { 4 * length slots.now ≤ length block.now }
     requires room { place + 4 * length slots.now < 2 ^ 64 }
-    ensures { Reads (λ ids. ids.items) result (tested (ids_checks next place [] slots.now block.now) (ids_of slots.now block.now)) }
+    ensures told { Reads (λ ids. ids.items) result (tested (ids_checks next place [] slots.now block.now) (ids_of slots.now block.now)) }
+    ensures all { IfOk result (λ ids. length ids.items ≡ length slots.now) }
 {
     let mut ids = Vec::new(alloc);
     let mut rest = block;

@@ -1,27 +1,38 @@
 //! A whole image, in one piece of memory.
 
 ghost use Rattle.std.specs.Prelude.{◌≡◌, ◌≤◌, ◌+◌, ◌*◌, All, IfOk, length, sum_by};
-ghost use Rattle.nq_image.specs.Image.{FoundOne, FoundTables, FoundTwo, image_one, image_two, no_marks, rows_in, tables_in};
+ghost use Rattle.nq_image.specs.Image.{image_one, image_two, no_marks, rows_in, tables_in};
 ghost use Rattle.nq_image.specs.Reading.{Reads};
 ghost use Rattle.nq_image.specs.Rows.{blocks_of};
+ghost use Rattle.nq_image.specs.Seen.{seen_one, seen_rows, seen_tables, seen_two};
 
 use crate::fault::ImageFault;
 use crate::fields::{are_zeros, piece};
 use crate::heads::{Boots, Front, read_boots, read_front};
-use crate::hosts::check_hosts;
+use crate::hosts::read_hosts;
 use crate::ids::{check_held, read_ids, whole_blocks};
 use crate::rows::{Slot, Version, blocks_before, read_rows};
 use crate::tables::read_tables;
+use nq_base::HostRow;
 use std::alloc::{AllocError, Global};
 
-/// What stands in an image of version 1: the numbers of the server, and the file rows. Each file begins at the block behind
-/// those of the files before it.
+/// The rows of an image.
+#[derive(Drop)]
+pub struct Rows {
+    /// The rows of the 64 hosts.
+    pub hosts: Vec<HostRow>,
+    /// The 256 file rows, None for an unused one.
+    pub slots: Vec<Option<Slot>>,
+}
+
+/// What stands in an image of version 1: the numbers of the server, and the rows. Each file begins at the block behind those
+/// of the files before it.
 #[derive(Drop)]
 pub struct ImageOne {
     /// The numbers of the server.
     pub boots: Boots,
-    /// The 256 file rows, None for an unused one.
-    pub slots: Vec<Option<Slot>>,
+    /// The rows of hosts and files.
+    pub rows: Rows,
 }
 
 /// What stands in the tables of an image of version 2.
@@ -40,31 +51,27 @@ pub struct Tables {
 pub struct ImageTwo {
     /// The numbers of the server, and where the tables are.
     pub front: Front,
-    /// The 256 file rows, None for an unused one.
-    pub slots: Vec<Option<Slot>>,
+    /// The rows of hosts and files.
+    pub rows: Rows,
     /// What the tables say.
     pub tables: Tables,
 }
 
-/// The file rows, where the rows of the hosts and the zeros behind the file rows are right too.
+/// The rows of hosts and files, where the zeros behind them are right too.
 #[tactic(auto, unfolding(crate::specs::Image::rows_in))]
-fn read_slots(
-    alloc: Global,
-    version: Version,
-    bytes: &[u8],
-) -> Result<Vec<Option<Slot>>, ImageFault>
+fn read_all_rows(alloc: Global, version: Version, bytes: &[u8]) -> Result<Rows, ImageFault>
     requires { 40960 ≤ length bytes.now }
-    ensures told { Reads (λ slots. slots.items) result (rows_in version bytes.now) }
-    ensures all { IfOk result (λ slots. length slots.items ≡ 256) }
-    ensures few { IfOk result (λ slots. sum_by blocks_of slots.items ≤ 16384) }
-    ensures short { IfOk result (λ slots. All (λ slot. blocks_of slot ≤ 1024) slots.items) }
+    ensures told { Reads seen_rows result (rows_in version bytes.now) }
+    ensures all { IfOk result (λ rows. length rows.slots.items ≡ 256) }
+    ensures few { IfOk result (λ rows. sum_by blocks_of rows.slots.items ≤ 16384) }
+    ensures short { IfOk result (λ rows. All (λ slot. blocks_of slot ≤ 1024) rows.slots.items) }
 {
-    check_hosts(piece(bytes, 64, 2048), 64, 64)?;
+    let hosts = read_hosts(alloc, piece(bytes, 64, 2048), 64, 64)?;
     let slots = read_rows(alloc, version, piece(bytes, 2112, 24576), 256, 2112)?;
     if !are_zeros(piece(bytes, 26688, 1984)) {
         return Err(ImageFault::BadField(26688));
     }
-    Ok(slots)
+    Ok(Rows { hosts, slots })
 }
 
 /// What stands in these bytes as an image of version 1, whose redo record is closed or was applied before.
@@ -75,16 +82,18 @@ fn read_slots(
 #[tactic(auto, unfolding(crate::specs::Image::image_one))]
 pub fn read_one(alloc: Global, bytes: &[u8]) -> Result<ImageOne, ImageFault>
     requires { 40960 ≤ length bytes.now }
-    ensures { Reads (λ image. record { boots = image.boots; slots = image.slots.items }) result (image_one bytes.now) }
+    ensures told { Reads seen_one result (image_one bytes.now) }
+    ensures all { IfOk result (λ image. length image.rows.slots.items ≡ 256) }
+    ensures few { IfOk result (λ image. sum_by blocks_of image.rows.slots.items ≤ 16384) }
 {
     let boots = read_boots(piece(bytes, 0, 64))?;
-    let slots = read_slots(alloc, Version::One, bytes)?;
-    let blocks = u64::from(blocks_before(&slots));
+    let rows = read_all_rows(alloc, Version::One, bytes)?;
+    let blocks = u64::from(blocks_before(&rows.slots));
     let whole = whole_blocks(bytes.len() as u64);
     if blocks > whole {
         return Err(ImageFault::BadField(40960 + 4096 * whole));
     }
-    Ok(ImageOne { boots, slots })
+    Ok(ImageOne { boots, rows })
 }
 
 /// What stands in the tables, and that the disk holds the blocks that they name.
@@ -100,7 +109,8 @@ fn read_all_tables(
     requires all { length slots.now ≡ 256 }
     requires short { All (λ slot. blocks_of slot ≤ 1024) slots.now }
     requires marks { length marks.items ≡ 16641 }
-    ensures { Reads (λ tables. record { ids = tables.ids.items; blocks = tables.blocks.items; marks = tables.marks.items }) result (tables_in front.now slots.now marks.items bytes.now) }
+    ensures told { Reads seen_tables result (tables_in front.now slots.now marks.items bytes.now) }
+    ensures all { IfOk result (λ tables. length tables.ids.items ≡ 256) }
 {
     let place = 40960 + 4096 * u64::from(front.tables);
     let blocks = read_tables(alloc, bytes, place, slots, front.tables, &mut marks)?;
@@ -136,15 +146,18 @@ fn fresh_marks(alloc: Global, count: usize) -> Result<Vec<bool>, AllocError>
 #[tactic(auto, unfolding(crate::specs::Image::image_two))]
 pub fn read_two(alloc: Global, bytes: &[u8]) -> Result<ImageTwo, ImageFault>
     requires { 40960 ≤ length bytes.now }
-    ensures { Reads (λ image. record { front = image.front; slots = image.slots.items; tables = record { ids = image.tables.ids.items; blocks = image.tables.blocks.items; marks = image.tables.marks.items } }) result (image_two (no_marks 16641) bytes.now) }
+    ensures told { Reads seen_two result (image_two (no_marks 16641) bytes.now) }
+    ensures all { IfOk result (λ image. length image.rows.slots.items ≡ 256) }
+    ensures few { IfOk result (λ image. sum_by blocks_of image.rows.slots.items ≤ 16384) }
+    ensures ids { IfOk result (λ image. length image.tables.ids.items ≡ 256) }
 {
     let front = read_front(piece(bytes, 0, 64))?;
-    let slots = read_slots(alloc, Version::Two, bytes)?;
+    let rows = read_all_rows(alloc, Version::Two, bytes)?;
     let marks = fresh_marks(alloc, 16641)?;
-    let tables = read_all_tables(alloc, bytes, &front, &slots, marks)?;
+    let tables = read_all_tables(alloc, bytes, &front, &rows.slots, marks)?;
     Ok(ImageTwo {
         front,
-        slots,
+        rows,
         tables,
     })
 }

@@ -50,7 +50,7 @@ pub struct Slot {
     pub rev: Rev,
 }
 
-fn blocks_of(slot: &Option<Slot>) -> u32
+pub(crate) fn blocks_of(slot: &Option<Slot>) -> u32
     ensures { result ≡ blocks_at slot.now }
 {
     match slot {

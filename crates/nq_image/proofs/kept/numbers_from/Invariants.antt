@@ -1,0 +1,10 @@
+use Rattle.std.proofs.Common.{◌≡◌, ◌+◌, ◌-◌, ◌++◌, length}
+use Rattle.nq_image.specs.Kept.{numbers_from}
+use Rattle.nq_image.proofs.kept.numbers_from.Given as goal
+
+abbrev pub invariant-loop : goal.invariant-loop
+invariant-loop l = record {
+  at : l.number ≡ l.fn.first + l.counter;
+  size : length l.numbers.items ≡ l.counter;
+  same : l.numbers.items ++ numbers_from l.number (l.fn.count - l.counter) ≡ numbers_from l.fn.first l.fn.count;
+}

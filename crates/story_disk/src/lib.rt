@@ -1,0 +1,5 @@
+//! Changes of a disk through a redo record, stopped at each call of the disk.
+#![tactic(auto)]
+
+#[cfg(test)]
+mod stopping;
