@@ -10,3 +10,4 @@ pub mod Rows
 pub mod Seen
 pub mod Tables
 pub mod Whole
+pub mod Writing
