@@ -4,7 +4,9 @@ ghost use Rattle.std.specs.Prelude.{◌≡◌, ◌≤◌, ◌<◌, ◌+◌, ◌^
 ghost use Rattle.nq_base.specs.Plain.{plain_answer};
 ghost use Rattle.nq_datagrams.specs.Incoming.{hears_in};
 ghost use Rattle.nq_datagrams.specs.Messages.{FitsMessage};
+ghost use Rattle.nq_held.specs.Leases.{lease_of};
 ghost use Rattle.nq_model.specs.CachedAtOnce.{has_cached};
+ghost use Rattle.nq_model.specs.Client.{lease_on};
 ghost use Rattle.nq_model.specs.ClientStep.{attached_client, client_call, client_tick, starts};
 ghost use Rattle.nq_model.specs.Profile.{most_taken_by_client};
 ghost use Rattle.nq_model.specs.Settle.{after_read};
@@ -23,6 +25,7 @@ use crate::step::Step;
 use crate::stepping::{hear, make_call, make_tick, reserve, room_for_call};
 use nq_base::{Answer, Block, BlockNo, Call, FileId, Host, Inc, NoMemory, Spare, Ticks, Who};
 use nq_dirty::Dirty;
+use nq_held::Held;
 use nq_journal::Journal;
 use nq_wire::Outbox;
 use std::alloc::Global;
@@ -271,6 +274,13 @@ impl Client {
         ensures push { result.now.push ≡ self.now.client.push }
     {
         &self.step.state.dirty
+    }
+
+    /// What it holds on a file.
+    pub fn held(&self, file: FileId) -> Held
+        ensures { lease_of result ≡ lease_on file self.now.client.leases }
+    {
+        self.step.state.leases.on(file)
     }
 
     /// Ends the client: what it has under way and what waits is forgotten, and so are its delayed writes.
