@@ -7,5 +7,5 @@ mod playing;
 mod seeing;
 mod spans;
 
-pub use looking::{View, look};
+pub use looking::{Shown, View, look};
 pub use nq_base::NoMemory;

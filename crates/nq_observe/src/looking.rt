@@ -29,24 +29,32 @@ pub enum View {
     Why { line: usize },
 }
 
-/// Shows the run of a schedule, behind what stands in the page before. Where a schedule has a fault, the run ends before it; where
-/// its text has one, nothing is shown.
+/// Whether there was something to show.
+#[derive(Clone, Copy, PartialEq, Eq)]
+pub enum Shown {
+    /// What was asked for.
+    All,
+    /// Nothing: the text is no schedule, or the journal has no entry in the line that was asked for.
+    Nothing,
+}
+
+/// Shows the run of a schedule, behind what stands in the page before. Where a schedule has a fault, the run ends before it.
 ///
 /// # Errors
 ///
 /// Only want of memory. Then a front of what is to be shown was appended.
-pub fn look(alloc: Global, text: &[u8], view: View, page: &mut Vec<u8>) -> Result<(), NoMemory>
+pub fn look(alloc: Global, text: &[u8], view: View, page: &mut Vec<u8>) -> Result<Shown, NoMemory>
     requires { length text.now < 2 ^ 31 }
     ensures { Extends page.old.items page.new.items }
 {
     match parse(alloc, text) {
         Ok(script) => look_at(alloc, &script, view, page),
-        Err(_) => Ok(()),
+        Err(_) => Ok(Shown::Nothing),
     }
 }
 
 /// Shows the run of a schedule that was read.
-fn look_at(alloc: Global, script: &Script, view: View, page: &mut Vec<u8>) -> Result<(), NoMemory>
+fn look_at(alloc: Global, script: &Script, view: View, page: &mut Vec<u8>) -> Result<Shown, NoMemory>
     requires { IsReady script.now }
     ensures { Extends page.old.items page.new.items }
 {
@@ -61,7 +69,7 @@ fn look_over<L: Keeper + Drop>(
     keeper: L,
     view: View,
     page: &mut Vec<u8>,
-) -> Result<(), NoMemory>
+) -> Result<Shown, NoMemory>
     requires ready { IsReady script.now }
     requires empty { L.content keeper ≡ Some empty_kept }
     ensures { Extends page.old.items page.new.items }
@@ -83,12 +91,12 @@ fn show<L: Keeper>(
     script: &Script,
     view: View,
     page: &mut Vec<u8>,
-) -> Result<(), NoMemory>
+) -> Result<Shown, NoMemory>
     requires hosts { script.now.head.hosts ≡ length world.old.clients }
     requires longest { script.now.head.longest ≡ world.old.skew.window }
     ensures { Extends page.old.items page.new.items }
 {
-    let mut seer = Seer::new(alloc, script.head.hosts);
+    let mut seer = Seer::new(alloc, script.head.hosts)?;
     let mut delivered = Delivered::new(alloc);
     let bounds = Bounds {
         hosts: script.head.hosts,
@@ -108,16 +116,20 @@ fn show_record<L: Keeper>(
     record: &Record,
     view: View,
     page: &mut Vec<u8>,
-) -> Result<(), NoMemory>
+) -> Result<Shown, NoMemory>
     ensures { Extends page.old.items page.new.items }
 {
     match view {
-        View::Tell => tell(alloc, record, page),
+        View::Tell => {
+            tell(alloc, record, page)?;
+            Ok(Shown::All)
+        }
         View::Why { line } => show_why(alloc, world, record, line, page),
         View::Picture { from, to } => {
             let title = String::from_str(alloc, "nqnfs: a run")?;
             let chart = picture(alloc, record, title, from, to)?;
-            draw(alloc, &chart, page)
+            draw(alloc, &chart, page)?;
+            Ok(Shown::All)
         }
     }
 }
@@ -129,11 +141,15 @@ fn show_why<L: Keeper>(
     record: &Record,
     line: usize,
     page: &mut Vec<u8>,
-) -> Result<(), NoMemory>
+) -> Result<Shown, NoMemory>
     ensures { Extends page.old.items page.new.items }
 {
+    let entries = world.journal().entries();
     match line.checked_sub(2) {
-        Some(place) => why(alloc, record, world.journal().entries(), place, page),
-        None => Ok(()),
+        Some(place) if place < entries.len() => {
+            why(alloc, record, entries, place, page)?;
+            Ok(Shown::All)
+        }
+        _ => Ok(Shown::Nothing),
     }
 }

@@ -3,8 +3,8 @@
 ghost use Rattle.std.specs.Prelude.{◌≤◌, length};
 
 use crate::decoding::{Read, awaited, read_packet};
-use crate::spans::Spans;
-use nq_base::{Event, NoMemory, Party};
+use crate::spans::{Counts, Spans};
+use nq_base::{Event, NoMemory, Party, Ticks};
 use nq_datagrams::Awaited;
 use nq_keeper::Keeper;
 use nq_record::{Act, Moment, Record, Sent, entry_words};
@@ -19,12 +19,18 @@ pub(crate) struct Seer {
     spans: Spans,
     /// The numbers of the packets at their senders.
     xids: Vec<u32>,
+    /// For each host, in which event it started last.
+    starts: Vec<usize>,
+    /// For each host, how many blocks with delayed writes it has.
+    delays: Vec<usize>,
 }
 
 impl Seer {
     /// Nothing was seen.
-    pub(crate) fn new(alloc: Global, hosts: u32) -> Seer {
-        Seer {
+    pub(crate) fn new(alloc: Global, hosts: u32) -> Result<Seer, NoMemory> {
+        let starts = vec![in alloc; 0usize; hosts as usize]?;
+        let delays = vec![in alloc; 0usize; hosts as usize]?;
+        Ok(Seer {
             alloc,
             record: Record {
                 hosts,
@@ -32,34 +38,29 @@ impl Seer {
                 packets: Vec::new(alloc),
                 entries: Vec::new(alloc),
                 spans: Vec::new(alloc),
+                changes: Vec::new(alloc),
             },
-            spans: Spans::new(Vec::new(alloc)),
+            spans: Spans::new(alloc),
             xids: Vec::new(alloc),
-        }
+            starts,
+            delays,
+        })
     }
 
     /// What was seen.
     pub(crate) fn into_record(self) -> Record {
         let Seer {
             alloc: _,
-            record,
+            mut record,
             spans,
             xids: _xids,
+            starts: _starts,
+            delays: _delays,
         } = self;
-        let Record {
-            hosts,
-            moments,
-            packets,
-            entries,
-            spans: _spans,
-        } = record;
-        Record {
-            hosts,
-            moments,
-            packets,
-            entries,
-            spans: spans.spans,
-        }
+        let (spans, changes) = spans.into_parts();
+        record.spans = spans;
+        record.changes = changes;
+        record
     }
 
     /// Writes down what an event did that a world took in just now.
@@ -72,34 +73,78 @@ impl Seer {
         requires { hosts ≤ length world.now.clients }
     {
         let place = self.record.moments.len();
-        let packets = self.record.packets.len();
-        let entries = self.record.entries.len();
         let act = act_of(event);
         let party = self.party_of(event);
-        let asked = self.asked(act, place);
-        self.arrive(act, place)?;
+        let before = self.marks();
+        self.arrive(act, party, place)?;
         self.see_packets(world, act, party, place)?;
         self.see_entries(world)?;
-        let counts = self.spans.see(world, hosts, place, asked)?;
-        let clock = match party {
-            Party::Server => world.server_time(),
-            Party::Client(host) if host.0 < hosts => world.client(host).time(),
-            Party::Client(_) => world.server_time(),
-        };
+        let counts = self.see_spans(world, hosts, act, place)?;
+        let after = self.marks();
         let moment = Moment {
             party,
             act,
-            clock,
-            packets: packets as u64,
-            sent: self.record.packets.len().saturating_sub(packets) as u64,
-            entries,
-            made: self.record.entries.len().saturating_sub(entries),
+            clock: clock_of(world, hosts, party),
+            packets: before.packets as u64,
+            sent: after.packets.saturating_sub(before.packets) as u64,
+            entries: before.entries,
+            made: after.entries.saturating_sub(before.entries),
+            changes: before.changes,
+            changed: after.changes.saturating_sub(before.changes),
             rows: counts.rows,
             leases: counts.leases,
             dirty: counts.dirty,
+            delays: self.delays_of(world, hosts, party),
         };
         self.record.moments.push(moment)?;
         Ok(())
+    }
+
+    /// How much is written down.
+    fn marks(&self) -> Marks {
+        Marks {
+            packets: self.record.packets.len(),
+            entries: self.record.entries.len(),
+            changes: self.spans.changes.len(),
+        }
+    }
+
+    /// Writes down what lasts. A lease begins where it was first asked for.
+    fn see_spans<K: Keeper>(
+        &mut self,
+        world: &World<K>,
+        hosts: u32,
+        act: Act,
+        place: usize,
+    ) -> Result<Counts, NoMemory>
+        requires { hosts ≤ length world.now.clients }
+    {
+        let known = self.spans.spans.len();
+        let counts = self.spans.see(world, hosts, place)?;
+        if known < self.spans.spans.len() {
+            let asked = self.asked(act, place);
+            self.spans.date_leases(known, asked);
+        }
+        Ok(counts)
+    }
+
+    /// How many blocks with delayed writes the host has that acts, if that is another number than before.
+    fn delays_of<K: Keeper>(&mut self, world: &World<K>, hosts: u32, party: Party) -> Option<usize>
+        requires { hosts ≤ length world.now.clients }
+    {
+        let Party::Client(host) = party else {
+            return None;
+        };
+        if host.0 >= hosts {
+            return None;
+        }
+        let blocks = world.dirty(host).pending();
+        let before = self.delays.get_mut(host.0 as usize)?;
+        if *before == blocks {
+            return None;
+        }
+        *before = blocks;
+        Some(blocks)
     }
 
     /// Who acts in an event.
@@ -117,14 +162,27 @@ impl Seer {
         }
     }
 
-    /// Notes the arrival of a packet.
-    fn arrive(&mut self, act: Act, place: usize) -> Result<(), NoMemory> {
-        if let Act::Arrival(number) = act {
-            if let Some(sent) = self.record.packets.get_mut(number as usize) {
-                sent.arrivals.push(place)?;
+    /// Notes the arrival of a packet, or the start of a host.
+    fn arrive(&mut self, act: Act, party: Party, place: usize) -> Result<(), NoMemory> {
+        match act {
+            Act::Arrival(number) => {
+                if let Some(sent) = self.record.packets.get_mut(number as usize) {
+                    sent.arrivals.push(place)?;
+                }
             }
+            Act::Restart => self.start(party, place),
+            _ => {}
         }
         Ok(())
+    }
+
+    /// Notes the start of a host.
+    fn start(&mut self, party: Party, place: usize) {
+        if let Party::Client(host) = party {
+            if let Some(start) = self.starts.get_mut(host.0 as usize) {
+                *start = place;
+            }
+        }
     }
 
     /// Writes down the packets that were sent.
@@ -195,7 +253,7 @@ impl Seer {
         };
         let request = self.record.packets.get(number as usize)?;
         let xid = self.xids.get(number as usize)?;
-        let began = self.began(request.from, request.sent);
+        let began = self.began(request.from);
         for (place, earlier) in self.record.packets.iter().enumerate() {
             if earlier.from == request.from
                 && earlier.sent >= began
@@ -207,15 +265,33 @@ impl Seer {
         None
     }
 
-    /// The last event before a place in which a host started again; 0 where there is none.
-    fn began(&self, party: Party, before: usize) -> usize {
-        let mut began = 0;
-        for (place, moment) in self.record.moments.iter().enumerate() {
-            if place < before && moment.party == party && matches!(moment.act, Act::Restart) {
-                began = place;
-            }
+    /// The event in which a host started last; 0 where there is none.
+    fn began(&self, party: Party) -> usize {
+        let Party::Client(host) = party else {
+            return 0;
+        };
+        match self.starts.get(host.0 as usize) {
+            Some(start) => *start,
+            None => 0,
         }
-        began
+    }
+}
+
+/// How much is written down.
+#[derive(Clone, Copy)]
+struct Marks {
+    packets: usize,
+    entries: usize,
+    changes: usize,
+}
+
+/// What the clock of a party shows.
+fn clock_of<K: Keeper>(world: &World<K>, hosts: u32, party: Party) -> Ticks
+    requires { hosts ≤ length world.now.clients }
+{
+    match party {
+        Party::Client(host) if host.0 < hosts => world.client(host).time(),
+        _ => world.server_time(),
     }
 }
 

@@ -4,13 +4,19 @@ ghost use Rattle.std.specs.Prelude.{◌≤◌, length};
 
 use nq_base::{FileId, Host, NoMemory, Party};
 use nq_keeper::Keeper;
-use nq_record::{Kind, Span};
+use nq_record::{Change, Kind, Span};
 use nq_world::World;
+use std::alloc::Global;
 
-/// What lasts, and of how many files at most.
+/// What lasts, and what of it began or ended, in the order of the events.
 #[derive(Drop)]
 pub(crate) struct Spans {
+    alloc: Global,
     pub(crate) spans: Vec<Span>,
+    pub(crate) changes: Vec<Change>,
+    /// The places of the spans that go on.
+    open: Vec<usize>,
+    /// The highest file of which there was a row.
     files: u32,
 }
 
@@ -24,17 +30,45 @@ pub(crate) struct Counts {
 
 impl Spans {
     /// Nothing lasts.
-    pub(crate) fn new(spans: Vec<Span>) -> Spans {
-        Spans { spans, files: 0 }
+    pub(crate) fn new(alloc: Global) -> Spans {
+        Spans {
+            alloc,
+            spans: Vec::new(alloc),
+            changes: Vec::new(alloc),
+            open: Vec::new(alloc),
+            files: 0,
+        }
     }
 
-    /// Notes what there is after the event at a place. A lease that was not there before begins at `asked`.
+    /// The spans, and what of them began or ended.
+    pub(crate) fn into_parts(self) -> (Vec<Span>, Vec<Change>) {
+        let Spans {
+            alloc: _,
+            spans,
+            changes,
+            open: _open,
+            files: _,
+        } = self;
+        (spans, changes)
+    }
+
+    /// Lets the leases among the newest spans begin where they were asked for. So many spans are older.
+    pub(crate) fn date_leases(&mut self, older: usize, asked: usize) {
+        for place in older..self.spans.len() {
+            if let Some(span) = self.spans.get_mut(place) {
+                if let Kind::Lease { .. } = span.kind {
+                    span.first = asked;
+                }
+            }
+        }
+    }
+
+    /// Notes what there is after the event at a place.
     pub(crate) fn see<K: Keeper>(
         &mut self,
         world: &World<K>,
         hosts: u32,
         place: usize,
-        asked: usize,
     ) -> Result<Counts, NoMemory>
         requires { hosts ≤ length world.now.clients }
     {
@@ -42,11 +76,11 @@ impl Spans {
         let mut leases = 0usize;
         let mut dirty = 0usize;
         for host in 0..hosts {
-            let held = self.see_host(world, Host(host), place, asked)?;
+            let held = self.see_host(world, Host(host), place)?;
             leases = leases.saturating_add(held);
             dirty = dirty.saturating_add(world.dirty(Host(host)).pending());
         }
-        self.end(place);
+        self.end(place)?;
         Ok(Counts {
             rows,
             leases,
@@ -64,10 +98,10 @@ impl Spans {
                 host: row.who.host,
                 mode: row.mode,
             };
-            self.touch(Party::Server, kind, place, place)?;
+            self.touch(Party::Server, kind, place)?;
         }
         if !world.serving() {
-            self.touch(Party::Server, Kind::Recovery, place, place)?;
+            self.touch(Party::Server, Kind::Recovery, place)?;
         }
         Ok(rows.len())
     }
@@ -78,7 +112,6 @@ impl Spans {
         world: &World<K>,
         host: Host,
         place: usize,
-        asked: usize,
     ) -> Result<usize, NoMemory>
         requires { host < length world.now.clients }
     {
@@ -93,7 +126,7 @@ impl Spans {
                         file: FileId(file),
                         mode,
                     };
-                    self.touch(Party::Client(host), kind, place, asked)?;
+                    self.touch(Party::Client(host), kind, place)?;
                     count = count.saturating_add(1);
                 }
             }
@@ -101,24 +134,17 @@ impl Spans {
         Ok(count)
     }
 
-    /// Notes that something is there. Where it was not there before, it begins at `first`.
-    fn touch(
-        &mut self,
-        party: Party,
-        kind: Kind,
-        place: usize,
-        first: usize,
-    ) -> Result<(), NoMemory> {
-        for span in self.spans.iter_mut() {
-            if span.open && span.party == party && span.kind == kind {
-                span.last = place;
-                return Ok(());
-            }
+    /// Notes that something is there at a place. Where it was not there before, it begins there.
+    fn touch(&mut self, party: Party, kind: Kind, place: usize) -> Result<(), NoMemory> {
+        if goes_on(&mut self.spans, &self.open, party, kind, place) {
+            return Ok(());
         }
+        self.open.push(self.spans.len())?;
+        self.changes.push(Change { kind, begins: true })?;
         self.spans.push(Span {
             party,
             kind,
-            first,
+            first: place,
             last: place,
             open: true,
         })?;
@@ -126,12 +152,49 @@ impl Spans {
     }
 
     /// Ends what is no longer there after the event at a place.
-    fn end(&mut self, place: usize) {
-        for span in self.spans.iter_mut() {
-            if span.open && span.last < place {
-                span.open = false;
-                span.last = place;
+    fn end(&mut self, place: usize) -> Result<(), NoMemory> {
+        let mut open = Vec::new(self.alloc);
+        for index in &self.open {
+            match ended(&mut self.spans, *index, place) {
+                Some(kind) => self.changes.push(Change {
+                    kind,
+                    begins: false,
+                })?,
+                None => open.push(*index)?,
             }
         }
+        self.open = open;
+        Ok(())
+    }
+}
+
+/// Notes that one of the spans that go on is there, if it is one of them.
+fn goes_on(
+    spans: &mut Vec<Span>,
+    open: &[usize],
+    party: Party,
+    kind: Kind,
+    place: usize,
+) -> bool {
+    for index in open {
+        if let Some(span) = spans.get_mut(*index) {
+            if span.party == party && span.kind == kind {
+                span.last = place;
+                return true;
+            }
+        }
+    }
+    false
+}
+
+/// Ends a span that was not there at a place; what it was, if it ends.
+fn ended(spans: &mut Vec<Span>, index: usize, place: usize) -> Option<Kind> {
+    let span = spans.get_mut(index)?;
+    if span.last < place {
+        span.open = false;
+        span.last = place;
+        Some(span.kind)
+    } else {
+        None
     }
 }

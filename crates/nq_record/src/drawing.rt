@@ -105,16 +105,19 @@ fn column(alloc: Global, hosts: u32, party: &Party) -> Result<Column, NoMemory> 
 /// The packets that are sent or arrive in the rows that are shown.
 fn packets(alloc: Global, record: &Record, shown: &Rows) -> Result<Vec<Packet>, NoMemory> {
     let mut packets = Vec::new(alloc);
-    for sent in &record.packets {
+    for (number, sent) in record.packets.iter().enumerate() {
         let arrivals = arrivals(alloc, sent, shown)?;
         let row = shown.row_of(sent.sent);
         let is_lost = sent.arrivals.is_empty() && row.is_some();
         if is_lost || !arrivals.is_empty() {
+            let words = sent.words.as_str();
+            let text = format!(in alloc; "{number}: {words}")?;
             packets.push(Packet {
                 from: place_of(record.hosts, sent.from),
                 to: place_of(record.hosts, sent.to),
                 sent: row,
                 arrivals,
+                text,
             })?;
         }
     }

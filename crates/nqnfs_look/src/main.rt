@@ -1,6 +1,7 @@
 //! The program `nqnfs_look`: shows the run of a schedule, which it reads from the standard input. `nqnfs_look picture` draws it as a
-//! message sequence chart in SVG, `nqnfs_look tell` tells it, a line for each event, and `nqnfs_look why LINE` tells the events that
-//! led to the entry in a line of its journal. A faulty schedule is told as `nqnfs replay` tells it, with the same status.
+//! message sequence chart in SVG, with `--from N` and `--to N` only of some events, `nqnfs_look tell` tells it, a line for each event, and
+//! `nqnfs_look why LINE` tells the events that led to the entry in a line of its journal, or `no entry` where none stands there. A faulty
+//! schedule is told as `nqnfs replay` tells it, with the same status.
 #![tactic(auto)]
 
 mod words;
@@ -9,7 +10,7 @@ ghost use Rattle.std.specs.Prelude.{◌<◌, ◌^◌, length};
 
 use crate::words::view_of;
 use nq_io::{MemSink, MemSource, Put, Sink, Source, StdSink, StdSource, Whole, read_all};
-use nq_observe::{NoMemory, View, look};
+use nq_observe::{NoMemory, Shown, View, look};
 use nq_replay::{Ending, replay};
 use std::alloc::Global;
 use std::io::ErrorKind;
@@ -62,8 +63,10 @@ fn show_text<K: Sink>(alloc: Global, text: &[u8], view: View, out: &mut K) -> Re
         return Ok(status);
     }
     let mut page = Vec::new(alloc);
-    look(alloc, text, view, &mut page)?;
-    Ok(put(out, &page, Ending::Done))
+    match look(alloc, text, view, &mut page)? {
+        Shown::All => Ok(put(out, &page, Ending::Done)),
+        Shown::Nothing => Ok(put(out, b"no entry\n", Ending::Usage)),
+    }
 }
 
 /// Replays a schedule, and prints the line that tells its fault, if it has one; the status.
