@@ -6,7 +6,7 @@ const LOOK = `
 svg { display: block; width: 100%; height: auto; }
 .band { fill: transparent; stroke: none; }
 .band.now { fill: var(--mark); }
-.band.call { fill: var(--call); }
+.band.call { fill: var(--asked); }
 .hit { stroke: transparent; stroke-width: 12; fill: none; pointer-events: stroke; cursor: pointer; }
 .hit:focus { outline: none; }
 .lights .a, .lights .x { opacity: .25; }
@@ -20,7 +20,7 @@ function showChart(place, svg, point) {
   root.innerHTML = `<style>${LOOK}</style>${svg}`;
   const picture = root.querySelector("svg");
   const wide = Number(picture.getAttribute("width"));
-  picture.style.minWidth = `${Math.round(wide * 0.85)}px`;
+  picture.style.minWidth = `${Math.round(wide * 0.82)}px`;
   picture.style.maxWidth = `${Math.round(wide * 1.15)}px`;
   picture.removeAttribute("role");
   const chart = { picture, rows: rowsOf(picture, wide), arrows: arrowsOf(picture) };
@@ -32,13 +32,14 @@ function showChart(place, svg, point) {
 function rowsOf(picture, wide) {
   const rules = [...picture.querySelectorAll("path.r")];
   const end = Number(picture.getAttribute("height")) - 16;
+  const dots = [...picture.querySelectorAll("circle")];
   const tops = rules.map((rule) => Number(/M0 (\d+)/.exec(rule.getAttribute("d"))[1]));
   return rules.map((rule, place) => {
     const [first, last] = rule.nextElementSibling.textContent.split("-").map(Number);
     const bottom = place + 1 < tops.length ? tops[place + 1] : end;
     const band = element("rect", { class: "band", x: 0, y: tops[place], width: wide, height: bottom - tops[place] });
     rules[0].before(band);
-    return { first, last: last === undefined ? first : last, band };
+    return { first, last: last === undefined ? first : last, band, dot: dots[place] };
   });
 }
 
@@ -88,7 +89,7 @@ function markRow(chart, number) {
   for (const row of chart.rows) {
     const now = row.first <= number && number <= row.last;
     row.band.classList.toggle("now", now);
-    if (now) found = row.band;
+    if (now) found = row;
   }
   return found;
 }

@@ -80,8 +80,8 @@ function go(number, scroll) {
   place("event").textContent = `Event ${event.number} of ${shown.events.length - 1}: ${sentence(event)}`;
   place("state").replaceChildren(...shown.states[event.number].map((party) => card(party, event.who)));
   markLines(event);
-  const band = markRow(shown.chart, event.number);
-  if (scroll && band) bring(band);
+  const row = markRow(shown.chart, event.number);
+  if (scroll && row) bring(row);
 }
 
 // An event in one sentence.
@@ -145,14 +145,19 @@ function mark(name, isOf) {
   }
 }
 
-// Scrolls the page so that a row stands below the panel of the moment, and the whole of it is seen.
-function bring(band) {
+// Scrolls the page so that a row stands below the panel of the moment, and the chart so that the party that acts is seen.
+function bring({ band, dot }) {
   const panel = document.querySelector(".moment").getBoundingClientRect();
   const row = band.getBoundingClientRect();
   const low = window.innerHeight - 40;
   if (row.top < panel.bottom + 8 || row.bottom > low) {
     window.scrollBy(0, row.top - panel.bottom - Math.max(8, (low - panel.bottom) / 3));
   }
+  const chart = place("chart");
+  const frame = chart.getBoundingClientRect();
+  const acts = dot.getBoundingClientRect();
+  const room = Math.min(180, frame.width / 2);
+  if (acts.left < frame.left + room || acts.right > frame.right - room) chart.scrollLeft += acts.left - frame.left - frame.width / 2;
 }
 
 // Lights up the exchange of a packet, or nothing.
