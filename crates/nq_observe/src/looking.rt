@@ -54,7 +54,12 @@ pub fn look(alloc: Global, text: &[u8], view: View, page: &mut Vec<u8>) -> Resul
 }
 
 /// Shows the run of a schedule that was read.
-fn look_at(alloc: Global, script: &Script, view: View, page: &mut Vec<u8>) -> Result<Shown, NoMemory>
+fn look_at(
+    alloc: Global,
+    script: &Script,
+    view: View,
+    page: &mut Vec<u8>,
+) -> Result<Shown, NoMemory>
     requires { IsReady script.now }
     ensures { Extends page.old.items page.new.items }
 {

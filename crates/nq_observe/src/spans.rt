@@ -169,13 +169,7 @@ impl Spans {
 }
 
 /// Notes that one of the spans that go on is there, if it is one of them.
-fn goes_on(
-    spans: &mut Vec<Span>,
-    open: &[usize],
-    party: Party,
-    kind: Kind,
-    place: usize,
-) -> bool {
+fn goes_on(spans: &mut Vec<Span>, open: &[usize], party: Party, kind: Kind, place: usize) -> bool {
     for index in open {
         if let Some(span) = spans.get_mut(*index) {
             if span.party == party && span.kind == kind {
