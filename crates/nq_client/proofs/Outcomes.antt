@@ -1,5 +1,5 @@
 -- What comes of a step.
-use Rattle.std.proofs.Common.{◌≡◌, ◌≤◌, ◌<◌, ◌+◌, ◌*◌, ◌^◌, ◌++◌, ℕ, Bool, true, false, List, [], Option, Some, None, map, refl, sym, ap, subst, ◌∙◌, arith}
+use Rattle.std.proofs.Common.{is_some, ◌≡◌, ◌≤◌, ◌<◌, ◌+◌, ◌*◌, ◌^◌, ◌++◌, ℕ, Bool, true, false, List, [], Option, Some, None, map, refl, sym, ap, subst, ◌∙◌, arith}
 use Rattle.std.specs.Option.{option_map}
 use Rattle.std.proofs.lemmas.Bool.{false≢true}
 use Rattle.nq_base.specs.Plain.{plain_answer}
@@ -152,7 +152,7 @@ pub heard_within : (s0 s2 : State) (number : ℕ) (heard : Heard) (taken : ℕ) 
 heard_within s0 s2 number heard taken f h w lt =
     within_after (most_entries (client_of s0)) s2 (client_of s0) (on_heard (client_of s0) number heard) taken f (heard-within (client_of s0) number heard h) lt w.time w.calls w.seq w.number w.xid w.tied
 
--- room for a block was refused, and all is as before
-pub refused_as : (o : Option ClientStep) (old new : Counted) (out outs : Datagrams) (log logs : EntryList) → Stays old new out outs log logs → Received told.Memory o old new out outs log logs
-refused_as None old new out outs log logs stays = stays
-refused_as (Some t) old new out outs log logs stays = stays
+-- memory was refused for a datagram that counts, and all is as before
+pub refused_as : (o : Option ClientStep) (old new : Counted) (out outs : Datagrams) (log logs : EntryList) → is_some o ≡ true → Stays old new out outs log logs → Received told.Memory o old new out outs log logs
+refused_as None old new out outs log logs counts stays = absurd (false≢true counts)
+refused_as (Some t) old new out outs log logs counts stays = stays

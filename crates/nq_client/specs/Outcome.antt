@@ -55,11 +55,10 @@ pub record Counts (old new : Counted) (out outs : Datagrams) (log logs : EntryLi
   pub datagrams : outs.datagrams ≡ out.datagrams
   pub entries : logs.entries ≡ log.entries
 
--- what comes of a datagram that makes no step: it is counted, unless all was taken in, or room for a block was refused
+-- what comes of a datagram that makes no step: it is counted, unless all was taken in
 abbrev pub Ignores : Heard → (old new : Counted) (out outs : Datagrams) (log logs : EntryList) → Type 0
 Ignores Heard.Ignored old new out outs log logs = Counts old new out outs log logs
 Ignores Heard.Spent old new out outs log logs = Stays old new out outs log logs
-Ignores Heard.Memory old new out outs log logs = Stays old new out outs log logs
 Ignores other old new out outs log logs = ⊥
 
 -- what comes of a datagram, by the step that it makes, if it makes one

@@ -169,8 +169,8 @@ impl Client {
     }
 
     /// Takes in a datagram of the server, which is the packet of this number: the reply to the request under way, or a
-    /// notice of a lease. It is `Ignored` only where the protocol ignores it, and then it is counted and changes nothing else.
-    /// Room for the block of a reply is taken before the datagram is read, and is kept for the next one.
+    /// notice of a lease. It is `Ignored` exactly where the protocol ignores it, and then it is counted and changes nothing
+    /// else. Want of memory never hinders that.
     ///
     /// # Errors
     ///
@@ -190,11 +190,9 @@ impl Client {
         if self.taken == Client::MOST_TAKEN {
             return Heard::Spent;
         }
-        let alloc = self.step.state.alloc;
-        let Ok(()) = self.letters.rooms.kept.reserve(alloc) else {
+        let Ok(heard) = read(&self.step.state, datagram, &mut self.letters.rooms.kept) else {
             return Heard::Memory;
         };
-        let heard = read(&self.step.state, datagram, &mut self.letters.rooms.kept);
         let Some(heard) = &heard else {
             self.taken += 1;
             return Heard::Ignored;

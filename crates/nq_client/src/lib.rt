@@ -21,6 +21,7 @@ mod losing;
 mod losses;
 mod next;
 mod notices;
+mod outline;
 mod reading;
 mod receiving;
 mod replying;

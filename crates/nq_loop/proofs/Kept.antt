@@ -1,4 +1,4 @@
--- The event that was kept last.
+-- What the events of a loop write.
 use Rattle.std.proofs.Common.{ℕ}
 use Rattle.nq_base.specs.declared.Event.{Event}
 use Rattle.nq_loop.specs.Holding.{IsLooped}

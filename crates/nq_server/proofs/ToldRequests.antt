@@ -1,5 +1,5 @@
 -- What a step does beside the kept state does not rest on the body of a request, but on its value alone.
-use Rattle.std.proofs.Common.{◌≡◌, ℕ, List, Option, Some, None, refl, sym, ap, subst}
+use Rattle.std.proofs.Common.{◌≡◌, ℕ, true, List, Option, Some, None, refl, sym, ap, subst}
 use Rattle.nq_base.proofs.Filling.{filled-value}
 use Rattle.nq_base.specs.Block.{filled, value_of}
 use Rattle.nq_base.specs.declared.Change.{Change}
@@ -14,7 +14,6 @@ use Rattle.nq_base.specs.declared.Verdict.{Verdict}
 use Rattle.nq_base.specs.declared.Who.{Who}
 use Rattle.nq_journal.specs.Items.{EntryList}
 use Rattle.nq_model.specs.Decided.{Aside, aside_in, decided_answer, decided_step, done_aside, fresh_change, fresh_step, gate_of, written_aside, entry_aside}
-use Rattle.nq_model.specs.Kept.{Kept}
 use Rattle.nq_model.specs.Server.{Phase, Server, serving, recovering}
 use Rattle.nq_server.specs.Deciding.{Concludes, as_told}
 use Rattle.nq_server.specs.State.{Beside}

@@ -98,7 +98,7 @@ pub received-acts : (host : ℕ) (step_of : Client → Option ClientStep) (o : O
 received-acts host step_of (Some t) old c c' heard out outs log logs at empty is x = heeded-acts host step_of t old c c' heard out outs log logs at empty is x
 received-acts host step_of None old c c' Heard.Ignored out outs log logs at empty is x = ignored host step_of old c c' out outs log logs at empty is x
 received-acts host step_of None old c c' Heard.Spent out outs log logs at empty is x = stayed host old c c' out outs log logs at x
-received-acts host step_of None old c c' Heard.Memory out outs log logs at empty is x = stayed host old c c' out outs log logs at x
+received-acts host step_of None old c c' Heard.Memory out outs log logs at empty is x = absurd x
 received-acts host step_of None old c c' Heard.Nothing out outs log logs at empty is x = absurd x
 received-acts host step_of None old c c' (Heard.Answered a) out outs log logs at empty is x = absurd x
 

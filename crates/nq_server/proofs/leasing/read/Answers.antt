@@ -23,12 +23,14 @@ returns-in-Invalid-clause-takes g c =
     takes-answered c.args.caller.who.host (reply c.args.caller.xid (Answer.Refused c.args.caller.who.inc Refusal.Inval)) c.refuse-in-Invalid.result (λ kept. read (server_of (beside_of c.args.state.now) kept) c.args.caller.who c.args.caller.xid (next_of c.args.out.now) c.args.wish.now.call c.args.wish.now.block c.args.wish.now.want (find_file c.args.wish.now.file kept.files)) (g.K.Keeper.content c.args.keeper.now) _ _ _ (beside_of c.args.state.now) c.args.out.now _ c.args.log.now c.in_ok-find_block.ensures.finds.0 c.in_ok-find_block.ensures.finds.1 c.refuse-in-Invalid.ensures
     (λ kept told. read-invalid (server_of (beside_of c.args.state.now) kept) c.args.caller.who c.args.caller.xid (next_of c.args.out.now) c.args.wish.now.call c.args.wish.now.block c.args.wish.now.want (find_file c.args.wish.now.file kept.files) (sym c.in-Invalid.is ∙ c.in_ok-find_block.ensures.told kept told))
 
-pub read_found-requires-clause-may : goal.read_found-requires-clause-may
-read_found-requires-clause-may g c = record {
-  sound = c.requires.sound;
-  serves = c.requires.serves;
-  drawn = c.requires.drawn;
-  asked = record { time = ap (λ q. q.time) c.question-question.ensures; longest = ap (λ q. q.longest) c.question-question.ensures };
+pub read_found-requires : goal.read_found-requires
+read_found-requires g c = record {
+  may = record {
+    sound = c.requires.sound;
+    serves = c.requires.serves;
+    drawn = c.requires.drawn;
+    asked = record { time = ap (λ q. q.time) c.question-question.ensures; longest = ap (λ q. q.longest) c.question-question.ensures };
+  };
 }
 
 pub returns-in-Got-clause-takes : goal.returns-in-Got-clause-takes
