@@ -80,6 +80,7 @@ impl Seer {
         self.see_packets(world, act, party, place)?;
         self.see_entries(world)?;
         let counts = self.see_spans(world, hosts, act, place)?;
+        let delays = self.delays_of(world, hosts, party);
         let after = self.marks();
         let moment = Moment {
             party,
@@ -94,7 +95,7 @@ impl Seer {
             rows: counts.rows,
             leases: counts.leases,
             dirty: counts.dirty,
-            delays: self.delays_of(world, hosts, party),
+            delays,
         };
         self.record.moments.push(moment)?;
         Ok(())

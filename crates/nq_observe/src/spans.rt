@@ -139,7 +139,8 @@ impl Spans {
         if goes_on(&mut self.spans, &self.open, party, kind, place) {
             return Ok(());
         }
-        self.open.push(self.spans.len())?;
+        let newest = self.spans.len();
+        self.open.push(newest)?;
         self.changes.push(Change { kind, begins: true })?;
         self.spans.push(Span {
             party,
