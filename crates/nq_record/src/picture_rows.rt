@@ -191,11 +191,12 @@ impl Idle {
             return Ok(());
         }
         let name = self.name(alloc)?;
+        let text = self.text(alloc)?;
         let mut notes = Vec::new(alloc);
         notes.push(Note {
             side: outer(record.hosts, self.party),
             sign: Sign::Plain,
-            text: self.text(alloc)?,
+            text,
         })?;
         let row = shown.rows.len();
         for _ in 0..self.count {
