@@ -39,10 +39,6 @@ noticed-own : (xid : ℕ) (rows : List Row) (host : ℕ) (m : Message) → AreOw
 noticed-own xid rows host m =
     All-append (λ p. p.sender ≡ Party.Server) (notices xid rows) (to_host host m ∷ []) (notices-own xid rows) (one-own host m)
 
-grants-plain : (s : Server) (who : Who) (file : ℕ) (grant : Option Grant) → map plain (grants s who file grant) ≡ grants s who file grant
-grants-plain s who file None = refl
-grants-plain s who file (Some g) = refl
-
 read-plain : (s : Server) (who : Who) (file : ℕ) (grant : Option Grant) (entry : Entry) → plain entry ≡ entry → map plain (entry ∷ grants s who file grant) ≡ entry ∷ grants s who file grant
 read-plain s who file None entry same = cc
 read-plain s who file (Some g) entry same = cc

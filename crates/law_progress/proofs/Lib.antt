@@ -4,3 +4,12 @@ pub mod CalmIsLawful
 pub mod IdleSteps
 pub mod IdleWorlds
 pub mod CalmClocks
+pub mod Efforts
+pub mod EffortParts
+pub mod EffortReplies
+pub mod ServerWeights
+pub mod FlowEnds
+pub mod Bounds
+pub mod HostsBelow
+pub mod SparedSteps
+pub mod QuietFlows

@@ -6,3 +6,4 @@ pub mod CallsAreAnswered
 pub mod EverythingIsStored
 pub mod AnswersStay
 pub mod SomeNeedHalf
+pub mod QuietDeliveries

@@ -5,6 +5,7 @@
 ghost use Rattle.law_progress.specs.AnswersStay.{AnswersStay, StoresStay};
 ghost use Rattle.law_progress.specs.CalmRoundsAreLawful.{CalmRoundsAreLawful};
 ghost use Rattle.law_progress.specs.ClocksTickOnce.{ClocksTickOnce};
+ghost use Rattle.law_progress.specs.QuietDeliveries.{RecoveringDeliveryEnds, SparedDeliveryEnds};
 ghost use Rattle.law_progress.specs.SomeNeedHalf.{NeedsHalf};
 
 /// Calm rounds keep a schedule within its bounds and within skew.
@@ -30,4 +31,15 @@ pub fn some_need_half()
 /// Each calm round is one tick of each clock.
 pub fn clocks_tick_once()
     ensures { ClocksTickOnce }
+{}
+
+/// While the server recovers each calm delivery ends, within the bound that is stated.
+pub fn recovering_deliveries_end()
+    ensures { RecoveringDeliveryEnds }
+{}
+
+/// Each calm delivery in which no call waits for a lease ends, within the bound that is stated: each `read` and `write` that is open is
+/// one of a client that pauses.
+pub fn spared_deliveries_end()
+    ensures { SparedDeliveryEnds }
 {}

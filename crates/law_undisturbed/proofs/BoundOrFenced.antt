@@ -36,11 +36,6 @@ fenced-for kept file boot rev (gone none) = law.IsFencedFor.gone none
 fenced-for kept file boot rev (ahead f found above) = law.IsFencedFor.ahead f found above
 fenced-for kept file boot rev (earlier below) = law.IsFencedFor.earlier below
 
-fenced-from : (kept : Kept) (file boot rev : ℕ) → law.IsFencedFor kept file boot rev → IsFenced kept file boot rev
-fenced-from kept file boot rev (law.IsFencedFor.gone none) = gone none
-fenced-from kept file boot rev (law.IsFencedFor.ahead f found above) = ahead f found above
-fenced-from kept file boot rev (law.IsFencedFor.earlier below) = earlier below
-
 module _ (hosts most : ℕ) (w : World) (events : List Event) (k : KnownOf hosts most w events) (host : ℕ) (c : Client) (is : slice_get w.clients host ≡ Some c) (file : ℕ) (unclean : is_clean c file ≡ false) where
   f : ChainFits w.server c w.packets
   f = k.chains host c is

@@ -94,15 +94,14 @@ fn request_in(alloc: Global, bytes: &[u8], room: &mut Spare) -> Option<u64> {
         return None;
     };
     let xid = u64::from(call.head.xid);
-    match decode_request(call.head.procedure, call.arguments, room) {
-        Ok(Request::Lookup { who, .. }) => Some(xid + u64::from(who.host.0)),
-        Ok(
-            Request::Write {
-                push: Some(PushBase { boot, .. }),
-                ..
-            },
-        ) => Some(xid + u64::from(boot)),
-        Ok(_) | Err(_) => None,
+    let request = decode_request(call.head.procedure, call.arguments, room).ok()?;
+    match &request {
+        Request::Lookup { who, .. } => Some(xid + u64::from(who.host.0)),
+        Request::Write {
+            push: Some(PushBase { boot, .. }),
+            ..
+        } => Some(xid + u64::from(*boot)),
+        _ => None,
     }
 }
 

@@ -1,12 +1,12 @@
 -- A batch, staged: what its record says, and what the disk opens to then.
-use Rattle.std.proofs.Common.{◌≡◌, ◌≢◌, ◌⊎◌, ℕ, zero, suc, ◌+◌, ◌-◌, ◌<◌, ◌≤◌, max, List, [], ◌∷◌, ◌++◌, length, get_or, take, drop, Option, Some, None, Result, Ok, Err, refl, sym, ap, subst, ◌∙◌, inl, inr, ⊎_elim, arith, length-drop}
+use Rattle.std.proofs.Common.{◌≡◌, ℕ, zero, suc, ◌+◌, ◌-◌, ◌<◌, ◌≤◌, List, [], ◌∷◌, ◌++◌, length, get_or, take, drop, Ok, sym, ap, subst, ◌∙◌, inl, inr, arith, length-drop}
 use Rattle.std.proofs.lemmas.Bool.{cases_lt}
 use Rattle.std.proofs.lemmas.List.{length-take-le, get_or-take, get_or-drop, get_or_past, take-append-drop}
 use Rattle.nq_disk.specs.Bytes.{written}
 use Rattle.nq_disk.specs.BytesLaws.{length-written, written-outside, written-within}
 use Rattle.nq_redo.specs.Batch.{AreSpellable, IsFit, body_of}
-use Rattle.nq_redo.specs.Ranges.{Range, applied, Outside}
-use Rattle.nq_redo.specs.Record.{blanked, ranges_in, ranges_of, record_at, wrong_field}
+use Rattle.nq_redo.specs.Ranges.{Range, applied}
+use Rattle.nq_redo.specs.Record.{blanked, ranges_in, ranges_of, wrong_field}
 use Rattle.nq_redo.specs.Whole.{IsArea, IsClosed, IsOpen, after, found, record_of, staged}
 use Rattle.nq_redo.specs.declared.area.Area.{Area}
 use Rattle.nq_redo.proofs.Encoding.{ranges-of-body, right-body}

@@ -1,15 +1,14 @@
 -- The moments of a change, and what a disk opens to at each.
-use Rattle.std.proofs.Common.{◌≡◌, ◌≢◌, ◌⊎◌, ℕ, ◌+◌, ◌-◌, ◌<◌, ◌≤◌, List, [], ◌∷◌, length, get_or, Option, Some, None, Result, Ok, Err, refl, sym, ap, subst, ◌∙◌, inl, inr, arith}
+use Rattle.std.proofs.Common.{◌≡◌, ◌⊎◌, ℕ, ◌+◌, ◌-◌, ◌≤◌, List, [], ◌∷◌, length, get_or, Option, Some, Ok, sym, ap, subst, ◌∙◌, inl, inr, arith}
 use Rattle.nq_disk.specs.Bytes.{written, Torn}
 use Rattle.nq_disk.specs.BytesLaws.{length-written, torn-written, written-outside, written-within}
 use Rattle.nq_disk.specs.Calling.{IsAllThatIsLeft}
 use Rattle.nq_redo.specs.Ranges.{Range, applied, Settling}
-use Rattle.nq_redo.specs.Record.{blanked, ranges_of}
-use Rattle.nq_redo.specs.Saying.{Only}
+use Rattle.nq_redo.specs.Record.{ranges_of}
 use Rattle.nq_redo.specs.Whole.{IsArea, IsClosed, IsOpen, Settled, found, record_of, staged}
 use Rattle.nq_redo.specs.declared.area.Area.{Area}
-use Rattle.nq_redo.proofs.Opening.{blanked-same, body-torn, gate-torn, opened-closed}
-use Rattle.nq_redo.proofs.Settled.{opened-closing, opened-settled, ranges, settled-open}
+use Rattle.nq_redo.proofs.Opening.{body-torn, gate-torn, opened-closed}
+use Rattle.nq_redo.proofs.Settled.{opened-closing, opened-settled, ranges}
 
 abbrev shut_byte : List ℕ
 shut_byte = 0 ∷ []

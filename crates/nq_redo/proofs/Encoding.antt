@@ -1,14 +1,13 @@
 -- What a record says is what was spelled there.
-use Rattle.std.proofs.Common.{◌≡◌, ◌⊎◌, ℕ, zero, suc, ◌+◌, ◌-◌, ◌*◌, ◌<◌, ◌≤◌, ◌^◌, Bool, true, false, List, [], ◌∷◌, ◌++◌, length, get_or, take, drop, Option, Some, None, Result, Ok, Err, refl, sym, ap, subst, ◌∙◌, inl, inr, arith, length-append, append_assoc}
-use Rattle.std.specs.Prelude.{if◌then◌else◌, not, nat_lt}
-use Rattle.std.specs.Int.{w32, w64, from_be_bytes, to_be_bytes}
-use Rattle.std.proofs.lemmas.Bool.{cases_lt}
+use Rattle.std.proofs.Common.{◌≡◌, ℕ, ◌+◌, ◌<◌, ◌≤◌, ◌^◌, Bool, false, List, [], ◌∷◌, ◌++◌, length, take, drop, Option, Some, None, refl, ap, ◌∙◌, arith, length-append, append_assoc}
+use Rattle.std.specs.Prelude.{if◌then◌else◌, nat_lt}
+use Rattle.std.specs.Int.{w32, from_be_bytes, to_be_bytes}
 use Rattle.std.proofs.lemmas.Bool.Decides.{nat_tests}
 use Rattle.std.proofs.lemmas.List.{take_at, drop_at}
 use Rattle.std.proofs.lemmas.Nat.{from_be_bytes-to_be_bytes_4, from_be_bytes-to_be_bytes_8}
 use Rattle.nq_redo.specs.Batch.{AreAllowed, AreSpellable, body_of, spelled, spelled_range}
 use Rattle.nq_redo.specs.Ranges.{Range}
-use Rattle.nq_redo.specs.Record.{Front, are_zeros, front_of, front_range, front_within, is_misplaced, ranges_in, ranges_of, then_ranges, then_wrong, word, wrong_field, wrong_range}
+use Rattle.nq_redo.specs.Record.{Front, front_of, front_range, front_within, is_misplaced, ranges_in, ranges_of, then_ranges, then_wrong, word, wrong_field, wrong_range}
 use Rattle.nq_redo.specs.declared.area.Area.{Area}
 
 -- bytes that are there fit

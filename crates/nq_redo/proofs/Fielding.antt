@@ -1,10 +1,10 @@
 -- The fields of the ranges of a record, one range after another.
-use Rattle.std.proofs.Common.{◌≡◌, ℕ, zero, suc, ◌+◌, ◌-◌, ◌<◌, ◌≤◌, Bool, true, false, List, [], ◌∷◌, length, take, drop, Option, Some, None, refl, sym, ap, ◌∙◌, arith, length-drop}
+use Rattle.std.proofs.Common.{◌≡◌, ℕ, suc, ◌+◌, ◌-◌, ◌≤◌, Bool, true, false, List, [], ◌∷◌, length, take, drop, Option, Some, None, refl, sym, ap, ◌∙◌, arith, length-drop}
 use Rattle.std.specs.Prelude.{if◌then◌else◌, nat_lt}
 use Rattle.std.specs.Int.{w32, w64, from_be_bytes}
 use Rattle.std.proofs.lemmas.Bool.Decides.{nat_tests}
 use Rattle.std.proofs.lemmas.List.{length-take-le}
-use Rattle.nq_redo.specs.Record.{Front, front_of, front_range, front_within, is_misplaced, then_wrong, wrong_range}
+use Rattle.nq_redo.specs.Record.{Front, front_of, front_range, hyper_at, is_misplaced, then_wrong, unfit_field, wrong_range}
 
 module _ (start size bound len : ℕ) where
   -- the next range is as it should be
@@ -24,7 +24,7 @@ module _ (start size bound len : ℕ) where
       ∙ ap (λ (b : Bool). if b then Some at else wrong_range start size bound len m (at + 12 + length front.range.bytes) front.rest) wrong
 
   -- none fits there
-  pub wrong-unfit : (n m at : ℕ) (bytes : List ℕ) → n ≡ suc m → None ≡ front_range bytes → wrong_range start size bound len n at bytes ≡ then_wrong start size bound len at bytes None (λ place rest. None)
+  pub wrong-unfit : (n m at : ℕ) (bytes : List ℕ) → n ≡ suc m → None ≡ front_range bytes → wrong_range start size bound len n at bytes ≡ Some (unfit_field start size bound len at (hyper_at bytes))
   wrong-unfit n m at bytes next here =
       ap (λ (i : ℕ). wrong_range start size bound len i at bytes) next
       ∙ ap (λ (f : Option Front). then_wrong start size bound len at bytes f (wrong_range start size bound len m)) (sym here)

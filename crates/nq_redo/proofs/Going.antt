@@ -1,14 +1,13 @@
 -- Steps of a change, one call after another.
-use Rattle.std.proofs.Common.{◌≡◌, ◌⊎◌, ℕ, zero, suc, ◌+◌, ◌-◌, ◌<◌, ◌≤◌, List, [], ◌∷◌, length, Option, Some, None, refl, sym, ap, subst, ◌∙◌, inl, inr, ⊎_elim, arith}
-use Rattle.nq_disk.specs.Bytes.{Torn}
+use Rattle.std.proofs.Common.{◌≡◌, ◌⊎◌, ℕ, zero, suc, List, [], ◌∷◌, length, Option, Some, None, refl, sym, ap, subst, ◌∙◌, inl, inr}
 use Rattle.std.specs.Prelude.{Result, Ok, Err, OnOk}
 use Rattle.nq_disk.specs.Calling.{LeavesTorn, Tears, Writes, told_after}
 use Rattle.nq_disk.specs.declared.DiskFault.{DiskFault}
 use Rattle.nq_disk.specs.Bytes.{written}
 use Rattle.nq_redo.specs.Ranges.{Range, Among, Settling, applied}
 use Rattle.nq_redo.specs.Record.{Front, front_range, ranges_in, then_ranges}
-use Rattle.nq_redo.specs.Saying.{Each, Only}
-use Rattle.nq_redo.proofs.Settling.{settling-none, settling-torn}
+use Rattle.nq_redo.specs.Saying.{Each}
+use Rattle.nq_redo.proofs.Settling.{settling-torn}
 
 -- what was so through the first part of the time, and is so through the second, is so through both
 pub through : (P : List ℕ → Type 0) (A B : Type 0) (c : List ℕ) → A ⊎ B → (A → P c) → (B → P c) → P c

@@ -1,14 +1,14 @@
 -- What an open gives of what a stop may leave.
-use Rattle.std.proofs.Common.{◌≡◌, ◌≢◌, ◌⊎◌, ℕ, zero, suc, ◌+◌, ◌-◌, ◌<◌, ◌≤◌, ◌==◌, max, Bool, true, false, List, [], ◌∷◌, length, get_or, take, drop, Option, Some, None, Result, Ok, Err, refl, sym, ap, subst, ◌∙◌, inl, inr, ⊎_elim, arith, length-drop}
-use Rattle.std.specs.Prelude.{replicate, if◌then◌else◌, nat_lt}
+use Rattle.std.proofs.Common.{◌≡◌, ◌≢◌, ◌⊎◌, ℕ, ◌+◌, ◌-◌, ◌<◌, ◌≤◌, List, [], ◌∷◌, length, get_or, take, drop, Ok, sym, ap, subst, ◌∙◌, inl, inr, arith, length-drop}
+use Rattle.std.specs.Prelude.{replicate}
 use Rattle.std.proofs.lemmas.Bool.{cases_lt, cases_eq}
 use Rattle.std.proofs.lemmas.Bool.Decides.{nat_tests}
 use Rattle.std.proofs.lemmas.List.{length-replicate, length-take-le, get_or-take, get_or-drop, get_or_past, get_or-replicate}
 use Rattle.nq_disk.specs.Bytes.{written, Torn}
 use Rattle.nq_disk.specs.BytesLaws.{length-written, written-outside, written-within}
-use Rattle.nq_redo.specs.Ranges.{Range, applied, Outside, OutsideAll, Among, furthest, ArePlaced, Settling}
-use Rattle.nq_redo.specs.Record.{blanked, opened, ranges_of, record_at, replayed, wrong_field}
-use Rattle.nq_redo.proofs.Settling.{applied-agree, applied-outside, furthest-is, in-or-out, length-applied, placed-longer, record-outside, same-bytes, settling-agrees}
+use Rattle.nq_redo.specs.Ranges.{Outside}
+use Rattle.nq_redo.specs.Record.{blanked, opened, record_at, replayed, wrong_field}
+use Rattle.nq_redo.proofs.Settling.{in-or-out, same-bytes}
 
 module _ (place size bound : ℕ) where
   -- a disk that reaches the end of the record

@@ -1,5 +1,5 @@
 -- A record, read, and what a stop leaves meanwhile.
-use Rattle.std.proofs.Common.{◌≡◌, ◌⊎◌, ℕ, ◌+◌, ◌-◌, ◌≤◌, min, List, length, take, drop, sym, ap, ◌∙◌, arith}
+use Rattle.std.proofs.Common.{◌≡◌, ◌⊎◌, ℕ, ◌+◌, ◌≤◌, List, length, take, drop, sym, ap, ◌∙◌, arith}
 use Rattle.std.proofs.lemmas.List.{take_all}
 use Rattle.nq_disk.specs.Calling.{LeavesNoMore, ReadsFront}
 use Rattle.nq_redo.specs.Whole.{record_of}

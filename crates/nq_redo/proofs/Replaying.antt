@@ -1,9 +1,9 @@
 -- What is known of a disk by the record that was read from it.
-use Rattle.std.proofs.Common.{◌≡◌, ◌≢◌, ℕ, ◌+◌, ◌<◌, ◌≤◌, List, length, get_or, drop, Option, Some, None, Result, Ok, Err, refl, sym, ap, ◌∙◌, arith}
+use Rattle.std.proofs.Common.{◌≡◌, ◌≢◌, ℕ, ◌+◌, ◌≤◌, List, length, get_or, drop, Option, Some, None, Err, refl, sym, ap, ◌∙◌, arith}
 use Rattle.std.proofs.lemmas.List.{get_or-take, get_or-drop}
 use Rattle.nq_redo.specs.Record.{ranges_in, ranges_of, replayed, word, wrong_field}
 use Rattle.nq_redo.specs.Saying.{Only}
-use Rattle.nq_redo.specs.Whole.{IsArea, IsClosed, IsOpen, Settled, found, record_of}
+use Rattle.nq_redo.specs.Whole.{IsArea, IsOpen, Settled, found, record_of}
 use Rattle.nq_redo.specs.declared.area.Area.{Area}
 use Rattle.nq_redo.proofs.Opening.{opened-open}
 

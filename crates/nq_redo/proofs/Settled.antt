@@ -1,8 +1,8 @@
 -- What a disk opens to while the ranges of its record are written, and while its gate is closed again.
-use Rattle.std.proofs.Common.{◌≡◌, ◌≢◌, ◌⊎◌, ℕ, zero, suc, ◌+◌, ◌-◌, ◌<◌, ◌≤◌, max, List, [], ◌∷◌, length, get_or, Option, Some, None, Result, Ok, Err, refl, sym, ap, subst, ◌∙◌, inl, inr, ⊎_elim, arith}
+use Rattle.std.proofs.Common.{◌≡◌, ℕ, ◌+◌, ◌-◌, ◌<◌, ◌≤◌, List, [], ◌∷◌, length, get_or, Ok, sym, ap, ◌∙◌, inl, inr, arith}
 use Rattle.nq_disk.specs.Bytes.{written, Torn}
-use Rattle.nq_disk.specs.BytesLaws.{length-written, torn-written, written-outside, written-within}
-use Rattle.nq_redo.specs.Ranges.{Range, applied, Outside, OutsideAll, furthest, ArePlaced, Settling}
+use Rattle.nq_disk.specs.BytesLaws.{length-written, written-outside, written-within}
+use Rattle.nq_redo.specs.Ranges.{Range, applied, OutsideAll, furthest, ArePlaced, Settling}
 use Rattle.nq_redo.specs.Record.{blanked, ranges_of, record_at, replayed, wrong_field}
 use Rattle.nq_redo.specs.Whole.{IsArea, IsOpen, found}
 use Rattle.nq_redo.specs.declared.area.Area.{Area}

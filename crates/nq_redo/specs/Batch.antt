@@ -1,5 +1,5 @@
 -- A batch: ranges for one change, and how a record spells them.
-use Rattle.std.specs.Prelude.{◌≡◌, ℕ, ◌+◌, ◌<◌, ◌≤◌, ◌^◌, Bool, List, [], ◌∷◌, ◌++◌, IsFalse, length, drop}
+use Rattle.std.specs.Prelude.{◌≡◌, ℕ, ◌+◌, ◌<◌, ◌≤◌, ◌^◌, List, [], ◌∷◌, ◌++◌, IsFalse, length, drop}
 use Rattle.std.specs.Int.{w32, w64, to_be_bytes}
 use Rattle.nq_redo.specs.Ranges.{Range}
 use Rattle.nq_redo.specs.Record.{is_misplaced, ranges_in}

@@ -3,3 +3,4 @@ pub mod Saying
 pub mod Ranges
 pub mod Whole
 pub mod Batch
+pub mod Opens

@@ -1,16 +1,18 @@
 -- The redo record on a disk: what it says, which field of it is wrong, and what an open gives.
-use Rattle.std.specs.Prelude.{◌≡◌, ℕ, zero, suc, not, ◌+◌, ◌<◌, ◌≤◌, ◌&&◌, ◌||◌, ◌==◌, Bool, List, [], ◌∷◌, ◌++◌, Option, Some, None, Result, Ok, Err, length, take, drop, replicate, slice_index, nat_le, nat_lt, if◌then◌else◌}
+use Rattle.std.specs.Prelude.{ℕ, zero, suc, not, ◌+◌, ◌&&◌, ◌||◌, ◌==◌, Bool, List, [], ◌∷◌, Option, Some, None, Result, Ok, Err, length, take, drop, replicate, slice_index, nat_lt, if◌then◌else◌}
 use Rattle.std.specs.List.{list_all}
-use Rattle.std.specs.Int.{w32, w64, from_be_bytes, to_be_bytes}
+use Rattle.std.specs.Int.{w32, w64, from_be_bytes}
 use Rattle.nq_disk.specs.Bytes.{written}
 use Rattle.nq_redo.specs.Ranges.{Range, applied}
 
--- the number of four bytes, and of eight
+-- the number of the first four bytes
 unfoldable pub word : List ℕ → ℕ
 word bytes = from_be_bytes w32 (take 4 bytes)
 
-unfoldable pub hyper : List ℕ → ℕ
-hyper bytes = from_be_bytes w64 (take 8 bytes)
+-- the number of the first eight bytes, where there are as many
+abbrev pub hyper_at : List ℕ → Option ℕ
+hyper_at (a ∷ b ∷ c ∷ d ∷ e ∷ f ∷ g ∷ h ∷ rest) = Some (from_be_bytes w64 (a ∷ b ∷ c ∷ d ∷ e ∷ f ∷ g ∷ h ∷ []))
+hyper_at short = None
 
 -- whether these are all zeros
 abbrev pub are_zeros : List ℕ → Bool
@@ -50,9 +52,14 @@ is_misplaced start size bound len place n =
     || nat_lt bound (place + n)
     || nat_lt len place
 
+-- the wrong field of a range that does not fit: its place, where that does not fit or is wrong by itself, else its length
+abbrev pub unfit_field : (start size bound len at : ℕ) → Option ℕ → ℕ
+unfit_field start size bound len at None = at
+unfit_field start size bound len at (Some place) = if is_misplaced start size bound len place 0 then at else at + 8
+
 -- the place of the first wrong field in a range that begins at a place, or behind it
 abbrev pub then_wrong : (start size bound len at : ℕ) → List ℕ → Option Front → (ℕ → List ℕ → Option ℕ) → Option ℕ
-then_wrong start size bound len at bytes None more = Some (if nat_lt (length bytes) 8 || is_misplaced start size bound len (hyper bytes) 0 then at else at + 8)
+then_wrong start size bound len at bytes None more = Some (unfit_field start size bound len at (hyper_at bytes))
 then_wrong start size bound len at bytes (Some front) more =
     if is_misplaced start size bound len front.range.place (length front.range.bytes) then Some at else more (at + 12 + length front.range.bytes) front.rest
 

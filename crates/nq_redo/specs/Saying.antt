@@ -1,5 +1,5 @@
 -- What several calls of a disk leave.
-use Rattle.std.specs.Prelude.{◌≡◌, ◌⊎◌, ℕ, List, Option, Some, None, Result, length}
+use Rattle.std.specs.Prelude.{◌≡◌, ℕ, List, Option, Some}
 use Rattle.std.specs.Option.{ForSome}
 
 -- something is told still, where something was told

@@ -1,8 +1,8 @@
 -- What a change through a redo record leaves: the state before it or the state after it.
-use Rattle.std.specs.Prelude.{◌≡◌, ◌≢◌, ◌⊎◌, ℕ, ◌+◌, ◌≤◌, List, [], ◌∷◌, Option, Some, None, Result, Ok, length, slice_index}
+use Rattle.std.specs.Prelude.{◌≡◌, ◌≢◌, ℕ, ◌+◌, ◌≤◌, List, [], ◌∷◌, Option, Some, None, Result, Ok, length, slice_index}
 use Rattle.nq_disk.specs.Bytes.{written}
 use Rattle.nq_redo.specs.Ranges.{Range, applied}
-use Rattle.nq_redo.specs.Record.{blanked, opened, ranges_of, record_at, wrong_field}
+use Rattle.nq_redo.specs.Record.{blanked, opened, record_at, wrong_field}
 use Rattle.nq_redo.specs.Saying.{Only}
 use Rattle.nq_redo.specs.declared.area.Area.{Area}
 

@@ -4,11 +4,13 @@
 mod area;
 mod batch;
 mod change;
+mod fields;
 mod redo;
+mod replay;
 mod steps;
 
 pub use area::Area;
 pub use batch::Batch;
 pub use nq_disk::{Disk, DiskFault};
 pub use nq_memory::NoMemory;
-pub use redo::Redo;
+pub use redo::{Redo, RedoOpen};

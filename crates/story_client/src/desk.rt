@@ -1,27 +1,68 @@
-//! Who tells a client a story and looks at what comes of it.
+//! What a client is lent, and what comes of what happens to it.
 
-use crate::events::{Event, answer_letter, call, heard_letter, notice, reply};
-use nq_base::{Host, Inc, Ticks};
-use nq_client::Client;
-use nq_datagrams::reply_bytes;
+use crate::words::{bytes_of, word_at};
+use anyhow::{Context, Result, bail};
+use nq_base::{Answer, BlockNo, FileId, Host, Inc, Spare, Ticks};
+use nq_client::{Client, Heard};
 use nq_io::MemSink;
-use nq_journal::{Journal, Printed, print};
+use nq_journal::{Journal, print};
+use nq_script::parse_call;
 use nq_wire::Outbox;
 use std::alloc::Global;
-use std::test::Fail;
+use std::str;
 
-/// What happens to a client of incarnation 1, which is attached at time 0.
-pub(crate) struct Story {
-    pub(crate) name: &'static str,
-    pub(crate) host: u32,
-    /// The term that it wants, in ticks.
-    pub(crate) term: u32,
-    /// Each event with a letter for what comes of it.
-    pub(crate) events: &'static [(Event, char)],
-    /// The number and the procedure of each datagram that it sends.
-    pub(crate) sent: &'static [(u8, u8)],
-    /// The lines that it tells the journal, without the first and the last.
-    pub(crate) told: &'static str,
+/// The most bytes of a journal.
+const ROOM: usize = 65_536;
+
+/// What comes of a call, of a datagram or of a tick.
+#[derive(Clone, Copy, PartialEq, Eq)]
+pub(crate) enum Came {
+    Ok,
+    Lost,
+    Pending,
+    Busy,
+    /// Any other error.
+    Refused,
+    Nothing,
+    Ignored,
+    /// Memory, or anything else, is wanting.
+    Wanting,
+}
+
+impl Came {
+    pub(crate) fn word(self) -> &'static str {
+        match self {
+            Came::Ok => "ok",
+            Came::Lost => "lost",
+            Came::Pending => "pending",
+            Came::Busy => "busy",
+            Came::Refused => "refused",
+            Came::Nothing => "nothing",
+            Came::Ignored => "ignored",
+            Came::Wanting => "wanting",
+        }
+    }
+}
+
+fn answered(answer: &Answer) -> Came {
+    match answer {
+        Answer::Ok(_) => Came::Ok,
+        Answer::Lost(_) => Came::Lost,
+        Answer::Pending => Came::Pending,
+        Answer::Busy => Came::Busy,
+        Answer::Stale | Answer::NoEntry | Answer::Exists | Answer::NoSpace | Answer::Range =>
+            Came::Refused,
+        Answer::DirtyFull | Answer::Memory | Answer::Spent => Came::Wanting,
+    }
+}
+
+fn heard(heard: &Heard) -> Came {
+    match heard {
+        Heard::Nothing => Came::Nothing,
+        Heard::Answered(answer) => answered(answer),
+        Heard::Ignored => Came::Ignored,
+        Heard::Memory | Heard::Spent => Came::Wanting,
+    }
 }
 
 /// What a client is lent.
@@ -33,7 +74,7 @@ pub(crate) struct Desk {
 }
 
 impl Desk {
-    pub(crate) fn new(alloc: Global) -> Result<Desk, Fail> {
+    pub(crate) fn new(alloc: Global) -> Result<Desk> {
         Ok(Desk {
             alloc,
             out: Outbox::new(alloc, 0)?,
@@ -42,113 +83,82 @@ impl Desk {
     }
 
     /// A datagram that comes in the packet of this number.
-    pub(crate) fn receive(&mut self, client: &mut Client, packet: u64, datagram: &[u8]) -> char {
-        heard_letter(&client.receive(packet, datagram, &mut self.out, &mut self.log))
+    pub(crate) fn receive(&mut self, client: &mut Client, packet: u64, datagram: &[u8]) -> Came {
+        heard(&client.receive(packet, datagram, &mut self.out, &mut self.log))
     }
 
-    /// So many ticks: the letter of the first of which something comes, or of the last.
-    fn ticks(&mut self, client: &mut Client, times: u64) -> char {
+    /// So many ticks: what comes of the first of which something comes, or of the last.
+    fn ticks(&mut self, client: &mut Client, times: u64) -> Came {
         for _ in 0..times {
             let now = client.time().0;
             if now > 1000 {
-                return '?';
+                return Came::Wanting;
             }
-            let heard = client.tick(Ticks(now + 1), &mut self.out, &mut self.log);
-            if heard_letter(&heard) != 'n' {
-                return heard_letter(&heard);
-            }
-        }
-        'n'
-    }
-
-    /// Lets an event happen, and gives a letter for what comes of it.
-    fn step(&mut self, client: &mut Client, event: &Event) -> Result<char, Fail> {
-        if let Some(call) = call(event) {
-            return Ok(answer_letter(&client.call(&call, &mut self.out, &mut self.log)));
-        }
-        let (packet, datagram) = match event {
-            Event::Ticks(times) => return Ok(self.ticks(client, *times)),
-            Event::Reply(packet, xid, brings) => {
-                (
-                    *packet,
-                    reply_bytes(self.alloc, *xid, &reply(Inc(1), brings))?,
-                )
-            }
-            Event::Foreign(packet, xid, brings) => {
-                (
-                    *packet,
-                    reply_bytes(self.alloc, *xid, &reply(Inc(2), brings))?,
-                )
-            }
-            Event::Notice(inc, file, number) => {
-                let host = client.who().host;
-                (0, notice(self.alloc, host, *inc, *file, *number)?)
-            }
-            _ => return Ok('?'),
-        };
-        Ok(self.receive(client, packet, &datagram))
-    }
-
-    /// How many events come out as told, before the first that does not.
-    pub(crate) fn follow(
-        &mut self,
-        client: &mut Client,
-        events: &[(Event, char)],
-    ) -> Result<usize, Fail> {
-        for (place, (event, letter)) in events.iter().enumerate() {
-            if self.step(client, event)? != *letter {
-                return Ok(place);
+            let came = heard(&client.tick(Ticks(now + 1), &mut self.out, &mut self.log));
+            if came != Came::Nothing {
+                return came;
             }
         }
-        Ok(events.len())
+        Came::Nothing
     }
 
-    /// Whether exactly these datagrams were sent.
-    fn sent(&self, sent: &[(u8, u8)]) -> bool {
-        for (place, (xid, procedure)) in sent.iter().enumerate() {
-            let Some((_, datagram)) = self.out.get(place) else {
-                return false;
-            };
-            if datagram.get(3) != Some(xid) || datagram.get(23) != Some(procedure) {
-                return false;
+    /// What comes of a call, of `receive` with a packet and a datagram, or of `ticks`.
+    pub(crate) fn step(&mut self, client: &mut Client, item: &str) -> Result<Came> {
+        if let Some(times) = item.strip_prefix("ticks ") {
+            return Ok(self.ticks(client, u64::from_str_radix(times, 10)?));
+        }
+        if let Some(rest) = item.strip_prefix("receive ") {
+            let (packet, words) = rest.split_once(' ').context("no datagram")?;
+            let datagram = bytes_of(self.alloc, words)?;
+            return Ok(self.receive(client, u64::from_str_radix(packet, 10)?, &datagram));
+        }
+        let call = parse_call(self.alloc, item.as_bytes(), 2)?;
+        Ok(answered(&client.call(&call, &mut self.out, &mut self.log)))
+    }
+
+    /// Prints what was sent, and the journal.
+    pub(crate) fn show(&self, rt: &HostRuntime) -> Result<()> {
+        for place in 0..self.out.len() {
+            if let Some((_, datagram)) = self.out.get(place) {
+                let (xid, procedure) = (word_at(datagram, 0), word_at(datagram, 20));
+                println!(rt; "sent {xid} by {procedure}")?;
             }
         }
-        self.out.len() == sent.len()
-    }
-
-    /// Whether exactly these lines were told.
-    fn told(&self, lines: &str) -> Result<bool, Fail> {
-        let mut sink = MemSink::new(self.alloc, 65_536, Vec::new(self.alloc))?;
-        let Printed::All = print(self.alloc, &self.log, 2, &mut sink) else {
-            return Ok(false);
-        };
-        Ok(is_between(sink.bytes(), lines.as_bytes()))
+        if !self.log.is_in(2) {
+            bail!("no journal of this version");
+        }
+        let mut sink = MemSink::new(self.alloc, ROOM, Vec::new(self.alloc))?;
+        print(self.alloc, &self.log, 2, &mut sink);
+        print!(rt; "{}", str::from_utf8(sink.bytes())?)?;
+        Ok(())
     }
 }
 
-/// Whether these lines stand between the first and the last line of a journal.
-fn is_between(text: &[u8], lines: &[u8]) -> bool {
-    match text.strip_prefix(b"nqnfs-journal 2\n") {
-        Some(rest) => rest.strip_suffix(b"end\n") == Some(lines),
-        None => false,
+/// A client that is attached, or asks to be, at time 0: its host, and the term that it wants.
+pub(crate) fn begun(desk: &mut Desk, head: &str) -> Result<Client> {
+    let (how, rest) = head.split_once(' ').context("no host")?;
+    let (host, term) = rest.split_once(' ').context("no term")?;
+    let host = Host(u32::from_str_radix(host, 10)?);
+    let term = u32::from_str_radix(term, 10)?;
+    let begun = match how {
+        "start" => Client::start(desk.alloc, host, Inc(1), term, Ticks(0), &mut desk.out),
+        _ => Client::attached(desk.alloc, host, Inc(1), term, Ticks(0)),
+    };
+    match begun {
+        Ok(client) => Ok(client),
+        Err(_) => bail!("memory is wanting"),
     }
 }
 
-/// What does not come out as told: the place of an event, or a word for what was sent or told.
-pub(crate) fn tell(alloc: Global, story: &Story) -> Result<Option<(usize, &'static str)>, Fail> {
-    let mut desk = Desk::new(alloc)?;
-    let mut client = Client::attached(alloc, Host(story.host), Inc(1), story.term, Ticks(0))?;
-    let followed = desk.follow(&mut client, story.events);
-    client.stop();
-    let followed = followed?;
-    if followed != story.events.len() {
-        return Ok(Some((followed, "event")));
-    }
-    if !desk.sent(story.sent) {
-        return Ok(Some((desk.out.len(), "datagrams")));
-    }
-    if !desk.told(story.told)? {
-        return Ok(Some((desk.log.len(), "entries")));
-    }
-    Ok(None)
+/// The word that fills a cached block, or `none`.
+pub(crate) fn cached(alloc: Global, client: &mut Client, place: &str) -> Result<String> {
+    let (file, block) = place.split_once(' ').context("no block")?;
+    let file = FileId(u32::from_str_radix(file, 10)?);
+    let block = BlockNo(u32::from_str_radix(block, 10)?);
+    let mut room = Spare::none();
+    room.reserve(alloc)?;
+    Ok(match client.read_cached(file, block, &mut room) {
+        Some(body) => format!(in alloc; "{}", body.value())?,
+        None => String::from_str(alloc, "none")?,
+    })
 }

@@ -1,128 +1,112 @@
 //! Datagrams that were changed, cut and lengthened, while a request of each kind is under way.
 
-use crate::desk::Desk;
-use crate::events::{Brings, Event, Lease, notice, reply};
-use nq_base::{Entry, FileId, Host, Inc, Mode, Refusal, Ticks};
+use crate::desk::{Came, Desk, begun};
+use crate::words::bytes_of;
+use anyhow::Result;
+use nq_base::{Entry, FileId};
 use nq_client::Client;
-use nq_datagrams::reply_bytes;
 use rand_core::utils::NextWord;
 use rand_pcg::Lcg64Xsh32;
 use std::alloc::Global;
 use std::mem;
-use std::test::Fail;
 
-/// A request under way: what sends it, and the reply that it waits for, with a letter for what comes of that.
+/// A request under way: what sends it, and the reply that it waits for, with what comes of that.
 pub(crate) struct Ticket {
     pub(crate) name: &'static str,
-    /// The call; None where the client asks to be attached.
-    call: Option<Event>,
-    /// The number of the request.
-    xid: u32,
-    reply: Brings,
-    letter: char,
+    /// The call; empty where the client asks to be attached.
+    call: &'static str,
+    /// The words of the reply.
+    reply: &'static str,
+    comes: Came,
     /// Whether the reply says that a delayed write was stored.
     stores: bool,
 }
 
-/// A lease of file 2, which has delayed writes all the time.
-const HELD: Lease = Lease {
-    mode: Mode::Writing,
-    number: 1,
-    since: 1,
-    term: 1000,
-    rev: 0,
-    blocks: 2,
-};
-
-/// The delayed writes.
-const DELAYS: [(Event, char); 3] = [
-    (Event::Write(2, 0, 5), 'p'),
-    (Event::Reply(1, 1, Brings::Lease(Some(HELD))), 'v'),
-    (Event::Write(2, 1, 6), 'v'),
+/// What delays two writes to file 2, under a lease of 1000 ticks that host 1 holds all the time.
+const DELAYS: [&str; 3] = [
+    "write 2 0 5",
+    "receive 1 1 1 0 0 0 0 1 0 1 2 3e8 1 0 1 1 0 1 0 0 2",
+    "write 2 1 6",
 ];
 
-/// How many there are.
+/// How many writes are delayed.
 const DELAYED: usize = 2;
+
+/// The notice of that lease.
+const NOTICE: &str = "9 0 2 20004e51 1 9 0 0 0 0 1 1 2 1 0 1";
+
+/// The status STALE.
+const STALE: [u8; 4] = [0, 0, 0, 70];
 
 pub(crate) const TICKETS: [Ticket; 10] = [
     Ticket {
         name: "ATTACH",
-        call: None,
-        xid: 1,
-        reply: Brings::Attached,
-        letter: 'n',
+        call: "",
+        reply: "1 1 0 0 0 0 1 0",
+        comes: Came::Nothing,
         stores: false,
     },
     Ticket {
         name: "LOOKUP",
-        call: Some(Event::Lookup(b"a")),
-        xid: 2,
-        reply: Brings::File(1, 1),
-        letter: 'v',
+        call: "lookup a",
+        reply: "2 1 0 0 0 0 1 0 1 1",
+        comes: Came::Ok,
         stores: false,
     },
     Ticket {
         name: "CREATE",
-        call: Some(Event::Create(b"a", 4)),
-        xid: 2,
-        reply: Brings::Created(3),
-        letter: 'v',
+        call: "create a 4",
+        reply: "2 1 0 0 0 0 1 0 3",
+        comes: Came::Ok,
         stores: false,
     },
     Ticket {
         name: "GETATTR",
-        call: Some(Event::Attr(1)),
-        xid: 2,
-        reply: Brings::Length(4),
-        letter: 'v',
+        call: "attr 1",
+        reply: "2 1 0 0 0 0 1 0 4 0 0",
+        comes: Came::Ok,
         stores: false,
     },
     Ticket {
         name: "READ",
-        call: Some(Event::Read(1, 0)),
-        xid: 2,
-        reply: Brings::Block(7, 0, Some(HELD)),
-        letter: 'v',
+        call: "read 1 0",
+        reply: "2 1 0 0 0 0 1 0 0 0 1000 *7 1 2 3e8 1 0 1 1 0 1 0 0 2",
+        comes: Came::Ok,
         stores: false,
     },
     Ticket {
         name: "WRITE that goes through",
-        call: Some(Event::Put(1, 0, 9)),
-        xid: 2,
-        reply: Brings::Stored(1),
-        letter: 'v',
+        call: "put 1 0 9",
+        reply: "2 1 0 0 0 0 1 0 0 1",
+        comes: Came::Ok,
         stores: false,
     },
     Ticket {
         name: "a push",
-        call: Some(Event::Sync(2)),
-        xid: 2,
-        reply: Brings::Stored(1),
-        letter: 'n',
+        call: "sync 2",
+        reply: "2 1 0 0 0 0 1 0 0 1",
+        comes: Came::Nothing,
         stores: true,
     },
     Ticket {
         name: "GETLEASE",
-        call: Some(Event::Write(1, 0, 9)),
-        xid: 2,
-        reply: Brings::Lease(None),
-        letter: 'n',
+        call: "write 1 0 9",
+        reply: "2 1 0 0 0 0 1 0 0",
+        comes: Came::Nothing,
         stores: false,
     },
     Ticket {
         name: "RESIZE",
-        call: Some(Event::Resize(1, 4)),
-        xid: 2,
-        reply: Brings::Resized(1),
-        letter: 'v',
+        call: "resize 1 4",
+        reply: "2 1 0 0 0 0 1 0 0 1",
+        comes: Came::Ok,
         stores: false,
     },
     Ticket {
         name: "REMOVE",
-        call: Some(Event::Remove(1)),
-        xid: 2,
-        reply: Brings::Removed,
-        letter: 'v',
+        call: "remove 1",
+        reply: "2 1 0 0 0 0 1 0",
+        comes: Came::Ok,
         stores: false,
     },
 ];
@@ -135,19 +119,20 @@ enum Kind {
     Notice,
 }
 
+/// The reply that a request waits for, with another status and nothing behind it.
+fn refusal(alloc: Global, reply: &[u8]) -> Result<Vec<u8>> {
+    let mut bytes = reply.get(..28).unwrap_or(&[]).to_vec(alloc)?;
+    bytes.extend_from_slice(&STALE)?;
+    Ok(bytes)
+}
+
 /// What a datagram is made of, with what it was.
-fn meant(alloc: Global, ticket: &Ticket, choice: u32) -> Result<(Kind, Vec<u8>), Fail> {
-    let stale = Brings::Refused(Refusal::Stale);
+fn meant(alloc: Global, ticket: &Ticket, choice: u32) -> Result<(Kind, Vec<u8>)> {
+    let reply = bytes_of(alloc, ticket.reply)?;
     Ok(match choice % 4 {
-        0 => (Kind::Notice, notice(alloc, Host(1), 1, 2, 1)?),
-        1 => (
-            Kind::Refusal,
-            reply_bytes(alloc, ticket.xid, &reply(Inc(1), &stale))?,
-        ),
-        _ => (
-            Kind::Reply,
-            reply_bytes(alloc, ticket.xid, &reply(Inc(1), &ticket.reply))?,
-        ),
+        0 => (Kind::Notice, bytes_of(alloc, NOTICE)?),
+        1 => (Kind::Refusal, refusal(alloc, &reply)?),
+        _ => (Kind::Reply, reply),
     })
 }
 
@@ -169,7 +154,7 @@ fn change(words: &mut Lcg64Xsh32, bytes: &mut [u8], bound: usize) {
 }
 
 /// Changes a datagram, cuts it or lengthens it.
-fn spoil(words: &mut Lcg64Xsh32, bytes: &mut Vec<u8>) -> Result<(), Fail> {
+fn spoil(words: &mut Lcg64Xsh32, bytes: &mut Vec<u8>) -> Result<()> {
     let len = bytes.len();
     match words.next_word() % 4 {
         0 => bytes.truncate(below(words, len)),
@@ -197,11 +182,11 @@ fn may_be_heeded(kind: Kind, was: &[u8], is: &[u8]) -> bool {
 }
 
 /// Whether no call is answered that should not be.
-fn is_due(ticket: &Ticket, kind: Kind, letter: char) -> bool {
+fn is_due(ticket: &Ticket, kind: Kind, came: Came) -> bool {
     match kind {
-        Kind::Reply => letter == ticket.letter || letter == 'e' || letter == 'n',
-        Kind::Refusal => letter == 'e' || letter == 'n' || letter == 'l',
-        Kind::Notice => letter == 'n',
+        Kind::Reply => came == ticket.comes || came == Came::Refused || came == Came::Nothing,
+        Kind::Refusal => matches!(came, Came::Refused | Came::Nothing | Came::Lost),
+        Kind::Notice => came == Came::Nothing,
     }
 }
 
@@ -225,13 +210,12 @@ fn accounted(desk: &Desk, client: &Client) -> usize {
 }
 
 /// A client that has a request under way.
-fn asking(desk: &mut Desk, ticket: &Ticket) -> Result<Client, Fail> {
-    let Some(call) = ticket.call else {
-        let client = Client::start(desk.alloc, Host(1), Inc(1), 1000, Ticks(0), &mut desk.out)?;
-        return Ok(client);
-    };
-    let mut client = Client::attached(desk.alloc, Host(1), Inc(1), 1000, Ticks(0))?;
-    match delays(desk, &mut client, call) {
+fn asking(desk: &mut Desk, ticket: &Ticket) -> Result<Client> {
+    if ticket.call.is_empty() {
+        return begun(desk, "start 1 1000");
+    }
+    let mut client = begun(desk, "attached 1 1000")?;
+    match delays(desk, &mut client, ticket.call) {
         Ok(()) => Ok(client),
         Err(fault) => {
             client.stop();
@@ -241,25 +225,27 @@ fn asking(desk: &mut Desk, ticket: &Ticket) -> Result<Client, Fail> {
 }
 
 /// The writes that are delayed, and the call whose request is under way then.
-fn delays(desk: &mut Desk, client: &mut Client, call: Event) -> Result<(), Fail> {
-    desk.follow(client, &DELAYS)?;
-    desk.follow(client, &[(call, 'p')])?;
+fn delays(desk: &mut Desk, client: &mut Client, call: &str) -> Result<()> {
+    for item in DELAYS {
+        desk.step(client, item)?;
+    }
+    desk.step(client, call)?;
     Ok(())
 }
 
-/// A datagram comes that was spoiled. Whether it was ignored, or else whether all is well.
+/// A datagram comes that was spoilt. Whether it was ignored, or else whether all is well.
 fn receives_one(
     desk: &mut Desk,
     client: &mut Client,
     ticket: &Ticket,
     words: &mut Lcg64Xsh32,
-) -> Result<Option<bool>, Fail> {
+) -> Result<Option<bool>> {
     let before = accounted(desk, client);
     let (kind, was) = meant(desk.alloc, ticket, words.next_word())?;
     let mut is = Vec::from_slice(desk.alloc, &was)?;
     spoil(words, &mut is)?;
-    let letter = desk.receive(client, 7, &is);
-    if letter == 'i' {
+    let came = desk.receive(client, 7, &is);
+    if came == Came::Ignored {
         return Ok(None);
     }
     let stored = if ticket.stores && kind == Kind::Reply {
@@ -270,7 +256,7 @@ fn receives_one(
     let after = accounted(desk, client);
     Ok(Some(
         may_be_heeded(kind, &was, &is)
-            && is_due(ticket, kind, letter)
+            && is_due(ticket, kind, came)
             && after.saturating_add(stored) == before,
     ))
 }
@@ -282,7 +268,7 @@ fn endures(
     ticket: &Ticket,
     words: &mut Lcg64Xsh32,
     count: u32,
-) -> Result<bool, Fail> {
+) -> Result<bool> {
     for _ in 0..count {
         match receives_one(desk, client, ticket, words)? {
             None => {}
@@ -294,19 +280,19 @@ fn endures(
             }
         }
     }
-    let delayed = if ticket.call.is_none() { 0 } else { DELAYED };
+    let delayed = if ticket.call.is_empty() { 0 } else { DELAYED };
     let is_kept = accounted(desk, client) == delayed;
-    let answer = [(Event::Reply(7, ticket.xid, ticket.reply), ticket.letter)];
-    Ok(is_kept && desk.follow(client, &answer)? == 1)
+    let reply = bytes_of(desk.alloc, ticket.reply)?;
+    Ok(is_kept && desk.receive(client, 7, &reply) == ticket.comes)
 }
 
-/// Whether a client with this request under way does well, whatever so many spoiled datagrams say.
+/// Whether a client with this request under way does well, whatever so many spoilt datagrams say.
 pub(crate) fn is_steady(
     alloc: Global,
     ticket: &Ticket,
     words: &mut Lcg64Xsh32,
     count: u32,
-) -> Result<bool, Fail> {
+) -> Result<bool> {
     let mut desk = Desk::new(alloc)?;
     let mut client = asking(&mut desk, ticket)?;
     let steady = endures(&mut desk, &mut client, ticket, words, count);

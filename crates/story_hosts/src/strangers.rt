@@ -46,5 +46,7 @@ fn strangers_are_nobody_and_long_datagrams_are_cut(rt: HostRuntime) -> Result<()
     assert!(rt; next(&mut here, &mut room) == Some((other, 0)));
     assert!(rt; next(&mut here, &mut room) == Some((other, 4401)));
     assert!(rt; next(&mut here, &mut room).is_none());
+    // There is no host 64.
+    assert!(rt; here.send(Party::Client(Host(64)), b"ask") == Sent::Failed);
     Ok(())
 }

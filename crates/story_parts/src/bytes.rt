@@ -1,40 +1,26 @@
-//! Tests of sources and sinks.
+//! Sources and sinks.
 
+use anyhow::Result;
 use nq_io::{Got, MemSink, MemSource, Put, Sink, Source, StdSink, StdSource, Whole, read_all};
 use std::alloc::Global;
-use std::io;
 use std::io::{ErrorKind, Read, Write};
-use std::test::Fail;
+use std::{io, str};
 
-#[test]
-fn a_source_in_memory_gives_what_fits_and_fails_listed_calls(rt: HostRuntime) -> Result<(), Fail> {
-    let alloc = rt.alloc();
-    let mut source = MemSource::new(b"abcde".to_vec(alloc)?, vec![in alloc; 1]?);
+/// Prints what comes of five reads, all into the same two bytes.
+fn read_on<S: Source>(rt: &HostRuntime, source: &mut S) -> Result<()> {
     let mut out = *b"--";
-    assert_eq!(rt; source.read(&mut out), Got::Bytes(2));
-    assert_eq!(rt; out, *b"ab");
-    assert_eq!(rt; source.read(&mut out), Got::Failed);
-    assert_eq!(rt; source.read(&mut out), Got::Bytes(2));
-    assert_eq!(rt; out, *b"cd");
-    assert_eq!(rt; source.read(&mut out), Got::Bytes(1));
-    assert_eq!(rt; out, *b"ed");
-    assert_eq!(rt; source.read(&mut out), Got::End);
+    for _ in 0..5 {
+        let got = match source.read(&mut out) {
+            Got::Bytes(count) => count,
+            Got::End => 0,
+            Got::Failed => 9,
+        };
+        println!(rt; "{got} {}", str::from_utf8(&out)?)?;
+    }
     Ok(())
 }
 
-#[test]
-fn a_sink_in_memory_keeps_to_its_room_and_fails_listed_calls(rt: HostRuntime) -> Result<(), Fail> {
-    let alloc = rt.alloc();
-    let mut sink = MemSink::new(alloc, 4, vec![in alloc; 1]?)?;
-    assert_eq!(rt; sink.put(b"ab"), Put::All);
-    assert_eq!(rt; sink.put(b"c"), Put::Failed);
-    assert_eq!(rt; sink.put(b"cde"), Put::Failed);
-    assert_eq!(rt; sink.put(b"cd"), Put::All);
-    assert_eq!(rt; sink.bytes(), b"abcd".as_slice());
-    Ok(())
-}
-
-// Gives one byte at a time, and fails once.
+/// Gives one byte at a time, and fails at its second read.
 #[derive(Drop)]
 struct Faltering {
     rest: &'static [u8],
@@ -52,33 +38,33 @@ impl Read for Faltering {
     }
 }
 
-#[test]
-fn a_std_reader_is_a_source(rt: HostRuntime) -> Result<(), Fail> {
-    let mut source = StdSource::new(Faltering {
+/// A source in memory whose second read fails, and a reader as a source, which does the same. Each read is printed as the number of its
+/// bytes, with 0 at the end and 9 for a failure.
+pub(crate) fn sources(rt: &HostRuntime) -> Result<()> {
+    let alloc = rt.alloc();
+    println!(rt; "== sources")?;
+    let mut source = MemSource::new(b"abcde".to_vec(alloc)?, vec![in alloc; 1]?);
+    read_on(rt, &mut source)?;
+    let mut reader = StdSource::new(Faltering {
         rest: b"ab",
         reads: 0,
     });
-    let mut out = *b"--";
-    assert_eq!(rt; source.read(&mut out), Got::Bytes(1));
-    assert_eq!(rt; source.read(&mut out), Got::Failed);
-    assert_eq!(rt; source.read(&mut out), Got::Bytes(1));
-    assert_eq!(rt; out, *b"b-");
-    assert_eq!(rt; source.read(&mut out), Got::End);
+    read_on(rt, &mut reader)
+}
+
+/// Prints which puts go through.
+fn put_on<K: Sink>(rt: &HostRuntime, sink: &mut K, puts: &[&str]) -> Result<()> {
+    for bytes in puts {
+        let word = match sink.put(bytes.as_bytes()) {
+            Put::All => "put",
+            Put::Failed => "failed",
+        };
+        println!(rt; "{bytes} {word}")?;
+    }
     Ok(())
 }
 
-#[test]
-fn a_std_writer_is_a_sink(rt: HostRuntime) -> Result<(), Fail> {
-    let mut room = *b"---";
-    let mut sink = StdSink::new(room.as_mut_slice());
-    assert_eq!(rt; sink.put(b"ab"), Put::All);
-    assert_eq!(rt; sink.put(b"cd"), Put::Failed);
-    drop(sink);
-    assert_eq!(rt; room, *b"abc");
-    Ok(())
-}
-
-// Takes bytes, but for its first write or its first flush, as it is told.
+/// Takes a byte at a time, but for its first writes or flushes, which fail.
 #[derive(Drop)]
 struct Stumbling {
     writes_to_fail: u32,
@@ -113,52 +99,66 @@ impl Write for Stumbling {
     }
 }
 
-#[test]
-fn a_std_writer_that_fails_once_fails_one_put(rt: HostRuntime) {
-    for (writes_to_fail, flushes_to_fail, held) in [(1, 0, *b"cd--"), (0, 1, *b"abcd")] {
-        let mut writer = Stumbling {
-            writes_to_fail,
-            flushes_to_fail,
-            held: *b"----",
-            len: 0,
-        };
-        let mut sink = StdSink::new(&mut writer);
-        assert_eq!(rt; sink.put(b"ab"), Put::Failed);
-        assert_eq!(rt; sink.put(b"cd"), Put::All);
-        drop(sink);
-        assert_eq!(rt; writer.held, held);
-        assert_eq!(rt; writer.flushes_to_fail, 0);
-    }
+/// Puts to a writer that fails so often, and prints what it holds then.
+fn stumble(rt: &HostRuntime, writes_to_fail: u32, flushes_to_fail: u32) -> Result<()> {
+    let mut writer = Stumbling {
+        writes_to_fail,
+        flushes_to_fail,
+        held: *b"----",
+        len: 0,
+    };
+    put_on(rt, &mut StdSink::new(&mut writer), &["ab", "cd"])?;
+    println!(rt; "{}", str::from_utf8(&writer.held)?)?;
+    Ok(())
 }
 
-// What comes of reading these bytes to their end: a word, and how many there are.
-fn outcome(
+/// A sink in memory with room for four bytes, whose second put fails, and writers as sinks: with room for three bytes, and with a write
+/// or a flush that fails once.
+pub(crate) fn sinks(rt: &HostRuntime) -> Result<()> {
+    let alloc = rt.alloc();
+    println!(rt; "== sinks")?;
+    let mut sink = MemSink::new(alloc, 4, vec![in alloc; 1]?)?;
+    put_on(rt, &mut sink, &["ab", "c", "cde", "cd"])?;
+    println!(rt; "{}", str::from_utf8(sink.bytes())?)?;
+    let mut room = *b"---";
+    put_on(rt, &mut StdSink::new(room.as_mut_slice()), &["ab", "cd"])?;
+    println!(rt; "{}", str::from_utf8(&room)?)?;
+    stumble(rt, 1, 0)?;
+    stumble(rt, 0, 1)
+}
+
+/// Reads a source to its end, and prints a word for what comes of it, and how many bytes come.
+fn read_whole<S: Source>(
+    rt: &HostRuntime,
     alloc: Global,
-    bytes: &[u8],
-    failing: &[u32],
+    source: &mut S,
     limit: usize,
-) -> Result<(&'static str, usize), Fail> {
-    let mut source = MemSource::new(bytes.to_vec(alloc)?, failing.to_vec(alloc)?);
-    Ok(match read_all(alloc, &mut source, limit) {
+) -> Result<()> {
+    let (word, count) = match read_all(alloc, source, limit) {
         Whole::All(all) => ("all", all.len()),
         Whole::Over(front) => ("over", front.len()),
         Whole::Failed => ("failed", 0),
         Whole::Memory => ("memory", 0),
-    })
+    };
+    println!(rt; "{word} {count}")?;
+    Ok(())
 }
 
-#[test]
-fn a_source_is_read_to_its_end_or_past_the_limit(rt: HostRuntime) -> Result<(), Fail> {
+/// Sources that are read to their end, or past the limit: so many bytes, the limit, and the number of the read that fails.
+const WHOLES: [(usize, usize, u32); 4] = [
+    (40_000, 40_000, 9),
+    (40_000, 39_999, 9),
+    (40_000, 40_000, 2),
+    (0, 0, 9),
+];
+
+pub(crate) fn wholes(rt: &HostRuntime) -> Result<()> {
     let alloc = rt.alloc();
-    let long = vec![in alloc; 7u8; 40_000]?;
-    assert_eq!(rt; outcome(alloc, &long, &[], 40_000)?, ("all", 40_000));
-    assert_eq!(rt; outcome(alloc, &long, &[], 39_999)?, ("over", 40_000));
-    assert_eq!(rt; outcome(alloc, &long, &[2], 40_000)?, ("failed", 0));
-    assert_eq!(rt; outcome(alloc, b"", &[], 0)?, ("all", 0));
-    let mut reader = StdSource::new(b"abc".as_slice());
-    match read_all(alloc, &mut reader, 16) {
-        Whole::All(all) => assert_eq!(rt; all.as_slice(), b"abc".as_slice()),
-        _ => panic!(rt),
+    println!(rt; "== wholes")?;
+    for (count, limit, failing) in WHOLES.iter() {
+        let bytes = vec![in alloc; 7u8; *count]?;
+        let mut source = MemSource::new(bytes, vec![in alloc; *failing]?);
+        read_whole(rt, alloc, &mut source, *limit)?;
     }
-    Ok(())
+    read_whole(rt, alloc, &mut StdSource::new(b"abc".as_slice()), 16)
 }

@@ -1,20 +1,19 @@
-//! Tests of storms.
+//! Storms: their words, their menu, and the choices of each fate.
 
+use anyhow::Result;
 use nq_base::{Call, Event};
 use nq_fate::{
     CutFate, Fate, HostileFate, LossyFate, Offer, SteadyFate, Words, choose_event, event_at,
-    menu_is_offered,
 };
-use std::alloc::AllocError;
 
 /// What stands at a place of a menu.
-#[derive(Clone, Copy, PartialEq, Eq, Debug)]
+#[derive(Clone, Copy, Debug)]
 enum Seen {
     Delivery(u64),
     ServerTick,
     Tick(u32),
     Restart(u32),
-    Crash,
+    Crash(u32),
     Read(u32, u32, u32),
     Write(u32, u32, u32, u32),
     Sync(u32, u32),
@@ -27,9 +26,8 @@ fn look_at(event: &Event) -> Seen {
         Event::ServerTick => Seen::ServerTick,
         Event::ClientTick(host) => Seen::Tick(host.0),
         Event::Restart(host) => Seen::Restart(host.0),
-        Event::Crash { longest: 60 } => Seen::Crash,
+        Event::Crash { longest } => Seen::Crash(*longest),
         Event::Call { host, call } => look_at_call(host.0, call),
-        _ => Seen::Other,
     }
 }
 
@@ -42,80 +40,50 @@ fn look_at_call(host: u32, call: &Call) -> Seen {
     }
 }
 
-#[test]
-fn words_follow_from_their_start(rt: HostRuntime) {
+/// The first words that follow from 1.
+pub(crate) fn words(rt: &HostRuntime) -> Result<()> {
+    println!(rt; "== words")?;
     let mut words = Words::new(1);
-    for word in [866_585_574, 2_109_535_214, 3_403_630_417, 296_513_984] {
-        assert_eq!(rt; words.draw(), word);
+    for _ in 0..4 {
+        println!(rt; "{}", words.draw())?;
     }
+    Ok(())
 }
 
-#[test]
-fn a_menu_has_its_order(rt: HostRuntime) {
+/// Places of a menu at the borders between its kinds of event.
+const PLACES: [u32; 15] = [0, 6, 7, 8, 11, 12, 15, 16, 17, 24, 25, 41, 42, 43, 120];
+
+/// The menu behind seven packets, where the server's clock may tick.
+pub(crate) fn menu(rt: &HostRuntime) -> Result<()> {
     let offer = Offer::new(7, 3, true, 0);
-    assert_eq!(rt; offer.size, 121);
-    for (place, seen) in [
-        (0, Seen::Delivery(0)),
-        (6, Seen::Delivery(6)),
-        (7, Seen::ServerTick),
-        (8, Seen::Tick(0)),
-        (11, Seen::Tick(3)),
-        (12, Seen::Restart(0)),
-        (15, Seen::Restart(3)),
-        (16, Seen::Crash),
-        (17, Seen::Read(0, 1, 0)),
-        (24, Seen::Read(0, 2, 3)),
-        (25, Seen::Write(0, 1, 0, 9)),
-        (41, Seen::Sync(0, 1)),
-        (42, Seen::Sync(0, 2)),
-        (43, Seen::Read(1, 1, 0)),
-        (120, Seen::Sync(3, 2)),
-    ] {
-        assert!(rt; place < offer.size);
-        assert_eq!(rt; look_at(&event_at(&offer, place, 9)), seen);
-    }
-    menu_is_offered();
-}
-
-/// What the fate chooses from a menu of seven packets.
-fn chosen_by(fate: &mut dyn Fate, fresh: u32, word: u32) -> Seen {
-    if fresh > 7 {
-        return Seen::Other;
-    }
-    let offer = Offer::new(7, fresh, false, word);
-    look_at(&choose_event(fate, &offer, 1))
-}
-
-#[test]
-fn fates_choose_by_their_rules(rt: HostRuntime) {
-    let mut steady = SteadyFate::new();
-    assert_eq!(rt; chosen_by(&mut steady, 3, 4), Seen::Delivery(3));
-    assert_eq!(rt; chosen_by(&mut steady, 7, 4), Seen::Tick(0));
-    assert_eq!(rt; chosen_by(&mut steady, 7, 8), Seen::Tick(1));
-    assert_eq!(rt; chosen_by(&mut steady, 7, 5), Seen::Read(0, 1, 1));
-    let mut lossy = LossyFate::new();
-    assert_eq!(rt; chosen_by(&mut lossy, 3, 129), Seen::Restart(2));
-    assert_eq!(rt; chosen_by(&mut lossy, 3, 67), Seen::Crash);
-    assert_eq!(rt; chosen_by(&mut lossy, 3, 10), Seen::Delivery(5));
-    let mut cut = CutFate::new();
-    assert_eq!(rt; chosen_by(&mut cut, 3, 1), Seen::Delivery(0));
-    assert_eq!(rt; chosen_by(&mut cut, 3, 1), Seen::Delivery(1));
-    let mut hostile = HostileFate::new();
-    assert_eq!(rt; chosen_by(&mut hostile, 3, 6), Seen::Delivery(6));
-    assert_eq!(rt; hostile.kind(), 3);
-}
-
-#[test]
-fn fates_are_boxed(rt: HostRuntime) -> Result<(), AllocError> {
-    let mut fates: Vec<Box<dyn Fate>> = Vec::new(rt.alloc());
-    fates.push(Box::new(rt.alloc(), SteadyFate::new())?)?;
-    fates.push(Box::new(rt.alloc(), CutFate::new())?)?;
-    assert_eq!(rt; fates.len(), 2);
-    for (place, kind) in [(0, 0), (1, 2)] {
-        match fates.get(place) {
-            Some(fate) => assert_eq!(rt; fate.kind(), kind),
-            None => assert!(rt; false),
+    println!(rt; "== menu of {}", offer.size)?;
+    for place in PLACES.iter() {
+        if *place < offer.size {
+            let seen = look_at(&event_at(&offer, *place, 9));
+            println!(rt; "{place} {seen:?}")?;
         }
     }
     Ok(())
+}
+
+/// The choices that a fate makes behind seven packets, one after another: the first packet that was not delivered yet and the word that
+/// was drawn.
+fn choices(rt: &HostRuntime, fate: &mut dyn Fate, moments: &[(u32, u32)]) -> Result<()> {
+    println!(rt; "kind {}", fate.kind())?;
+    for (fresh, word) in moments {
+        let offer = Offer::new(7, (*fresh).min(7), false, *word);
+        let seen = look_at(&choose_event(fate, &offer, 1));
+        println!(rt; "{fresh} {word} {seen:?}")?;
+    }
+    Ok(())
+}
+
+/// Each fate chooses by its rule.
+pub(crate) fn fates(rt: &HostRuntime) -> Result<()> {
+    println!(rt; "== fates")?;
+    let steady = [(3, 4), (7, 4), (7, 8), (7, 5)];
+    choices(rt, &mut SteadyFate::new(), &steady)?;
+    choices(rt, &mut LossyFate::new(), &[(3, 129), (3, 67), (3, 10)])?;
+    choices(rt, &mut CutFate::new(), &[(3, 1), (3, 1)])?;
+    choices(rt, &mut HostileFate::new(), &[(3, 6)])
 }

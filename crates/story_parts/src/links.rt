@@ -1,57 +1,55 @@
-//! Tests of links.
+//! A link in memory.
 
+use anyhow::Result;
 use nq_base::{Host, Party};
-use nq_link::{Came, Link, MemLink, Sent, UdpLink};
-use std::test::Fail;
+use nq_link::{Came, Link, MemLink, Sent};
+use std::str;
 
-/// The datagram that a link gives, as its sender and its bytes; None where nothing comes.
-fn next(link: &mut impl Link, room: &mut [u8]) -> Option<(Party, usize)> {
-    for _ in 0..100 {
-        match link.receive(room) {
-            Came::Datagram { length, sender } => return Some((sender, length)),
-            Came::Nothing => {}
-            Came::Failed => return None,
-        }
-    }
-    None
-}
-
-#[test]
-fn a_link_in_memory_sends_and_receives(rt: HostRuntime) -> Result<(), Fail> {
-    let alloc = rt.alloc();
-    let failing = vec![in alloc; 1, 4]?;
-    let mut link = MemLink::new(alloc, Party::Server, 2, 9, failing)?;
-    for (bytes, want) in [
-        (b"lease".as_slice(), Sent::All),
-        (b"lost".as_slice(), Sent::Failed),
-        (b"beyond".as_slice(), Sent::Failed),
-        (b"last".as_slice(), Sent::All),
-    ] {
-        assert!(rt; link.send(Party::Client(Host(3)), bytes) == want);
-    }
-    assert_eq!(rt; link.sent().len(), 2);
-    let mut room = [0; 4];
-    link.bring(alloc, Party::Client(Host(3)), b"datagram")?;
-    assert!(rt; link.receive(&mut room) == Came::Failed);
-    assert!(rt; next(&mut link, &mut room) == Some((Party::Client(Host(3)), 4)));
-    assert_eq!(rt; &room, b"data");
-    assert!(rt; link.receive(&mut room) == Came::Nothing);
+/// Sends bytes to a host, and prints whether they were sent.
+fn send_on<L: Link>(rt: &HostRuntime, link: &mut L, host: u32, bytes: &str) -> Result<()> {
+    let word = match link.send(Party::Client(Host(host)), bytes.as_bytes()) {
+        Sent::All => "sent",
+        Sent::Failed => "failed",
+    };
+    println!(rt; "{bytes} {word}")?;
     Ok(())
 }
 
-#[test]
-fn datagrams_travel_over_udp(rt: HostRuntime) -> Result<(), Fail> {
-    let (one, other) = (Party::Client(Host(62)), Party::Client(Host(63)));
-    let mut here = UdpLink::new(rt.clone()?, one);
-    let mut there = UdpLink::new(rt.clone()?, other);
-    let mut room = [0; 8];
-    assert!(rt; here.receive(&mut room) == Came::Nothing);
-    assert!(rt; there.send(one, b"ask") == Sent::All);
-    assert!(rt; next(&mut here, &mut room) == Some((other, 3)));
-    assert_eq!(rt; &room, b"ask\0\0\0\0\0");
-    assert!(rt; here.send(other, b"answered twice") == Sent::All);
-    assert!(rt; next(&mut there, &mut room) == Some((one, 8)));
-    assert_eq!(rt; &room, b"answered");
-    assert!(rt; here.send(Party::Client(Host(64)), b"nobody") == Sent::Failed);
+/// The number of a host; 99 for the server.
+fn number_of(party: Party) -> u32 {
+    match party {
+        Party::Client(host) => host.0,
+        Party::Server => 99,
+    }
+}
+
+/// Receives into four bytes, and prints what came.
+fn receive_on<L: Link>(rt: &HostRuntime, link: &mut L) -> Result<()> {
+    let mut room = *b"----";
+    match link.receive(&mut room) {
+        Came::Datagram { length, sender } => {
+            let host = number_of(sender);
+            println!(rt; "{length} from {host} {}", str::from_utf8(&room)?)?;
+        }
+        Came::Nothing => println!(rt; "nothing")?,
+        Came::Failed => println!(rt; "failed")?,
+    }
+    Ok(())
+}
+
+/// A link in memory with room for two datagrams and nine bytes, whose calls 1 and 4 fail.
+pub(crate) fn in_memory(rt: &HostRuntime) -> Result<()> {
+    let alloc = rt.alloc();
+    println!(rt; "== a link in memory")?;
+    let failing = vec![in alloc; 1, 4]?;
+    let mut link = MemLink::new(alloc, Party::Server, 2, 9, failing)?;
+    for bytes in ["lease", "lost", "beyond", "last"] {
+        send_on(rt, &mut link, 3, bytes)?;
+    }
+    println!(rt; "{}", link.sent().len())?;
+    link.bring(alloc, Party::Client(Host(3)), b"datagram")?;
+    for _ in 0..3 {
+        receive_on(rt, &mut link)?;
+    }
     Ok(())
 }

@@ -4,6 +4,7 @@ use crate::grammar::word_at;
 use crate::owed::{is_paid, owed_to};
 use crate::story::Story;
 use crate::words::{bytes_of, put_word};
+use anyhow::{Context, Result, bail};
 use nq_base::{FileId, Host, Ticks};
 use nq_keeper::ListKeeper;
 use nq_server::Server;
@@ -11,8 +12,6 @@ use rand_core::SeedableRng;
 use rand_core::utils::NextWord;
 use rand_pcg::Lcg64Xsh32;
 use std::alloc::Global;
-use std::process::Abort;
-use std::test::Fail;
 
 /// How often the server crashes, and each host attaches anew.
 const ROUNDS: u32 = 100;
@@ -56,7 +55,7 @@ fn has_sequence(datagram: &[u8]) -> bool {
 }
 
 /// Changes, cuts or lengthens a datagram, or leaves it as it is.
-fn spoil(datagram: &mut Vec<u8>, words: &mut Lcg64Xsh32) -> Result<(), Fail> {
+fn spoil(datagram: &mut Vec<u8>, words: &mut Lcg64Xsh32) -> Result<()> {
     let way = words.next_word();
     let place = words.next_word() as usize % datagram.len().max(1);
     let byte = (way / 256 % 256) as u8;
@@ -78,16 +77,16 @@ fn change(datagram: &mut [u8], place: usize, byte: u8) {
 }
 
 /// The incarnation that the server keeps for a host.
-fn kept_of(story: &mut Story, host: u32) -> Result<u32, Fail> {
+fn kept_of(story: &mut Story, host: u32) -> Result<u32> {
     if host >= HOSTS {
-        return Err("no host".into());
+        bail!("host {host}");
     }
-    let kept = story.server().kept_inc(Host(host))?;
-    Ok(kept.0)
+    let kept = story.server().kept_inc(Host(host));
+    Ok(kept.ok().context("the keeper failed")?.0)
 }
 
 /// Whether the server answers a datagram as it is owed.
-fn is_answered(story: &mut Story, host: u32, kept: u32, datagram: &[u8]) -> Result<bool, Fail> {
+fn is_answered(story: &mut Story, host: u32, kept: u32, datagram: &[u8]) -> Result<bool> {
     let owed = owed_to(datagram, host, kept);
     let xid = word_at(datagram, 0).unwrap_or(0);
     let (received, out) = story.take_in(host, datagram)?;
@@ -116,7 +115,7 @@ struct Maker {
 }
 
 impl Maker {
-    fn new(alloc: Global) -> Result<Maker, Fail> {
+    fn new(alloc: Global) -> Result<Maker> {
         let mut forms = Vec::new(alloc);
         for text in WELL_FORMED {
             forms.push(bytes_of(alloc, text)?)?;
@@ -134,19 +133,19 @@ impl Maker {
     }
 
     /// A copy of a well-formed datagram.
-    fn copied(&mut self) -> Result<Vec<u8>, Fail> {
+    fn copied(&mut self) -> Result<Vec<u8>> {
         let word = self.words.next_word() as usize;
         let place = if word % 16 == 0 {
             SHORT + word / 16 % 2
         } else {
             word / 16 % SHORT
         };
-        let form = self.forms.get(place).ok_or("no datagram")?;
+        let form = self.forms.get(place).context("no datagram")?;
         Ok(Vec::from_slice(self.alloc, form)?)
     }
 
     /// A datagram of a host in this incarnation, with this sequence, that may be spoilt.
-    fn made(&mut self, host: u32, incarnation: u32, sequence: u32) -> Result<Vec<u8>, Fail> {
+    fn made(&mut self, host: u32, incarnation: u32, sequence: u32) -> Result<Vec<u8>> {
         let mut datagram = self.copied()?;
         put_word(&mut datagram, HOST, host);
         put_word(&mut datagram, INCARNATION, incarnation);
@@ -159,7 +158,7 @@ impl Maker {
 }
 
 /// Each host attaches in its next incarnation.
-fn attach_all(story: &mut Story, alloc: Global) -> Result<(), Fail> {
+fn attach_all(story: &mut Story, alloc: Global) -> Result<()> {
     let mut attach = bytes_of(alloc, "2 0 2 20004e51 1 1 0 0 0 0 0 1")?;
     for host in 0..HOSTS {
         let kept = kept_of(story, host)?;
@@ -171,40 +170,38 @@ fn attach_all(story: &mut Story, alloc: Global) -> Result<(), Fail> {
 }
 
 /// The server takes in the datagrams of a round.
-fn take_in_round(
-    rt: &impl Abort,
-    story: &mut Story,
-    maker: &mut Maker,
-    round: u32,
-) -> Result<(), Fail> {
+fn take_in_round(story: &mut Story, maker: &mut Maker, round: u32) -> Result<()> {
     for sequence in 1..=IN_A_ROUND {
         let host = maker.host();
         let kept = kept_of(story, host)?;
         let datagram = maker.made(host, kept, sequence)?;
-        assert!(rt;
-            is_answered(story, host, kept, &datagram)?,
-            "datagram {sequence} of round {round}"
-        );
+        if !is_answered(story, host, kept, &datagram)? {
+            bail!("datagram {sequence} of round {round}");
+        }
     }
     Ok(())
 }
 
-#[test]
-fn whatever_comes_is_answered_or_dropped(rt: HostRuntime) -> Result<(), Fail> {
-    let alloc = rt.alloc();
+/// Whether the server shows this time, and keeps to its bounds.
+fn is_within(server: &mut Server<ListKeeper>, time: u64) -> bool {
+    server.time() == Ticks(time) && server.table().len() <= 2048 && keeps_few_files(server)
+}
+
+/// Lets all rounds come to a server that crashes at every tenth.
+pub(crate) fn take_in_all(alloc: Global) -> Result<()> {
     let mut story = Story::begin(alloc)?;
     let mut maker = Maker::new(alloc)?;
     for round in 1..=ROUNDS {
         let time = u64::from(round) * 100;
-        story.tick(&rt, time)?;
+        story.tick(time)?;
         if round % 10 == 0 {
-            story.crash(&rt, time);
+            story.crash(time);
         }
         attach_all(&mut story, alloc)?;
-        take_in_round(&rt, &mut story, &mut maker, round)?;
-        let server = story.server();
-        assert!(rt; server.table().len() <= 2048 && server.time() == Ticks(time));
-        assert!(rt; keeps_few_files(server));
+        take_in_round(&mut story, &mut maker, round)?;
+        if !is_within(story.server(), time) {
+            bail!("round {round}");
+        }
     }
     Ok(())
 }

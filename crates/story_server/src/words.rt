@@ -1,25 +1,64 @@
 //! Datagrams as words in hexadecimal.
 
+use crate::grammar::word_at;
+use anyhow::Result;
 use std::alloc::Global;
-use std::test::Fail;
 
 /// How many words a block has.
-const WORDS_OF_BLOCK: u32 = 1024;
+const WORDS_OF_BLOCK: usize = 1024;
 
-/// The words of a text as bytes, the highest byte of each first. A word behind a star stands for a block that repeats it.
-pub(crate) fn bytes_of(alloc: Global, text: &str) -> Result<Vec<u8>, Fail> {
+/// The words of a text as bytes, the highest byte of each first. A word behind a star stands for a block that repeats it, and one behind a
+/// plus for a single byte.
+pub(crate) fn bytes_of(alloc: Global, text: &str) -> Result<Vec<u8>> {
     let mut bytes = Vec::new(alloc);
     for word in text.split(' ') {
-        let (digits, times) = match word.strip_prefix('*') {
-            Some(digits) => (digits, WORDS_OF_BLOCK),
-            None => (word, 1),
-        };
-        let number = u32::from_str_radix(digits, 16)?;
-        for _ in 0..times {
-            bytes.extend_from_slice(&number.to_be_bytes())?;
-        }
+        push_word(&mut bytes, word)?;
     }
     Ok(bytes)
+}
+
+fn push_word(bytes: &mut Vec<u8>, word: &str) -> Result<()> {
+    if let Some(digits) = word.strip_prefix('+') {
+        bytes.push(u8::from_str_radix(digits, 16)?)?;
+        return Ok(());
+    }
+    let (digits, times) = match word.strip_prefix('*') {
+        Some(digits) => (digits, WORDS_OF_BLOCK),
+        None => (word, 1),
+    };
+    let number = u32::from_str_radix(digits, 16)?;
+    for _ in 0..times {
+        bytes.extend_from_slice(&number.to_be_bytes())?;
+    }
+    Ok(())
+}
+
+/// Adds the words of a datagram to a text, where a block that repeats a word stands as that word behind a star.
+pub(crate) fn push_words(text: &mut String, datagram: &[u8]) -> Result<()> {
+    let mut skipped = 0;
+    for place in 0..datagram.len() / 4 {
+        if skipped > 0 {
+            skipped -= 1;
+            continue;
+        }
+        let rest = datagram.get(4 * place..).unwrap_or(&[]);
+        let word = word_at(rest, 0).unwrap_or(0);
+        if is_block(rest) {
+            skipped = WORDS_OF_BLOCK - 1;
+            write!(text, " *{word:x}")?;
+        } else {
+            write!(text, " {word:x}")?;
+        }
+    }
+    Ok(())
+}
+
+/// Whether a block stands at the front that repeats a word.
+fn is_block(bytes: &[u8]) -> bool {
+    match (bytes.get(..4092), bytes.get(4..4096)) {
+        (Some(front), Some(behind)) => front == behind,
+        _ => false,
+    }
 }
 
 /// Writes a word, where the datagram reaches so far.

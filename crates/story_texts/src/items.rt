@@ -1,100 +1,83 @@
-//! Tests of items.
+//! Items of XDR (RFC 1014).
 
-use nq_xdr::{Reader, Writer, XdrFault};
-use std::test::Fail;
+use crate::words::{again, bytes_of, numbered};
+use anyhow::Result;
+use nq_xdr::{Reader, Writer};
+use std::alloc::Global;
+use std::str;
 
-/// The file of RFC 1014 section 6: its name, its kind, its interpreter, its owner and its data.
-const FILE: [u8; 48] = [
-    0, 0, 0, 9, b's', b'i', b'l', b'l', b'y', b'p', b'r', b'o', b'g', 0, 0, 0, 0, 0, 0, 2, 0, 0, 0,
-    4, b'l', b'i', b's', b'p', 0, 0, 0, 4, b'j', b'o', b'h', b'n', 0, 0, 0, 6, b'(', b'q', b'u',
-    b'i', b't', b')', 0, 0,
+/// How many bytes opaque data has, below a bound, or why it has none.
+pub(crate) fn opaque(alloc: Global, rest: &str) -> Result<String> {
+    let (max, bytes) = numbered(alloc, rest)?;
+    let mut reader = Reader::new(&bytes);
+    let said = match reader.opaque(max) {
+        Ok(read) => format!(in alloc; "{} bytes, {} left", read.len(), reader.rest().len())?,
+        Err(fault) => format!(in alloc; "{fault:?}, {} left", reader.rest().len())?,
+    };
+    Ok(said)
+}
+
+pub(crate) fn boolean(alloc: Global, rest: &str) -> Result<String> {
+    let bytes = bytes_of(alloc, rest)?;
+    let mut reader = Reader::new(&bytes);
+    let said = match reader.boolean() {
+        Ok(read) => format!(in alloc; "{read}")?,
+        Err(fault) => format!(in alloc; "{fault:?}")?,
+    };
+    Ok(said)
+}
+
+/// A file as RFC 1014 section 6 has it: its name, its kind, its interpreter, its owner and its data.
+pub(crate) fn file(alloc: Global, rest: &str) -> Result<String> {
+    let bytes = bytes_of(alloc, rest)?;
+    let mut reader = Reader::new(&bytes);
+    let mut writer = Writer::new(alloc)?;
+    let mut said = String::new(alloc);
+    for place in 0..5 {
+        if place == 1 {
+            let kind = reader.u32()?;
+            writer.u32(kind)?;
+            write!(said, "{kind} ")?;
+        } else {
+            let text = reader.opaque(255)?;
+            push_opaque(&mut writer, text)?;
+            write!(said, "{} ", str::from_utf8(text)?)?;
+        }
+    }
+    reader.end()?;
+    said.push_str(again(writer.as_bytes(), &bytes))?;
+    Ok(said)
+}
+
+/// Writes opaque data of up to 255 bytes.
+fn push_opaque(writer: &mut Writer, text: &[u8]) -> Result<()> {
+    if text.len() < 256 {
+        writer.opaque(text)?;
+    }
+    Ok(())
+}
+
+/// Numbers with their highest byte first.
+const NUMBERS: [u8; 21] = [
+    0x20, 0x00, 0x4e, 0x51, 1, 2, 3, 4, 5, 6, 7, 8, 0, 0, 0, 1, 0, 0, 0, 0, 9,
 ];
 
-#[test]
-fn the_file_of_the_standard_is_written(rt: HostRuntime) -> Result<(), Fail> {
+/// Reads a number, a long one and two booleans, and prints what is read, what is left, and whether it is written so.
+pub(crate) fn numbers(rt: &HostRuntime) -> Result<()> {
+    let mut reader = Reader::new(&NUMBERS);
+    let (short, long) = (reader.u32()?, reader.u64()?);
+    let (yes, no) = (reader.boolean()?, reader.boolean()?);
     let mut writer = Writer::new(rt.alloc())?;
-    writer.opaque(b"sillyprog")?;
-    writer.u32(2)?;
-    writer.opaque(b"lisp")?;
-    writer.opaque(b"john")?;
-    writer.opaque(b"(quit)")?;
-    assert_eq!(rt; writer.into_bytes().as_slice(), FILE.as_slice());
-    Ok(())
-}
-
-#[test]
-fn the_file_of_the_standard_is_read(rt: HostRuntime) -> Result<(), Fail> {
-    let mut reader = Reader::new(&FILE);
-    assert_eq!(rt; reader.opaque(255)?, b"sillyprog".as_slice());
-    assert_eq!(rt; reader.u32()?, 2);
-    assert_eq!(rt; reader.opaque(4)?, b"lisp".as_slice());
-    assert_eq!(rt; reader.rest().len(), 20);
-    assert_eq!(rt; reader.opaque(4)?, b"john".as_slice());
-    assert_eq!(rt; reader.opaque(6)?, b"(quit)".as_slice());
-    reader.end()?;
-    Ok(())
-}
-
-#[test]
-fn numbers_stand_with_their_highest_byte_first(rt: HostRuntime) -> Result<(), Fail> {
-    let bytes = [
-        0x20, 0x00, 0x4e, 0x51, 1, 2, 3, 4, 5, 6, 7, 8, 0, 0, 0, 1, 0, 0, 0, 0, 9,
-    ];
-    let mut writer = Writer::new(rt.alloc())?;
-    writer.reserve(bytes.len())?;
-    writer.u32(0x2000_4e51)?;
-    writer.u64(0x0102_0304_0506_0708)?;
-    writer.boolean(true)?;
-    writer.boolean(false)?;
-    writer.append(&[9])?;
-    assert_eq!(rt; writer.into_bytes().as_slice(), bytes.as_slice());
-
-    let mut reader = Reader::new(&bytes);
-    assert_eq!(rt; reader.u32()?, 0x2000_4e51);
-    assert_eq!(rt; reader.u64()?, 0x0102_0304_0506_0708);
-    assert!(rt; reader.boolean()?);
-    assert!(rt; !reader.boolean()?);
-    assert_eq!(rt; reader.rest(), [9].as_slice());
-    assert_eq!(rt; reader.u32(), Err(XdrFault::Short));
-    assert_eq!(rt; reader.u64(), Err(XdrFault::Short));
-    assert_eq!(rt; reader.end(), Err(XdrFault::Trailing));
-    Ok(())
-}
-
-#[test]
-fn a_boolean_is_0_or_1(rt: HostRuntime) {
-    assert_eq!(rt; Reader::new(&[0, 0, 0, 2]).boolean(), Err(XdrFault::Bool));
-    assert_eq!(rt; Reader::new(&[1, 0, 0, 1]).boolean(), Err(XdrFault::Bool));
-    assert_eq!(rt; Reader::new(&[0, 0, 0]).boolean(), Err(XdrFault::Short));
-}
-
-#[test]
-fn hostile_opaque_data_has_its_fault(rt: HostRuntime) {
-    for (bytes, max, fault) in [
-        ([255, 255, 255, 255, 0, 0, 0, 0], 400, XdrFault::TooLong),
-        ([255, 255, 255, 255, 0, 0, 0, 0], u32::MAX, XdrFault::Short),
-        ([255, 255, 255, 253, 0, 0, 0, 0], u32::MAX, XdrFault::Short),
-        ([0, 0, 0, 9, 1, 2, 3, 4], 8, XdrFault::TooLong),
-        ([0, 0, 0, 5, 1, 2, 3, 4], 8, XdrFault::Short),
-        ([0, 0, 0, 1, 97, 0, 0, 1], 8, XdrFault::Pad),
-        ([0, 0, 0, 2, 97, 98, 128, 0], 8, XdrFault::Pad),
-    ] {
-        let mut reader = Reader::new(&bytes);
-        assert!(rt; matches!(reader.opaque(max), Err(e) if e == fault));
-        assert_eq!(rt; reader.rest(), bytes.as_slice());
-    }
-}
-
-#[test]
-fn a_writer_goes_on_and_begins_again(rt: HostRuntime) -> Result<(), Fail> {
-    let mut first = Writer::new(rt.alloc())?;
-    first.u32(5)?;
-    let mut writer = Writer::behind(first.into_bytes());
-    writer.boolean(true)?;
-    assert_eq!(rt; writer.as_bytes(), [0, 0, 0, 5, 0, 0, 0, 1].as_slice());
-    writer.clear();
-    assert_eq!(rt; writer.as_bytes().len(), 0);
-    writer.append(b"abcd")?;
-    assert_eq!(rt; writer.as_bytes(), b"abcd".as_slice());
+    writer.u32(short)?;
+    writer.u64(long)?;
+    writer.boolean(yes)?;
+    writer.boolean(no)?;
+    writer.append(reader.rest())?;
+    let written = again(writer.as_bytes(), &NUMBERS);
+    println!(rt;
+        "{short:x} {long:x} {yes} {no} {:?} {written}",
+        reader.rest()
+    )?;
+    println!(rt; "{:?} {:?}", reader.u64().err(), reader.end().err())?;
     Ok(())
 }

@@ -34,49 +34,74 @@ fn used(rt: &HostRuntime, input: &[u8], link: &mut MemLink) -> Result<(Used, Mem
     Ok((ended, out))
 }
 
-/// A link of host 0 that fails the calls with these numbers.
-fn link_of(rt: &HostRuntime, failing: Vec<u32>) -> Result<MemLink, Fail> {
-    let host = Party::Client(Host(0));
-    Ok(MemLink::new(rt.alloc(), host, 8, 4000, failing)?)
+/// A run of calls at host 0.
+struct Run {
+    input: &'static str,
+    /// Whether the reply comes that attaches the host.
+    attached: bool,
+    /// The calls of the link that fail.
+    failing: &'static [u32],
+    status: u8,
+    prints: &'static str,
+    /// How many datagrams are sent.
+    sent: u64,
 }
 
-#[test]
-fn a_client_to_which_nothing_comes_has_no_answer(rt: HostRuntime) -> Result<(), Fail> {
-    let mut link = link_of(&rt, Vec::new(rt.alloc()))?;
-    let (ended, out) = used(&rt, b"sync 1\n", &mut link)?;
-    assert!(rt; ended.status() == 11);
-    assert_eq!(rt; out.bytes(), b"noanswer line 0\n".as_slice());
-    assert_eq!(rt; link.sent().len(), 1);
-    Ok(())
-}
+/// A run to which nothing comes, one that is attached, one with a line that spells no call, and one whose link fails.
+const RUNS: [Run; 4] = [
+    Run {
+        input: "sync 1\n",
+        attached: false,
+        failing: &[],
+        status: 11,
+        prints: "noanswer line 0\n",
+        sent: 1,
+    },
+    Run {
+        input: "sync 1\nattr 1\n",
+        attached: true,
+        failing: &[],
+        status: 11,
+        prints: "ok\nnoanswer line 2\n",
+        sent: 2,
+    },
+    Run {
+        input: "sync 1\nremove 1\n",
+        attached: false,
+        failing: &[],
+        status: 2,
+        prints: "script line 2\n",
+        sent: 0,
+    },
+    Run {
+        input: "sync 1\n",
+        attached: false,
+        failing: &[0],
+        status: 8,
+        prints: "",
+        sent: 0,
+    },
+];
 
-#[test]
-fn a_call_has_its_answer(rt: HostRuntime) -> Result<(), Fail> {
+/// The link of host 0 in a run.
+fn link_of(rt: &HostRuntime, run: &Run) -> Result<MemLink, Fail> {
     let alloc = rt.alloc();
-    let mut link = link_of(&rt, Vec::new(alloc))?;
-    link.bring(alloc, Party::Server, &ATTACHED)?;
-    let (ended, out) = used(&rt, b"sync 1\nattr 1\n", &mut link)?;
-    assert!(rt; ended.status() == 11);
-    assert_eq!(rt; out.bytes(), b"ok\nnoanswer line 2\n".as_slice());
-    assert_eq!(rt; link.sent().len(), 2);
-    Ok(())
+    let failing = run.failing.to_vec(alloc)?;
+    let mut link = MemLink::new(alloc, Party::Client(Host(0)), 8, 4000, failing)?;
+    if run.attached {
+        link.bring(alloc, Party::Server, &ATTACHED)?;
+    }
+    Ok(link)
 }
 
 #[test]
-fn a_line_that_spells_no_call_is_told(rt: HostRuntime) -> Result<(), Fail> {
-    let mut link = link_of(&rt, Vec::new(rt.alloc()))?;
-    let (ended, out) = used(&rt, b"sync 1\nremove 1\n", &mut link)?;
-    assert!(rt; ended.status() == 2);
-    assert_eq!(rt; out.bytes(), b"script line 2\n".as_slice());
-    assert!(rt; link.sent().is_empty());
-    Ok(())
-}
-
-#[test]
-fn a_link_that_fails_ends_the_run(rt: HostRuntime) -> Result<(), Fail> {
-    let mut link = link_of(&rt, vec![in rt.alloc(); 0]?)?;
-    let (ended, out) = used(&rt, b"sync 1\n", &mut link)?;
-    assert!(rt; ended.status() == 8);
-    assert!(rt; out.bytes().is_empty());
+fn runs_of_calls_end_as_told(rt: HostRuntime) -> Result<(), Fail> {
+    for run in RUNS.iter() {
+        let mut link = link_of(&rt, run)?;
+        let (ended, out) = used(&rt, run.input.as_bytes(), &mut link)?;
+        assert_eq!(rt; ended.status(), run.status, "{}", run.input);
+        assert_eq!(rt; out.bytes(), run.prints.as_bytes(), "{}", run.input);
+        assert_eq!(rt; link.sent().len(), run.sent, "{}", run.input);
+    }
     Ok(())
 }

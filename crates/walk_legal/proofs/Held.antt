@@ -29,9 +29,6 @@ tells_held journal file block value = tells_last_value (λ write. tells_and (tel
 pub held-is : (journal : List Entry) (file block value : ℕ) → HasHeld journal file block value → value ≡ held_value journal file block
 held-is journal file block value h = tells_same.sound ((tells_held journal file block value).complete h)
 
-pub is-held : (journal : List Entry) (file block value : ℕ) → value ≡ held_value journal file block → HasHeld journal file block value
-is-held journal file block value h = (tells_held journal file block value).sound (tells_same.complete h)
-
 -- ---- from the last of undisturbed writes on
 
 -- the first of the writes stands before the last, or is it

@@ -44,9 +44,6 @@ abbrev GoodFor : List Entry → List Entry → Entry → Type 0
 GoodFor journal before (R who q file block v by) = IsGood journal before who q file block v
 GoodFor journal before other = Unit {0}
 
-read-same : (w v : Who) (p q f file b block u x : ℕ) (o s : Option ℕ) → R w p f b u o ≡ R v q file block x s → (p ≡ q)
-read-same w v p q f file b block u x o s e = cc
-
 asked-same : (w v : Who) (p q f file b block : ℕ) (o s : Option Want) → Request.Read w p f b o ≡ Request.Read v q file block s → p ≡ q
 asked-same w v p q f file b block o s e = cc
 

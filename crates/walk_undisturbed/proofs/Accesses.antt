@@ -265,10 +265,6 @@ settled-unpushed t h = settle-moves t (λ s. Unpushed s.client) (record { kept =
 pub goes-on-accesses : (in_tick : Bool) (t : ClientStep) → PlainOf t → Unpushed t.client → Accesses t.client.who (send_next in_tick (settle t))
 goes-on-accesses in_tick t plain h = send-accesses t.client.who in_tick (settle t) (settled-unpushed t h) (settle-accesses t plain)
 
-who-kept : (t : ClientStep) → (settle t).client.who ≡ t.client.who
-unfolding answers after_read after_write marks_written reads_cached
-who-kept t = settle-moves t (λ s. s.client.who ≡ t.client.who) (record { kept = refl; answered = λ v q answer k. k; read = λ u file block body. refl; delayed = λ file block body. refl; marked = λ v u k. k })
-
 -- a cancelled request pushes nothing
 cancelled-unpushed : (c : Client) (file : ℕ) → Alone c → Unpushed (cancels (begun c) file).client
 unfolding cancels

@@ -1,4 +1,4 @@
-use Rattle.std.proofs.Common.{◌≡◌, ◌⊎◌, ℕ, List, Some, ◌∙◌, inl, inr}
+use Rattle.std.proofs.Common.{◌≡◌, ◌⊎◌, ℕ, List, inr}
 use Rattle.nq_redo.specs.Whole.{OpensAsOne, found, staged}
 use Rattle.nq_redo.proofs.Going.{on-ok, then-ok, through}
 use Rattle.nq_redo.proofs.change.change.Goals as goal

@@ -1,4 +1,4 @@
-use Rattle.std.proofs.Common.{◌≡◌, ℕ, List, ◌∙◌, inr}
+use Rattle.std.proofs.Common.{◌∙◌, inr}
 use Rattle.nq_redo.specs.Ranges.{Settling}
 use Rattle.nq_redo.specs.Record.{ranges_in}
 use Rattle.nq_redo.proofs.Going.{on-ok, through}

@@ -1,6 +1,6 @@
-use Rattle.std.proofs.Common.{◌≡◌, ℕ, List, [], ◌∷◌, Some, ◌∙◌, inr, subst}
-use Rattle.nq_disk.specs.Bytes.{Torn, written}
-use Rattle.nq_redo.specs.Ranges.{Settling, applied}
+use Rattle.std.proofs.Common.{◌≡◌, ℕ, List, [], ◌∷◌, inr, subst}
+use Rattle.nq_disk.specs.Bytes.{Torn}
+use Rattle.nq_redo.specs.Ranges.{applied}
 use Rattle.nq_redo.specs.Record.{ranges_in}
 use Rattle.nq_redo.specs.Whole.{found}
 use Rattle.nq_redo.proofs.Changing.{when-closed, while-closing, while-written}

@@ -1,9 +1,9 @@
-use Rattle.std.proofs.Common.{◌≡◌, ◌+◌, ◌⊎◌, ℕ, List, [], ◌∷◌, Some, ap, ◌∙◌, inl, inr, subst, ⊎_elim}
+use Rattle.std.proofs.Common.{◌≡◌, ◌+◌, ◌⊎◌, ℕ, List, [], ◌∷◌, ap, ◌∙◌, inl, inr, subst}
 use Rattle.nq_disk.specs.Bytes.{Torn, written}
 use Rattle.nq_disk.specs.Calling.{told_after}
 use Rattle.nq_redo.specs.Whole.{OpensAsOne, found, staged}
 use Rattle.nq_redo.proofs.Changing.{while-opening, while-staging}
-use Rattle.nq_redo.proofs.Going.{on-ok, then-ok, then-writes, through}
+use Rattle.nq_redo.proofs.Going.{on-ok, then-writes, through}
 use Rattle.nq_redo.proofs.change.stage.Goals as goal
 
 pub returns-in_err-write_synced-clause-leaves : goal.returns-in_err-write_synced-clause-leaves

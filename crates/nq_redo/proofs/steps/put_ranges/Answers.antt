@@ -1,10 +1,9 @@
-use Rattle.std.proofs.Common.{◌≡◌, ◌+◌, ◌-◌, ◌<◌, ℕ, suc, List, [], ◌∷◌, Option, Some, length, refl, sym, ap, subst, ◌∙◌, inl, inr, arith}
+use Rattle.std.proofs.Common.{◌≡◌, ◌+◌, ◌-◌, ℕ, suc, List, ◌∷◌, Some, refl, sym, ap, subst, ◌∙◌, inl, inr, arith}
 use Rattle.nq_disk.specs.Bytes.{written}
 use Rattle.nq_disk.specs.Calling.{told_after}
 use Rattle.nq_redo.specs.Ranges.{Range, Among, Settling, applied}
 use Rattle.nq_redo.specs.Record.{front_of, ranges_in}
-use Rattle.nq_redo.specs.Saying.{Each, Only}
-use Rattle.nq_redo.proofs.Going.{ranges-none, ranges-step, step-settles, tears-on, through, told-end, told-step}
+use Rattle.nq_redo.proofs.Going.{ranges-none, ranges-step, step-settles, through, told-end, told-step}
 use Rattle.nq_redo.proofs.Settling.{settling-none}
 use Rattle.nq_redo.proofs.steps.put_ranges.Goals as goal
 

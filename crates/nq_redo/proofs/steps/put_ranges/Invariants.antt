@@ -1,4 +1,4 @@
-use Rattle.std.proofs.Common.{◌≡◌, ◌-◌, ℕ, List, Some, length}
+use Rattle.std.proofs.Common.{◌≡◌, ◌-◌, ℕ, List, Some}
 use Rattle.nq_redo.specs.Ranges.{Range, Among, Settling, applied}
 use Rattle.nq_redo.specs.Record.{ranges_in}
 use Rattle.nq_redo.specs.Saying.{Each, Only}

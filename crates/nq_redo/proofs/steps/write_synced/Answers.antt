@@ -1,4 +1,4 @@
-use Rattle.std.proofs.Common.{◌≡◌, ℕ, List, Option, Some, None, Result, Ok, Err, sym, ◌∙◌, refl}
+use Rattle.std.proofs.Common.{◌≡◌, ℕ, List, Option, Some, None, Result, Ok, Err, ◌∙◌}
 use Rattle.nq_disk.specs.BytesLaws.{torn-written}
 use Rattle.nq_disk.specs.Bytes.{written}
 use Rattle.nq_disk.specs.Calling.{Writes, told_after}

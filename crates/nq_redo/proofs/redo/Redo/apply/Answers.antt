@@ -1,7 +1,6 @@
-use Rattle.std.proofs.Common.{◌≡◌, ◌⊎◌, ◌+◌, ◌≤◌, ℕ, List, Result, length, ap, sym, subst, ◌∙◌, inl, inr}
-use Rattle.nq_redo.specs.Ranges.{Range}
+use Rattle.std.proofs.Common.{◌+◌, ◌≤◌, ℕ, List, Result, length, ap, sym, subst, ◌∙◌, inl, inr}
 use Rattle.nq_redo.specs.Record.{ranges_in}
-use Rattle.nq_redo.specs.Whole.{IsClosed, Settled, found, after}
+use Rattle.nq_redo.specs.Whole.{Settled}
 use Rattle.nq_redo.proofs.Batching.{as-after, as-open, as-ranges}
 use Rattle.nq_redo.proofs.Going.{on-ok, then-ok}
 use Rattle.nq_redo.proofs.redo.Redo.apply.Goals as goal

@@ -1,0 +1,44 @@
+-- Deliveries of which it is proved that they end: those of a recovery, and those in which no call waits for a lease.
+use Rattle.std.specs.Prelude.{◌≡◌, ◌<◌, ℕ, Bool, true, false, List, Some, All, length}
+use Rattle.nq_base.specs.declared.Call.{Call}
+use Rattle.nq_promises.specs.Bounds.{InEveryRun}
+use Rattle.nq_model.specs.Client.{Client, UnderWay}
+use Rattle.nq_model.specs.Server.{Phase, serving, recovering}
+use Rattle.nq_model.specs.World.{run}
+use Rattle.law_progress.specs.CalmRound.{AreUnderWay, calmed, calm_rounds}
+use Rattle.law_progress.specs.DeliveryEnds.{IsDelivered}
+
+-- whether a call may want a lease
+abbrev pub wants_lease : Call → Bool
+wants_lease (Call.Read file block) = true
+wants_lease (Call.Write file block body) = true
+wants_lease other = false
+
+-- no call of a client waits for a lease: it pauses, or its call wants none
+pub data IsSpared (c : Client) : Type 0 where
+  pausing : c.now < c.pause → IsSpared c
+  wants_none : ((u : UnderWay) → c.call ≡ Some u → wants_lease u.call ≡ false) → IsSpared c
+
+-- whether the server recovers
+abbrev pub recovers : Phase → Bool
+recovers serving = false
+recovers (recovering until heard last) = true
+
+-- while the server recovers each calm delivery ends: after every schedule within skew, whatever is under way, and after any number of
+-- calm rounds
+abbrev pub RecoveringDeliveryEnds : Type 0
+RecoveringDeliveryEnds =
+    InEveryRun (λ head events.
+    (under_way : List ℕ) (count : ℕ)
+    → AreUnderWay (length (run head events).packets) under_way
+    → recovers (calm_rounds count (calmed head events under_way)).world.server.phase ≡ true
+    → IsDelivered (calm_rounds count (calmed head events under_way)))
+
+-- and so does each in which no call waits for a lease
+abbrev pub SparedDeliveryEnds : Type 0
+SparedDeliveryEnds =
+    InEveryRun (λ head events.
+    (under_way : List ℕ) (count : ℕ)
+    → AreUnderWay (length (run head events).packets) under_way
+    → All IsSpared (calm_rounds count (calmed head events under_way)).world.clients
+    → IsDelivered (calm_rounds count (calmed head events under_way)))
