@@ -140,12 +140,10 @@ impl Seer {
             return None;
         }
         let blocks = world.dirty(host).pending();
-        let before = self.delays.get_mut(host.0 as usize)?;
-        if *before == blocks {
-            return None;
+        match self.delays.get_mut(host.0 as usize) {
+            Some(before) => changed(before, blocks),
+            None => None,
         }
-        *before = blocks;
-        Some(blocks)
     }
 
     /// Who acts in an event.
@@ -284,6 +282,16 @@ struct Marks {
     packets: usize,
     entries: usize,
     changes: usize,
+}
+
+/// Writes a number over one that was there before; the new one, if it is another.
+fn changed(before: &mut usize, now: usize) -> Option<usize> {
+    if *before == now {
+        None
+    } else {
+        *before = now;
+        Some(now)
+    }
 }
 
 /// What the clock of a party shows.

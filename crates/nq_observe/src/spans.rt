@@ -184,7 +184,14 @@ fn goes_on(spans: &mut Vec<Span>, open: &[usize], party: Party, kind: Kind, plac
 
 /// Ends a span that was not there at a place; what it was, if it ends.
 fn ended(spans: &mut Vec<Span>, index: usize, place: usize) -> Option<Kind> {
-    let span = spans.get_mut(index)?;
+    match spans.get_mut(index) {
+        Some(span) => end_span(span, place),
+        None => None,
+    }
+}
+
+/// Ends a span if it was not there at a place; what it was, if it ends.
+fn end_span(span: &mut Span, place: usize) -> Option<Kind> {
     if span.last < place {
         span.open = false;
         span.last = place;

@@ -196,23 +196,51 @@ fn is_grant(before: &Entry, who: Who, file: FileId) -> bool {
 
 /// What ended the lease under which a write was lost, between the write and its loss: the end in silence, or else a boot of the server.
 fn end_between(entries: &[Entry], written: usize, place: usize) -> Option<usize> {
-    let Entry::L { who, file, .. } = entries.get(place)? else {
-        return None;
-    };
+    match entries.get(place) {
+        Some(Entry::L { who, file, .. }) => end_of_lease(entries, written, place, *who, *file),
+        _ => None,
+    }
+}
+
+/// What ended the lease of a client between two entries.
+fn end_of_lease(
+    entries: &[Entry],
+    written: usize,
+    place: usize,
+    who: Who,
+    file: FileId,
+) -> Option<usize> {
     let mut silence = None;
     let mut boot = None;
     for (earlier, before) in entries.iter().enumerate() {
         if written < earlier && earlier < place {
-            match before {
-                Entry::F {
-                    who: silent,
-                    file: of,
-                    ..
-                } if silent == who && of == file => silence = Some(earlier),
-                Entry::X { .. } => boot = Some(earlier),
-                _ => {}
+            if is_silence(before, who, file) {
+                silence = Some(earlier);
+            }
+            if is_boot(before) {
+                boot = Some(earlier);
             }
         }
     }
     silence.or(boot)
+}
+
+/// Whether an entry is the end in silence of a lease of this client.
+fn is_silence(entry: &Entry, who: Who, file: FileId) -> bool {
+    match entry {
+        Entry::F {
+            who: silent,
+            file: of,
+            ..
+        } => *silent == who && *of == file,
+        _ => false,
+    }
+}
+
+/// Whether an entry is a boot of the server.
+fn is_boot(entry: &Entry) -> bool {
+    match entry {
+        Entry::X { .. } => true,
+        _ => false,
+    }
 }
