@@ -4,9 +4,10 @@ ghost use Rattle.std.specs.Prelude.{◌≤◌, length};
 
 use crate::decoding::{Read, awaited, read_packet};
 use crate::spans::{Counts, Spans};
-use nq_base::{Event, NoMemory, Party, Ticks};
+use nq_base::{Event, Host, NoMemory, Party, Ticks};
 use nq_datagrams::Awaited;
 use nq_keeper::Keeper;
+use nq_net::Packets;
 use nq_record::{Act, Moment, Record, Sent, entry_words};
 use nq_world::World;
 use std::alloc::Global;
@@ -73,19 +74,17 @@ impl Seer {
         requires { hosts ≤ length world.now.clients }
     {
         let place = self.record.moments.len();
-        let act = act_of(event);
-        let party = self.party_of(event);
         let before = self.marks();
-        self.arrive(act, party, place)?;
-        self.see_packets(world, act, party, place)?;
+        self.arrive(event, place)?;
+        self.see_packets(world, event, place)?;
         self.see_entries(world)?;
-        let counts = self.see_spans(world, hosts, act, place)?;
-        let delays = self.delays_of(world, hosts, party);
+        let counts = self.see_spans(world, hosts, event, place)?;
+        let delays = self.delays_of(world, hosts, event);
         let after = self.marks();
         let moment = Moment {
-            party,
-            act,
-            clock: clock_of(world, hosts, party),
+            party: self.party_of(event),
+            act: act_of(event),
+            clock: clock_of(world, hosts, self.party_of(event)),
             packets: before.packets as u64,
             sent: after.packets.saturating_sub(before.packets) as u64,
             entries: before.entries,
@@ -115,7 +114,7 @@ impl Seer {
         &mut self,
         world: &World<K>,
         hosts: u32,
-        act: Act,
+        event: &Event,
         place: usize,
     ) -> Result<Counts, NoMemory>
         requires { hosts ≤ length world.now.clients }
@@ -123,17 +122,22 @@ impl Seer {
         let known = self.spans.spans.len();
         let counts = self.spans.see(world, hosts, place)?;
         if known < self.spans.spans.len() {
-            let asked = self.asked(act, place);
+            let asked = self.asked(event, place);
             self.spans.date_leases(known, asked);
         }
         Ok(counts)
     }
 
     /// How many blocks with delayed writes the host has that acts, if that is another number than before.
-    fn delays_of<K: Keeper>(&mut self, world: &World<K>, hosts: u32, party: Party) -> Option<usize>
+    fn delays_of<K: Keeper>(
+        &mut self,
+        world: &World<K>,
+        hosts: u32,
+        event: &Event,
+    ) -> Option<usize>
         requires { hosts ≤ length world.now.clients }
     {
-        let Party::Client(host) = party else {
+        let Party::Client(host) = self.party_of(event) else {
             return None;
         };
         if host.0 >= hosts {
@@ -162,25 +166,29 @@ impl Seer {
     }
 
     /// Notes the arrival of a packet, or the start of a host.
-    fn arrive(&mut self, act: Act, party: Party, place: usize) -> Result<(), NoMemory> {
-        match act {
-            Act::Arrival(number) => {
-                if let Some(sent) = self.record.packets.get_mut(number as usize) {
-                    sent.arrivals.push(place)?;
-                }
+    fn arrive(&mut self, event: &Event, place: usize) -> Result<(), NoMemory> {
+        match event {
+            Event::Deliver(number) => self.arrive_packet(*number as usize, place),
+            Event::Restart(host) => {
+                self.start(*host, place);
+                Ok(())
             }
-            Act::Restart => self.start(party, place),
-            _ => {}
+            _ => Ok(()),
         }
-        Ok(())
+    }
+
+    /// Notes the arrival of a packet.
+    fn arrive_packet(&mut self, number: usize, place: usize) -> Result<(), NoMemory> {
+        match self.record.packets.get_mut(number) {
+            Some(sent) => note_arrival(sent, place),
+            None => Ok(()),
+        }
     }
 
     /// Notes the start of a host.
-    fn start(&mut self, party: Party, place: usize) {
-        if let Party::Client(host) = party {
-            if let Some(start) = self.starts.get_mut(host.0 as usize) {
-                *start = place;
-            }
+    fn start(&mut self, host: Host, place: usize) {
+        if let Some(start) = self.starts.get_mut(host.0 as usize) {
+            *start = place;
         }
     }
 
@@ -188,34 +196,48 @@ impl Seer {
     fn see_packets<K: Keeper>(
         &mut self,
         world: &World<K>,
-        act: Act,
-        from: Party,
+        event: &Event,
         place: usize,
     ) -> Result<(), NoMemory> {
-        let taken = self.taken(world, act)?;
+        let taken = self.taken(world, event)?;
         let first = self.record.packets.len() as u64;
         for number in first..world.packets().len() {
-            let to = match world.packets().get(number) {
-                Some(packet) => packet.to(),
-                None => Party::Server,
-            };
-            let Read { xid, words } = read_packet(self.alloc, world.packets(), number, taken)?;
-            self.xids.push(xid)?;
-            self.record.packets.push(Sent {
-                from,
-                to,
-                sent: place,
-                arrivals: Vec::new(self.alloc),
-                words,
-            })?;
+            self.see_packet(world.packets(), &taken, event, number, place)?;
         }
         Ok(())
     }
 
+    /// Writes down a packet that was sent.
+    fn see_packet(
+        &mut self,
+        packets: &Packets,
+        taken: &Option<Awaited>,
+        event: &Event,
+        number: u64,
+        place: usize,
+    ) -> Result<(), NoMemory> {
+        let Read { xid, words } = read_packet(self.alloc, packets, number, *taken)?;
+        let from = self.party_of(event);
+        let to = receiver_of(packets, number);
+        self.xids.push(xid)?;
+        self.record.packets.push(Sent {
+            from,
+            to,
+            sent: place,
+            arrivals: Vec::new(self.alloc),
+            words,
+        })?;
+        Ok(())
+    }
+
     /// The request that the server took in, if it took one in.
-    fn taken<K: Keeper>(&self, world: &World<K>, act: Act) -> Result<Option<Awaited>, NoMemory> {
-        match act {
-            Act::Arrival(number) => awaited(self.alloc, world.packets(), number),
+    fn taken<K: Keeper>(
+        &self,
+        world: &World<K>,
+        event: &Event,
+    ) -> Result<Option<Awaited>, NoMemory> {
+        match event {
+            Event::Deliver(number) => awaited(self.alloc, world.packets(), *number),
             _ => Ok(None),
         }
     }
@@ -233,9 +255,9 @@ impl Seer {
     }
 
     /// The event in which that was first asked which now is answered: the first sending of the request of a reply.
-    fn asked(&self, act: Act, place: usize) -> usize {
-        match act {
-            Act::Arrival(number) => match self.first_sending(number as usize) {
+    fn asked(&self, event: &Event, place: usize) -> usize {
+        match event {
+            Event::Deliver(number) => match self.first_sending(*number as usize) {
                 Some(first) => first,
                 None => place,
             },
@@ -282,6 +304,20 @@ struct Marks {
     packets: usize,
     entries: usize,
     changes: usize,
+}
+
+/// Notes that a packet arrives.
+fn note_arrival(sent: &mut Sent, place: usize) -> Result<(), NoMemory> {
+    sent.arrivals.push(place)?;
+    Ok(())
+}
+
+/// For whom a packet is.
+fn receiver_of(packets: &Packets, number: u64) -> Party {
+    match packets.get(number) {
+        Some(packet) => packet.to(),
+        None => Party::Server,
+    }
 }
 
 /// Writes a number over one that was there before; the new one, if it is another.

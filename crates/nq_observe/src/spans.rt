@@ -1,6 +1,6 @@
 //! What lasts for some time.
 
-ghost use Rattle.std.specs.Prelude.{◌≤◌, length};
+ghost use Rattle.std.specs.Prelude.{◌<◌, ◌≤◌, length};
 
 use nq_base::{FileId, Host, NoMemory, Party};
 use nq_keeper::Keeper;
@@ -76,7 +76,7 @@ impl Spans {
         let mut leases = 0usize;
         let mut dirty = 0usize;
         for host in 0..hosts {
-            let held = self.see_host(world, Host(host), place)?;
+            let held = self.see_host(world, host, place)?;
             leases = leases.saturating_add(held);
             dirty = dirty.saturating_add(world.dirty(Host(host)).pending());
         }
@@ -98,10 +98,10 @@ impl Spans {
                 host: row.who.host,
                 mode: row.mode,
             };
-            self.touch(Party::Server, kind, place)?;
+            self.touch(&Party::Server, &kind, place)?;
         }
         if !world.serving() {
-            self.touch(Party::Server, Kind::Recovery, place)?;
+            self.touch(&Party::Server, &Kind::Recovery, place)?;
         }
         Ok(rows.len())
     }
@@ -110,13 +110,13 @@ impl Spans {
     fn see_host<K: Keeper>(
         &mut self,
         world: &World<K>,
-        host: Host,
+        host: u32,
         place: usize,
     ) -> Result<usize, NoMemory>
         requires { host < length world.now.clients }
     {
         let mut count = 0usize;
-        let client = world.client(host);
+        let client = world.client(Host(host));
         let now = client.time();
         for file in 1..self.files.saturating_add(1) {
             let held = client.held(FileId(file));
@@ -126,7 +126,7 @@ impl Spans {
                         file: FileId(file),
                         mode,
                     };
-                    self.touch(Party::Client(host), kind, place)?;
+                    self.touch(&Party::Client(Host(host)), &kind, place)?;
                     count = count.saturating_add(1);
                 }
             }
@@ -135,16 +135,24 @@ impl Spans {
     }
 
     /// Notes that something is there at a place. Where it was not there before, it begins there.
-    fn touch(&mut self, party: Party, kind: Kind, place: usize) -> Result<(), NoMemory> {
+    fn touch(&mut self, party: &Party, kind: &Kind, place: usize) -> Result<(), NoMemory> {
         if goes_on(&mut self.spans, &self.open, party, kind, place) {
             return Ok(());
         }
+        self.begin(party, kind, place)
+    }
+
+    /// Notes that something begins at a place.
+    fn begin(&mut self, party: &Party, kind: &Kind, place: usize) -> Result<(), NoMemory> {
         let newest = self.spans.len();
         self.open.push(newest)?;
-        self.changes.push(Change { kind, begins: true })?;
+        self.changes.push(Change {
+            kind: *kind,
+            begins: true,
+        })?;
         self.spans.push(Span {
-            party,
-            kind,
+            party: *party,
+            kind: *kind,
             first: place,
             last: place,
             open: true,
@@ -170,10 +178,16 @@ impl Spans {
 }
 
 /// Notes that one of the spans that go on is there, if it is one of them.
-fn goes_on(spans: &mut Vec<Span>, open: &[usize], party: Party, kind: Kind, place: usize) -> bool {
+fn goes_on(
+    spans: &mut Vec<Span>,
+    open: &[usize],
+    party: &Party,
+    kind: &Kind,
+    place: usize,
+) -> bool {
     for index in open {
         if let Some(span) = spans.get_mut(*index) {
-            if span.party == party && span.kind == kind {
+            if span.party == *party && span.kind == *kind {
                 span.last = place;
                 return true;
             }

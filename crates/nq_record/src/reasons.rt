@@ -196,38 +196,32 @@ fn is_grant(before: &Entry, who: Who, file: FileId) -> bool {
 
 /// What ended the lease under which a write was lost, between the write and its loss: the end in silence, or else a boot of the server.
 fn end_between(entries: &[Entry], written: usize, place: usize) -> Option<usize> {
-    match entries.get(place) {
-        Some(Entry::L { who, file, .. }) => end_of_lease(entries, written, place, *who, *file),
-        _ => None,
-    }
-}
-
-/// What ended the lease of a client between two entries.
-fn end_of_lease(
-    entries: &[Entry],
-    written: usize,
-    place: usize,
-    who: Who,
-    file: FileId,
-) -> Option<usize> {
+    let entry = entries.get(place)?;
     let mut silence = None;
     let mut boot = None;
     for (earlier, before) in entries.iter().enumerate() {
-        if written < earlier && earlier < place {
-            if is_silence(before, who, file) {
-                silence = Some(earlier);
-            }
-            if is_boot(before) {
-                boot = Some(earlier);
-            }
+        let is_between = written < earlier && earlier < place;
+        if is_between && is_silence(before, entry) {
+            silence = Some(earlier);
+        }
+        if is_between && is_boot(before, entry) {
+            boot = Some(earlier);
         }
     }
     silence.or(boot)
 }
 
-/// Whether an entry is the end in silence of a lease of this client.
-fn is_silence(entry: &Entry, who: Who, file: FileId) -> bool {
+/// Whether an entry is an end in silence for which a write of this loss can be lost.
+fn is_silence(before: &Entry, entry: &Entry) -> bool {
     match entry {
+        Entry::L { who, file, .. } => is_end(before, *who, *file),
+        _ => false,
+    }
+}
+
+/// Whether an entry is the end in silence of a lease of this client.
+fn is_end(before: &Entry, who: Who, file: FileId) -> bool {
+    match before {
         Entry::F {
             who: silent,
             file: of,
@@ -237,10 +231,13 @@ fn is_silence(entry: &Entry, who: Who, file: FileId) -> bool {
     }
 }
 
-/// Whether an entry is a boot of the server.
-fn is_boot(entry: &Entry) -> bool {
+/// Whether an entry is a boot of the server, and the later one a loss.
+fn is_boot(before: &Entry, entry: &Entry) -> bool {
     match entry {
-        Entry::X { .. } => true,
+        Entry::L { .. } => match before {
+            Entry::X { .. } => true,
+            _ => false,
+        },
         _ => false,
     }
 }
