@@ -129,12 +129,7 @@ impl Seer {
     }
 
     /// How many blocks with delayed writes the host has that acts, if that is another number than before.
-    fn delays_of<K: Keeper>(
-        &mut self,
-        world: &World<K>,
-        hosts: u32,
-        event: &Event,
-    ) -> Option<usize>
+    fn delays_of<K: Keeper>(&mut self, world: &World<K>, hosts: u32, event: &Event) -> Option<usize>
         requires { hosts ≤ length world.now.clients }
     {
         let Party::Client(host) = self.party_of(event) else {

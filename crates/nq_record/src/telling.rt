@@ -112,7 +112,7 @@ fn tell_changes(
     let end = moment.changes.saturating_add(moment.changed);
     for place in moment.changes..end {
         if let Some(change) = record.changes.get(place) {
-            let text = change_words(alloc, *change)?;
+            let text = change_words(alloc, change)?;
             put(out, text.as_str())?;
         }
     }
@@ -126,9 +126,14 @@ fn tell_changes(
 }
 
 /// A change in words, behind a bar.
-fn change_words(alloc: Global, change: Change) -> Result<String, NoMemory> {
+fn change_words(alloc: Global, change: &Change) -> Result<String, NoMemory> {
     let sign = if change.begins { "+" } else { "-" };
-    match change.kind {
+    kind_words(alloc, sign, change.kind)
+}
+
+/// What begins or ends in words, behind a bar and a sign.
+fn kind_words(alloc: Global, sign: &str, kind: Kind) -> Result<String, NoMemory> {
+    match kind {
         Kind::Recovery => Ok(format!(in alloc; " | {sign} recovery")?),
         Kind::Lease { file, mode } => {
             let word = mode_word(mode);
