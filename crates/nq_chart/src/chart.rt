@@ -84,6 +84,8 @@ pub struct Packet {
     pub sent: Option<usize>,
     /// The rows in which it arrives, in their order; none where it is lost.
     pub arrivals: Vec<usize>,
+    /// What is told of it where a reader points at it.
+    pub text: String,
 }
 
 /// A span of time beside a party.

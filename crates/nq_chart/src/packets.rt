@@ -54,38 +54,54 @@ fn arrows(
         },
         None => layout.legend.end,
     };
+    let text = packet.text.as_str();
     if packet.arrivals.is_empty() {
-        return lost(alloc, page, from, to, sent);
+        return lost(alloc, page, from, to, sent, text);
     }
     for (count, row) in packet.arrivals.iter().enumerate() {
         if let Some(step) = layout.steps.get(*row) {
-            arrow(alloc, page, from.x, to.x, sent, step.arrive, count > 0)?;
+            let class = if count > 0 { "a g" } else { "a" };
+            arrow(
+                alloc,
+                page,
+                class,
+                (from.x, sent),
+                (to.x, step.arrive),
+                text,
+            )?;
         }
     }
     Ok(())
 }
 
-/// An arrow from a sending to an arrival.
+/// An arrow from a sending to an arrival, each a place in pixels from the left and from the upper edge.
 fn arrow(
     alloc: Global,
     page: &mut Vec<u8>,
-    from: u64,
-    to: u64,
-    sent: u64,
-    arrived: u64,
-    again: bool,
+    class: &str,
+    from: (u64, u64),
+    to: (u64, u64),
+    text: &str,
 ) -> Result<(), NoMemory>
     ensures { Extends page.old.items page.new.items }
 {
-    let class = if again { "a g" } else { "a" };
-    let mark = format!(in alloc;
-        "<path class=\"{class}\" d=\"M{from} {sent}L{to} {arrived}\"/>\n"
-    )?;
-    put(page, mark.as_str())
+    let (x, y) = from;
+    let (end, below) = to;
+    let mark = format!(in alloc; "<path class=\"{class}\" d=\"M{x} {y}L{end} {below}\"><title>")?;
+    put(page, mark.as_str())?;
+    escape(page, text)?;
+    put(page, "</title></path>\n")
 }
 
 /// The arrow of a lost packet.
-fn lost(alloc: Global, page: &mut Vec<u8>, from: Post, to: Post, sent: u64) -> Result<(), NoMemory>
+fn lost(
+    alloc: Global,
+    page: &mut Vec<u8>,
+    from: Post,
+    to: Post,
+    sent: u64,
+    text: &str,
+) -> Result<(), NoMemory>
     ensures { Extends page.old.items page.new.items }
 {
     let x = from.x;
@@ -94,8 +110,7 @@ fn lost(alloc: Global, page: &mut Vec<u8>, from: Post, to: Post, sent: u64) -> R
     } else {
         x.saturating_add(LOST)
     };
-    let mark = format!(in alloc; "<path class=\"x\" d=\"M{x} {sent}H{end}\"/>\n")?;
-    put(page, mark.as_str())
+    arrow(alloc, page, "x", (x, sent), (end, sent), text)
 }
 
 /// All bars.

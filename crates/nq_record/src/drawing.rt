@@ -1,5 +1,7 @@
 //! A run as a chart.
 
+ghost use Rattle.std.specs.Prelude.{◌≡◌, ◌+◌, ◌≤◌, vec_len, IfOk};
+
 use crate::NoMemory;
 use crate::picture_rows::{Rows, rows_of};
 use crate::record::{Record, Sent};
@@ -10,7 +12,9 @@ use nq_chart::{Bar, Chart, Column, Packet, Side, Tint};
 use std::alloc::Global;
 
 /// How many hosts stand left of the server.
-fn hosts_left(hosts: u32) -> u32 {
+fn hosts_left(hosts: u32) -> u32
+    ensures { result ≤ hosts }
+{
     hosts / 2 + hosts % 2
 }
 
@@ -46,14 +50,21 @@ fn outer_of_host(left: u32, host: u32) -> Side {
     if host < left { Side::Left } else { Side::Right }
 }
 
-/// The events from `from` to `to` of a run as a chart.
+/// The events from `from` to `to` of a run as a chart, with a column for each host and one for the server. Ticks in which nothing
+/// else happens share a row.
+///
+/// # Errors
+///
+/// Only want of memory.
 pub fn picture(
     alloc: Global,
     record: &Record,
     title: String,
     from: usize,
     to: usize,
-) -> Result<Chart, NoMemory> {
+) -> Result<Chart, NoMemory>
+    ensures { IfOk result (λ chart. vec_len chart.columns ≡ «record».now.hosts + 1) }
+{
     let columns = columns(alloc, record.hosts)?;
     let shown = rows_of(alloc, record, from, to)?;
     let packets = packets(alloc, record, &shown)?;
@@ -69,15 +80,17 @@ pub fn picture(
 }
 
 /// The parties: the server stands between the hosts.
-fn columns(alloc: Global, hosts: u32) -> Result<Vec<Column>, NoMemory> {
+fn columns(alloc: Global, hosts: u32) -> Result<Vec<Column>, NoMemory>
+    ensures { IfOk result (λ columns. vec_len columns ≡ hosts + 1) }
+{
     let mut columns = Vec::new(alloc);
     let left = hosts_left(hosts);
     for host in 0..left {
         columns.push(column(alloc, hosts, &Party::Client(Host(host)))?)?;
     }
     columns.push(column(alloc, hosts, &Party::Server)?)?;
-    for host in left..hosts {
-        columns.push(column(alloc, hosts, &Party::Client(Host(host)))?)?;
+    for later in left..hosts {
+        columns.push(column(alloc, hosts, &Party::Client(Host(later)))?)?;
     }
     Ok(columns)
 }
@@ -92,16 +105,19 @@ fn column(alloc: Global, hosts: u32, party: &Party) -> Result<Column, NoMemory> 
 /// The packets that are sent or arrive in the rows that are shown.
 fn packets(alloc: Global, record: &Record, shown: &Rows) -> Result<Vec<Packet>, NoMemory> {
     let mut packets = Vec::new(alloc);
-    for sent in &record.packets {
+    for (number, sent) in record.packets.iter().enumerate() {
         let arrivals = arrivals(alloc, sent, shown)?;
         let row = shown.row_of(sent.sent);
         let is_lost = sent.arrivals.is_empty() && row.is_some();
         if is_lost || !arrivals.is_empty() {
+            let words = sent.words.as_str();
+            let text = format!(in alloc; "{number}: {words}")?;
             packets.push(Packet {
                 from: place_of(record.hosts, sent.from),
                 to: place_of(record.hosts, sent.to),
                 sent: row,
                 arrivals,
+                text,
             })?;
         }
     }

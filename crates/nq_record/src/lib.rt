@@ -17,5 +17,5 @@ pub use nq_base::NoMemory;
 pub use packets::{reply_words, request_words};
 pub use reasons::why;
 pub use record::{Act, Moment, Noted, Record, Sent};
-pub use spans::{Kind, Span};
+pub use spans::{Change, Kind, Span};
 pub use telling::tell;

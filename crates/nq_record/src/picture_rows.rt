@@ -160,6 +160,25 @@ impl Idle {
         self.count = self.count.saturating_add(1);
     }
 
+    /// How they are named at the edge.
+    fn name(&self, alloc: Global) -> Result<String, NoMemory> {
+        let first = self.first;
+        if self.count == 1 {
+            return Ok(format!(in alloc; "{first}")?);
+        }
+        let last = first.saturating_add(self.count).saturating_sub(1);
+        Ok(format!(in alloc; "{first}-{last}")?)
+    }
+
+    /// What is told of them.
+    fn text(&self, alloc: Global) -> Result<String, NoMemory> {
+        let count = self.count;
+        if count == 1 {
+            return Ok(String::from_str(alloc, "tick")?);
+        }
+        Ok(format!(in alloc; "{count} ticks")?)
+    }
+
     /// Gives them a row, if there are any.
     fn end(
         &mut self,
@@ -171,20 +190,8 @@ impl Idle {
         if self.count == 0 {
             return Ok(());
         }
-        let count = self.count;
-        let last = self.first.saturating_add(count).saturating_sub(1);
-        let first = self.first;
-        let (name, text) = if count == 1 {
-            (
-                format!(in alloc; "{first}")?,
-                String::from_str(alloc, "tick")?,
-            )
-        } else {
-            (
-                format!(in alloc; "{first}-{last}")?,
-                format!(in alloc; "{count} ticks")?,
-            )
-        };
+        let name = self.name(alloc)?;
+        let text = self.text(alloc)?;
         let mut notes = Vec::new(alloc);
         notes.push(Note {
             side: outer(record.hosts, self.party),
@@ -192,7 +199,7 @@ impl Idle {
             text,
         })?;
         let row = shown.rows.len();
-        for _ in 0..count {
+        for _ in 0..self.count {
             shown.places.push(row)?;
         }
         let told = clocks.take(alloc)?;

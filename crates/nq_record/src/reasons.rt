@@ -5,14 +5,14 @@ ghost use Rattle.nq_chart.specs.Page.{Extends};
 use crate::NoMemory;
 use crate::record::{Act, Record};
 use crate::telling::tell_moment;
-use nq_base::{BlockNo, Entry, FileId, Said};
+use nq_base::{BlockNo, Entry, FileId, Number, Said, Who};
 use std::alloc::Global;
 
 /// Appends the events that led to an entry, newest first, each as `tell` tells it. What stood in the text before stays in
 /// front of them. An entry that is not there was led to by nothing.
 ///
-/// An event led to an entry if it made the entry, or sent the packet whose arrival led to it, or made an entry that explains it:
-/// the write that a read saw, the store or the end of a lease on which a loss rests.
+/// An event led to an entry if it made the entry, or sent the packet whose arrival led to it, or made an entry that explains it: the
+/// write that a read saw, the write that was lost, and the end in silence, or the boot of the server, for which it was.
 ///
 /// # Errors
 ///
@@ -45,15 +45,21 @@ fn led_to(
     place: usize,
 ) -> Result<Vec<usize>, NoMemory> {
     let mut led = Vec::new(alloc);
-    let mut next = Some(place);
+    let mut open = Vec::new(alloc);
+    open.push(place)?;
     for _ in 0..entries.len() {
-        let Some(entry) = next else {
+        let Some(entry) = open.pop() else {
             return Ok(led);
         };
         if let Some(moment) = moment_of(record, entry) {
             follow_packets(record, moment, &mut led)?;
         }
-        next = explained_by(entries, entry);
+        if let Some(source) = source_of(entries, entry) {
+            open.push(source)?;
+            if let Some(end) = end_between(entries, source, entry) {
+                open.push(end)?;
+            }
+        }
     }
     Ok(led)
 }
@@ -84,93 +90,154 @@ fn follow_packets(record: &Record, first: usize, led: &mut Vec<usize>) -> Result
     Ok(())
 }
 
-/// The last entry before an entry that explains it.
-fn explained_by(entries: &[Entry], place: usize) -> Option<usize> {
+/// The last entry before an entry that is its source.
+fn source_of(entries: &[Entry], place: usize) -> Option<usize> {
     let entry = entries.get(place)?;
     let mut found = None;
     for (earlier, before) in entries.iter().enumerate() {
-        if earlier < place && explains(before, entry) {
+        if earlier < place && is_source(before, entry) {
             found = Some(earlier);
         }
     }
     found
 }
 
-/// Whether an earlier entry explains a later one.
-fn explains(before: &Entry, entry: &Entry) -> bool {
+/// Whether an earlier entry can be the source of a later one: the call, the read or the loss that is answered, the write that is read,
+/// stored or lost, the grant that ends in silence.
+fn is_source(before: &Entry, entry: &Entry) -> bool {
     match entry {
-        Entry::A { who, q, said } => match said {
-            Said::OkBy { packet, .. } => serves(before, *packet),
-            Said::Lost(_) => match before {
-                Entry::L { who: loser, .. } => loser == who,
-                _ => false,
-            },
-            _ => match before {
-                Entry::C {
-                    who: caller,
-                    q: call,
-                    ..
-                } => caller == who && call == q,
-                _ => false,
-            },
-        },
-        Entry::R { file, block, .. } => changes(before, *file, *block),
+        Entry::A { who, q, said } => is_answered(before, *who, *q, said),
+        Entry::R {
+            file,
+            block,
+            value,
+            ..
+        } => gives(before, *file, *block, *value),
         Entry::S {
             who,
             file,
             block,
             last,
             ..
-        } => match before {
-            Entry::W {
-                who: writer,
-                file: of,
-                block: at,
-                number,
-                ..
-            } => writer == who && of == file && at == block && number == last,
-            _ => false,
-        },
-        Entry::L { who, file, .. } => match before {
-            Entry::F {
-                who: silent,
-                file: of,
-                ..
-            } => silent == who && of == file,
-            Entry::X { .. } => true,
-            _ => false,
-        },
-        Entry::F { who, file, .. } => match before {
-            Entry::W {
-                who: writer,
-                file: of,
-                ..
-            } => writer == who && of == file,
-            _ => false,
-        },
-        _ => false,
-    }
-}
-
-/// Whether an entry is the read that this packet answers.
-fn serves(entry: &Entry, packet: u64) -> bool {
-    match entry {
-        Entry::R {
-            served: Some(number),
+        }
+        | Entry::L {
+            who,
+            file,
+            block,
+            last,
             ..
-        } => *number == packet,
+        } => is_write(before, *who, *file, *block, *last),
+        Entry::F { who, file, .. } => is_grant(before, *who, *file),
         _ => false,
     }
 }
 
-/// Whether an entry is a write of a block.
-fn changes(entry: &Entry, file: FileId, block: BlockNo) -> bool {
-    match entry {
+/// Whether an entry is a call, what it read, or a loss, of which this answer tells.
+fn is_answered(before: &Entry, who: Who, q: u64, said: &Said) -> bool {
+    match said {
+        Said::Lost(_) => match before {
+            Entry::L { who: loser, .. } => *loser == who,
+            _ => false,
+        },
+        _ => match before {
+            Entry::C {
+                who: caller,
+                q: call,
+                ..
+            }
+            | Entry::R {
+                who: caller,
+                q: call,
+                ..
+            } => *caller == who && *call == q,
+            _ => false,
+        },
+    }
+}
+
+/// Whether an entry is a write of this value to a block.
+fn gives(before: &Entry, file: FileId, block: BlockNo, value: u32) -> bool {
+    match before {
         Entry::W {
             file: of,
             block: at,
+            value: written,
             ..
-        } => *of == file && *at == block,
+        } => *of == file && *at == block && *written == value,
+        _ => false,
+    }
+}
+
+/// Whether an entry is this write.
+fn is_write(before: &Entry, who: Who, file: FileId, block: BlockNo, number: Number) -> bool {
+    match before {
+        Entry::W {
+            who: writer,
+            file: of,
+            block: at,
+            number: written,
+            ..
+        } => *writer == who && *of == file && *at == block && *written == number,
+        _ => false,
+    }
+}
+
+/// Whether an entry is a grant to this client.
+fn is_grant(before: &Entry, who: Who, file: FileId) -> bool {
+    match before {
+        Entry::G {
+            who: holder,
+            file: of,
+            ..
+        } => *holder == who && *of == file,
+        _ => false,
+    }
+}
+
+/// What ended the lease under which a write was lost, between the write and its loss: the end in silence, or else a boot of the server.
+fn end_between(entries: &[Entry], written: usize, place: usize) -> Option<usize> {
+    let entry = entries.get(place)?;
+    let mut silence = None;
+    let mut boot = None;
+    for (earlier, before) in entries.iter().enumerate() {
+        let is_between = written < earlier && earlier < place;
+        if is_between && is_silence(before, entry) {
+            silence = Some(earlier);
+        }
+        if is_between && is_boot(before, entry) {
+            boot = Some(earlier);
+        }
+    }
+    silence.or(boot)
+}
+
+/// Whether an entry is an end in silence for which a write of this loss can be lost.
+fn is_silence(before: &Entry, entry: &Entry) -> bool {
+    match entry {
+        Entry::L { who, file, .. } => is_end(before, *who, *file),
+        _ => false,
+    }
+}
+
+/// Whether an entry is the end in silence of a lease of this client.
+fn is_end(before: &Entry, who: Who, file: FileId) -> bool {
+    match before {
+        Entry::F {
+            who: silent,
+            file: of,
+            ..
+        } => *silent == who && *of == file,
+        _ => false,
+    }
+}
+
+/// Whether an entry is a boot of the server, and the later one a loss.
+fn is_boot(before: &Entry, entry: &Entry) -> bool {
+    match entry {
+        Entry::L { .. } => match before {
+            Entry::X { .. } => true,
+            _ => false,
+        },
         _ => false,
     }
 }

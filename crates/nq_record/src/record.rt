@@ -1,6 +1,6 @@
 //! What was seen.
 
-use crate::spans::Span;
+use crate::spans::{Change, Span};
 use nq_base::{Party, Ticks};
 use nq_chart::Sign;
 
@@ -17,6 +17,8 @@ pub struct Record {
     pub entries: Vec<Noted>,
     /// The leases, the rows of the server and its recoveries.
     pub spans: Vec<Span>,
+    /// Which of these began or ended, in the order of the events.
+    pub changes: Vec<Change>,
 }
 
 /// An event.
@@ -36,12 +38,18 @@ pub struct Moment {
     pub entries: usize,
     /// How many entries are made.
     pub made: usize,
+    /// The place of the first change.
+    pub changes: usize,
+    /// How many changes there are.
+    pub changed: usize,
     /// How many rows the server then has.
     pub rows: usize,
     /// How many leases the hosts then hold.
     pub leases: usize,
-    /// How many delayed writes the hosts then have.
+    /// How many blocks with delayed writes the hosts then have.
     pub dirty: usize,
+    /// How many of these the host has that acts, where that is another number than before.
+    pub delays: Option<usize>,
 }
 
 /// What happens in an event.

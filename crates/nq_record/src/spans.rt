@@ -20,6 +20,15 @@ pub enum Kind {
     Recovery,
 }
 
+/// Something begins or ends.
+#[derive(Clone, Copy)]
+pub struct Change {
+    /// What it is.
+    pub kind: Kind,
+    /// Whether it begins.
+    pub begins: bool,
+}
+
 /// How long something lasts.
 #[derive(Clone, Copy)]
 pub struct Span {

@@ -4,12 +4,14 @@ ghost use Rattle.nq_chart.specs.Page.{Extends};
 
 use crate::NoMemory;
 use crate::record::{Act, Moment, Record};
-use crate::text::{party_name, put};
+use crate::spans::{Change, Kind};
+use crate::text::{mode_word, party_name, put};
 use std::alloc::Global;
 
 /// Appends a line for each event: its number, who acts and what the clock of that party shows, what happens, how many rows the server
-/// then has, how many leases the hosts hold and how many writes they delay, and behind it the packets that are sent and the
-/// entries that are made. What stood in the text before stays in front of it.
+/// then has, how many leases the hosts hold and how many blocks with delayed writes they have. Behind these columns stands, each behind
+/// a bar, what began or ended, the packets that are sent, and the entries that are made. What stood in the text before stays
+/// in front of it.
 ///
 /// # Errors
 ///
@@ -36,6 +38,7 @@ pub(crate) fn tell_moment(
         return Ok(());
     };
     tell_act(alloc, record, place, moment, out)?;
+    tell_changes(alloc, record, moment, out)?;
     tell_packets(alloc, record, moment, out)?;
     tell_entries(alloc, record, moment, out)?;
     put(out, "\n")
@@ -92,6 +95,56 @@ fn arrival_words(
                 _ => "",
             };
             Ok(format!(in alloc; "deliver {number}{again}: {words}")?)
+        }
+    }
+}
+
+/// Appends what begins or ends in an event, and how many blocks with delayed writes the host then has, if that is another number than
+/// before.
+fn tell_changes(
+    alloc: Global,
+    record: &Record,
+    moment: &Moment,
+    out: &mut Vec<u8>,
+) -> Result<(), NoMemory>
+    ensures { Extends out.old.items out.new.items }
+{
+    let end = moment.changes.saturating_add(moment.changed);
+    for place in moment.changes..end {
+        if let Some(change) = record.changes.get(place) {
+            let text = change_words(alloc, change)?;
+            put(out, text.as_str())?;
+        }
+    }
+    match moment.delays {
+        None => Ok(()),
+        Some(blocks) => {
+            let text = format!(in alloc; " | delayed {blocks}")?;
+            put(out, text.as_str())
+        }
+    }
+}
+
+/// A change in words, behind a bar.
+fn change_words(alloc: Global, change: &Change) -> Result<String, NoMemory> {
+    let sign = if change.begins { "+" } else { "-" };
+    kind_words(alloc, sign, change.kind)
+}
+
+/// What begins or ends in words, behind a bar and a sign.
+fn kind_words(alloc: Global, sign: &str, kind: Kind) -> Result<String, NoMemory> {
+    match kind {
+        Kind::Recovery => Ok(format!(in alloc; " | {sign} recovery")?),
+        Kind::Lease { file, mode } => {
+            let word = mode_word(mode);
+            let file = file.0;
+            Ok(format!(in alloc; " | {sign} lease {word} {file}")?)
+        }
+        Kind::Row { file, host, mode } => {
+            let word = mode_word(mode);
+            let file = file.0;
+            let host = host.0;
+            Ok(format!(in alloc; " | {sign} row {word} {file} of host {host}")?)
         }
     }
 }

@@ -1,0 +1,160 @@
+//! Looking at the run of a schedule.
+
+ghost use Rattle.std.specs.Prelude.{◌≡◌, ◌<◌, ◌^◌, Some, length};
+ghost use Rattle.nq_chart.specs.Page.{Extends};
+ghost use Rattle.nq_keeper.specs.StoredKeeper.{empty_kept};
+ghost use Rattle.nq_replay.specs.Schedules.{IsReady};
+
+use crate::playing::{Bounds, play};
+use crate::seeing::Seer;
+use nq_base::NoMemory;
+use nq_chart::draw;
+use nq_keeper::{Keeper, ListKeeper};
+use nq_play::Delivered;
+use nq_record::{Record, picture, tell, why};
+use nq_replay::begin;
+use nq_script::{Script, parse};
+use nq_world::{NewFault, Stepped, World};
+use std::alloc::Global;
+
+/// How a run is shown.
+#[derive(Clone, Copy)]
+pub enum View {
+    /// As a message sequence chart, in SVG, of the events from `from` to `to`, counted from 0.
+    Picture { from: usize, to: usize },
+    /// Told, a line for each event.
+    Tell,
+    /// The events that led to the entry in this line of the journal, newest first; lines are counted from 1, and the entries begin in
+    /// line 2.
+    Why { line: usize },
+}
+
+/// Whether there was something to show.
+#[derive(Clone, Copy, PartialEq, Eq)]
+pub enum Shown {
+    /// What was asked for.
+    All,
+    /// Nothing: the text is no schedule, or the journal has no entry in the line that was asked for.
+    Nothing,
+}
+
+/// Shows the run of a schedule, behind what stands in the page before. Where a schedule has a fault, the run ends before it.
+///
+/// # Errors
+///
+/// Only want of memory. Then a front of what is to be shown was appended.
+pub fn look(alloc: Global, text: &[u8], view: View, page: &mut Vec<u8>) -> Result<Shown, NoMemory>
+    requires { length text.now < 2 ^ 31 }
+    ensures { Extends page.old.items page.new.items }
+{
+    match parse(alloc, text) {
+        Ok(script) => look_at(alloc, &script, view, page),
+        Err(_) => Ok(Shown::Nothing),
+    }
+}
+
+/// Shows the run of a schedule that was read.
+fn look_at(
+    alloc: Global,
+    script: &Script,
+    view: View,
+    page: &mut Vec<u8>,
+) -> Result<Shown, NoMemory>
+    requires { IsReady script.now }
+    ensures { Extends page.old.items page.new.items }
+{
+    let keeper = ListKeeper::new(alloc, Vec::new(alloc))?;
+    look_over(alloc, script, keeper, view, page)
+}
+
+/// Shows the run of a schedule over a keeper that keeps nothing yet.
+fn look_over<L: Keeper + Drop>(
+    alloc: Global,
+    script: &Script,
+    keeper: L,
+    view: View,
+    page: &mut Vec<u8>,
+) -> Result<Shown, NoMemory>
+    requires ready { IsReady script.now }
+    requires empty { L.content keeper ≡ Some empty_kept }
+    ensures { Extends page.old.items page.new.items }
+{
+    let mut world = match begin(alloc, &script.head, keeper) {
+        Ok(world) => world,
+        Err(NewFault::Memory(_keeper)) => return Err(NoMemory::Memory),
+        Err(NewFault::Failed(_keeper)) => return Err(NoMemory::Memory),
+    };
+    let shown = show(alloc, &mut world, script, view, page);
+    let _keeper = world.into_keeper();
+    shown
+}
+
+/// Plays a schedule over a world, and shows what was seen.
+fn show<L: Keeper>(
+    alloc: Global,
+    world: &mut World<L>,
+    script: &Script,
+    view: View,
+    page: &mut Vec<u8>,
+) -> Result<Shown, NoMemory>
+    requires hosts { script.now.head.hosts ≡ length world.old.clients }
+    requires longest { script.now.head.longest ≡ world.old.skew.window }
+    ensures { Extends page.old.items page.new.items }
+{
+    let mut seer = Seer::new(alloc, script.head.hosts)?;
+    let mut delivered = Delivered::new(alloc);
+    let bounds = Bounds {
+        hosts: script.head.hosts,
+        longest: script.head.longest,
+    };
+    if let Stepped::Memory = play(world, &mut seer, &mut delivered, bounds, &script.lines) {
+        return Err(NoMemory::Memory);
+    }
+    let record = seer.into_record();
+    show_record(alloc, world, &record, view, page)
+}
+
+/// Shows what was seen.
+fn show_record<L: Keeper>(
+    alloc: Global,
+    world: &World<L>,
+    record: &Record,
+    view: View,
+    page: &mut Vec<u8>,
+) -> Result<Shown, NoMemory>
+    ensures { Extends page.old.items page.new.items }
+{
+    match view {
+        View::Tell => {
+            tell(alloc, record, page)?;
+            Ok(Shown::All)
+        }
+        View::Why { line } => show_why(alloc, world, record, line, page),
+        View::Picture { from, to } => {
+            let title = String::from_str(alloc, "nqnfs: a run")?;
+            let chart = picture(alloc, record, title, from, to)?;
+            draw(alloc, &chart, page)?;
+            Ok(Shown::All)
+        }
+    }
+}
+
+/// Shows the events that led to the entry in a line.
+fn show_why<L: Keeper>(
+    alloc: Global,
+    world: &World<L>,
+    record: &Record,
+    line: usize,
+    page: &mut Vec<u8>,
+) -> Result<Shown, NoMemory>
+    ensures { Extends page.old.items page.new.items }
+{
+    let entries = world.journal().entries();
+    match line.checked_sub(2) {
+        Some(place) if place < entries.len() => {
+            why(alloc, record, entries, place, page)?;
+            Ok(Shown::All)
+        }
+        _ => Ok(Shown::Nothing),
+    }
+}
