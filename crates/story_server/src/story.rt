@@ -167,11 +167,3 @@ fn number_of(party: Party) -> u32 {
         Party::Server => u32::MAX,
     }
 }
-
-/// The bytes of the datagram at a place, where it goes to this host.
-pub(crate) fn sent_to(out: &Outbox, place: usize, host: u32) -> Option<&[u8]> {
-    match out.get(place) {
-        Some((to, bytes)) if to == Party::Client(Host(host)) => Some(bytes),
-        _ => None,
-    }
-}
