@@ -1,0 +1,2 @@
+pub mod RunTells
+pub mod ServerTells
