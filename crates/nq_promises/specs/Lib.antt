@@ -12,6 +12,7 @@ pub mod Headline
 -- journals
 pub mod CallsAreOrdered
 pub mod AnswersAreOfTheirCalls
+pub mod AnswersTellWhatWas
 pub mod OksHaveTheirDeeds
 pub mod BusyIsSaidAtOnce
 pub mod ReadsAreLegal
@@ -35,6 +36,7 @@ pub mod TagsAreInOrder
 pub mod OneRequestPerSequence
 pub mod RowsStandApart
 pub mod RepliesAreOwed
+pub mod RepliesTellWhatWas
 pub mod RecoveriesWait
 -- tests of entries, by which schedules are shown to lead to what the laws speak of
 pub mod Witnesses
