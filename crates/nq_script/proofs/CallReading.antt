@@ -9,15 +9,16 @@ use Rattle.nq_base.specs.declared.Told.{Told}
 use Rattle.nq_base.proofs.Filling.{filled-value}
 use Rattle.nq_base.proofs.Options.{bind_some}
 use Rattle.nq_script.specs.Calls.{FitsCall, HasCall, IsFilled, IsFilledCall, SpellsCall, call_of, call_words, told_as}
-use Rattle.nq_script.specs.Reading.{either, after, number_of, number_then, told_of}
+use Rattle.nq_script.specs.Reading.{either, after, number_then, told_of}
 use Rattle.nq_script.specs.Text.{spaced}
 use Rattle.nq_script.proofs.CallWords.{spaced-joined}
 use Rattle.nq_script.proofs.Cuts.{cut-again, cut-found, after-found}
-use Rattle.nq_script.proofs.Numbers.{number-again, number-found, decimal-lacks}
+use Rattle.nq_script.proofs.Numbers.{decimal-lacks}
 use Rattle.nq_words.specs.Forms.{FitsTold, HasTold, SpellsTold, told_words}
-use Rattle.nq_words.specs.Reading.{cut as cut_at}
+use Rattle.nq_words.specs.Reading.{cut as cut_at, u32_of}
 use Rattle.nq_words.proofs.Again.{told_spelled}
 use Rattle.nq_words.proofs.Found.{told_read}
+use Rattle.nq_words.proofs.Numerals.{u32_again, u32_found}
 
 -- what a choice gives comes of the one or, where that is not there, of the other
 pub either-found : {A B : Type 0} (o : Option A) (f : A → Option B) (other : Option B) (y : B) → either o f other ≡ Some y
@@ -25,18 +26,18 @@ pub either-found : {A B : Type 0} (o : Option A) (f : A → Option B) (other : O
 either-found None f other y e = inr e
 either-found (Some x) f other y e = inl (x, refl, e)
 
-pub number32-found : (word : List ℕ) (n : ℕ) → number_of 4294967295 word ≡ Some n → (word ≡ decimal n) × (n < 2 ^ 32)
-number32-found word n e = let w = number-found 4294967295 word n (lit< tt) e in let low : n ≤ 4294967295 = w.1 in (w.0, omega arith)
+pub number32-found : (word : List ℕ) (n : ℕ) → u32_of word ≡ Some n → (word ≡ decimal n) × (n < 2 ^ 32)
+number32-found word n e = u32_found word n e
 
-pub number32-again : (n : ℕ) → n < 2 ^ 32 → number_of 4294967295 (decimal n) ≡ Some n
-number32-again n low = number-again 4294967295 n (lit< tt) (omega arith)
+pub number32-again : (n : ℕ) → n < 2 ^ 32 → u32_of (decimal n) ≡ Some n
+number32-again n low = u32_again n low
 
 -- what is read before a blank stands there
 pub then-found : (text : List ℕ) (n : ℕ) (rest : List ℕ) → number_then text ≡ Some (n, rest) → (text ≡ decimal n ++ 32 ∷ rest) × (n < 2 ^ 32)
 unfolding number_then
 then-found text n rest e =
-    let cut = bind_some (cut_at 32 text) (λ p. number_of 4294967295 p.0 >>= λ v. Some (v, p.1)) (n, rest) e in
-    let value = bind_some (number_of 4294967295 cut.0.0) (λ v. Some (v, cut.0.1)) (n, rest) cut.2 in
+    let cut = bind_some (cut_at 32 text) (λ p. u32_of p.0 >>= λ v. Some (v, p.1)) (n, rest) e in
+    let value = bind_some (u32_of cut.0.0) (λ v. Some (v, cut.0.1)) (n, rest) cut.2 in
     let same = some_pair_parts value.0 n cut.0.1 rest value.2 in
     let found = number32-found cut.0.0 n (value.1 ∙ ap (λ v. Some v) same.0) in
     ((cut-found 32 text cut.0.0 cut.0.1 cut.1).0 ∙ ap (λ w. w ++ 32 ∷ cut.0.1) found.0 ∙ ap (λ r. decimal n ++ 32 ∷ r) same.1, found.1)

@@ -1,13 +1,12 @@
 -- Numbers in decimal, up to a greatest one.
-use Rattle.std.proofs.Common.{◌≡◌, ℕ, ◌<◌, ◌≤◌, ◌^◌, nat_le, List, Option, Some, None, false, refl, ap, ◌∙◌, arith, if◌then◌else◌}
+use Rattle.std.proofs.Common.{◌≡◌, ℕ, ◌<◌, ◌≤◌, ◌^◌, nat_le, List, Option, Some, None, false, refl, ap, ◌∙◌, arith}
 use Rattle.std.specs.Fmt.{decimal}
 use Rattle.std.proofs.lemmas.Bool.{le-leb, leb-true}
-use Rattle.std.proofs.lemmas.Option.{cond_some}
 use Rattle.nq_base.specs.Steps.{◌>>=◌}
 use Rattle.nq_base.proofs.Options.{bind_some}
-use Rattle.nq_script.specs.Reading.{number_of}
 use Rattle.nq_script.specs.Text.{Lacks}
-use Rattle.nq_words.specs.Reading.{is_digit, u64_of}
+use Rattle.nq_words.specs.Reading.{is_digit, number_of, only_if, u64_of}
+use Rattle.nq_words.proofs.Options.{only_if_some}
 use Rattle.nq_words.proofs.Numerals.{u64_again, u64_found, free_digits}
 
 -- what a number writes is read as that number
@@ -19,8 +18,8 @@ number-again most n wide low = rw (u64_again n (omega arith), le-leb n most low)
 pub number-found : (most : ℕ) (word : List ℕ) (n : ℕ) → most < 2 ^ 64 → number_of most word ≡ Some n → (word ≡ decimal n) × (n ≤ most)
 unfolding number_of
 number-found most word n wide e =
-    let value = bind_some (u64_of word) (λ v. if nat_le v most then Some v else None) n e in
-    let within = cond_some (nat_le value.0 most) value.0 n value.2 in
+    let value = bind_some (u64_of word) (λ v. only_if (nat_le v most) v) n e in
+    let within = only_if_some (nat_le value.0 most) value.0 n value.2 in
     let same : value.0 ≡ n = within.1 in
     let low : value.0 ≤ most = leb-true value.0 most within.0 in
     ((u64_found word value.0 value.1).0 ∙ ap decimal same, omega (arith, same, low))

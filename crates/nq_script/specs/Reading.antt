@@ -6,7 +6,7 @@ use Rattle.nq_base.specs.Steps.{◌>>=◌}
 use Rattle.nq_base.specs.declared.Told.{Told}
 use Rattle.nq_script.specs.declared.heads.Head.{Head}
 use Rattle.nq_script.specs.declared.lines.ToldLine.{ToldLine}
-use Rattle.nq_words.specs.Reading.{cut, u64_of, words_of}
+use Rattle.nq_words.specs.Reading.{cut, number_of, u32_of, words_of}
 use Rattle.nq_words.specs.ReadingCalls.{told_in}
 
 -- what follows a prefix
@@ -14,12 +14,6 @@ abbrev pub after : (prefix bytes : List ℕ) → Option (List ℕ)
 after [] bytes = Some bytes
 after (p ∷ prefix) [] = None
 after (p ∷ prefix) (b ∷ bytes) = if b == p then after prefix bytes else None
-
--- the number up to `most` that a word writes without a needless zero
-unfoldable pub number_of : (most : ℕ) → (word : List ℕ) → Option ℕ
-number_of most word = do
-  value ← u64_of word
-  if nat_le value most then Some value else None
 
 -- what is made of the first, if it is there, and else the second
 abbrev pub either : {A B : Type 0} → Option A → (A → Option B) → Option B → Option B
@@ -30,7 +24,7 @@ either (Some x) f other = f x
 unfoldable pub number_then : List ℕ → Option (ℕ × List ℕ)
 number_then text = do
   parts ← cut 32 text
-  value ← number_of 4294967295 parts.0
+  value ← u32_of parts.0
   Some (value, parts.1)
 
 -- the call that the words tell in a version
@@ -87,13 +81,13 @@ round_line text = do
 -- a host that starts again
 unfoldable pub restart_line : (hosts : ℕ) → List ℕ → Option ToldLine
 restart_line hosts text = do
-  host ← number_of 4294967295 text
+  host ← u32_of text
   if nat_lt host hosts then Some (ToldLine.Restart host) else None
 
 -- a crash that tells the longest term, as version 2 has it
 unfoldable pub crash_line : Head → List ℕ → Option ToldLine
 crash_line head text = do
-  longest ← number_of 4294967295 text
+  longest ← u32_of text
   if head.version == 2 && (nat_le 5 longest && nat_le longest head.longest) then Some (ToldLine.Crash longest) else None
 
 -- a line of one word

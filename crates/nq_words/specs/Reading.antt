@@ -59,6 +59,10 @@ u64_of word = if is_plain word then digits_after 0 word else None
 unfoldable pub u32_of : List ℕ → Option ℕ
 u32_of word = u64_of word >>= λ n. only_if (nat_lt n (2 ^ 32)) n
 
+-- a number up to a greatest one
+unfoldable pub number_of : (most : ℕ) → (word : List ℕ) → Option ℕ
+number_of most word = u64_of word >>= λ n. only_if (nat_le n most) n
+
 -- a name
 unfoldable pub name_of : List ℕ → Option (List ℕ)
 name_of word = only_if (is_name word) word

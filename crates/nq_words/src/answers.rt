@@ -7,7 +7,7 @@ ghost use Rattle.nq_words.specs.Reading.{Takes};
 ghost use Rattle.nq_words.specs.ReadingAnswers.{span_of, lost_at, by_at, value_at, ok_at, bare_of, bare_at, said_at};
 ghost use Rattle.nq_words.specs.Forms.{span_word, said_words, FitsSpan, FitsSaid};
 
-use crate::cursor::{Words, cut, is, number, number32};
+use crate::cursor::{Words, cut, is, number32, number64};
 use nq_base::{BlockNo, NoMemory, Number, Said, Span, Spans};
 use std::alloc::Global;
 
@@ -20,8 +20,8 @@ fn span_of(word: &[u8]) -> Option<Span>
     let (block, ends) = cut(word, b':')?;
     let (first, last) = cut(ends, b'-')?;
     let block = BlockNo(number32(block)?);
-    let first = Number(number(first)?);
-    let last = Number(number(last)?);
+    let first = Number(number64(first)?);
+    let last = Number(number64(last)?);
     Some(Span { block, first, last })
 }
 

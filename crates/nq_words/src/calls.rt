@@ -1,9 +1,9 @@
 //! The words of a call.
 
-ghost use Rattle.std.specs.Prelude.{◌≡◌, ◌↔◌, ◌∷◌, ◌++◌, Some, IfSome, IsTrue};
+ghost use Rattle.std.specs.Prelude.{◌≡◌, ◌↔◌, ◌∷◌, ◌++◌, Some, IfSome, IsTrue, codes};
 ghost use Rattle.nq_base.specs.declared.Told.{Told};
 ghost use Rattle.nq_words.specs.Reading.{Takes, words_of};
-ghost use Rattle.nq_words.specs.ReadingCalls.{has_told, told_in, verb_of, verb_word, told_at, told_by};
+ghost use Rattle.nq_words.specs.ReadingCalls.{create_at, has_told, put_at, resize_at, told_at, told_by, told_in, verb_of, verb_word, write_at};
 ghost use Rattle.nq_words.specs.Forms.{told_words, FitsTold, HasTold, SpellsTold};
 
 use crate::cursor::{Words, is};
@@ -66,17 +66,13 @@ pub fn take_told(words: &mut Words<'_>) -> Option<Told>
 }
 
 // Takes what such a call names.
-#[tactic(auto, unfolding(crate::specs::ReadingCalls::create_at, crate::specs::ReadingCalls::lookup_at, crate::specs::ReadingCalls::attr_at, crate::specs::ReadingCalls::read_at, crate::specs::ReadingCalls::fetch_at, crate::specs::ReadingCalls::write_at, crate::specs::ReadingCalls::put_at, crate::specs::ReadingCalls::sync_at, crate::specs::ReadingCalls::resize_at, crate::specs::ReadingCalls::remove_at))]
+#[tactic(auto, unfolding(crate::specs::ReadingCalls::lookup_at, crate::specs::ReadingCalls::attr_at, crate::specs::ReadingCalls::read_at, crate::specs::ReadingCalls::fetch_at, crate::specs::ReadingCalls::sync_at, crate::specs::ReadingCalls::remove_at))]
 fn take_asked(words: &mut Words<'_>, verb: Verb) -> Option<Told>
     ensures step { Takes (λ told. told) result words.new (told_by verb words.old) }
     ensures found { IfSome result (λ told. (verb_word verb ∷ words.old ≡ told_words told ++ words.new) × FitsTold told) }
 {
     match verb {
-        Verb::Create => {
-            let name = words.name()?;
-            let blocks = words.u32()?;
-            Some(Told::Create { name, blocks })
-        }
+        Verb::Create => take_create(words),
         Verb::Lookup => {
             let name = words.name()?;
             Some(Told::Lookup { name })
@@ -93,30 +89,62 @@ fn take_asked(words: &mut Words<'_>, verb: Verb) -> Option<Told>
             let (file, block) = words.place()?;
             Some(Told::Fetch { file, block })
         }
-        Verb::Write => {
-            let (file, block) = words.place()?;
-            let value = words.u32()?;
-            Some(Told::Write { file, block, value })
-        }
-        Verb::Put => {
-            let (file, block) = words.place()?;
-            let value = words.u32()?;
-            Some(Told::WriteSync { file, block, value })
-        }
+        Verb::Write => take_write(words),
+        Verb::Put => take_put(words),
         Verb::Sync => {
             let file = FileId(words.u32()?);
             Some(Told::Sync { file })
         }
-        Verb::Resize => {
-            let file = FileId(words.u32()?);
-            let blocks = words.u32()?;
-            Some(Told::Resize { file, blocks })
-        }
+        Verb::Resize => take_resize(words),
         Verb::Remove => {
             let file = FileId(words.u32()?);
             Some(Told::Remove { file })
         }
     }
+}
+
+// Takes what `create` names.
+#[tactic(auto, unfolding(crate::specs::ReadingCalls::create_at))]
+fn take_create(words: &mut Words<'_>) -> Option<Told>
+    ensures step { Takes (λ told. told) result words.new (create_at words.old) }
+    ensures found { IfSome result (λ told. (codes "create" ∷ words.old ≡ told_words told ++ words.new) × FitsTold told) }
+{
+    let name = words.name()?;
+    let blocks = words.u32()?;
+    Some(Told::Create { name, blocks })
+}
+
+// Takes what `write` names.
+#[tactic(auto, unfolding(crate::specs::ReadingCalls::write_at))]
+fn take_write(words: &mut Words<'_>) -> Option<Told>
+    ensures step { Takes (λ told. told) result words.new (write_at words.old) }
+    ensures found { IfSome result (λ told. (codes "write" ∷ words.old ≡ told_words told ++ words.new) × FitsTold told) }
+{
+    let (file, block) = words.place()?;
+    let value = words.u32()?;
+    Some(Told::Write { file, block, value })
+}
+
+// Takes what `put` names.
+#[tactic(auto, unfolding(crate::specs::ReadingCalls::put_at))]
+fn take_put(words: &mut Words<'_>) -> Option<Told>
+    ensures step { Takes (λ told. told) result words.new (put_at words.old) }
+    ensures found { IfSome result (λ told. (codes "put" ∷ words.old ≡ told_words told ++ words.new) × FitsTold told) }
+{
+    let (file, block) = words.place()?;
+    let value = words.u32()?;
+    Some(Told::WriteSync { file, block, value })
+}
+
+// Takes what `resize` names.
+#[tactic(auto, unfolding(crate::specs::ReadingCalls::resize_at))]
+fn take_resize(words: &mut Words<'_>) -> Option<Told>
+    ensures step { Takes (λ told. told) result words.new (resize_at words.old) }
+    ensures found { IfSome result (λ told. (codes "resize" ∷ words.old ≡ told_words told ++ words.new) × FitsTold told) }
+{
+    let file = FileId(words.u32()?);
+    let blocks = words.u32()?;
+    Some(Told::Resize { file, blocks })
 }
 
 /// Whether a version has a call: version 1 has no `resize` and no `remove`.

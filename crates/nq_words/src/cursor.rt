@@ -1,10 +1,10 @@
 //! Reading the words of a line.
 
-ghost use Rattle.std.specs.Prelude.{◌≡◌, ◌^◌, ◌<◌, [], ◌∷◌, ◌↔◌, IsTrue, IsNone, IfSome, option_map};
+ghost use Rattle.std.specs.Prelude.{◌≡◌, ◌^◌, ◌<◌, ◌≤◌, [], ◌∷◌, ◌↔◌, IsTrue, IsNone, IfSome, option_map};
 ghost use Rattle.std.specs.Fmt.{decimal};
 ghost use Rattle.std.specs.Str.{bytes_eq};
 ghost use Rattle.nq_base.specs.Name.{IsName};
-ghost use Rattle.nq_words.specs.Reading.{cut, words_of, Takes, is_done, word_at, with_digit, digits_after, is_plain, u64_of, u32_of, name_of, u64_at, u32_at, name_at, who_at, place_at, tag_at};
+ghost use Rattle.nq_words.specs.Reading.{cut, words_of, Takes, is_done, word_at, with_digit, digits_after, is_plain, u64_of, u32_of, number_of, name_of, u64_at, u32_at, name_at, who_at, place_at, tag_at};
 ghost use Rattle.nq_words.specs.Forms.{FitsWho};
 
 use nq_base::{BlockNo, FileId, Host, Inc, Name, Tag, Who};
@@ -61,7 +61,7 @@ fn is_plain(word: &[u8]) -> bool
 
 /// The number below 2^64 that a word spells.
 #[tactic(auto, unfolding(crate::specs::Reading::u64_of))]
-pub fn number(word: &[u8]) -> Option<u64>
+pub fn number64(word: &[u8]) -> Option<u64>
     ensures step { result ≡ u64_of word.now }
     ensures found { IfSome result (λ n. word.now ≡ decimal n) }
 {
@@ -74,7 +74,18 @@ pub fn number32(word: &[u8]) -> Option<u32>
     ensures step { result ≡ u32_of word.now }
     ensures found { IfSome result (λ n. word.now ≡ decimal n) }
 {
-    u32::try_from(number(word)?).ok()
+    u32::try_from(number64(word)?).ok()
+}
+
+/// The number up to `most` that a word writes in decimal, without a sign or a needless zero; None for every other
+/// word.
+#[tactic(auto, unfolding(crate::specs::Reading::number_of))]
+pub fn number(word: &[u8], most: u64) -> Option<u64>
+    ensures value { result ≡ number_of most word.now }
+    ensures bound { IfSome result (λ n. n ≤ most) }
+{
+    let value = number64(word)?;
+    if value <= most { Some(value) } else { None }
 }
 
 /// The name that a word spells.
@@ -140,7 +151,7 @@ impl<'a> Words<'a> {
         ensures step { Takes (λ n. n) result self.new (u64_at self.old) }
         ensures found { IfSome result (λ n. self.old ≡ decimal n ∷ self.new) }
     {
-        number(self.next()?)
+        number64(self.next()?)
     }
 
     /// Takes a number below 2^32.

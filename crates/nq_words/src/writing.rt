@@ -6,7 +6,7 @@ ghost use Rattle.std.specs.List.{AllByRecursion, flat_map};
 ghost use Rattle.nq_words.specs.Forms.{FitsSpan, FitsTold, FitsSaid, span_word, told_words, said_words};
 ghost use Rattle.nq_words.specs.Words.{joined, spaced};
 
-use nq_base::{NoMemory, Said, Span, Spans, Told};
+use nq_base::{BlockNo, FileId, NoMemory, Said, Span, Spans, Told};
 
 /// Appends the digits of a number.
 pub fn push_digits(out: &mut Vec<u8>, number: u64) -> Result<(), NoMemory>
@@ -56,6 +56,14 @@ pub fn push_command(out: &mut Vec<u8>, first: &[u8], numbers: &[u64]) -> Result<
     push_numbers(out, numbers)
 }
 
+// Appends a word, a file and a block.
+fn push_place(out: &mut Vec<u8>, first: &[u8], file: FileId, block: BlockNo) -> Result<(), NoMemory>
+    ensures written { OnOk result (out.new.items ≡ out.old.items ++ (first.now ++ (spaced (decimal file) ++ spaced (decimal block)))) }
+    ensures fits { OnOk result ((file < 2 ^ 32) × (block < 2 ^ 32)) }
+{
+    push_command(out, first, &[u64::from(file.0), u64::from(block.0)])
+}
+
 /// Appends the words of a call.
 #[tactic(auto, unfolding(crate::specs::Words::joined))]
 pub fn push_told(out: &mut Vec<u8>, told: &Told) -> Result<(), NoMemory>
@@ -73,16 +81,8 @@ pub fn push_told(out: &mut Vec<u8>, told: &Told) -> Result<(), NoMemory>
             push_word(out, name.as_bytes())
         }
         Told::Attr { file } => push_command(out, b"attr", &[u64::from(file.0)]),
-        Told::Read { file, block } => push_command(
-            out,
-            b"read",
-            &[u64::from(file.0), u64::from(block.0)],
-        ),
-        Told::Fetch { file, block } => push_command(
-            out,
-            b"fetch",
-            &[u64::from(file.0), u64::from(block.0)],
-        ),
+        Told::Read { file, block } => push_place(out, b"read", *file, *block),
+        Told::Fetch { file, block } => push_place(out, b"fetch", *file, *block),
         Told::Write { file, block, value } => push_command(
             out,
             b"write",

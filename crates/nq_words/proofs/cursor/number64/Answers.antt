@@ -1,6 +1,6 @@
 use Rattle.std.proofs.Common.{sym, ◌∙◌}
 use Rattle.nq_words.proofs.Numerals.{plain_spelled}
-use Rattle.nq_words.proofs.cursor.number.Goals as goal
+use Rattle.nq_words.proofs.cursor.number64.Goals as goal
 
 pub returns-then-is_plain-clause-found : goal.returns-then-is_plain-clause-found
 returns-then-is_plain-clause-found c =
