@@ -3,7 +3,7 @@
 -- counts of faults before and after.
 use Rattle.std.specs.Prelude.{◌≡◌, ℕ, List, Option, None}
 use Rattle.nq_base.specs.declared.Event.{Event}
-use Rattle.nq_check.specs.Verdict.{verdict}
+use Rattle.nq_rules.specs.Verdict.{verdict}
 use Rattle.nq_io.specs.Told.{with_end}
 use Rattle.nq_looping.specs.Ending.{status_of as status_of_loop}
 use Rattle.nq_looping.specs.Looped.{IsWhole, LoopEnds}
