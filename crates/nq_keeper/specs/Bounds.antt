@@ -12,7 +12,7 @@ use Rattle.nq_base.proofs.NameTests.{name_decides}
 use Rattle.nq_keeper.specs.StoredKeeper.{empty_kept, are_apart, are_heads_within, is_body, is_file_within, is_host_within, is_within, told_of}
 use Rattle.nq_model.specs.Change.{AreApart, IsBody, IsFileWithin, IsHostWithin, IsWithinBounds}
 use Rattle.nq_model.specs.Kept.{File, Kept, blocks_of, blocks_in_all, find_name, fresh_row}
-use Rattle.nq_model.specs.Profile.{shortest_term, longest_term, most_hosts, most_files, most_blocks, most_blocks_of_file, most_ids}
+use Rattle.nq_model.specs.Profile.{shortest_term, longest_term, most_hosts, most_files, most_blocks, most_blocks_of_file, most_ids, inc_end, seq_end, rev_end}
 
 none-decides : {X : Type 0} (o : Option X) → Decides (is_none o) (o ≡ None)
 none-decides None = (λ e. refl, λ e. refl)
@@ -68,14 +68,14 @@ file-decides next file =
     Decides-like (is_file_within next file)
     (λ h. record { from_one = h.0; below_next = h.1; name = h.2; rev = h.3; not_empty = h.4; short = h.5; bodies = h.6 })
     (λ h. (h.from_one, h.below_next, h.name, h.rev, h.not_empty, h.short, h.bodies))
-    (seven (nat_le 1 file.id) (nat_lt file.id next) (is_name file.name) (nat_lt file.rev (2 ^ 61)) (nat_le 1 (blocks_of file)) (nat_le (blocks_of file) most_blocks_of_file) (list_all is_body file.bodies)
-    (le-decides 1 file.id) (lt-decides file.id next) (name_decides file.name) (lt-decides file.rev (2 ^ 61)) (le-decides 1 (blocks_of file)) (le-decides (blocks_of file) most_blocks_of_file)
+    (seven (nat_le 1 file.id) (nat_lt file.id next) (is_name file.name) (nat_lt file.rev rev_end) (nat_le 1 (blocks_of file)) (nat_le (blocks_of file) most_blocks_of_file) (list_all is_body file.bodies)
+    (le-decides 1 file.id) (lt-decides file.id next) (name_decides file.name) (lt-decides file.rev rev_end) (le-decides 1 (blocks_of file)) (le-decides (blocks_of file) most_blocks_of_file)
     (each-decides is_body IsBody body-decides file.bodies))
 
 host-decides : (row : HostRow) → Decides (is_host_within row) (IsHostWithin row)
 host-decides row =
     Decides-like (is_host_within row) (λ h. record { inc = h.0; seq = h.1; value = h.2 }) (λ h. (h.inc, h.seq, h.value))
-    (three (nat_lt row.inc (2 ^ 31)) (nat_lt row.seq (2 ^ 61)) (nat_lt row.value (2 ^ 64)) (lt-decides row.inc (2 ^ 31)) (lt-decides row.seq (2 ^ 61)) (lt-decides row.value (2 ^ 64)))
+    (three (nat_lt row.inc inc_end) (nat_lt row.seq seq_end) (nat_lt row.value (2 ^ 64)) (lt-decides row.inc inc_end) (lt-decides row.seq seq_end) (lt-decides row.value (2 ^ 64)))
 
 -- the server's numbers are within their bounds
 record AreNumbersWithin (kept : Kept) : Type 0 where

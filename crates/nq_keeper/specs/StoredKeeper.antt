@@ -9,7 +9,7 @@ use Rattle.nq_keeper.specs.declared.keeper.KeepFault.{KeepFault}
 use Rattle.nq_keeper.specs.declared.keeper.KeepFault.TheVariants.{Failed}
 use Rattle.nq_model.specs.Change.{applied}
 use Rattle.nq_model.specs.Kept.{File, Kept, blocks_of, blocks_in_all, find_name, fresh_row}
-use Rattle.nq_model.specs.Profile.{shortest_term, longest_term, most_hosts, most_files, most_blocks, most_blocks_of_file, most_ids}
+use Rattle.nq_model.specs.Profile.{shortest_term, longest_term, most_hosts, most_files, most_blocks, most_blocks_of_file, most_ids, inc_end, seq_end, rev_end}
 
 -- what is kept, and the calls
 pub record StoredKeeper : Type 0 where
@@ -43,14 +43,14 @@ is_file_within next file =
     nat_le 1 file.id
     && nat_lt file.id next
     && is_name file.name
-    && nat_lt file.rev (2 ^ 61)
+    && nat_lt file.rev rev_end
     && nat_le 1 (blocks_of file)
     && nat_le (blocks_of file) most_blocks_of_file
     && list_all is_body file.bodies
 
 -- whether the numbers of a host's row are within their bounds
 abbrev pub is_host_within : HostRow → Bool
-is_host_within row = nat_lt row.inc (2 ^ 31) && nat_lt row.seq (2 ^ 61) && nat_lt row.value (2 ^ 64)
+is_host_within row = nat_lt row.inc inc_end && nat_lt row.seq seq_end && nat_lt row.value (2 ^ 64)
 
 -- whether the server's numbers are within their bounds
 abbrev pub are_heads_within : Kept → Bool
