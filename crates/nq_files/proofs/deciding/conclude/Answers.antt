@@ -1,7 +1,6 @@
-use Rattle.std.proofs.Common.{sym, subst}
-use Rattle.nq_keeper.specs.Keeping.{LeavesTwo}
-use Rattle.nq_model.specs.Change.{Fits}
+use Rattle.std.proofs.Common.{sym, subst, ◌∙◌}
 use Rattle.std.specs.Option.{ForSome}
+use Rattle.nq_model.specs.Change.{Fits}
 use Rattle.nq_files.proofs.Concluding.{names-host}
 use Rattle.nq_files.proofs.deciding.conclude.Goals as goal
 
@@ -12,11 +11,3 @@ commit-requires-clause-host g c =
 pub commit-requires-clause-fits : goal.commit-requires-clause-fits
 commit-requires-clause-fits g c =
     subst (λ change. ForSome (g.K.Keeper.content c.args.keeper.now) (λ kept. Fits kept change)) (sym c.change_of-change.ensures) c.requires.fits
-
-pub returns-in_err-commit-clause-leaves : goal.returns-in_err-commit-clause-leaves
-returns-in_err-commit-clause-leaves g c =
-    subst (λ change. LeavesTwo change (g.K.Keeper.content c.args.keeper.now) (g.K.Keeper.leaves c.args.keeper.now c.commit.new.self)) c.change_of-change.ensures c.commit.ensures.leaves
-
-pub returns-clause-leaves : goal.returns-clause-leaves
-returns-clause-leaves g c =
-    subst (λ change. LeavesTwo change (g.K.Keeper.content c.args.keeper.now) (g.K.Keeper.leaves c.args.keeper.now c.commit.new.self)) c.change_of-change.ensures c.commit.ensures.leaves
