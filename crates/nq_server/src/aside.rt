@@ -12,7 +12,7 @@ ghost use Rattle.nq_server.specs.Stepping.{Enters};
 
 use crate::gates::file_to_change;
 use crate::state::{Phase, State};
-use nq_base::{Access, BlockNo, Decided, Entry, FileId, Host, Request, Row, RowKey, Ticks, Verdict, Who};
+use nq_base::{Access, BlockNo, Decided, Entry, FileId, Host, Number, Request, Row, RowKey, Ticks, Verdict, Who};
 use nq_boot::Recovering;
 use nq_journal::Journal;
 use nq_lease::Table;
@@ -49,7 +49,7 @@ fn enter(log: &mut Journal, entry: Entry)
 }
 
 /// What a journal tells of a write that went through.
-fn through(who: Who, file: FileId, block: BlockNo, number: u64, value: u32) -> Entry
+fn through(who: Who, file: FileId, block: BlockNo, number: Number, value: u32) -> Entry
     ensures { result ≡ Line.W who file block number value true }
 {
     Entry::W {
@@ -63,7 +63,7 @@ fn through(who: Who, file: FileId, block: BlockNo, number: u64, value: u32) -> E
 }
 
 /// What a journal tells of a push that was stored.
-fn stored(who: Who, file: FileId, block: BlockNo, first: u64, last: u64, now: Ticks) -> Entry
+fn stored(who: Who, file: FileId, block: BlockNo, first: Number, last: Number, now: Ticks) -> Entry
     ensures { result ≡ Line.S who file block first last now }
 {
     Entry::S {
