@@ -105,13 +105,13 @@ takes-no-end s after now due Memory table told tells before count log h holds st
 pub kept-ended : (s : Beside) (kept : Kept) (now : ℕ) → s.phase ≡ serving → (tick (server_of s kept) now).server.kept ≡ ended (find (is_due now) s.table.rows) kept
 kept-ended s kept now is = by (find (is_due now) s.table.rows) refl
   where
-    by : (o : Option Row) → find (is_due now) s.table.rows ≡ o → (tick (server_of s kept) now).server.kept ≡ ended o kept
-    by None due = ap (λ x. x.server.kept) (quiet-tick s kept now is due)
-    by (Some row) due = tried row due (can_rise (find_file row.file kept.files)) refl
-
     tried : (row : Row) → find (is_due now) s.table.rows ≡ Some row → (b : Bool) → can_rise (find_file row.file kept.files) ≡ b → (tick (server_of s kept) now).server.kept ≡ (if b then fenced row.file kept else kept)
     tried row due true can = ap (λ x. x.server.kept) (fenced-tick s kept now row is due can)
     tried row due false can = ap (λ x. x.server.kept) (stays-tick s kept now row is due can)
+
+    by : (o : Option Row) → find (is_due now) s.table.rows ≡ o → (tick (server_of s kept) now).server.kept ≡ ended o kept
+    by None due = ap (λ x. x.server.kept) (quiet-tick s kept now is due)
+    by (Some row) due = tried row due (can_rise (find_file row.file kept.files)) refl
 
 -- the row that is due by a key
 pub ended-by : (key : RowKey) (o : Option Row) (kept : Kept) → Some key ≡ option_map key_of o → fenced_if key.file kept ≡ ended o kept
