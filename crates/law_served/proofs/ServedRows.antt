@@ -11,10 +11,10 @@ use Rattle.nq_keeper.specs.Keeping.{StaysOrEnds}
 use Rattle.nq_model.specs.Kept.{Kept}
 use Rattle.nq_model.specs.Server.{Phase, serving, recovering, Server, ServerStep}
 use Rattle.nq_model.specs.ServerStep.{at_time, boot, receive, tick, crash}
-use Rattle.nq_model.specs.Table.{Table, is_row_of, find_row}
-use Rattle.nq_promises.specs.RowsStandApart.{HasOneRowEach, WritesAlone}
-use Rattle.nq_server.specs.Holding.{Holding, IsServer, IsTaken, TakesIn, Reboots}
-use Rattle.nq_server.specs.State.{Beside, beside, server_of}
+use Rattle.nq_model.specs.Table.{is_row_of, find_row}
+use Rattle.nq_promises.specs.RowsStandApart.{WritesAlone}
+use Rattle.nq_server.specs.Holding.{Holding, IsTaken, Reboots}
+use Rattle.nq_server.specs.State.{beside, server_of}
 use Rattle.nq_server.specs.Stepping.{next_of}
 use Rattle.nq_model.specs.Table.{empty_table}
 use Rattle.nq_server.specs.declared.Received.{Received}

@@ -1,8 +1,8 @@
 -- A host asks for a lease to write, and gets it.
-use Rattle.std.proofs.Common.{◌≡◌, ◌<◌, ℕ, true, List, [], ◌∷◌, Option, Some, None, refl, sym, subst, ap, arith}
+use Rattle.std.proofs.Common.{◌≡◌, ◌<◌, true, [], ◌∷◌, Some, None, refl, sym, subst, ap, arith}
 use Rattle.std.proofs.lemmas.List.Elements.{All-cons, All-nil}
 use Rattle.std.specs.Prelude.{All, IsSomeAnd, map, reverse}
-use Rattle.law_served.specs.Serving.{Coming, datagram, HasBooted, HasCome}
+use Rattle.law_served.specs.Serving.{datagram, HasBooted, HasCome}
 use Rattle.law_served.specs.ServedRowsAreMet.{ServedRowsAreMet}
 use Rattle.nq_base.specs.declared.Grant.{Grant}
 use Rattle.nq_base.specs.declared.Mode.{Mode}
@@ -20,7 +20,7 @@ use Rattle.nq_model.specs.Message.{Message, Packet, call, reply, request}
 use Rattle.nq_model.specs.Server.{Server, ServerStep, taken, to_host, with_table}
 use Rattle.nq_model.specs.ServerStep.{boot, leases, receive}
 use Rattle.nq_model.specs.Table.{is_writing, find_row, empty_table, with_rows, after_draw}
-use Rattle.nq_model.specs.World.{Head, first_kept, start}
+use Rattle.nq_model.specs.World.{Head, first_kept}
 use Rattle.nq_server.specs.Holding.{Holding, IsServer, TakesIn}
 use Rattle.nq_server.specs.State.{beside, server_of}
 use Rattle.nq_server.specs.Stepping.{datagram_of_packet, next_of}
