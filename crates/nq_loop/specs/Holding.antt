@@ -2,7 +2,7 @@
 use Rattle.std.specs.Prelude.{◌≡◌, ◌<◌, ℕ, Bool, List, [], ◌∷◌, Option, Result, Ok, Err, map, reverse}
 use Rattle.std.specs.List.{AllByRecursion}
 use Rattle.nq_base.specs.declared.Event.{Event}
-use Rattle.nq_fate.specs.Stormy.{WritesNumber}
+use Rattle.nq_storm_rules.specs.Stormy.{WritesNumber}
 use Rattle.nq_io.specs.Faults.{Rose}
 use Rattle.nq_keeper.specs.Keeping.{StaysOrEnds}
 use Rattle.nq_link.specs.Link.{Letters}

@@ -2,7 +2,7 @@
 
 ghost use Rattle.std.specs.Prelude.{◌≡◌, ◌<◌, ◌≤◌, ◌∷◌, [], ℕ, List, length, slice_get, IfSome};
 ghost use Rattle.nq_base.specs.declared.Event.{Event};
-ghost use Rattle.nq_fate.specs.Stormy.{WritesNumber};
+ghost use Rattle.nq_storm_rules.specs.Stormy.{WritesNumber};
 ghost use Rattle.nq_loop.specs.Holding.{IsLooping, Keeps, Loops, loop_of};
 ghost use Rattle.nq_loop.specs.Looping.{Step, call_behind, call_steps, is_busy};
 ghost use Rattle.nq_model.specs.World.{Head, run};

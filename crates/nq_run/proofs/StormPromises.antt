@@ -3,7 +3,7 @@ use Rattle.std.proofs.Common.{◌≡◌, ℕ, ◌<◌, List, ◌∷◌, ◌++◌
 use Rattle.std.proofs.Math.Seq.{get_or-append_seam}
 use Rattle.std.specs.Prelude.{All, IfSome, IsSomeAnd, ◌≢◌}
 use Rattle.nq_command.specs.declared.Command.{Command}
-use Rattle.nq_fate.specs.Rules.{Rule}
+use Rattle.nq_storm_rules.specs.Rules.{Rule}
 use Rattle.nq_replay.specs.Ending.{WithStatus, status_of}
 use Rattle.nq_replay.specs.Lines.{PrintsLine, usage_line}
 use Rattle.nq_replay.specs.declared.Ending.{Ending}

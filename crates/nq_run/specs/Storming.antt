@@ -5,7 +5,7 @@ use Rattle.std.specs.Prelude.{◌≡◌, ℕ, List, Option, Some, None}
 use Rattle.nq_base.specs.declared.Event.{Event}
 use Rattle.nq_rules.specs.Verdict.{verdict}
 use Rattle.nq_command.specs.declared.Command.{Command}
-use Rattle.nq_fate.specs.Rules.{Rule}
+use Rattle.nq_storm_rules.specs.Rules.{Rule}
 use Rattle.nq_io.specs.Told.{with_end}
 use Rattle.nq_model.specs.World.{run}
 use Rattle.nq_play.specs.Playing.{beginning}

@@ -20,7 +20,10 @@ use crate::finding;
 use crate::received::{Halt, Taken};
 use crate::replying::{Caller, end_reply, put_off, refuse};
 use crate::state::State;
-use nq_base::{Access, Asked, Block, BlockNo, Entry, FileId, FileRow, Grant, Journal, Mode, NoMemory, Question, Refusal, Reply, RowKey, Want, Who};
+use nq_base::{
+    Access, Asked, Block, BlockNo, Entry, FileId, FileRow, Grant, Journal, Mode, NoMemory,
+    Question, Refusal, Reply, RowKey, Want, Who,
+};
 use nq_datagrams::BegunReply;
 use nq_evict::NoticeTo;
 use nq_files::{ReadOut, read_block};

@@ -3,9 +3,9 @@ use Rattle.std.proofs.Common.{◌≡◌, ℕ, ◌+◌, ◌-◌, List, [], ◌∷
 use Rattle.std.proofs.Math.Seq.{take-append_seam}
 use Rattle.std.specs.Prelude.{◌%◌, IfSome, slice_get}
 use Rattle.nq_base.specs.declared.Event.{Event}
-use Rattle.nq_fate.specs.Menu.{menu}
-use Rattle.nq_fate.specs.Rules.{Rule, chosen}
-use Rattle.nq_fate.specs.declared.offers.Offer.{Offer}
+use Rattle.nq_storm_rules.specs.Menu.{menu}
+use Rattle.nq_storm_rules.specs.Rules.{Rule, chosen}
+use Rattle.nq_storm_rules.specs.declared.offers.Offer.{Offer}
 use Rattle.nq_model.specs.World.{Head}
 use Rattle.nq_storm_text.specs.Storming.{IsChosen, IsOffered, word_behind}
 

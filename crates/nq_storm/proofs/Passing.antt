@@ -5,9 +5,9 @@ use Rattle.std.specs.List.{AllByRecursion}
 use Rattle.std.specs.Prelude.{◌↔◌, IsTrue, IfSome, reverse, unwrap_or}
 use Rattle.nq_base.specs.declared.Call.{Call}
 use Rattle.nq_base.specs.declared.Event.{Event}
-use Rattle.nq_fate.specs.Rules.{Rule}
-use Rattle.nq_fate.specs.Stormy.{IsStormy, WritesNumber}
-use Rattle.nq_fate.specs.declared.offers.Offer.{Offer}
+use Rattle.nq_storm_rules.specs.Rules.{Rule}
+use Rattle.nq_storm_rules.specs.Stormy.{IsStormy, WritesNumber}
+use Rattle.nq_storm_rules.specs.declared.offers.Offer.{Offer}
 use Rattle.nq_lines.proofs.Steps.{as-many, next-is}
 use Rattle.nq_lines.specs.Going.{IsAt}
 use Rattle.nq_model.specs.Kept.{Kept}

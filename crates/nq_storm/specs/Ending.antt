@@ -2,7 +2,7 @@
 -- after it; `flags` tells which packets were delivered; `before` and `count` are the keeper's counts of faults.
 use Rattle.std.specs.Prelude.{◌≡◌, ◌<◌, ◌≤◌, ℕ, Bool, List, ◌∷◌, length, Option}
 use Rattle.nq_base.specs.declared.Event.{Event}
-use Rattle.nq_fate.specs.Rules.{Rule}
+use Rattle.nq_storm_rules.specs.Rules.{Rule}
 use Rattle.nq_io.specs.Faults.{Rose}
 use Rattle.nq_keeper.specs.Keeping.{StaysOrEnds}
 use Rattle.nq_lines.specs.Going.{IsAt}

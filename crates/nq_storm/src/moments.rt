@@ -3,8 +3,8 @@
 ghost use Rattle.std.specs.Prelude.{◌≡◌, ◌<◌, ◌≤◌, ◌+◌, ◌-◌, ◌^◌, ◌++◌, ◌∷◌, [], ℕ, List, Option, IfSome, IsNone, length, reverse, take};
 ghost use Rattle.std.specs.List.{AllByRecursion};
 ghost use Rattle.nq_base.specs.declared.Event.{Event};
-ghost use Rattle.nq_fate.specs.Rules.{Rule};
-ghost use Rattle.nq_fate.specs.Stormy.{IsStormy};
+ghost use Rattle.nq_storm_rules.specs.Rules.{Rule};
+ghost use Rattle.nq_storm_rules.specs.Stormy.{IsStormy};
 ghost use Rattle.nq_lines.specs.Going.{IsAt};
 ghost use Rattle.nq_model.specs.Stepped.{most_events, most_sent};
 ghost use Rattle.nq_model.specs.World.{Head};
@@ -15,11 +15,11 @@ ghost use Rattle.nq_world.specs.Playing.{HasSettings};
 
 use crate::stormed::Stormed;
 use nq_base::Event;
-use nq_fate::{Fate, Offer, choose_event};
 use nq_keeper::Keeper;
 use nq_lines::note;
 use nq_play::Delivered;
 use nq_script::Schedule;
+use nq_storm_rules::{Fate, Offer, choose_event};
 use nq_world::{Limit, MOST_EVENTS, MOST_SENT, Stepped, World};
 
 /// The limit that is reached after so many events and packets, if one is.

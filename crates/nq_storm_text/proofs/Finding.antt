@@ -4,7 +4,7 @@ use Rattle.std.proofs.lemmas.List.{map-append}
 use Rattle.std.proofs.lemmas.List.Elements.{All-map}
 use Rattle.std.specs.Bool.{IsTrue}
 use Rattle.std.specs.Prelude.{IfSome}
-use Rattle.nq_fate.specs.Rules.{Rule}
+use Rattle.nq_storm_rules.specs.Rules.{Rule}
 use Rattle.nq_storm_text.specs.Kinds.{IsFirstOf, IsNotOf, LackKind}
 
 pub not_of : (told : Option Rule) (kind : ℕ) (is : Bool) → is ≡ false → IfSome told (λ rule. IsTrue is ↔ (rule.kind ≡ kind)) → IsNotOf told kind

@@ -3,7 +3,7 @@ use Rattle.std.proofs.Common.{◌≡◌, ℕ, ◌+◌, List, [], ◌∷◌, ◌+
 use Rattle.std.proofs.lemmas.List.{append-nil, reverse-append, reverse-reverse}
 use Rattle.std.specs.Prelude.{reverse}
 use Rattle.nq_base.specs.declared.Event.{Event}
-use Rattle.nq_fate.specs.Rules.{Rule}
+use Rattle.nq_storm_rules.specs.Rules.{Rule}
 use Rattle.nq_model.specs.Stepped.{done, most_events, stepped}
 use Rattle.nq_model.specs.World.{Head as Beginning}
 use Rattle.nq_play.specs.Playing.{Ended, answered, at_line, and_then, beginning, play, play_event, play_line, play_lines, repeated, took}

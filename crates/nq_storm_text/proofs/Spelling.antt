@@ -7,7 +7,7 @@ use Rattle.std.proofs.lemmas.Option.{get_or_from_slice_get, slice_get_within}
 use Rattle.nq_base.specs.Name.{IsName, IsNameByte}
 use Rattle.nq_base.specs.declared.Call.{Call}
 use Rattle.nq_base.specs.declared.Event.{Event}
-use Rattle.nq_fate.specs.Stormy.{IsStormy, WritesNumber}
+use Rattle.nq_storm_rules.specs.Stormy.{IsStormy, WritesNumber}
 use Rattle.nq_script.proofs.FileLines.{text_of-append}
 use Rattle.nq_script.specs.Calls.{HasCall}
 use Rattle.nq_script.specs.Heads.{FitsHead}

@@ -1,7 +1,7 @@
 -- The schedule of a storm. The events of a run are told with the newest first.
 use Rattle.std.specs.Prelude.{◌≡◌, ℕ, List, map, reverse, Option}
 use Rattle.nq_base.specs.declared.Event.{Event}
-use Rattle.nq_fate.specs.Rules.{Rule}
+use Rattle.nq_storm_rules.specs.Rules.{Rule}
 use Rattle.nq_play.specs.Lawful.{IsLawful}
 use Rattle.nq_play.specs.Playing.{beginning, play, ran}
 use Rattle.nq_script.specs.Lines.{once}

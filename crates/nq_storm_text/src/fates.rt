@@ -3,7 +3,7 @@
 ghost use Rattle.std.specs.Prelude.{◌≡◌, ◌↔◌, ℕ, Some, map, slice_get, IfSome, IsNone, IsTrue};
 ghost use Rattle.nq_storm_text.specs.Kinds.{IsFirstOf, LackKind};
 
-use nq_fate::Fate;
+use nq_storm_rules::Fate;
 
 /// The first of these fates that is of this kind, if one is.
 pub fn first_of(fates: Vec<Box<dyn Fate>>, kind: u8) -> Option<Box<dyn Fate>>

@@ -2,7 +2,7 @@
 
 ghost use Rattle.std.specs.Prelude.{◌≡◌, ◌<◌, ◌++◌, ◌∷◌, [], List, ℕ, length, map, slice_get, IfOk, IfSome, OnOk, take};
 ghost use Rattle.std.specs.List.{AllByRecursion};
-ghost use Rattle.nq_fate.specs.Stormy.{IsStormy};
+ghost use Rattle.nq_storm_rules.specs.Stormy.{IsStormy};
 ghost use Rattle.nq_script.specs.Lines.{AreSpelled, SpellsEvent, once};
 ghost use Rattle.nq_script.specs.Schedule.{SpellsSchedule};
 ghost use Rattle.nq_script.specs.Text.{text_of};

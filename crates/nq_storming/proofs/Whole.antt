@@ -6,7 +6,7 @@ use Rattle.std.specs.Prelude.{reverse}
 use Rattle.nq_base.specs.Plain.{plain}
 use Rattle.nq_base.specs.declared.Entry.{Entry}
 use Rattle.nq_base.specs.declared.Event.{Event}
-use Rattle.nq_fate.specs.Rules.{Rule}
+use Rattle.nq_storm_rules.specs.Rules.{Rule}
 use Rattle.nq_journal.specs.Text.{journal_text}
 use Rattle.nq_model.specs.Kept.{Kept}
 use Rattle.nq_model.specs.World.{run}

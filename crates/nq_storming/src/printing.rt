@@ -2,7 +2,7 @@
 
 ghost use Rattle.std.specs.Prelude.{◌≡◌, ◌++◌, reverse};
 ghost use Rattle.std.specs.List.{AllByRecursion};
-ghost use Rattle.nq_fate.specs.Stormy.{IsStormy};
+ghost use Rattle.nq_storm_rules.specs.Stormy.{IsStormy};
 ghost use Rattle.nq_journal.specs.Text.{journal_text};
 ghost use Rattle.nq_play.specs.Playing.{beginning};
 ghost use Rattle.nq_storm_text.specs.Whole.{storm_head};

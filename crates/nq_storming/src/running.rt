@@ -2,8 +2,8 @@
 
 ghost use Rattle.std.specs.Prelude.{◌≡◌, ℕ, Option, Some, reverse};
 ghost use Rattle.std.specs.List.{AllByRecursion};
-ghost use Rattle.nq_fate.specs.Rules.{Rule};
-ghost use Rattle.nq_fate.specs.Stormy.{IsStormy};
+ghost use Rattle.nq_storm_rules.specs.Rules.{Rule};
+ghost use Rattle.nq_storm_rules.specs.Stormy.{IsStormy};
 ghost use Rattle.nq_keeper.specs.StoredKeeper.{empty_kept};
 ghost use Rattle.nq_play.specs.Playing.{beginning};
 ghost use Rattle.nq_storm.specs.Ending.{Storms};
@@ -11,12 +11,12 @@ ghost use Rattle.nq_storming.specs.Printed.{StormEnds};
 ghost use Rattle.nq_storm_text.specs.Whole.{storm_head};
 
 use crate::printing::print_storm;
-use nq_fate::Fate;
 use nq_io::Sink;
 use nq_keeper::{Keeper, ListKeeper};
 use nq_replay::{Ending, begin, tell_limit};
 use nq_script::{Head, Schedule};
 use nq_storm::{Stormed, storm};
+use nq_storm_rules::Fate;
 use nq_storm_text::storm_head;
 use nq_world::World;
 use std::alloc::Global;

@@ -1,8 +1,8 @@
 //! The schedule that a storm prints is replayed, and prints the storm's journal.
 
-use nq_fate::{Fate, LossyFate, SteadyFate};
 use nq_io::{MemSink, MemSource};
 use nq_replay::replay;
+use nq_storm_rules::{Fate, LossyFate, SteadyFate};
 use nq_storming::run_storm;
 use std::test::Fail;
 

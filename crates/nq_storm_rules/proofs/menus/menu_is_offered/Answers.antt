@@ -1,7 +1,7 @@
 use Rattle.std.proofs.Common.{◌≡◌, ◌+◌, ◌∙◌, arith}
-use Rattle.nq_fate.specs.Places.{tick_count}
-use Rattle.nq_fate.proofs.MenuPlaces.{menu-size}
-use Rattle.nq_fate.proofs.menus.menu_is_offered.Goals as goal
+use Rattle.nq_storm_rules.specs.Places.{tick_count}
+use Rattle.nq_storm_rules.proofs.MenuPlaces.{menu-size}
+use Rattle.nq_storm_rules.proofs.menus.menu_is_offered.Goals as goal
 
 pub returns : goal.returns
 returns c = λ offer number.

@@ -1,6 +1,6 @@
 -- The rules by which the four fates choose.
 use Rattle.std.specs.Prelude.{ℕ, ◌+◌, ◌-◌, ◌/◌, ◌%◌, ◌^◌, ◌==◌, ◌&&◌, nat_lt, Bool, if◌then◌else◌}
-use Rattle.nq_fate.specs.declared.offers.Offer.{Offer}
+use Rattle.nq_storm_rules.specs.declared.offers.Offer.{Offer}
 
 -- a fate that tells its rule: its kind, whose turn to tick it is, and the next packet that it counts
 pub record Rule : Type 0 where

@@ -4,7 +4,7 @@ use Rattle.std.specs.List.{flat_map}
 use Rattle.nq_base.specs.Block.{filled}
 use Rattle.nq_base.specs.declared.Call.{Call}
 use Rattle.nq_base.specs.declared.Event.{Event}
-use Rattle.nq_fate.specs.declared.offers.Offer.{Offer}
+use Rattle.nq_storm_rules.specs.declared.offers.Offer.{Offer}
 
 -- what a function gives at the first numbers, from 0 on
 abbrev pub each : {A : Type 0} → (ℕ → A) → ℕ → List A

@@ -1,9 +1,9 @@
 //! Who chooses what happens next.
 
 ghost use Rattle.std.specs.Prelude.{◌≡◌, ◌%◌, ℕ, Option, Some, IfSome, slice_get};
-ghost use Rattle.nq_fate.specs.Menu.{menu};
-ghost use Rattle.nq_fate.specs.Rules.{Rule, chosen};
-ghost use Rattle.nq_fate.specs.Stormy.{IsStormy};
+ghost use Rattle.nq_storm_rules.specs.Menu.{menu};
+ghost use Rattle.nq_storm_rules.specs.Rules.{Rule, chosen};
+ghost use Rattle.nq_storm_rules.specs.Stormy.{IsStormy};
 
 use crate::menus::event_at;
 use crate::offers::Offer;

@@ -21,7 +21,7 @@ pub enum Held {
 }
 
 impl Held {
-    ghost use Rattle.nq_held.specs.Leases.{of_kind, lease_of, plain_lease, mode_of, passes, as_used};
+    ghost use Rattle.nq_client_leases.specs.Leases.{of_kind, lease_of, plain_lease, mode_of, passes, as_used};
 
     /// A lease of a kind, as it is held.
     pub fn of_kind(mode: Mode, lease: Lease) -> Held

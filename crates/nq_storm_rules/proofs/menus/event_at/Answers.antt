@@ -1,8 +1,8 @@
 use Rattle.std.proofs.Common.{◌≡◌, ◌+◌, ◌-◌, ◌∙◌, Some, ap, refl, sym, arith}
 use Rattle.nq_base.specs.declared.Event.{Event}
-use Rattle.nq_fate.specs.Places.{tick_count}
-use Rattle.nq_fate.proofs.MenuPlaces.{delivery-at, tick-at, restart-at, crash-at, call-at}
-use Rattle.nq_fate.proofs.menus.event_at.Goals as goal
+use Rattle.nq_storm_rules.specs.Places.{tick_count}
+use Rattle.nq_storm_rules.proofs.MenuPlaces.{delivery-at, tick-at, restart-at, crash-at, call-at}
+use Rattle.nq_storm_rules.proofs.menus.event_at.Goals as goal
 
 pub returns-then-place-offer : goal.returns-then-place-offer
 returns-then-place-offer c =

@@ -1,7 +1,7 @@
 //! What becomes of what is held when a grant comes.
 
 ghost use Rattle.std.specs.Prelude.{◌≡◌, ◌+◌, ◌<◌, ◌^◌, Some, if◌then◌else◌};
-ghost use Rattle.nq_held.specs.Leases.{lease_of};
+ghost use Rattle.nq_client_leases.specs.Leases.{lease_of};
 ghost use Rattle.nq_model.specs.Hear.{granted_lease};
 ghost use Rattle.nq_model.specs.Table.{tag_below};
 
@@ -29,7 +29,7 @@ pub struct Taken {
 }
 
 impl Take {
-    ghost use Rattle.nq_held.specs.Takes.{is_broken};
+    ghost use Rattle.nq_client_leases.specs.Takes.{is_broken};
 
     /// Whether the chain is broken.
     pub fn is_broken(self) -> bool
@@ -43,7 +43,7 @@ impl Take {
 }
 
 impl Held {
-    ghost use Rattle.nq_held.specs.Takes.{taking};
+    ghost use Rattle.nq_client_leases.specs.Takes.{taking};
 
     /// Takes a grant whose request was first sent at `sent`, by the client's clock: from that moment its term counts.
     pub fn take(self, file: FileId, grant: &Grant, sent: Ticks) -> Taken

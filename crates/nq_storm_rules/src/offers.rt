@@ -1,7 +1,7 @@
 //! How the menu of a moment is laid out.
 
 ghost use Rattle.std.specs.Prelude.{◌≡◌, ◌≤◌, ◌<◌, ◌+◌, ◌%◌};
-ghost use Rattle.nq_fate.specs.Places.{tick_count};
+ghost use Rattle.nq_storm_rules.specs.Places.{tick_count};
 
 /// How the menu of a moment is laid out, and a random word. First on the menu stand the deliveries, one for each packet
 /// that was sent.

@@ -2,9 +2,9 @@
 use Rattle.std.proofs.Common.{◌≡◌, ℕ, ◌+◌, ◌-◌, ◌/◌, ◌%◌, ◌<◌, ◌≤◌, Bool, true, false, List, [], ◌∷◌, ◌++◌, length, slice_get, Some, zero, suc, refl, ap, sym, subst, ◌∙◌, arith, length-append, inl, inr, ◌⊎◌}
 use Rattle.std.proofs.lemmas.Bool.{cases_lt}
 use Rattle.nq_base.specs.declared.Event.{Event}
-use Rattle.nq_fate.specs.Menu.{all_ticks, calls, each, host_call, menu, server_ticks}
-use Rattle.nq_fate.specs.Places.{tick_count}
-use Rattle.nq_fate.specs.declared.offers.Offer.{Offer}
+use Rattle.nq_storm_rules.specs.Menu.{all_ticks, calls, each, host_call, menu, server_ticks}
+use Rattle.nq_storm_rules.specs.Places.{tick_count}
+use Rattle.nq_storm_rules.specs.declared.offers.Offer.{Offer}
 
 -- a place in the first list
 at-front : {A : Type 0} (xs ys : List A) (k : ℕ) → k < length xs → slice_get (xs ++ ys) k ≡ slice_get xs k

@@ -2,9 +2,9 @@
 use Rattle.std.specs.Prelude.{Bool, false, true, Option, Some, None}
 use Rattle.nq_base.specs.declared.Mode.{Mode}
 use Rattle.nq_base.specs.declared.Mode.TheVariants as modes
-use Rattle.nq_held.specs.declared.held.Held.{Held}
-use Rattle.nq_held.specs.declared.held.Held.TheVariants.{Nothing, NonCaching, Reading, Writing}
-use Rattle.nq_held.specs.declared.lease.Lease as code
+use Rattle.nq_client_leases.specs.declared.held.Held.{Held}
+use Rattle.nq_client_leases.specs.declared.held.Held.TheVariants.{Nothing, NonCaching, Reading, Writing}
+use Rattle.nq_client_leases.specs.declared.lease.Lease as code
 use Rattle.nq_model.specs.Client.{Lease}
 
 -- a lease of a kind, as the model has it

@@ -1,7 +1,7 @@
 //! The four fates.
 
 ghost use Rattle.std.specs.Prelude.{◌≡◌, ℕ, Some};
-ghost use Rattle.nq_fate.specs.Rules.{Rule, tick_or_call};
+ghost use Rattle.nq_storm_rules.specs.Rules.{Rule, tick_or_call};
 
 use crate::fate::Fate;
 use crate::offers::Offer;
@@ -28,7 +28,7 @@ pub struct SteadyFate {
 }
 
 impl Model for SteadyFate {
-    ghost use Rattle.nq_fate.specs.Rules.{Rule};
+    ghost use Rattle.nq_storm_rules.specs.Rules.{Rule};
 
     ghost Value = { Rule };
 
@@ -68,7 +68,7 @@ pub struct LossyFate {
 }
 
 impl Model for LossyFate {
-    ghost use Rattle.nq_fate.specs.Rules.{Rule};
+    ghost use Rattle.nq_storm_rules.specs.Rules.{Rule};
 
     ghost Value = { Rule };
 
@@ -116,7 +116,7 @@ pub struct CutFate {
 }
 
 impl Model for CutFate {
-    ghost use Rattle.nq_fate.specs.Rules.{Rule};
+    ghost use Rattle.nq_storm_rules.specs.Rules.{Rule};
 
     ghost Value = { Rule };
 
@@ -158,7 +158,7 @@ impl Fate for CutFate {
 pub struct HostileFate;
 
 impl Model for HostileFate {
-    ghost use Rattle.nq_fate.specs.Rules.{Rule};
+    ghost use Rattle.nq_storm_rules.specs.Rules.{Rule};
 
     ghost Value = { Rule };
 

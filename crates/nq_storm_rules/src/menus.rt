@@ -1,10 +1,10 @@
 //! The menu of a moment, without listing it.
 
 ghost use Rattle.std.specs.Prelude.{◌≡◌, ◌<◌, ℕ, Some, length, slice_get};
-ghost use Rattle.nq_fate.specs.Menu.{all_ticks, call_at, host_call, menu};
-ghost use Rattle.nq_fate.specs.Places.{tick_count};
-ghost use Rattle.nq_fate.specs.Stormy.{IsStormy, WritesNumber};
-ghost use Rattle.nq_fate.specs.declared.offers.Offer.{Offer};
+ghost use Rattle.nq_storm_rules.specs.Menu.{all_ticks, call_at, host_call, menu};
+ghost use Rattle.nq_storm_rules.specs.Places.{tick_count};
+ghost use Rattle.nq_storm_rules.specs.Stormy.{IsStormy, WritesNumber};
+ghost use Rattle.nq_storm_rules.specs.declared.offers.Offer.{Offer};
 
 use crate::offers::Offer;
 use nq_base::{Block, BlockNo, Call, Event, FileId, Host};

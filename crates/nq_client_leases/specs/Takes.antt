@@ -1,8 +1,8 @@
 -- How a grant follows on what was held.
 use Rattle.std.specs.Prelude.{Bool, true, false, Option, Some, None, if◌then◌else◌}
 use Rattle.nq_base.specs.declared.Grant.{Grant}
-use Rattle.nq_held.specs.declared.taken.Take.{Take}
-use Rattle.nq_held.specs.declared.taken.Take.TheVariants.{First, Same, Broken}
+use Rattle.nq_client_leases.specs.declared.taken.Take.{Take}
+use Rattle.nq_client_leases.specs.declared.taken.Take.TheVariants.{First, Same, Broken}
 use Rattle.nq_model.specs.Client.{Lease}
 use Rattle.nq_model.specs.Hear.{breaks}
 
