@@ -8,9 +8,10 @@ use Rattle.nq_base.specs.declared.Request.{Request}
 use Rattle.nq_base.specs.declared.Who.{Who}
 use Rattle.nq_model.specs.Client.{Client, ClientStep}
 use Rattle.nq_model.specs.ClientStep.{client_call, client_tick, restart, attached_client, fresh_client}
-use Rattle.nq_model.specs.Decided.{IsRequestWithin}
+use Rattle.nq_model.specs.ChangesOnce.{HasItsText}
+use Rattle.nq_model.specs.Decided.{HasText}
 use Rattle.nq_model.specs.Hear.{hear}
-use Rattle.nq_model.specs.Message.{Message, Packet, call, asker, datagram_of, sequence_of}
+use Rattle.nq_model.specs.Message.{Message, Datagram, request, Packet, call, asker, datagram_of, sequence_of}
 use Rattle.nq_model.specs.Server.{ServerStep}
 use Rattle.nq_model.specs.Stepped.{most_events, most_sent}
 use Rattle.nq_model.specs.World.{Head, World, from_host, after_server, after_client, at_client, after_hearing, sending_host, deliver_to_client, deliver_to, deliver, step, start, run}
@@ -21,11 +22,11 @@ use Rattle.walk_run.proofs.ServerSays.{AllSaid}
 use Rattle.walk_run.proofs.Worlds.{Holds, get-set-same, get-set-other, to-server, to-told, received-said, tick-said, crash-said, first-client, run-holds}
 use Rattle.walk_server.proofs.Rows.{same-number, number-same}
 use Rattle.walk_server.proofs.ServerCases.{request-sent}
-use Rattle.law_bounds.specs.Within.{HasText, CarriesText, IsGiven, IsServerAfter, NumbersStayWithin}
+use Rattle.law_bounds.specs.Within.{CarriesText, IsGiven, IsServerAfter, NumbersStayWithin}
 use Rattle.law_bounds.proofs.ClientNumbers.{DrewUpTo, DrewIf, call-draws, tick-draws, restart-draws, hear-draws}
 use Rattle.law_bounds.proofs.FirstNumbers.{first-within}
 use Rattle.law_bounds.proofs.KeptNumbers.{grew-on}
-use Rattle.law_bounds.proofs.KeptSteps.{AsksWithin, receive-after, tick-after, crash-after}
+use Rattle.law_bounds.proofs.KeptSteps.{receive-after, tick-after, crash-after}
 
 -- the clients and the packets after so many events
 record DrawnUpTo (events : ℕ) (w : World) : Type 0 where
@@ -153,40 +154,34 @@ hearing-server : (w : World) (k host : ℕ) (m : Message) (o : Option Client) �
 hearing-server w k host m None = refl
 hearing-server w k host m (Some c) = heard-server w host (hear c k m)
 
--- the request of a packet is within its bounds
-module _ (n : ℕ) (w : World) (few : n < most_events) (room : length w.packets ≤ most_sent) (d : DrawnUpTo n w) where
-  asked-within : (host xid : ℕ) (r : Request) → HasText r → Asked w.packets host xid r → IsRequestWithin r
-  asked-within host xid (Request.Attach who) text sent = let i = d.asked host xid _ who sent refl in omega arith
-  asked-within host xid (Request.Create who seq name blocks) text sent = let i = d.asked host xid _ who sent refl in let low = d.sent host xid _ seq sent refl in (omega arith, omega arith, text)
-  asked-within host xid (Request.Write who seq file block first last push body) text sent = let i = d.asked host xid _ who sent refl in let low = d.sent host xid _ seq sent refl in (omega arith, omega arith, text)
-  asked-within host xid (Request.Resize who seq q file blocks) text sent = let i = d.asked host xid _ who sent refl in let low = d.sent host xid _ seq sent refl in (omega arith, omega arith)
-  asked-within host xid (Request.Remove who seq q file) text sent = let i = d.asked host xid _ who sent refl in let low = d.sent host xid _ seq sent refl in (omega arith, omega arith)
-  asked-within host xid other text sent = tt
+-- a datagram has its text where each request that it is has it
+has-its-text : (d : Datagram) → ((xid : ℕ) (r : Request) → d ≡ request xid r → HasText r) → HasItsText d
+has-its-text (request xid r) each = each xid r refl
+has-its-text other each = tt
 
-  packet-within : (p : Packet) → Holds w → In w.packets p → p.to ≡ Party.Server → CarriesText p.message → AsksWithin (datagram_of p.message)
-  packet-within p h i to text xid r is =
-      asked-within (sending_host p.sender) xid r
-      (subst CarriesText (request-sent p.message xid r is) text)
-      (to-server w.packets p (h.sent p i) to i xid r is).0
+packet-text : (p : Packet) → CarriesText p.message → HasItsText (datagram_of p.message)
+packet-text p text = has-its-text (datagram_of p.message) (λ xid r is. subst CarriesText (request-sent p.message xid r is) text)
 
-  server-hears-packet : (k : ℕ) (p : Packet) (to : Party) → Holds w → p.to ≡ to → In w.packets p → CarriesText p.message → IsServerAfter n w.server → IsServerAfter (n + 1) (deliver_to w k p to).server
+-- the server hears a packet
+module _ (n : ℕ) (w : World) (few : n < most_events) where
+  server-hears-packet : (k : ℕ) (p : Packet) (to : Party) → CarriesText p.message → IsServerAfter n w.server → IsServerAfter (n + 1) (deliver_to w k p to).server
   unfolding after_server
-  server-hears-packet k p Party.Server h to i text a =
-      receive-after n w.server (sending_host p.sender) (length w.packets) (datagram_of p.message) few (packet-within p h i to text) a
-  server-hears-packet k p (Party.Client host) h to i text a = later-server n w (deliver_to_client w k host p.message (slice_get w.clients host)) (hearing-server w k host p.message (slice_get w.clients host)) a
+  server-hears-packet k p Party.Server text a =
+      receive-after n w.server (sending_host p.sender) (length w.packets) (datagram_of p.message) (packet-text p text) a
+  server-hears-packet k p (Party.Client host) text a = later-server n w (deliver_to_client w k host p.message (slice_get w.clients host)) (hearing-server w k host p.message (slice_get w.clients host)) a
 
-  server-hears-any : (k : ℕ) (o : Option Packet) → slice_get w.packets k ≡ o → Holds w → ((p : Packet) → o ≡ Some p → CarriesText p.message) → IsServerAfter n w.server → IsServerAfter (n + 1) (deliver w k o).server
-  server-hears-any k None is h text a = later-server n w w refl a
-  server-hears-any k (Some p) is h text a = server-hears-packet k p p.to h refl (in-get w.packets k p is) (text p refl) a
+  server-hears-any : (k : ℕ) (o : Option Packet) → ((p : Packet) → o ≡ Some p → CarriesText p.message) → IsServerAfter n w.server → IsServerAfter (n + 1) (deliver w k o).server
+  server-hears-any k None text a = later-server n w w refl a
+  server-hears-any k (Some p) text a = server-hears-packet k p p.to (text p refl) a
 
-  server-on : (event : Event) → Holds w → IsGiven w event → IsServerAfter n w.server → IsServerAfter (n + 1) (step w event).server
+  server-on : (event : Event) → IsGiven w event → IsServerAfter n w.server → IsServerAfter (n + 1) (step w event).server
   unfolding after_server
-  server-on (Event.Call host op) h given a = later-server n w (at_client w host (λ c. client_call c op) (slice_get w.clients host)) (at-server w host (λ c. client_call c op) (slice_get w.clients host)) a
-  server-on (Event.Deliver k) h given a = server-hears-any k (slice_get w.packets k) refl h given a
-  server-on Event.ServerTick h given a = tick-after n w.server (w.server.now + 1) few a
-  server-on (Event.ClientTick host) h given a = later-server n w (at_client w host (λ c. client_tick c (c.now + 1)) (slice_get w.clients host)) (at-server w host (λ c. client_tick c (c.now + 1)) (slice_get w.clients host)) a
-  server-on (Event.Restart host) h given a = later-server n w (at_client w host restart (slice_get w.clients host)) (at-server w host restart (slice_get w.clients host)) a
-  server-on (Event.Crash longest) h given a = crash-after n w.server longest few given.0 given.1 a
+  server-on (Event.Call host op) given a = later-server n w (at_client w host (λ c. client_call c op) (slice_get w.clients host)) (at-server w host (λ c. client_call c op) (slice_get w.clients host)) a
+  server-on (Event.Deliver k) given a = server-hears-any k (slice_get w.packets k) given a
+  server-on Event.ServerTick given a = tick-after n w.server (w.server.now + 1) a
+  server-on (Event.ClientTick host) given a = later-server n w (at_client w host (λ c. client_tick c (c.now + 1)) (slice_get w.clients host)) (at-server w host (λ c. client_tick c (c.now + 1)) (slice_get w.clients host)) a
+  server-on (Event.Restart host) given a = later-server n w (at_client w host restart (slice_get w.clients host)) (at-server w host restart (slice_get w.clients host)) a
+  server-on (Event.Crash longest) given a = crash-after n w.server longest few given.0 given.1 a
 
 -- ---- runs
 
@@ -200,4 +195,4 @@ pub numbers-stay-within : NumbersStayWithin
 numbers-stay-within head [] first given few = first-within head first
 numbers-stay-within head (event ∷ earlier) first given few =
     subst (λ n. IsServerAfter n (step (run head earlier) event).server) (omega arith)
-    (server-on (length earlier) (run head earlier) (omega arith) given.0 (drawn-up-to head earlier) event (run-holds head earlier) given.1 (numbers-stay-within head earlier first given.2 (omega arith)))
+    (server-on (length earlier) (run head earlier) (omega arith) event given.1 (numbers-stay-within head earlier first given.2 (omega arith)))

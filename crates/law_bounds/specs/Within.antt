@@ -3,9 +3,8 @@ use Rattle.std.specs.List.{AllByRecursion, sum_by}
 use Rattle.std.specs.Prelude.{◌≡◌, ◌≢◌, ◌≤◌, ℕ, ◌+◌, List, [], ◌∷◌, Some, All, length, slice_get}
 use Rattle.nq_base.specs.Name.{IsName}
 use Rattle.nq_base.specs.declared.Event.{Event}
-use Rattle.nq_base.specs.declared.Request.{Request}
-use Rattle.nq_base.specs.declared.Request.TheVariants.{Create, Write}
-use Rattle.nq_model.specs.Change.{IsBody, IsWithinBounds}
+use Rattle.nq_model.specs.Change.{IsWithinBounds}
+use Rattle.nq_model.specs.Decided.{HasText}
 use Rattle.nq_model.specs.Kept.{File, Kept}
 use Rattle.nq_model.specs.Message.{Message, Packet, call}
 use Rattle.nq_model.specs.Profile.{shortest_term, longest_term, most_hosts, most_files, most_blocks, most_blocks_of_file}
@@ -13,13 +12,7 @@ use Rattle.nq_model.specs.Server.{Server}
 use Rattle.nq_model.specs.Stepped.{most_events, most_sent}
 use Rattle.nq_model.specs.World.{Head, World, run}
 
--- a request's name is a name, and its body a block of bytes
-abbrev pub HasText : Request → Type 0
-HasText (Create who seq name blocks) = IsName name
-HasText (Write who seq file block first last push body) = IsBody body
-HasText other = Unit {0}
-
--- so are those of the request that a message is, if it is one
+-- if a message is a request, its name is a name, and its body a block of bytes
 abbrev pub CarriesText : Message → Type 0
 CarriesText (call xid r) = HasText r
 CarriesText other = Unit {0}
