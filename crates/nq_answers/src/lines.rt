@@ -4,8 +4,7 @@ ghost use Rattle.std.specs.Prelude.{◌≡◌, ◌++◌, IfOk, OnOk};
 ghost use Rattle.nq_answers.specs.Answers.{answer_line, answers_text, told_line};
 
 use crate::words::push_answer;
-use nq_base::{Entry, NoMemory, Said};
-use nq_journal::Journal;
+use nq_base::{Entry, Journal, NoMemory, Said};
 use std::alloc::Global;
 
 /// The words of each answer that a journal tells, on a line each, in the order of the journal.

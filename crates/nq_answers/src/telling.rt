@@ -7,9 +7,8 @@ ghost use Rattle.nq_answers.specs.declared.ending.Used.{Used};
 
 use crate::ending::{Halt, Stop, Used};
 use crate::lines::answers_text;
-use nq_base::NoMemory;
+use nq_base::{Journal, NoMemory};
 use nq_io::{Put, Sink};
-use nq_journal::Journal;
 use std::alloc::Global;
 
 /// Tells how calls ended.

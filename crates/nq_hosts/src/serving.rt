@@ -5,10 +5,9 @@ ghost use Rattle.nq_hosts.specs.Serving.{EndsBoot, PrintsTurns, Ran, Runs, Serve
 
 use crate::ending::{Halt, Served};
 use crate::turning::take_turns;
-use nq_base::{NoMemory, Ticks};
+use nq_base::{Journal, NoMemory, Ticks};
 use nq_clock::Clock;
 use nq_io::{Put, Sink};
-use nq_journal::Journal;
 use nq_keeper::Keeper;
 use nq_link::Link;
 use nq_server::{BootFault, Server};

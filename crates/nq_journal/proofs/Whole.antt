@@ -5,7 +5,7 @@ use Rattle.nq_base.specs.declared.Entry.{Entry}
 use Rattle.nq_base.specs.declared.Said.{Said}
 use Rattle.std.specs.Fmt.{decimal}
 use Rattle.nq_journal.specs.Words.{line}
-use Rattle.nq_journal.specs.declared.journal.Journal.{Journal}
+use Rattle.nq_base.specs.declared.Journal.{Journal}
 use Rattle.nq_journal.specs.declared.parsing.JournalFault.{JournalFault}
 use Rattle.nq_journal.specs.declared.parsing.JournalFault.TheVariants as fault
 use Rattle.nq_journal.specs.Fault.{ended, IsJournal, IsFaultyAt}

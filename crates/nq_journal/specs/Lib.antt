@@ -1,5 +1,4 @@
 pub mod Fault
-pub mod Items
 pub mod Parsing
 pub mod Printing
 pub mod Reading

@@ -1,7 +1,6 @@
-//! The journal of a run: its entries, and their text, printed and parsed.
+//! The text of journals, printed and parsed.
 #![tactic(auto)]
 
-mod journal;
 pub mod laws;
 mod parsing;
 mod printing;
@@ -12,8 +11,5 @@ mod read_words;
 mod write_entries;
 mod write_words;
 
-pub use journal::Journal;
-pub use nq_base::{Entry, Said, Span, Spans, Told};
-pub use nq_memory::NoMemory;
 pub use parsing::{JournalFault, parse};
-pub use printing::{Printed, print};
+pub use printing::{Printed, is_in, print};

@@ -9,7 +9,7 @@ ghost use Rattle.nq_journal.specs.declared.parsing.JournalFault.TheVariants.{Mem
 
 use crate::read_entries::entry_of;
 use crate::read_words::{cut, is};
-use crate::{Journal, NoMemory};
+use nq_base::{Journal, NoMemory};
 use std::alloc::Global;
 use thiserror::Error;
 

@@ -1,12 +1,13 @@
 //! Printing a journal.
 
-ghost use Rattle.std.specs.Prelude.{◌≡◌, ◌++◌, All, OnOk};
+ghost use Rattle.std.specs.Prelude.{◌≡◌, ◌↔◌, ◌++◌, All, IsTrue, OnOk};
 ghost use Rattle.nq_journal.specs.Printing.{Prints, CountsPrint};
 ghost use Rattle.nq_journal.specs.Text.{Has, IsVersion, IsText, journal_text, head_line, end_line};
 
+use crate::read_entries::has;
 use crate::write_entries::push_line;
 use crate::write_words::push_numbers;
-use crate::{Journal, NoMemory};
+use nq_base::{Journal, NoMemory};
 use nq_io::{Put, Sink};
 use std::alloc::Global;
 
@@ -22,6 +23,13 @@ pub enum Printed {
     Failed,
     /// Memory is wanting. Some of the text, from the first byte on, was appended.
     Memory,
+}
+
+/// Whether a version of the text has each entry, so that the journal can be printed in it.
+pub fn is_in(journal: &Journal, version: u32) -> bool
+    ensures { IsTrue result ↔ All (Has version) journal.now.entries }
+{
+    journal.entries().iter().all(|entry| has(version, entry))
 }
 
 /// Prints a journal in a version of its text, 1 or 2, which has each of its entries.

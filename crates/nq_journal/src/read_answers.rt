@@ -7,9 +7,8 @@ ghost use Rattle.nq_journal.specs.Reading.{Takes};
 ghost use Rattle.nq_journal.specs.ReadingAnswers.{span_of, lost_at, by_at, value_at, ok_at, bare_of, bare_at, said_at};
 ghost use Rattle.nq_journal.specs.Text.{span_word, said_words, FitsSpan, FitsSaid};
 
-use crate::NoMemory;
 use crate::read_words::{Words, cut, is, number, small};
-use nq_base::{BlockNo, Number, Said, Span, Spans};
+use nq_base::{BlockNo, NoMemory, Number, Said, Span, Spans};
 use std::alloc::Global;
 
 // The span that a word spells.

@@ -6,11 +6,10 @@ ghost use Rattle.nq_journal.specs.Reading.{Takes, words_of};
 ghost use Rattle.nq_journal.specs.ReadingEntries.{Spells, kind_of, kind_word, entry_by, entry_of, has, has_told, mode_of, mode_at, way_of, way_at, source_at, longest_at, c_at, w_at, r_at, s_at, l_at, g_at, f_at, o_at, b_at, x_at, z_at, a_at};
 ghost use Rattle.nq_journal.specs.Text.{mode_word, way_word, source_words, longest_words, FitsSource, HasTold, Has};
 
-use crate::NoMemory;
 use crate::read_answers::take_said;
 use crate::read_calls::take_told;
 use crate::read_words::{Words, is};
-use nq_base::{Entry, FileId, Mode, Number, Ticks, Told};
+use nq_base::{Entry, FileId, Mode, NoMemory, Number, Ticks, Told};
 use std::alloc::Global;
 
 // The kinds of entry, by their letters.

@@ -6,9 +6,8 @@ ghost use Rattle.std.specs.List.{flat_map};
 ghost use Rattle.nq_journal.specs.Words.{joined, spaced};
 ghost use Rattle.nq_journal.specs.Text.{Fits, FitsWho, FitsSource, entry_words, entry_line, of_who, way_word, mode_word, source_words, longest_words};
 
-use crate::NoMemory;
 use crate::write_words::{push_command, push_numbers, push_said, push_told, push_word};
-use nq_base::{BlockNo, Entry, FileId, Mode, Who};
+use nq_base::{BlockNo, Entry, FileId, Mode, NoMemory, Who};
 
 // Appends the letter of a line and the incarnation of which it tells.
 #[tactic(auto, unfolding(crate::specs::Words::joined))]

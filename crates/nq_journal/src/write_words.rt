@@ -6,8 +6,7 @@ ghost use Rattle.std.specs.List.{AllByRecursion, flat_map};
 ghost use Rattle.nq_journal.specs.Words.{spaced};
 ghost use Rattle.nq_journal.specs.Text.{FitsSpan, FitsTold, FitsSaid, span_word, told_words, said_words, mode_word, way_word, source_words, entry_line, Has};
 
-use crate::NoMemory;
-use nq_base::{Said, Span, Spans, Told};
+use nq_base::{NoMemory, Said, Span, Spans, Told};
 
 // Appends the digits of a number.
 fn push_digits(out: &mut Vec<u8>, number: u64) -> Result<(), NoMemory>

@@ -9,8 +9,9 @@ ghost use Rattle.nq_storm_text.specs.Whole.{storm_head};
 ghost use Rattle.nq_storming.specs.Printed.{PrintsBytes, PrintsRan};
 ghost use Rattle.nq_world.specs.Playing.{Plays};
 
+use nq_base::Journal;
 use nq_io::{Put, Sink};
-use nq_journal::{Journal, Printed, print};
+use nq_journal::{Printed, is_in, print};
 use nq_keeper::Keeper;
 use nq_replay::Ending;
 use nq_script::{Head, Schedule};
@@ -56,7 +57,7 @@ pub fn print_parts<K: Sink>(
     ensures { PrintsBytes result (before.now ++ (journal_text 1 journal.now.entries ++ after.now))
         (K.held out.old) (K.held out.new) (K.faults out.old) (K.faults out.new) }
 {
-    if !journal.is_in(1) {
+    if !is_in(journal, 1) {
         return Ending::Memory;
     }
     match out.put(before) {

@@ -1,11 +1,9 @@
 //! The journal of a run.
 
-ghost use Rattle.std.specs.Prelude.{◌≡◌, ◌≤◌, ◌+◌, [], ◌∷◌, ◌++◌, length, slice_get, Some, IsOk, IfOk, OnOk, OnErr, IfSome, IsNone, IsTrue, ◌↔◌, All};
-ghost use Rattle.nq_journal.specs.Text.{Has};
+ghost use Rattle.std.specs.Prelude.{◌≡◌, ◌≤◌, ◌+◌, [], ◌∷◌, ◌++◌, length, slice_get, Some, IsOk, IfOk, OnOk, OnErr, IfSome, IsNone, IsTrue, ◌↔◌};
 
-use crate::NoMemory;
-use crate::read_entries::has;
-use nq_base::Entry;
+use crate::entries::Entry;
+use nq_memory::NoMemory;
 use std::alloc::Global;
 use std::marker::Model;
 
@@ -18,7 +16,7 @@ pub struct Journal {
 
 impl Model for Journal {
     ghost use Rattle.std.specs.Prelude.{◌-◌, vec_len, vec_capacity};
-    ghost use Rattle.nq_journal.specs.Items.{EntryList};
+    ghost use Rattle.nq_base.specs.Lists.{EntryList};
 
     ghost Value = { EntryList };
 
@@ -79,13 +77,6 @@ impl Journal {
         ensures some { IfSome result (λ entry. slice_get self.now.entries place ≡ Some entry.now) }
     {
         self.entries.get(place)
-    }
-
-    /// Whether a version of the text has each entry, so that the journal can be printed in it.
-    pub fn is_in(&self, version: u32) -> bool
-        ensures { IsTrue result ↔ All (Has version) self.now.entries }
-    {
-        self.entries.iter().all(|entry| has(version, entry))
     }
 
     /// All entries, the oldest first.
