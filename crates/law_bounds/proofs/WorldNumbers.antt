@@ -29,11 +29,11 @@ use Rattle.law_bounds.proofs.KeptNumbers.{grew-on}
 use Rattle.law_bounds.proofs.KeptSteps.{receive-after, tick-after, crash-after}
 
 -- the clients and the packets after so many events
-record DrawnUpTo (events : ℕ) (w : World) : Type 0 where
-  inc : (host : ℕ) (c : Client) → slice_get w.clients host ≡ Some c → c.who.inc ≤ events + 1
-  seq : (host : ℕ) (c : Client) → slice_get w.clients host ≡ Some c → c.seq ≤ length w.packets + 1
-  sent : (host xid : ℕ) (r : Request) (q : ℕ) → Asked w.packets host xid r → sequence_of r ≡ Some q → q ≤ length w.packets
-  asked : (host xid : ℕ) (r : Request) (v : Who) → Asked w.packets host xid r → asker r ≡ Some v → v.inc ≤ events + 1
+pub record DrawnUpTo (events : ℕ) (w : World) : Type 0 where
+  pub inc : (host : ℕ) (c : Client) → slice_get w.clients host ≡ Some c → c.who.inc ≤ events + 1
+  pub seq : (host : ℕ) (c : Client) → slice_get w.clients host ≡ Some c → c.seq ≤ length w.packets + 1
+  pub sent : (host xid : ℕ) (r : Request) (q : ℕ) → Asked w.packets host xid r → sequence_of r ≡ Some q → q ≤ length w.packets
+  pub asked : (host xid : ℕ) (r : Request) (v : Who) → Asked w.packets host xid r → asker r ≡ Some v → v.inc ≤ events + 1
 
 -- ---- a step of the server
 
@@ -185,7 +185,7 @@ module _ (n : ℕ) (w : World) (few : n < most_events) where
 
 -- ---- runs
 
-drawn-up-to : (head : Head) (events : List Event) → DrawnUpTo (length events) (run head events)
+pub drawn-up-to : (head : Head) (events : List Event) → DrawnUpTo (length events) (run head events)
 drawn-up-to head [] = drawn-first head
 drawn-up-to head (event ∷ earlier) =
     subst (λ n. DrawnUpTo n (step (run head earlier) event)) (omega arith)
