@@ -164,23 +164,32 @@ packet-text p text = has-its-text (datagram_of p.message) (λ xid r is. subst Ca
 
 -- the server hears a packet
 module _ (n : ℕ) (w : World) (few : n < most_events) where
-  server-hears-packet : (k : ℕ) (p : Packet) (to : Party) → CarriesText p.message → IsServerAfter n w.server → IsServerAfter (n + 1) (deliver_to w k p to).server
+  server-hears-packet :
+      (k : ℕ) (p : Packet) (to : Party) → CarriesText p.message → IsServerAfter n w.server → IsServerAfter (n + 1) (deliver_to w k p to).server
   unfolding after_server
   server-hears-packet k p Party.Server text a =
       receive-after n w.server (sending_host p.sender) (length w.packets) (datagram_of p.message) (packet-text p text) a
-  server-hears-packet k p (Party.Client host) text a = later-server n w (deliver_to_client w k host p.message (slice_get w.clients host)) (hearing-server w k host p.message (slice_get w.clients host)) a
+  server-hears-packet k p (Party.Client host) text a =
+      later-server n w (deliver_to_client w k host p.message (slice_get w.clients host)) (hearing-server w k host p.message (slice_get w.clients host)) a
 
-  server-hears-any : (k : ℕ) (o : Option Packet) → ((p : Packet) → o ≡ Some p → CarriesText p.message) → IsServerAfter n w.server → IsServerAfter (n + 1) (deliver w k o).server
+  server-hears-any :
+      (k : ℕ) (o : Option Packet) → ((p : Packet) → o ≡ Some p → CarriesText p.message) → IsServerAfter n w.server
+      → IsServerAfter (n + 1) (deliver w k o).server
   server-hears-any k None text a = later-server n w w refl a
   server-hears-any k (Some p) text a = server-hears-packet k p p.to (text p refl) a
 
   server-on : (event : Event) → IsGiven w event → IsServerAfter n w.server → IsServerAfter (n + 1) (step w event).server
   unfolding after_server
-  server-on (Event.Call host op) given a = later-server n w (at_client w host (λ c. client_call c op) (slice_get w.clients host)) (at-server w host (λ c. client_call c op) (slice_get w.clients host)) a
+  server-on (Event.Call host op) given a =
+      later-server n w (at_client w host (λ c. client_call c op) (slice_get w.clients host))
+      (at-server w host (λ c. client_call c op) (slice_get w.clients host)) a
   server-on (Event.Deliver k) given a = server-hears-any k (slice_get w.packets k) given a
   server-on Event.ServerTick given a = tick-after n w.server (w.server.now + 1) a
-  server-on (Event.ClientTick host) given a = later-server n w (at_client w host (λ c. client_tick c (c.now + 1)) (slice_get w.clients host)) (at-server w host (λ c. client_tick c (c.now + 1)) (slice_get w.clients host)) a
-  server-on (Event.Restart host) given a = later-server n w (at_client w host restart (slice_get w.clients host)) (at-server w host restart (slice_get w.clients host)) a
+  server-on (Event.ClientTick host) given a =
+      later-server n w (at_client w host (λ c. client_tick c (c.now + 1)) (slice_get w.clients host))
+      (at-server w host (λ c. client_tick c (c.now + 1)) (slice_get w.clients host)) a
+  server-on (Event.Restart host) given a =
+      later-server n w (at_client w host restart (slice_get w.clients host)) (at-server w host restart (slice_get w.clients host)) a
   server-on (Event.Crash longest) given a = crash-after n w.server longest few given.0 given.1 a
 
 -- ---- runs
