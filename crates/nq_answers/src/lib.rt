@@ -4,7 +4,6 @@
 mod ending;
 mod lines;
 mod telling;
-mod words;
 
 pub use ending::{Halt, Stop, Used};
 pub use lines::answers_text;

@@ -1,5 +1,4 @@
 use Rattle.std.specs.Prelude.{ℕ, List}
-use Rattle.nq_base.specs.declared.entries.Entry.{Entry}
 use Rattle.nq_base.specs.declared.lists.Loss.{Loss}
 use Rattle.nq_base.specs.declared.lists.Span.{Span}
 
@@ -11,9 +10,4 @@ pub record LossList : Type 0 where
 -- spans in their order, and the number of further ones for which room is reserved
 pub record SpanList : Type 0 where
   pub items : List Span
-  pub spare : ℕ
-
--- the entries of a journal, the oldest first, and the number of further ones for which room is reserved
-pub record EntryList : Type 0 where
-  pub entries : List Entry
   pub spare : ℕ

@@ -16,7 +16,7 @@ pub struct Journal {
 
 impl Model for Journal {
     ghost use Rattle.std.specs.Prelude.{◌-◌, vec_len, vec_capacity};
-    ghost use Rattle.nq_base.specs.Lists.{EntryList};
+    ghost use Rattle.nq_base.specs.Entries.{EntryList};
 
     ghost Value = { EntryList };
 

@@ -4,12 +4,8 @@
 pub mod laws;
 mod parsing;
 mod printing;
-mod read_answers;
-mod read_calls;
 mod read_entries;
-mod read_words;
 mod write_entries;
-mod write_words;
 
 pub use parsing::{JournalFault, parse};
 pub use printing::{Printed, is_in, print};

@@ -15,7 +15,7 @@ use Rattle.nq_io.specs.Told.{with_end}
 use Rattle.nq_journal.specs.Fault.{IsFaultyAt, ended}
 use Rattle.nq_journal.specs.Parsing.{IsFault, IsTextOf, named}
 use Rattle.nq_journal.specs.Text.{IsText, entry_line, entry_words, end_line, head_line, journal_text}
-use Rattle.nq_journal.specs.Words.{line, joined}
+use Rattle.nq_words.specs.Words.{line, joined}
 use Rattle.nq_replay.specs.Judging.{JudgesText, PrintsWrong, TellsVerdict, yes_line}
 use Rattle.nq_replay.specs.Lines.{PrintsLine, script_line}
 use Rattle.nq_replay.specs.declared.ending.Ending.{Ending}

@@ -10,7 +10,8 @@ use Rattle.nq_base.specs.declared.Told.{Told}
 use Rattle.law_reports.proofs.Tallies.{each-reverse}
 use Rattle.law_versions.proofs.FirstRuns.{first-tells}
 use Rattle.law_versions.specs.Versions.{IsOfFirst}
-use Rattle.nq_journal.specs.Text.{Has, HasTold}
+use Rattle.nq_words.specs.Forms.{HasTold}
+use Rattle.nq_journal.specs.Text.{Has}
 use Rattle.nq_lines.specs.Going.{Comes, RanTo}
 use Rattle.nq_lines.specs.declared.played.Played.{Played}
 use Rattle.nq_model.specs.ClientStep.{told}

@@ -5,7 +5,7 @@ ghost use Rattle.std.specs.Option.{ForSome};
 ghost use Rattle.nq_base.specs.declared.Party.{Party as Receiver};
 ghost use Rattle.nq_datagrams.specs.Sent.{sent};
 ghost use Rattle.nq_files.specs.Deciding.{IsOfHost};
-ghost use Rattle.nq_base.specs.Lists.{EntryList};
+ghost use Rattle.nq_base.specs.Entries.{EntryList};
 ghost use Rattle.nq_keeper.specs.Keeping.{LeavesOne};
 ghost use Rattle.nq_model.specs.Change.{heads_of};
 ghost use Rattle.nq_model.specs.Decided.{decided as decided_of, decided_step, gate_of, is_decided_once, later_aside};

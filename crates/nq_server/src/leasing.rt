@@ -4,7 +4,7 @@ ghost use Rattle.std.specs.Prelude.{◌≡◌, ◌<◌, ◌≤◌, ◌+◌, ◌^
 ghost use Rattle.std.specs.Option.{ForSome};
 ghost use Rattle.nq_evict.specs.Telling.{told_rows};
 ghost use Rattle.nq_files.specs.Reading.{read_out};
-ghost use Rattle.nq_base.specs.Lists.{EntryList};
+ghost use Rattle.nq_base.specs.Entries.{EntryList};
 ghost use Rattle.nq_keeper.specs.Keeping.{LeavesOne};
 ghost use Rattle.nq_model.specs.Ask.{ask as asked_of};
 ghost use Rattle.nq_model.specs.Kept.{Kept, find_file};

@@ -2,7 +2,7 @@
 
 ghost use Rattle.std.specs.Prelude.{◌≡◌, ◌<◌, ◌≤◌, ◌+◌, ◌^◌, ◌==◌, ◌&&◌, ℕ, false, nat_lt};
 ghost use Rattle.nq_base.specs.declared.HostRow.{HostRow as Line};
-ghost use Rattle.nq_base.specs.Lists.{EntryList};
+ghost use Rattle.nq_base.specs.Entries.{EntryList};
 ghost use Rattle.nq_model.specs.Decided.{is_decided_once as decided_once};
 ghost use Rattle.nq_model.specs.Message.{asker as asked_by};
 ghost use Rattle.nq_model.specs.Profile.{most_hosts};

@@ -2,7 +2,7 @@
 use Rattle.std.specs.Prelude.{◌≡◌, ◌<◌, ℕ, zero, suc, Bool, true, false, is_none, List, Option, Some, None, Result, Ok, Err}
 use Rattle.nq_base.specs.declared.Answer.{Answer}
 use Rattle.nq_client.specs.Counted.{Counted}
-use Rattle.nq_base.specs.Lists.{EntryList}
+use Rattle.nq_base.specs.Entries.{EntryList}
 use Rattle.nq_model.specs.Client.{Client}
 use Rattle.nq_node.specs.ClientTurn.{AttendsTurn}
 use Rattle.nq_node.specs.Links.{LinkTold}
