@@ -8,7 +8,7 @@ ghost use Rattle.nq_journal.specs.Text.{Fits, FitsSource, entry_words, entry_lin
 ghost use Rattle.nq_words.specs.Forms.{FitsWho, FitsTold, FitsSaid, told_words, said_words};
 
 use nq_base::{BlockNo, Entry, FileId, Mode, NoMemory, Said, Told, Who};
-use nq_words::{push_command, push_numbers, push_said, push_told, push_word};
+use nq_words::{push_bytes, push_command, push_numbers, push_said, push_told, push_word};
 
 // Appends the letter of a line and the incarnation of which it tells.
 #[tactic(auto, unfolding(nq_words::specs::Words::joined))]
@@ -70,22 +70,20 @@ fn push_longest(out: &mut Vec<u8>, version: u32, longest: u32) -> Result<(), NoM
 }
 
 // Appends the words of a call, each with the blank before it.
-#[tactic(auto, using(nq_words::proofs::Blanks::told_blank))]
 fn push_call(out: &mut Vec<u8>, told: &Told) -> Result<(), NoMemory>
     ensures written { OnOk result (out.new.items ≡ out.old.items ++ flat_map spaced (told_words told.now)) }
     ensures fits { OnOk result (FitsTold told.now) }
 {
-    out.push(b' ')?;
+    push_bytes(out, b" ")?;
     push_told(out, told)
 }
 
 // Appends the words of an answer, each with the blank before it.
-#[tactic(auto, using(nq_words::proofs::Blanks::said_blank))]
 fn push_answer(out: &mut Vec<u8>, said: &Said) -> Result<(), NoMemory>
     ensures written { OnOk result (out.new.items ≡ out.old.items ++ flat_map spaced (said_words said.now)) }
     ensures fits { OnOk result (FitsSaid said.now) }
 {
-    out.push(b' ')?;
+    push_bytes(out, b" ")?;
     push_said(out, said)
 }
 

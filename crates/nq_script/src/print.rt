@@ -15,7 +15,6 @@ use nq_words::{push_bytes, push_command, push_told};
 use std::alloc::Global;
 
 /// Appends a word and numbers, with blanks between them.
-#[tactic(auto, using(crate::proofs::Printing::command_spaced))]
 fn append_words(text: &mut Vec<u8>, word: &[u8], numbers: &[u64]) -> Result<(), NoMemory>
     ensures { OnOk result (text.new.items ≡ text.old.items ++ spaced (word.now ∷ map decimal numbers.now)) }
 {
@@ -23,7 +22,6 @@ fn append_words(text: &mut Vec<u8>, word: &[u8], numbers: &[u64]) -> Result<(), 
 }
 
 /// Appends the words of a call.
-#[tactic(auto, using(crate::proofs::CallWords::call_spaced, crate::proofs::CallWords::call_fits))]
 fn append_call(text: &mut Vec<u8>, call: &Call) -> Result<(), NoMemory>
     ensures written { OnOk result (text.new.items ≡ text.old.items ++ spaced (call_words call.now)) }
     ensures fits { OnOk result (FitsCall call.now) }

@@ -62,7 +62,7 @@ found_place words left place e =
 -- ---- calls of one shape
 
 -- what a call names, and the call that is told by it
-IsOne : (words left : List (List ℕ)) → (tell : ℕ → Told) → Told → Type 0
+abbrev IsOne : (words left : List (List ℕ)) → (tell : ℕ → Told) → Told → Type 0
 IsOne words left tell told = (n : ℕ) × (words ≡ decimal n ∷ left) × (n < 2 ^ 32) × (tell n ≡ told)
 
 of_one : (tell : ℕ → Told) (words left : List (List ℕ)) (told : Told) → (u32_at words >>= λ n. Some (tell n.0, n.1)) ≡ Some (told, left) → IsOne words left tell told
@@ -72,7 +72,7 @@ of_one tell words left told e =
     let spelled = found_u32 words n.0.1 n.0.0 n.1 in
     (n.0.0, spelled.0 ∙ ap (λ ws. decimal n.0.0 ∷ ws) same.1, spelled.1, same.0)
 
-IsTwo : (words left : List (List ℕ)) → (tell : ℕ → ℕ → Told) → Told → Type 0
+abbrev IsTwo : (words left : List (List ℕ)) → (tell : ℕ → ℕ → Told) → Told → Type 0
 IsTwo words left tell told = (m : ℕ) × (n : ℕ) × (words ≡ decimal m ∷ decimal n ∷ left) × (m < 2 ^ 32) × (n < 2 ^ 32) × (tell m n ≡ told)
 
 of_place : (tell : ℕ → ℕ → Told) (words left : List (List ℕ)) (told : Told) → (place_at words >>= λ p. Some (tell p.0.0 p.0.1, p.1)) ≡ Some (told, left) → IsTwo words left tell told
@@ -82,7 +82,7 @@ of_place tell words left told e =
     let spelled = found_place words p.0.1 p.0.0 p.1 in
     (p.0.0.0, p.0.0.1, spelled.0 ∙ ap (λ ws. decimal p.0.0.0 ∷ decimal p.0.0.1 ∷ ws) same.1, spelled.1, spelled.2, same.0)
 
-IsThree : (words left : List (List ℕ)) → (tell : ℕ → ℕ → ℕ → Told) → Told → Type 0
+abbrev IsThree : (words left : List (List ℕ)) → (tell : ℕ → ℕ → ℕ → Told) → Told → Type 0
 IsThree words left tell told =
     (l : ℕ) × (m : ℕ) × (n : ℕ) × (words ≡ decimal l ∷ decimal m ∷ decimal n ∷ left) × (l < 2 ^ 32) × (m < 2 ^ 32) × (n < 2 ^ 32) × (tell l m n ≡ told)
 
