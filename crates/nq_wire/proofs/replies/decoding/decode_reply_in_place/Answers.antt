@@ -4,9 +4,10 @@ use Rattle.std.proofs.lemmas.Bool.{false≢true}
 use Rattle.std.proofs.lemmas.List.{append-nil}
 use Rattle.nq_wire.specs.Garbage.{garbage}
 use Rattle.nq_wire.specs.Reading.{reply_at}
+use Rattle.nq_wire.specs.Lent.{lent_reply}
 use Rattle.nq_wire.specs.Reply.{results}
 use Rattle.nq_wire.proofs.Whole.{failed, left_over, ended, number_fits, no_reply, one_reply, reply_is, reply_none}
-use Rattle.nq_wire.proofs.replies.decoding.decode_reply_into.Goals as goal
+use Rattle.nq_wire.proofs.replies.decoding.decode_reply_in_place.Goals as goal
 
 -- the bytes begin with none
 pub returns-in_err-reply-clause-only : goal.returns-in_err-reply-clause-only
@@ -31,13 +32,13 @@ returns-in_err-reply-clause-garbage c =
 pub returns-in_err-end-clause-only : goal.returns-in_err-end-clause-only
 returns-in_err-end-clause-only c =
     λ r is.
-    let was = left_over (reply_at c.in-Some.called c.new-reader.result) c.reply.new.into c.reply.new.reader c.in_ok-reply.ensures.step (λ none. false≢true (c.in_err-end.ensures.1 none)) in
+    let was = left_over (reply_at c.in-Some.called c.new-reader.result) (lent_reply c.in_ok-reply.reply) c.reply.new.reader c.in_ok-reply.ensures.step (λ none. false≢true (c.in_err-end.ensures.1 none)) in
     absurd (no_reply c.in-Some.called c.args.procedure r c.args.bytes.now c.new-reader.result garbage c.in-Some.ensures.some c.new-reader.ensures was is)
 
 pub returns-in_err-end-clause-garbage : goal.returns-in_err-end-clause-garbage
 returns-in_err-end-clause-garbage c =
     let p = err_from_is_err_and c.from_residual-in_err-end.result c.from_residual-in_err-end.ensures.1 in
-    let was = left_over (reply_at c.in-Some.called c.new-reader.result) c.reply.new.into c.reply.new.reader c.in_ok-reply.ensures.step (λ none. false≢true (c.in_err-end.ensures.1 none)) in (
+    let was = left_over (reply_at c.in-Some.called c.new-reader.result) (lent_reply c.in_ok-reply.reply) c.reply.new.reader c.in_ok-reply.ensures.step (λ none. false≢true (c.in_err-end.ensures.1 none)) in (
       λ _. (
         number_fits c.in-Some.called c.args.procedure c.in-Some.ensures.some,
         λ r is.
@@ -50,17 +51,17 @@ returns-in_err-end-clause-garbage c =
 pub returns-clause-only : goal.returns-clause-only
 returns-clause-only c =
     λ r is.
-    let was = ended (reply_at c.in-Some.called c.new-reader.result) c.reply.new.into c.reply.new.reader c.in_ok-reply.ensures.step (c.in_ok-end.ensures.0 refl) in
+    let was = ended (reply_at c.in-Some.called c.new-reader.result) (lent_reply c.in_ok-reply.reply) c.reply.new.reader c.in_ok-reply.ensures.step (c.in_ok-end.ensures.0 refl) in
     ap (λ x. Ok x)
-    (one_reply c.in-Some.called c.args.procedure r c.reply.new.into c.args.bytes.now c.new-reader.result c.in-Some.ensures.some c.new-reader.ensures was is)
+    (one_reply c.in-Some.called c.args.procedure r (lent_reply c.in_ok-reply.reply) c.args.bytes.now c.new-reader.result c.in-Some.ensures.some c.new-reader.ensures was is)
 
 pub returns-clause-garbage : goal.returns-clause-garbage
 returns-clause-garbage c =
     let found = c.in_ok-reply.ensures.found in
-    let spelling = results c.reply.new.into in (
+    let spelling = results (lent_reply c.in_ok-reply.reply) in (
       λ e. absurd cc,
       λ none.
-          absurd (none.1 c.reply.new.into (record {
+          absurd (none.1 (lent_reply c.in_ok-reply.reply) (record {
             procedure = c.in-Some.called;
             procedure_is = c.in-Some.ensures.some;
             answers = found.0;
@@ -84,11 +85,11 @@ returns-in_err-reply-clause-step c =
 pub returns-in_err-end-clause-step : goal.returns-in_err-end-clause-step
 returns-in_err-end-clause-step c =
     let p = err_from_is_err_and c.from_residual-in_err-end.result c.from_residual-in_err-end.ensures.1 in
-    let was = left_over (reply_at c.in-Some.called c.new-reader.result) c.reply.new.into c.reply.new.reader c.in_ok-reply.ensures.step (λ none. false≢true (c.in_err-end.ensures.1 none)) in
+    let was = left_over (reply_at c.in-Some.called c.new-reader.result) (lent_reply c.in_ok-reply.reply) c.reply.new.reader c.in_ok-reply.ensures.step (λ none. false≢true (c.in_err-end.ensures.1 none)) in
     let is = reply_is c.in-Some.called c.args.procedure c.args.bytes.now c.new-reader.result (Err garbage) (sym c.in-Some.ensures.is) c.new-reader.ensures was in
     rw (p.1, p.2) (sym is)
 
 pub returns-clause-step : goal.returns-clause-step
 returns-clause-step c =
-    let was = ended (reply_at c.in-Some.called c.new-reader.result) c.reply.new.into c.reply.new.reader c.in_ok-reply.ensures.step (c.in_ok-end.ensures.0 refl) in
-    sym (reply_is c.in-Some.called c.args.procedure c.args.bytes.now c.new-reader.result (Ok c.reply.new.into) (sym c.in-Some.ensures.is) c.new-reader.ensures was)
+    let was = ended (reply_at c.in-Some.called c.new-reader.result) (lent_reply c.in_ok-reply.reply) c.reply.new.reader c.in_ok-reply.ensures.step (c.in_ok-end.ensures.0 refl) in
+    sym (reply_is c.in-Some.called c.args.procedure c.args.bytes.now c.new-reader.result (Ok (lent_reply c.in_ok-reply.reply)) (sym c.in-Some.ensures.is) c.new-reader.ensures was)
