@@ -6,7 +6,7 @@ mod lines;
 mod telling;
 mod words;
 
-pub use ending::{Halt, Stop, Used};
+pub use ending::Stop;
 pub use lines::answers_text;
 pub use nq_base::NoMemory;
 pub use telling::{tell_bytes, tell_end, tell_script};

@@ -2,8 +2,8 @@
 
 ghost use Rattle.nq_hosts.specs.Serving.{Between, TakesTurn, TakesTurns};
 
-use crate::ending::Halt;
 use nq_clock::Clock;
+use nq_ending::Halt;
 use nq_journal::Journal;
 use nq_keeper::Keeper;
 use nq_link::Link;

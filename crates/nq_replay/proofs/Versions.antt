@@ -2,17 +2,15 @@
 use Rattle.std.proofs.Common.{◌≡◌, ◌≤◌, ◌⊎◌, inl, inr, ℕ, ◌+◌, List, [], ◌∷◌, map, Option, refl, sym, subst, ◌∙◌, arith}
 use Rattle.std.proofs.lemmas.List.Elements.{All-nil, All-cons}
 use Rattle.std.specs.List.{All, AllByRecursion}
+use Rattle.law_reports.proofs.Tallies.{each-reverse}
+use Rattle.law_versions.proofs.FirstRuns.{first-tells}
+use Rattle.law_versions.specs.Versions.{IsOfFirst}
 use Rattle.nq_base.specs.Plain.{plain}
 use Rattle.nq_base.specs.declared.Call.{Call}
 use Rattle.nq_base.specs.declared.Entry.{Entry}
 use Rattle.nq_base.specs.declared.Event.{Event}
 use Rattle.nq_base.specs.declared.Told.{Told}
-use Rattle.law_reports.proofs.Tallies.{each-reverse}
-use Rattle.law_versions.proofs.FirstRuns.{first-tells}
-use Rattle.law_versions.specs.Versions.{IsOfFirst}
 use Rattle.nq_journal.specs.Text.{Has, HasTold}
-use Rattle.nq_lines.specs.Going.{Comes, RanTo}
-use Rattle.nq_lines.specs.declared.played.Played.{Played}
 use Rattle.nq_model.specs.ClientStep.{told}
 use Rattle.nq_model.specs.Journal.{Each}
 use Rattle.nq_model.specs.Kept.{Kept}
@@ -20,7 +18,9 @@ use Rattle.nq_model.specs.Stepped.{most_events, stepped}
 use Rattle.nq_model.specs.World.{run}
 use Rattle.nq_play.proofs.Ending.{Ends, Keeps, ends-answered, keeps-flow, keeps-repeated, keeps-round}
 use Rattle.nq_play.proofs.Lawfully.{played-runs-are-lawful}
+use Rattle.nq_play.specs.Going.{Comes, RanTo}
 use Rattle.nq_play.specs.Playing.{Ended, Played as Due, at_line, beginning, play, play_event, play_line, play_lines, play_round, ran, refused, stopped, took}
+use Rattle.nq_play.specs.declared.played.Played.{Played}
 use Rattle.nq_replay.specs.Schedules.{IsReady}
 use Rattle.nq_script.specs.Calls.{HasCall}
 use Rattle.nq_script.specs.Lines.{HasEvent, SpellsLine}
