@@ -18,6 +18,6 @@ mod storms;
 pub use fates::first_of;
 pub use laws::storms_are_lawful;
 pub use running::run_storm;
-pub use schedules::storm_head;
+pub use schedules::{schedule_text, storm_head};
 pub use stormed::Stormed;
 pub use storms::storm;

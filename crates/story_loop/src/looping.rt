@@ -4,9 +4,9 @@ ghost use Rattle.std.specs.Prelude.{◌≡◌, IfOk, vec_len};
 
 use nq_base::{Host, Party, Ticks};
 use nq_clock::{Clock, MemClock, StdClock};
+use nq_ending::Ending;
 use nq_io::{MemSink, MemSource};
 use nq_link::{Link, MemLink, UdpLink};
-use nq_ending::Ending;
 use nq_loop::run_loop;
 use nq_replay::replay;
 use std::test::Fail;
