@@ -1,23 +1,25 @@
 -- No two ends have the same exit status.
 use Rattle.std.proofs.Common.{◌≡◌, ℕ, refl, ap, sym, ◌∙◌}
+use Rattle.std.specs.Prelude.{◌==◌, if◌then◌else◌}
 use Rattle.nq_ending.specs.Status.{status_of}
 use Rattle.nq_ending.specs.declared.ending.Ending.{Ending}
 
 -- the end of a status
 end_of : ℕ → Ending
-end_of 0 = Ending.Done
-end_of 1 = Ending.Usage
-end_of 2 = Ending.Script
-end_of 3 = Ending.Skew
-end_of 4 = Ending.ReadFault
-end_of 5 = Ending.WriteFault
-end_of 6 = Ending.KeepFault
-end_of 7 = Ending.Memory
-end_of 8 = Ending.LinkFault
-end_of 9 = Ending.Limit
-end_of 10 = Ending.Spent
-end_of 11 = Ending.NoAnswer
-end_of other = Ending.NotSound
+end_of status =
+    if status == 0 then Ending.Done else (
+    if status == 1 then Ending.Usage else (
+    if status == 2 then Ending.Script else (
+    if status == 3 then Ending.Skew else (
+    if status == 4 then Ending.ReadFault else (
+    if status == 5 then Ending.WriteFault else (
+    if status == 6 then Ending.KeepFault else (
+    if status == 7 then Ending.Memory else (
+    if status == 8 then Ending.LinkFault else (
+    if status == 9 then Ending.Limit else (
+    if status == 10 then Ending.Spent else (
+    if status == 11 then Ending.NoAnswer else (
+    Ending.NotSound))))))))))))
 
 of-its-status : (end : Ending) → end_of (status_of end) ≡ end
 of-its-status Ending.Done = refl

@@ -1,8 +1,8 @@
 -- The journal of a schedule has entries of its version alone.
-use Rattle.std.proofs.Common.{◌≡◌, ◌≤◌, ◌⊎◌, inl, inr, ℕ, ◌+◌, List, [], ◌∷◌, map, Option, refl, sym, subst, ◌∙◌, arith}
+use Rattle.std.proofs.Common.{◌≡◌, ◌≤◌, ◌⊎◌, inl, inr, ℕ, ◌+◌, List, [], ◌∷◌, ◌++◌, map, reverse, Option, refl, sym, subst, ◌∙◌, arith}
+use Rattle.std.proofs.lemmas.Grind.{reverse_onto}
 use Rattle.std.proofs.lemmas.List.Elements.{All-nil, All-cons}
 use Rattle.std.specs.List.{All, AllByRecursion}
-use Rattle.law_reports.proofs.Tallies.{each-reverse}
 use Rattle.law_versions.proofs.FirstRuns.{first-tells}
 use Rattle.law_versions.specs.Versions.{IsOfFirst}
 use Rattle.nq_base.specs.Plain.{plain}
@@ -11,6 +11,7 @@ use Rattle.nq_base.specs.declared.Entry.{Entry}
 use Rattle.nq_base.specs.declared.Event.{Event}
 use Rattle.nq_base.specs.declared.Told.{Told}
 use Rattle.nq_journal.specs.Text.{Has, HasTold}
+use Rattle.nq_model.proofs.Lists.{each-append}
 use Rattle.nq_model.specs.ClientStep.{told}
 use Rattle.nq_model.specs.Journal.{Each}
 use Rattle.nq_model.specs.Kept.{Kept}
@@ -29,6 +30,10 @@ use Rattle.nq_script.specs.declared.heads.Head.{Head}
 use Rattle.nq_script.specs.declared.lines.Line.{Line}
 use Rattle.nq_script.specs.declared.scripts.Script.{Script}
 use Rattle.nq_world.specs.Playing.{Plays, WorldOver}
+
+each-reverse : {X : Type 0} (F : X → Type 0) (xs : List X) → Each F xs → Each F (reverse xs)
+each-reverse F [] each = tt
+each-reverse F (x ∷ xs) each = subst (Each F) (sym (reverse_onto xs x [])) (each-append F (reverse xs) (x ∷ []) (each-reverse F xs each.1) (each.0, tt))
 
 -- ---- the events of a schedule of version 1
 
