@@ -9,7 +9,7 @@ use crate::leases::Row;
 use crate::notices::Notices;
 use nq_base::{FileId, Mode, Ticks};
 use nq_dirty::Dirty;
-use nq_held::Held;
+use nq_client_leases::Held;
 
 /// From so many ticks before a writing lease ends its delayed writes are pushed (Macklem 1994).
 const RENEWAL: u64 = 3;

@@ -1,7 +1,7 @@
 //! What a client holds and caches by a reply.
 
 ghost use Rattle.std.specs.Prelude.{◌≡◌, ◌≤◌, Some, IfSome};
-ghost use Rattle.nq_held.specs.Leases.{lease_of};
+ghost use Rattle.nq_client_leases.specs.Leases.{lease_of};
 ghost use Rattle.nq_model.specs.Client.{put_lease};
 ghost use Rattle.nq_model.specs.Hear.{granted_lease, holds};
 ghost use Rattle.nq_client.specs.Granting.{keeps};
@@ -11,7 +11,7 @@ use crate::granting::cleans;
 use crate::leases::Leases;
 use crate::step::Step;
 use nq_base::{FileId, Grant, Mode, Ticks};
-use nq_held::Held;
+use nq_client_leases::Held;
 
 /// Puts what is held in the place of another lease of its file, in room that is there.
 fn put_held(leases: &mut Leases, held: Held)

@@ -1,7 +1,7 @@
 -- Turns of a server that has booted.
 use Rattle.std.proofs.Common.{ℕ, List, Option, Result, Ok, Err, inl}
+use Rattle.nq_ending.specs.declared.Halt.{Halt}
 use Rattle.nq_hosts.specs.Serving.{RanBooted, Runs}
-use Rattle.nq_hosts.specs.declared.ending.Halt.{Halt}
 use Rattle.nq_model.specs.Kept.{Kept}
 use Rattle.nq_node.specs.Links.{LinkTold}
 

@@ -1,11 +1,11 @@
 -- What serving does: it boots a server, takes turns of it, and tells how many. Below, `content` is what a keeper tells of what it
 -- keeps, and `faults` is its count of faults.
-use Rattle.std.specs.Prelude.{◌≡◌, ◌⊎◌, ⊤, ◌<◌, ℕ, zero, suc, List, [], ◌++◌, Option, None, Result, Ok, Err, codes}
 use Rattle.std.specs.Fmt.{decimal}
 use Rattle.std.specs.Option.{ForSome}
+use Rattle.std.specs.Prelude.{◌≡◌, ◌⊎◌, ⊤, ◌<◌, ℕ, zero, suc, List, [], ◌++◌, Option, None, Result, Ok, Err, codes}
 use Rattle.nq_clock.specs.Clock.{Reads}
-use Rattle.nq_hosts.specs.declared.ending.Halt.{Halt}
-use Rattle.nq_hosts.specs.declared.ending.Served.{Served}
+use Rattle.nq_ending.specs.declared.Ending.{Ending}
+use Rattle.nq_ending.specs.declared.Halt.{Halt}
 use Rattle.nq_io.specs.Faults.{Rose}
 use Rattle.nq_io.specs.Sink.{AppendsFront}
 use Rattle.nq_io.specs.Told.{with_end}
@@ -17,15 +17,6 @@ use Rattle.nq_node.specs.Links.{LinkTold}
 use Rattle.nq_node.specs.ServerTurn.{ServesTurn}
 use Rattle.nq_node.specs.declared.Turn.{Turn}
 use Rattle.nq_server.specs.Holding.{Holding, IsServer}
-
--- the exit status of an end
-abbrev pub status_of : Served → ℕ
-status_of Served.Done = 0
-status_of Served.WriteFault = 5
-status_of Served.KeepFault = 6
-status_of Served.Memory = 7
-status_of Served.LinkFault = 8
-status_of Served.Spent = 10
 
 -- a server between two turns, with its journal, the number of the next datagram that it makes, the readings of the clock to come,
 -- and its link
@@ -47,17 +38,18 @@ Turns content faults turn at after =
 abbrev pub GoesOn : {K : Type 0} → (content : K → Option Kept) → (faults : K → ℕ) → (at after : Between K) → Type 0
 GoesOn content faults at after = Turns content faults Turn.Took at after ⊎ Turns content faults Turn.Quiet at after
 
--- the answer of a turn that stopped so
-abbrev pub turn_of : Halt → Turn
-turn_of Halt.Link = Turn.Link
-turn_of Halt.Keep = Turn.Keep
-turn_of Halt.Memory = Turn.Memory
-turn_of Halt.Spent = Turn.Spent
+-- one turn that stopped so
+abbrev pub StopsTurn : {K : Type 0} → (content : K → Option Kept) → (faults : K → ℕ) → Halt → (at after : Between K) → Type 0
+StopsTurn content faults Halt.Link at after = Turns content faults Turn.Link at after
+StopsTurn content faults Halt.Keep at after = Turns content faults Turn.Keep at after
+StopsTurn content faults Halt.Memory at after = Turns content faults Turn.Memory at after
+StopsTurn content faults Halt.Spent at after = Turns content faults Turn.Spent at after
+StopsTurn content faults Halt.NoAnswer at after = ⊥
 
 -- one turn: it did not stop, or it stopped so
 abbrev pub TakesTurn : {K : Type 0} → (content : K → Option Kept) → (faults : K → ℕ) → Result Unit Halt → (at after : Between K) → Type 0
 TakesTurn content faults (Ok done) at after = GoesOn content faults at after
-TakesTurn content faults (Err why) at after = Turns content faults (turn_of why) at after
+TakesTurn content faults (Err why) at after = StopsTurn content faults why at after
 
 -- so many turns one after another, none of which stopped
 abbrev pub Goes : {K : Type 0} → (content : K → Option Kept) → (faults : K → ℕ) → (count : ℕ) → (at after : Between K) → Type 0
@@ -70,7 +62,7 @@ pub record StopsEarly {K : Type 0} (content : K → Option Kept) (faults : K →
   pub fewer : count < turns
   pub between : Between K
   pub before : Goes content faults count at between
-  pub last : Turns content faults (turn_of why) between after
+  pub last : StopsTurn content faults why between after
 
 -- so many turns one after another, up to the first that stopped
 abbrev pub TakesTurns : {K : Type 0} → (content : K → Option Kept) → (faults : K → ℕ) → (turns : ℕ) → Result Unit Halt → (at after : Between K) → Type 0
@@ -105,6 +97,7 @@ pub record HasFailed {K : Type 0} (faults : K → ℕ) (keeper : K) : Type 0 whe
 -- why no server booted over this keeper: it failed, memory was wanting, or no number is left for a boot
 abbrev pub NoBoot : {K : Type 0} → (content : K → Option Kept) → (faults : K → ℕ) → (keeper : K) → Halt → Type 0
 NoBoot content faults keeper Halt.Link = ⊥
+NoBoot content faults keeper Halt.NoAnswer = ⊥
 NoBoot content faults keeper Halt.Keep = HasFailed faults keeper
 NoBoot content faults keeper Halt.Memory = ⊤
 NoBoot content faults keeper Halt.Spent = ForSome (content keeper) (λ kept. kept.boot ≡ most_boots)
@@ -136,16 +129,18 @@ pub record Serves {K : Type 0} (content : K → Option Kept) (faults : K → ℕ
   pub runs : Runs content faults longest turns time keeper ended between clock' link link'
 
 -- what was printed, by the end of serving: the line only behind all turns. `P` says what was done when turns ended so
-abbrev pub Tells : Served → (turns : ℕ) → (P : Result Unit Halt → Type 0) → (held now : Option (List ℕ)) → (w w' : ℕ) → Type 0
-Tells Served.Done turns P held now w w' = P (Ok tt) × (now ≡ with_end held (turns_line turns)) × (w' ≡ w)
-Tells Served.WriteFault turns P held now w w' = P (Ok tt) × AppendsFront (turns_line turns) held now × Rose w w'
-Tells Served.KeepFault turns P held now w w' = P (Err Halt.Keep) × (now ≡ held) × (w' ≡ w)
-Tells Served.Memory turns P held now w w' = P (Err Halt.Memory) × (now ≡ held) × (w' ≡ w)
-Tells Served.LinkFault turns P held now w w' = P (Err Halt.Link) × (now ≡ held) × (w' ≡ w)
-Tells Served.Spent turns P held now w w' = P (Err Halt.Spent) × (now ≡ held) × (w' ≡ w)
+abbrev pub Tells : Ending → (turns : ℕ) → (P : Result Unit Halt → Type 0) → (held now : Option (List ℕ)) → (w w' : ℕ) → Type 0
+Tells Ending.Done turns P held now w w' = P (Ok tt) × (now ≡ with_end held (turns_line turns)) × (w' ≡ w)
+Tells Ending.WriteFault turns P held now w w' = P (Ok tt) × AppendsFront (turns_line turns) held now × Rose w w'
+Tells Ending.KeepFault turns P held now w w' = P (Err Halt.Keep) × (now ≡ held) × (w' ≡ w)
+Tells Ending.Memory turns P held now w w' = P (Err Halt.Memory) × (now ≡ held) × (w' ≡ w)
+Tells Ending.LinkFault turns P held now w w' = P (Err Halt.Link) × (now ≡ held) × (w' ≡ w)
+Tells Ending.Spent turns P held now w w' = P (Err Halt.Spent) × (now ≡ held) × (w' ≡ w)
+Tells Ending.NoAnswer turns P held now w w' = P (Err Halt.NoAnswer) × (now ≡ held) × (w' ≡ w)
+Tells other turns P held now w w' = ⊥
 
 -- what printing a line behind all turns did, by the end
-abbrev pub PrintsTurns : Served → (line : List ℕ) → (held now : Option (List ℕ)) → (w w' : ℕ) → Type 0
-PrintsTurns Served.Done line held now w w' = (now ≡ with_end held line) × (w' ≡ w)
-PrintsTurns Served.WriteFault line held now w w' = AppendsFront line held now × Rose w w'
+abbrev pub PrintsTurns : Ending → (line : List ℕ) → (held now : Option (List ℕ)) → (w w' : ℕ) → Type 0
+PrintsTurns Ending.Done line held now w w' = (now ≡ with_end held line) × (w' ≡ w)
+PrintsTurns Ending.WriteFault line held now w w' = AppendsFront line held now × Rose w w'
 PrintsTurns other line held now w w' = ⊥

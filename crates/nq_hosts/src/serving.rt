@@ -3,10 +3,10 @@
 ghost use Rattle.std.specs.Prelude.{◌≡◌, ◌<◌, ◌≤◌, ◌^◌, IfOk, string_bytes};
 ghost use Rattle.nq_hosts.specs.Serving.{EndsBoot, PrintsTurns, Ran, Runs, Serves, Tells, turns_line};
 
-use crate::ending::{Halt, Served};
 use crate::turning::take_turns;
 use nq_base::{Journal, NoMemory, Ticks};
 use nq_clock::Clock;
+use nq_ending::{Ending, Halt};
 use nq_io::{Put, Sink};
 use nq_keeper::Keeper;
 use nq_link::Link;
@@ -29,7 +29,7 @@ pub fn serve<K: Keeper + Drop, L: Link, C: Clock, S: Sink>(
     link: &mut L,
     clock: &mut C,
     out: &mut S,
-) -> Served
+) -> Ending
     requires long { 5 ≤ longest }
     requires short { longest ≤ 600 }
     ensures { Tells result turns (λ ended. Serves K.content K.faults longest turns keeper ended (C.readings clock.old) (C.readings clock.new)
@@ -39,14 +39,15 @@ pub fn serve<K: Keeper + Drop, L: Link, C: Clock, S: Sink>(
 {
     let now = clock.now();
     let Ok(line) = turns_text(alloc, turns) else {
-        return Served::Memory;
+        return Ending::Memory;
     };
     match boot_and_run(alloc, keeper, now, turns, longest, link, clock) {
         Ok(()) => put_turns(out, line.as_bytes()),
-        Err(Halt::Link) => Served::LinkFault,
-        Err(Halt::Keep) => Served::KeepFault,
-        Err(Halt::Memory) => Served::Memory,
-        Err(Halt::Spent) => Served::Spent,
+        Err(Halt::Link) => Ending::LinkFault,
+        Err(Halt::Keep) => Ending::KeepFault,
+        Err(Halt::Memory) => Ending::Memory,
+        Err(Halt::Spent) => Ending::Spent,
+        Err(Halt::NoAnswer) => Ending::NoAnswer,
     }
 }
 
@@ -62,12 +63,12 @@ fn turns_text(alloc: Global, turns: u32) -> Result<String, NoMemory>
 }
 
 /// Prints the line that tells how many turns were taken.
-fn put_turns<S: Sink>(out: &mut S, line: &[u8]) -> Served
+fn put_turns<S: Sink>(out: &mut S, line: &[u8]) -> Ending
     ensures { PrintsTurns result line.now (S.held out.old) (S.held out.new) (S.faults out.old) (S.faults out.new) }
 {
     match out.put(line) {
-        Put::All => Served::Done,
-        Put::Failed => Served::WriteFault,
+        Put::All => Ending::Done,
+        Put::Failed => Ending::WriteFault,
     }
 }
 

@@ -2,8 +2,7 @@
 
 ghost use Rattle.std.specs.Prelude.{◌≡◌, ◌<◌, ◌≤◌, ◌∷◌, [], ℕ, List, length, slice_get, IfSome};
 ghost use Rattle.nq_base.specs.declared.Event.{Event};
-ghost use Rattle.nq_fate.specs.Stormy.{WritesNumber};
-ghost use Rattle.nq_loop.specs.Holding.{IsLooping, Keeps, Loops, loop_of};
+ghost use Rattle.nq_loop.specs.Holding.{IsLoopCall, IsLooping, Keeps, Loops, loop_of};
 ghost use Rattle.nq_loop.specs.Looping.{Step, call_behind, call_steps, is_busy};
 ghost use Rattle.nq_model.specs.World.{Head, run};
 ghost use Rattle.nq_world.specs.Playing.{Plays};
@@ -104,7 +103,7 @@ fn call_behind(hosts: u32, host: u32, begun: u8) -> Option<Call>
     requires there { host < hosts }
     requires few { hosts ≤ 64 }
     ensures call { result ≡ call_behind hosts host begun }
-    ensures writes { IfSome result WritesNumber }
+    ensures writes { IfSome result IsLoopCall }
 {
     let file = FileId(1);
     match begun {

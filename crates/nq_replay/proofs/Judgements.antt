@@ -1,14 +1,15 @@
 -- Places and lines of a journal that was read stand within its text.
 use Rattle.std.proofs.Common.{◌≡◌, ℕ, ◌+◌, ◌<◌, ◌≤◌, ◌^◌, List, [], ◌∷◌, ◌++◌, length, reverse, Option, Some, None, sym, ◌∙◌, ap, subst, arith, length-append}
-use Rattle.std.specs.Prelude.{codes}
+use Rattle.std.proofs.lemmas.List.{length-reverse}
 use Rattle.std.specs.List.{flat_map}
 use Rattle.std.specs.Option.{option_or}
-use Rattle.std.proofs.lemmas.List.{length-reverse}
+use Rattle.std.specs.Prelude.{codes}
 use Rattle.nq_base.specs.declared.Entry.{Entry}
-use Rattle.nq_check.specs.declared.Rule.{Rule}
 use Rattle.nq_check.specs.Rules.{first_rule}
 use Rattle.nq_check.specs.Verdict.{Fault, IsVerdict, fault_at, least_fault, verdict}
 use Rattle.nq_check.specs.declared.Judged.{Judged}
+use Rattle.nq_check.specs.declared.Rule.{Rule}
+use Rattle.nq_ending.specs.declared.Ending.{Ending}
 use Rattle.nq_io.specs.Faults.{Rose}
 use Rattle.nq_io.specs.Sink.{AppendsFront}
 use Rattle.nq_io.specs.Told.{with_end}
@@ -18,7 +19,6 @@ use Rattle.nq_journal.specs.Text.{IsText, entry_line, entry_words, end_line, hea
 use Rattle.nq_words.specs.Words.{line, joined}
 use Rattle.nq_replay.specs.Judging.{JudgesText, PrintsWrong, TellsVerdict, yes_line}
 use Rattle.nq_replay.specs.Lines.{PrintsLine, script_line}
-use Rattle.nq_replay.specs.declared.ending.Ending.{Ending}
 
 -- ---- the place of a fault
 
@@ -113,6 +113,10 @@ judged_text Ending.NotSound (Judged.No p r) entries text held now w w' v t h =
 judged_text Ending.NotSound Judged.Memory entries text held now w w' v t h = absurd h
 judged_text Ending.Memory judged entries text held now w w' v t h = h
 judged_text Ending.Usage judged entries text held now w w' v t h = absurd h
+judged_text Ending.KeepFault judged entries text held now w w' v t h = absurd h
+judged_text Ending.LinkFault judged entries text held now w w' v t h = absurd h
+judged_text Ending.Spent judged entries text held now w w' v t h = absurd h
+judged_text Ending.NoAnswer judged entries text held now w w' v t h = absurd h
 judged_text Ending.Script judged entries text held now w w' v t h = absurd h
 judged_text Ending.Skew judged entries text held now w w' v t h = absurd h
 judged_text Ending.ReadFault judged entries text held now w w' v t h = absurd h

@@ -2,14 +2,14 @@
 use Rattle.std.proofs.Common.{◌≡◌, ◌⊎◌, inl, inr, ℕ, List, Option, refl, sym, subst}
 use Rattle.nq_base.specs.declared.Event.{Event}
 use Rattle.nq_base.specs.declared.SkewBroken.{SkewBroken}
-use Rattle.nq_lines.specs.Going.{Comes, StoppedAt}
-use Rattle.nq_lines.specs.declared.played.Played.{Played}
+use Rattle.nq_ending.specs.declared.Ending.{Ending}
 use Rattle.nq_model.specs.Stepped.{Stepped as Answer, done, no_packet, out_of_skew, too_many_events, too_many_packets}
+use Rattle.nq_play.specs.Going.{Comes, StoppedAt}
 use Rattle.nq_play.specs.Playing.{Ended, play, ran, stopped}
+use Rattle.nq_play.specs.declared.played.Played.{Played}
 use Rattle.nq_replay.specs.Ending.{EndsText, IsUnlessFault}
 use Rattle.nq_replay.specs.Replay.{FaultyLine, Passes, Runs, Stops}
 use Rattle.nq_replay.specs.Schedules.{EndsPlayed, TellsStop}
-use Rattle.nq_replay.specs.declared.ending.Ending.{Ending}
 use Rattle.nq_replay.specs.declared.printing.Bound.{Bound}
 use Rattle.nq_script.specs.Faults.{Names}
 use Rattle.nq_script.specs.Schedule.{FirstBadLine, SpellsSchedule}
@@ -25,6 +25,10 @@ use Rattle.nq_world.specs.declared.stepped.Stepped.{Stepped}
 text_of_run : (end : Ending) (head : Head) (events : List Event) (text : List ℕ) (held now : Option (List ℕ)) (w w' : ℕ) → Runs text head events → EndsPlayed end head (ran events) held now w w' → EndsText end text held now w w'
 text_of_run Ending.Done head events text held now w w' runs prints = record { head = head; events = events; runs = runs; printed = prints }
 text_of_run Ending.Usage head events text held now w w' runs prints = prints
+text_of_run Ending.KeepFault head events text held now w w' runs prints = prints
+text_of_run Ending.LinkFault head events text held now w w' runs prints = prints
+text_of_run Ending.Spent head events text held now w w' runs prints = prints
+text_of_run Ending.NoAnswer head events text held now w w' runs prints = prints
 text_of_run Ending.Script head events text held now w w' runs prints = absurd prints
 text_of_run Ending.Skew head events text held now w w' runs prints = absurd prints
 text_of_run Ending.ReadFault head events text held now w w' runs prints = prints
@@ -37,6 +41,10 @@ text_of_run Ending.NotSound head events text held now w w' runs prints = prints
 text_of_packet : (end : Ending) (line : ℕ) (text : List ℕ) (held now : Option (List ℕ)) (w w' : ℕ) → FaultyLine text line → TellsStop end line Stepped.NoPacket held now w w' → EndsText end text held now w w'
 text_of_packet Ending.Done line text held now w w' faulty tells = absurd tells
 text_of_packet Ending.Usage line text held now w w' faulty tells = tells
+text_of_packet Ending.KeepFault line text held now w w' faulty tells = tells
+text_of_packet Ending.LinkFault line text held now w w' faulty tells = tells
+text_of_packet Ending.Spent line text held now w w' faulty tells = tells
+text_of_packet Ending.NoAnswer line text held now w w' faulty tells = tells
 text_of_packet Ending.Script line text held now w w' faulty tells = record { number = line; faulty = faulty; printed = tells }
 text_of_packet Ending.Skew line text held now w w' faulty tells = absurd tells
 text_of_packet Ending.ReadFault line text held now w w' faulty tells = tells
@@ -48,6 +56,10 @@ text_of_packet Ending.NotSound line text held now w w' faulty tells = tells
 text_of_skew : (end : Ending) (line : ℕ) (broken : SkewBroken) (text : List ℕ) (held now : Option (List ℕ)) (w w' : ℕ) → Stops text line (out_of_skew broken) → TellsStop end line (Stepped.SkewBroken broken) held now w w' → EndsText end text held now w w'
 text_of_skew Ending.Done line broken text held now w w' stops tells = absurd tells
 text_of_skew Ending.Usage line broken text held now w w' stops tells = tells
+text_of_skew Ending.KeepFault line broken text held now w w' stops tells = tells
+text_of_skew Ending.LinkFault line broken text held now w w' stops tells = tells
+text_of_skew Ending.Spent line broken text held now w w' stops tells = tells
+text_of_skew Ending.NoAnswer line broken text held now w w' stops tells = tells
 text_of_skew Ending.Script line broken text held now w w' stops tells = absurd tells
 text_of_skew Ending.Skew line broken text held now w w' stops tells = record { number = line; broken = broken; breaks = stops; printed = tells }
 text_of_skew Ending.ReadFault line broken text held now w w' stops tells = tells
@@ -59,6 +71,10 @@ text_of_skew Ending.NotSound line broken text held now w w' stops tells = tells
 text_of_events : (end : Ending) (line : ℕ) (text : List ℕ) (held now : Option (List ℕ)) (w w' : ℕ) → Stops text line too_many_events → TellsStop end line (Stepped.Limit Limit.Events) held now w w' → EndsText end text held now w w'
 text_of_events Ending.Done line text held now w w' stops tells = absurd tells
 text_of_events Ending.Usage line text held now w w' stops tells = tells
+text_of_events Ending.KeepFault line text held now w w' stops tells = tells
+text_of_events Ending.LinkFault line text held now w w' stops tells = tells
+text_of_events Ending.Spent line text held now w w' stops tells = tells
+text_of_events Ending.NoAnswer line text held now w w' stops tells = tells
 text_of_events Ending.Script line text held now w w' stops tells = absurd tells
 text_of_events Ending.Skew line text held now w w' stops tells = absurd tells
 text_of_events Ending.ReadFault line text held now w w' stops tells = tells
@@ -70,6 +86,10 @@ text_of_events Ending.NotSound line text held now w w' stops tells = tells
 text_of_packets : (end : Ending) (line : ℕ) (text : List ℕ) (held now : Option (List ℕ)) (w w' : ℕ) → Stops text line too_many_packets → TellsStop end line (Stepped.Limit Limit.Packets) held now w w' → EndsText end text held now w w'
 text_of_packets Ending.Done line text held now w w' stops tells = absurd tells
 text_of_packets Ending.Usage line text held now w w' stops tells = tells
+text_of_packets Ending.KeepFault line text held now w w' stops tells = tells
+text_of_packets Ending.LinkFault line text held now w w' stops tells = tells
+text_of_packets Ending.Spent line text held now w w' stops tells = tells
+text_of_packets Ending.NoAnswer line text held now w w' stops tells = tells
 text_of_packets Ending.Script line text held now w w' stops tells = absurd tells
 text_of_packets Ending.Skew line text held now w w' stops tells = absurd tells
 text_of_packets Ending.ReadFault line text held now w w' stops tells = tells
@@ -81,6 +101,10 @@ text_of_packets Ending.NotSound line text held now w w' stops tells = tells
 text_of_done : (end : Ending) (line : ℕ) (text : List ℕ) (held now : Option (List ℕ)) (w w' : ℕ) → TellsStop end line Stepped.Done held now w w' → EndsText end text held now w w'
 text_of_done Ending.Done line text held now w w' tells = absurd tells
 text_of_done Ending.Usage line text held now w w' tells = tells
+text_of_done Ending.KeepFault line text held now w w' tells = tells
+text_of_done Ending.LinkFault line text held now w w' tells = tells
+text_of_done Ending.Spent line text held now w w' tells = tells
+text_of_done Ending.NoAnswer line text held now w w' tells = tells
 text_of_done Ending.Script line text held now w w' tells = absurd tells
 text_of_done Ending.Skew line text held now w w' tells = absurd tells
 text_of_done Ending.ReadFault line text held now w w' tells = tells
@@ -123,6 +147,10 @@ script_unless Ending.Script line held now w w' tells = inl refl
 script_unless Ending.Memory line held now w w' tells = inr tt
 script_unless Ending.Done line held now w w' tells = absurd tells
 script_unless Ending.Usage line held now w w' tells = absurd tells
+script_unless Ending.KeepFault line held now w w' tells = absurd tells
+script_unless Ending.LinkFault line held now w w' tells = absurd tells
+script_unless Ending.Spent line held now w w' tells = absurd tells
+script_unless Ending.NoAnswer line held now w w' tells = absurd tells
 script_unless Ending.Skew line held now w w' tells = absurd tells
 script_unless Ending.ReadFault line held now w w' tells = absurd tells
 script_unless Ending.WriteFault line held now w w' tells = absurd tells
@@ -134,6 +162,10 @@ skew_unless Ending.Skew line broken held now w w' tells = inl refl
 skew_unless Ending.Memory line broken held now w w' tells = inr tt
 skew_unless Ending.Done line broken held now w w' tells = absurd tells
 skew_unless Ending.Usage line broken held now w w' tells = absurd tells
+skew_unless Ending.KeepFault line broken held now w w' tells = absurd tells
+skew_unless Ending.LinkFault line broken held now w w' tells = absurd tells
+skew_unless Ending.Spent line broken held now w w' tells = absurd tells
+skew_unless Ending.NoAnswer line broken held now w w' tells = absurd tells
 skew_unless Ending.Script line broken held now w w' tells = absurd tells
 skew_unless Ending.ReadFault line broken held now w w' tells = absurd tells
 skew_unless Ending.WriteFault line broken held now w w' tells = absurd tells
@@ -145,6 +177,10 @@ limit_unless Ending.Limit line limit held now w w' tells = inl refl
 limit_unless Ending.Memory line limit held now w w' tells = inr tt
 limit_unless Ending.Done line limit held now w w' tells = absurd tells
 limit_unless Ending.Usage line limit held now w w' tells = absurd tells
+limit_unless Ending.KeepFault line limit held now w w' tells = absurd tells
+limit_unless Ending.LinkFault line limit held now w w' tells = absurd tells
+limit_unless Ending.Spent line limit held now w w' tells = absurd tells
+limit_unless Ending.NoAnswer line limit held now w w' tells = absurd tells
 limit_unless Ending.Script line limit held now w w' tells = absurd tells
 limit_unless Ending.Skew line limit held now w w' tells = absurd tells
 limit_unless Ending.ReadFault line limit held now w w' tells = absurd tells
@@ -156,6 +192,10 @@ done_unless Ending.Done head events held now w w' prints = inl refl
 done_unless Ending.Memory head events held now w w' prints = inr tt
 done_unless Ending.WriteFault head events held now w w' prints = inr prints.1
 done_unless Ending.Usage head events held now w w' prints = absurd prints
+done_unless Ending.KeepFault head events held now w w' prints = absurd prints
+done_unless Ending.LinkFault head events held now w w' prints = absurd prints
+done_unless Ending.Spent head events held now w w' prints = absurd prints
+done_unless Ending.NoAnswer head events held now w w' prints = absurd prints
 done_unless Ending.Script head events held now w w' prints = absurd prints
 done_unless Ending.Skew head events held now w w' prints = absurd prints
 done_unless Ending.ReadFault head events held now w w' prints = absurd prints
@@ -215,6 +255,10 @@ silent : (end : Ending) (line : ℕ) (said : Stepped) (held now : Option (List �
 silent Ending.Memory line said held now w w' which tells = (refl, tells)
 silent Ending.Done line said held now w w' which tells = absurd tells
 silent Ending.Usage line said held now w w' which tells = absurd tells
+silent Ending.KeepFault line said held now w w' which tells = absurd tells
+silent Ending.LinkFault line said held now w w' which tells = absurd tells
+silent Ending.Spent line said held now w w' which tells = absurd tells
+silent Ending.NoAnswer line said held now w w' which tells = absurd tells
 silent Ending.Script line Stepped.Fault held now w w' which tells = absurd tells
 silent Ending.Script line Stepped.Memory held now w w' which tells = absurd tells
 silent Ending.Script line Stepped.Done held now w w' which tells = absurd tells

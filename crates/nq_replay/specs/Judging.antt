@@ -1,12 +1,13 @@
 -- What `check` reads and prints. The names of what stands in the source and in the sink before and after, and of the counts
 -- of faults, are those of `Ending`.
-use Rattle.std.specs.Prelude.{◌≡◌, ℕ, ◌+◌, List, ◌++◌, Option, Some, None, reverse, codes}
 use Rattle.std.specs.Fmt.{decimal}
+use Rattle.std.specs.Prelude.{◌≡◌, ℕ, ◌+◌, List, ◌++◌, Option, Some, None, reverse, codes}
 use Rattle.nq_base.specs.declared.Entry.{Entry}
 use Rattle.nq_check.specs.Verdict.{Fault, verdict}
 use Rattle.nq_check.specs.Words.{word_of}
 use Rattle.nq_check.specs.declared.Judged.{Judged}
 use Rattle.nq_check.specs.declared.Rule.{Rule}
+use Rattle.nq_ending.specs.declared.Ending.{Ending}
 use Rattle.nq_io.specs.Faults.{Rose}
 use Rattle.nq_io.specs.Sink.{AppendsFront}
 use Rattle.nq_io.specs.Told.{with_end}
@@ -14,7 +15,6 @@ use Rattle.nq_journal.specs.Fault.{IsFaultyAt}
 use Rattle.nq_journal.specs.Text.{IsText}
 use Rattle.nq_replay.specs.Lines.{PrintsLine, script_line}
 use Rattle.nq_replay.specs.Replay.{OfInput, PrintsLimit}
-use Rattle.nq_replay.specs.declared.ending.Ending.{Ending}
 
 -- the line of a sound journal
 unfoldable pub yes_line : List ℕ

@@ -3,15 +3,15 @@
 ghost use Rattle.std.specs.Prelude.{◌≡◌, ◌<◌, ◌≤◌, ◌^◌, ℕ, List, Some, length};
 ghost use Rattle.nq_base.specs.declared.Event.{Event};
 ghost use Rattle.nq_base.specs.declared.SkewBroken.{SkewBroken};
+ghost use Rattle.nq_ending.specs.declared.Ending.{Ending};
 ghost use Rattle.nq_replay.specs.Ending.{Ends, IsUnlessFault};
 ghost use Rattle.nq_replay.specs.Replay.{BreaksSkew, FaultyLine, OfInput, Passes, PrintsWithin, Runs};
-ghost use Rattle.nq_replay.specs.declared.ending.Ending.{Ending};
 ghost use Rattle.nq_replay.specs.declared.printing.Bound.{Bound};
 ghost use Rattle.nq_script.specs.declared.heads.Head.{Head};
 
-use crate::ending::Ending;
 use crate::printing::{Bound, limit_text, line_of_last, put_line};
 use crate::schedules::replay_text;
+use nq_ending::Ending;
 use nq_io::{Sink, Source, Whole, read_all};
 use std::alloc::Global;
 

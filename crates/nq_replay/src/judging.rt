@@ -2,14 +2,14 @@
 
 ghost use Rattle.std.specs.Prelude.{◌≡◌, ◌<◌, ◌^◌, ◌+◌, ℕ, IfOk, Some, length, string_bytes};
 ghost use Rattle.nq_check.specs.Verdict.{Fault, IsVerdict};
+ghost use Rattle.nq_ending.specs.declared.Ending.{Ending};
 ghost use Rattle.nq_replay.specs.Ending.{IsUnlessFault};
 ghost use Rattle.nq_replay.specs.Judging.{Judges, JudgesText, TellsVerdict, no_line};
-ghost use Rattle.nq_replay.specs.declared.ending.Ending.{Ending};
 
-use crate::ending::Ending;
 use crate::printing::{Bound, limit_text, line_of_last, put_line, script_text};
 use nq_base::NoMemory;
 use nq_check::{Judged, Rule, check};
+use nq_ending::Ending;
 use nq_io::{Put, Sink, Source, Whole, read_all};
 use nq_journal::{JournalFault, parse};
 use std::alloc::Global;

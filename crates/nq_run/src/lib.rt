@@ -4,5 +4,5 @@
 mod top;
 
 pub use nq_command::{Command, NoMemory, Words};
-pub use nq_fate::{CutFate, Fate, HostileFate, LossyFate, SteadyFate};
+pub use nq_storm_rules::{CutFate, Fate, HostileFate, LossyFate, SteadyFate};
 pub use top::run;

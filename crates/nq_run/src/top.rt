@@ -5,12 +5,13 @@ ghost use Rattle.nq_base.specs.declared.Event.{Event};
 ghost use Rattle.nq_base.specs.declared.SkewBroken.{SkewBroken};
 ghost use Rattle.nq_command.specs.Commands.{IsCheck, IsReplay, command_of};
 ghost use Rattle.nq_command.specs.declared.Command.{Command};
+ghost use Rattle.nq_ending.specs.Status.{WithStatus, status_of};
+ghost use Rattle.nq_ending.specs.declared.Ending.{Ending};
 ghost use Rattle.nq_loop.specs.Sending.{told_of};
-ghost use Rattle.nq_replay.specs.Ending.{Ends, IsUnlessFault, WithStatus, status_of};
+ghost use Rattle.nq_replay.specs.Ending.{Ends, IsUnlessFault};
 ghost use Rattle.nq_replay.specs.Judging.{Judges};
 ghost use Rattle.nq_replay.specs.Lines.{PrintsLine, usage_line};
 ghost use Rattle.nq_replay.specs.Replay.{BreaksSkew, FaultyLine, OfInput, Passes, Runs};
-ghost use Rattle.nq_replay.specs.declared.Ending.{Ending};
 ghost use Rattle.nq_replay.specs.declared.Bound.{Bound};
 ghost use Rattle.nq_run.specs.Frames.{reads_clock, reads_input, uses_link, uses_links};
 ghost use Rattle.nq_run.specs.Hosting.{Attends, ServesFor};
@@ -22,15 +23,15 @@ ghost use Rattle.nq_script.specs.declared.heads.Head.{Head};
 use nq_base::{Host, Inc};
 use nq_clock::Clock;
 use nq_command::{Command, Words};
-use nq_fate::Fate;
+use nq_ending::Ending;
 use nq_hosts::serve;
 use nq_io::{Sink, Source};
 use nq_keeper::Keeper;
 use nq_link::Link;
-use nq_looping::run_loop;
-use nq_replay::{Ending, judge, put_line, replay};
-use nq_storm_text::first_of;
-use nq_storming::run_storm;
+use nq_loop::run_loop;
+use nq_replay::{judge, put_line, replay};
+use nq_storm::{first_of, run_storm};
+use nq_storm_rules::Fate;
 use nq_user::client;
 use std::alloc::Global;
 
@@ -43,24 +44,9 @@ const MOST_BYTES: usize = 16_777_216;
 /// [`run_loop`] tells. The headline of `nq_laws` holds at each moment of the run whose journal `replay`, `storm` or `loop` printed, and that
 /// journal is sound for `check`: leases, ticks, restarts and crashes included. That the schedule is within skew and keeps to the bounds
 /// is no premise, since the run itself tests it. What the words have no use for stays as it was: the input, the link, the links of a loop, the
-/// clock. The exit statuses:
+/// clock.
 ///
-/// - 0: the journal of the run was printed, and of a storm or a loop its schedule before it and its counts behind it; or `yes`, since the
-///   journal that was read is sound; or the turns of the server, or the answers of the client.
-/// - 1: the words say none of these, or no fate is of the kind; prints `usage`.
-/// - 2: a line is outside the grammar, or delivers a packet that was not sent; prints `script line N`, with lines counted from 1.
-/// - 3: a tick of the server's clock breaks the rule on skew (Macklem 1994); prints `skew line N host H server S client C`.
-/// - 4: the source failed, which it has counted; prints nothing.
-/// - 5: the sink failed, which it has counted; a front of what is due is printed.
-/// - 6: the keeper failed, which it has counted; prints nothing.
-/// - 7: memory was wanting; a front of what is due may be printed.
-/// - 8: the link, or one of those of a loop, failed, which it has counted.
-/// - 9: the input has more than 16,777,216 bytes, the schedule more than 100,000 events, or an event comes after more than 999,936
-///   packets; prints `limit line N bytes`, `events` or `packets`, with line 0 for a storm or a loop. A client that can take in no more prints
-///   `events`.
-/// - 10: no number is left for a boot of the server, or for what it takes in; prints nothing.
-/// - 11: no turn of the client ended a call, or attaching, which is line 0; prints `noanswer line N`.
-/// - 12: the journal that was read is not sound; prints `no line N RULE` with the line of the first entry at fault.
+/// The answer is the exit status. `docs/commands.md` says when each comes, and what is printed then.
 #[tactic(auto, using(crate::proofs::Commands::says_replay, crate::proofs::Commands::says_check), unfolding(crate::specs::Promised::most_bytes))]
 pub fn run<S: Source, K: Sink, P: Keeper + Drop, L: Link, C: Clock>(
     alloc: Global,

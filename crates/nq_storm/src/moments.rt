@@ -1,25 +1,25 @@
 //! One moment of a storm.
 
-ghost use Rattle.std.specs.Prelude.{◌≡◌, ◌<◌, ◌≤◌, ◌+◌, ◌-◌, ◌^◌, ◌++◌, ◌∷◌, [], ℕ, List, Option, IfSome, IsNone, length, reverse, take};
 ghost use Rattle.std.specs.List.{AllByRecursion};
+ghost use Rattle.std.specs.Prelude.{◌≡◌, ◌<◌, ◌≤◌, ◌+◌, ◌-◌, ◌^◌, ◌++◌, ◌∷◌, [], ℕ, List, Option, IfSome, IsNone, length, reverse, take};
 ghost use Rattle.nq_base.specs.declared.Event.{Event};
-ghost use Rattle.nq_fate.specs.Rules.{Rule};
-ghost use Rattle.nq_fate.specs.Stormy.{IsStormy};
-ghost use Rattle.nq_lines.specs.Going.{IsAt};
 ghost use Rattle.nq_model.specs.Stepped.{most_events, most_sent};
 ghost use Rattle.nq_model.specs.World.{Head};
-ghost use Rattle.nq_storm.specs.Ending.{CountsFaults, Gives, Halts, IsInStorm, IsReached, Stands, ending_of};
-ghost use Rattle.nq_storm_text.specs.Storming.{IsChosen, IsOffered, word_behind};
+ghost use Rattle.nq_play.specs.Going.{IsAt};
+ghost use Rattle.nq_play.specs.Reaching.{IsReached};
+ghost use Rattle.nq_storm.specs.Ending.{CountsFaults, Gives, Halts, IsInStorm, Stands, ending_of};
+ghost use Rattle.nq_storm.specs.Storming.{IsChosen, IsOffered, word_behind};
 ghost use Rattle.nq_storm.specs.declared.stormed.Stormed.{Stormed};
+ghost use Rattle.nq_storm_rules.specs.Rules.{Rule};
+ghost use Rattle.nq_storm_rules.specs.Stormy.{IsStormy};
 ghost use Rattle.nq_world.specs.Playing.{HasSettings};
 
 use crate::stormed::Stormed;
 use nq_base::Event;
-use nq_fate::{Fate, Offer, choose_event};
 use nq_keeper::Keeper;
-use nq_lines::note;
-use nq_play::Delivered;
+use nq_play::{Delivered, note};
 use nq_script::Schedule;
+use nq_storm_rules::{Fate, Offer, choose_event};
 use nq_world::{Limit, MOST_EVENTS, MOST_SENT, Stepped, World};
 
 /// The limit that is reached after so many events and packets, if one is.

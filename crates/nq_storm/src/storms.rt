@@ -1,18 +1,18 @@
 //! Storms over a world.
 
-ghost use Rattle.std.specs.Prelude.{◌≡◌, [], length, reverse};
 ghost use Rattle.std.specs.List.{AllByRecursion};
-ghost use Rattle.nq_fate.specs.Stormy.{IsStormy};
+ghost use Rattle.std.specs.Prelude.{◌≡◌, [], length, reverse};
 ghost use Rattle.nq_model.specs.World.{Head};
 ghost use Rattle.nq_storm.specs.Ending.{CountsFaults, Storms};
+ghost use Rattle.nq_storm_rules.specs.Stormy.{IsStormy};
 ghost use Rattle.nq_world.specs.Playing.{HasSettings, Plays};
 
 use crate::moments::pass_moment;
 use crate::stormed::Stormed;
-use nq_fate::{Fate, Words};
 use nq_keeper::Keeper;
 use nq_play::Delivered;
 use nq_script::Schedule;
+use nq_storm_rules::{Fate, Words};
 use nq_world::World;
 use std::alloc::Global;
 

@@ -2,7 +2,7 @@
 
 use nq_base::{FileId, Grant, Mode, NoMemory, Rev, Tag, Ticks};
 use nq_dirty::Dirty;
-use nq_held::{Held, Take, Taken};
+use nq_client_leases::{Held, Take, Taken};
 
 const FILE: FileId = FileId(1);
 

@@ -2,7 +2,7 @@
 
 use anyhow::Result;
 use nq_base::{Call, Event};
-use nq_fate::{
+use nq_storm_rules::{
     CutFate, Fate, HostileFate, LossyFate, Offer, SteadyFate, Words, choose_event, event_at,
 };
 

@@ -1,9 +1,9 @@
 //! The schedule that a storm prints is replayed, and prints the storm's journal.
 
-use nq_fate::{Fate, LossyFate, SteadyFate};
 use nq_io::{MemSink, MemSource};
 use nq_replay::replay;
-use nq_storming::run_storm;
+use nq_storm::run_storm;
+use nq_storm_rules::{Fate, LossyFate, SteadyFate};
 use std::test::Fail;
 
 /// How many bytes there are up to the first line `end`, with that line.

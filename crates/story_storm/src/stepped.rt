@@ -1,18 +1,17 @@
 //! The events of a storm are given to another world, one by one, and to `replay`.
 
-ghost use Rattle.std.specs.Prelude.{IfOk, IsTrue};
 ghost use Rattle.std.specs.List.{AllByRecursion};
-ghost use Rattle.nq_fate.specs.Stormy.{IsStormy};
+ghost use Rattle.std.specs.Prelude.{IfOk, IsTrue};
+ghost use Rattle.nq_storm_rules.specs.Stormy.{IsStormy};
 ghost use Rattle.nq_world.specs.Playing.{CanCome, HasSettings};
 
 use nq_base::Event;
-use nq_fate::LossyFate;
 use nq_io::{MemSink, MemSource};
 use nq_keeper::{Keeper, ListKeeper};
 use nq_replay::{begin, print_journal, replay};
 use nq_script::Schedule;
-use nq_storm::{Stormed, storm};
-use nq_storm_text::{schedule_text, storm_head};
+use nq_storm::{Stormed, storm, schedule_text, storm_head};
+use nq_storm_rules::LossyFate;
 use nq_world::{Stepped, World};
 use std::test::Fail;
 

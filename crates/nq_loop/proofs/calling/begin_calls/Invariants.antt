@@ -1,7 +1,7 @@
 use Rattle.std.proofs.Common.{◌≡◌, length, Ok}
+use Rattle.nq_loop.specs.Holding.{IsLooping, Keeps, Loops, loop_of}
 use Rattle.nq_loop.specs.Looping.{Step}
 use Rattle.nq_loop.specs.Steps.{each_below}
-use Rattle.nq_loop.specs.Holding.{IsLooping, Keeps, Loops, loop_of}
 use Rattle.nq_model.specs.World.{Head}
 use Rattle.nq_loop.proofs.calling.begin_calls.Given as goal
 

@@ -1,7 +1,7 @@
 use Rattle.std.proofs.Common.{◌≡◌, ◌∙◌, inl, length, map, refl, sym, ap, subst}
 use Rattle.std.specs.Prelude.{reverse}
-use Rattle.nq_loop.specs.Counting.{Counts}
 use Rattle.nq_loop.proofs.Kept.{filled_event}
+use Rattle.nq_loop.specs.Counting.{Counts}
 use Rattle.nq_loop.specs.Holding.{IsLooping, loop_of}
 use Rattle.nq_loop.specs.Sending.{told_of}
 use Rattle.nq_loop.proofs.giving.give_event.Goals as goal

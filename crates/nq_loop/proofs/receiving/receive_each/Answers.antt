@@ -1,9 +1,9 @@
 use Rattle.std.proofs.Common.{◌∙◌, ◌∷◌, [], length, sym, subst}
 use Rattle.nq_base.specs.declared.Party.{Party}
-use Rattle.nq_loop.specs.Looping.{Step, receive_steps}
-use Rattle.nq_loop.specs.Steps.{each_below}
 use Rattle.nq_loop.proofs.Whole.{cut-first, keeps-behind, then}
 use Rattle.nq_loop.specs.Holding.{Keeps, Loops, loop_of}
+use Rattle.nq_loop.specs.Looping.{Step, receive_steps}
+use Rattle.nq_loop.specs.Steps.{each_below}
 use Rattle.nq_loop.proofs.receiving.receive_each.Goals as goal
 
 pub returns-in-Ok : goal.returns-in-Ok

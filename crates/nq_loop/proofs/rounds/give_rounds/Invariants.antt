@@ -1,6 +1,6 @@
 use Rattle.std.proofs.Common.{◌≡◌, length, Ok}
-use Rattle.nq_loop.specs.Looping.{rounds_steps}
 use Rattle.nq_loop.specs.Holding.{IsLooping, Keeps, Loops, loop_of}
+use Rattle.nq_loop.specs.Looping.{rounds_steps}
 use Rattle.nq_model.specs.World.{Head}
 use Rattle.nq_loop.proofs.rounds.give_rounds.Given as goal
 

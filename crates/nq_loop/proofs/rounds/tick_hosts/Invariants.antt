@@ -1,8 +1,8 @@
 use Rattle.std.proofs.Common.{◌≡◌, length, Ok}
 use Rattle.nq_base.specs.declared.Event.{Event}
+use Rattle.nq_loop.specs.Holding.{IsLooping, Keeps, Loops, loop_of}
 use Rattle.nq_loop.specs.Looping.{Step}
 use Rattle.nq_loop.specs.Steps.{each_below}
-use Rattle.nq_loop.specs.Holding.{IsLooping, Keeps, Loops, loop_of}
 use Rattle.nq_model.specs.World.{Head}
 use Rattle.nq_loop.proofs.rounds.tick_hosts.Given as goal
 

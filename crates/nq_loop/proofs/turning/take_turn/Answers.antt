@@ -1,7 +1,7 @@
 use Rattle.std.proofs.Common.{◌∙◌, ◌++◌, length, sym, subst}
-use Rattle.nq_loop.specs.Looping.{call_steps, receive_steps, rounds_steps, turn_steps}
 use Rattle.nq_loop.proofs.Whole.{cut-first, keeps-behind, then}
 use Rattle.nq_loop.specs.Holding.{Keeps, Loops, loop_of}
+use Rattle.nq_loop.specs.Looping.{call_steps, receive_steps, rounds_steps, turn_steps}
 use Rattle.nq_loop.proofs.turning.take_turn.Goals as goal
 
 pub returns-in-Ok : goal.returns-in-Ok

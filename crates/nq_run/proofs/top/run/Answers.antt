@@ -1,7 +1,9 @@
 use Rattle.std.proofs.Common.{◌∙◌, Some, ap, refl, sym}
 use Rattle.nq_command.specs.Commands.{command_of}
+use Rattle.nq_ending.proofs.Ends.{one_end}
+use Rattle.nq_ending.specs.declared.Ending.{Ending}
 use Rattle.nq_run.proofs.LoopPromises.{loop_does, loop_lawful, loop_usage}
-use Rattle.nq_run.proofs.Promises.{done_by, input_lawful, input_sound}
+use Rattle.nq_run.proofs.Promises.{input_lawful, input_sound}
 use Rattle.nq_run.proofs.StormPromises.{storm_does, storm_lawful, storm_never, storm_prints, storm_usage}
 use Rattle.nq_run.specs.Promised.{most_bytes}
 use Rattle.nq_run.proofs.top.run.Goals as goal
@@ -20,11 +22,11 @@ returns-in-Some-Replay-clause-done g c = λ is text told within head events runs
 
 pub returns-in-Some-Replay-clause-headline : goal.returns-in-Some-Replay-clause-headline
 unfolding most_bytes
-returns-in-Some-Replay-clause-headline g c = λ is done. input_lawful _ _ _ _ _ (c.replay.ensures.lawful (done_by c.replay.result c.status.result c.status.ensures done))
+returns-in-Some-Replay-clause-headline g c = λ is done. input_lawful _ _ _ _ _ (c.replay.ensures.lawful (one_end c.replay.result Ending.Done c.status.result c.status.ensures done))
 
 pub returns-in-Some-Replay-clause-sound : goal.returns-in-Some-Replay-clause-sound
 unfolding most_bytes
-returns-in-Some-Replay-clause-sound g c = λ is done. input_sound _ _ _ _ _ (c.replay.ensures.lawful (done_by c.replay.result c.status.result c.status.ensures done))
+returns-in-Some-Replay-clause-sound g c = λ is done. input_sound _ _ _ _ _ (c.replay.ensures.lawful (one_end c.replay.result Ending.Done c.status.result c.status.ensures done))
 
 pub returns-in-Some-Storm-clause-usage : goal.returns-in-Some-Storm-clause-usage
 returns-in-Some-Storm-clause-usage g c = λ none.

@@ -1,8 +1,8 @@
 use Rattle.std.proofs.Common.{◌∙◌, refl, subst, sym, arith}
 use Rattle.std.proofs.lemmas.List.{length-reverse}
 use Rattle.std.specs.Prelude.{reverse}
-use Rattle.nq_storm.specs.Ending.{IsInStorm}
 use Rattle.nq_storm.proofs.Whole.{begins, counts_on, drawn, further, is_cut, is_whole}
+use Rattle.nq_storm.specs.Ending.{IsInStorm}
 use Rattle.nq_storm.proofs.storms.storm.Goals as goal
 
 pub loop-earlier-init : goal.loop-earlier-init

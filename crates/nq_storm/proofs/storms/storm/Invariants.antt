@@ -1,10 +1,10 @@
 use Rattle.std.proofs.Common.{◌≡◌, [], length}
 use Rattle.std.specs.List.{AllByRecursion}
 use Rattle.std.specs.Prelude.{reverse}
-use Rattle.nq_fate.specs.Stormy.{IsStormy}
 use Rattle.nq_model.specs.World.{Head}
 use Rattle.nq_storm.specs.Ending.{IsInStorm}
-use Rattle.nq_storm_text.specs.Storming.{generator}
+use Rattle.nq_storm.specs.Storming.{generator}
+use Rattle.nq_storm_rules.specs.Stormy.{IsStormy}
 use Rattle.nq_world.specs.Playing.{HasSettings, Plays}
 use Rattle.nq_storm.proofs.storms.storm.Given as goal
 

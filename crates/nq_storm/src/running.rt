@@ -1,0 +1,95 @@
+//! Running a storm.
+
+ghost use Rattle.std.specs.List.{AllByRecursion};
+ghost use Rattle.std.specs.Prelude.{◌≡◌, ℕ, Option, Some, reverse};
+ghost use Rattle.nq_keeper.specs.StoredKeeper.{empty_kept};
+ghost use Rattle.nq_play.specs.Playing.{beginning};
+ghost use Rattle.nq_storm.specs.Ending.{Storms};
+ghost use Rattle.nq_storm.specs.Heads.{storm_head};
+ghost use Rattle.nq_storm.specs.Printed.{StormEnds};
+ghost use Rattle.nq_storm_rules.specs.Rules.{Rule};
+ghost use Rattle.nq_storm_rules.specs.Stormy.{IsStormy};
+
+use crate::printing::print_storm;
+use crate::schedules::storm_head;
+use crate::stormed::Stormed;
+use crate::storms::storm;
+use nq_ending::Ending;
+use nq_io::Sink;
+use nq_keeper::{Keeper, ListKeeper};
+use nq_replay::{begin, tell_limit};
+use nq_script::{Head, Schedule};
+use nq_storm_rules::Fate;
+use nq_world::World;
+use std::alloc::Global;
+
+/// Runs a storm of so many events, which a fate chooses, over four hosts and two files. It prints the text of its schedule, the text
+/// of that schedule's journal, and a line that counts events, packets and losses. How it ends:
+///
+/// - `Done`: all of that was printed. The schedule is within skew and keeps to the bounds.
+/// - `WriteFault`: the sink failed, which it has counted; a front of that is printed.
+/// - `Memory`: memory was wanting; a front of that may be printed.
+/// - `Limit`: more than 999,936 packets came before an event, or 100,000 events; prints `limit line 0 packets` or `events`.
+pub fn run_storm<K: Sink>(
+    alloc: Global,
+    fate: Box<dyn Fate>,
+    start: u64,
+    events: u32,
+    out: &mut K,
+) -> Ending
+    ensures { StormEnds result start events (told fate) (K.held out.old) (K.held out.new) (K.faults out.old) (K.faults out.new) }
+{
+    match ListKeeper::new(alloc, Vec::new(alloc)) {
+        Ok(keeper) => storm_over(alloc, keeper, fate, start, events, out),
+        Err(_) => Ending::Memory,
+    }
+}
+
+/// Runs a storm over a keeper that keeps nothing yet, which is told to fail in no call.
+fn storm_over<L: Keeper + Drop, K: Sink>(
+    alloc: Global,
+    keeper: L,
+    fate: Box<dyn Fate>,
+    start: u64,
+    events: u32,
+    out: &mut K,
+) -> Ending
+    requires { L.content keeper ≡ Some empty_kept }
+    ensures { StormEnds result start events (told fate) (K.held out.old) (K.held out.new) (K.faults out.old) (K.faults out.new) }
+{
+    let Ok(head) = storm_head(alloc) else {
+        return Ending::Memory;
+    };
+    let Ok(mut ran) = Schedule::new(alloc) else {
+        return Ending::Memory;
+    };
+    let Ok(mut world) = begin(alloc, &head, keeper) else {
+        return Ending::Memory;
+    };
+    let stormed = storm(alloc, &mut world, fate, start, events, &mut ran);
+    let ending = tell(alloc, &head, &world, &ran, stormed, out);
+    let _keeper = world.into_keeper();
+    ending
+}
+
+/// Prints what a storm is, or at which limit it stopped. A keeper that is told to fail in no call has no fault.
+fn tell<L: Keeper, K: Sink>(
+    alloc: Global,
+    head: &Head,
+    world: &World<L>,
+    ran: &Schedule,
+    stormed: Stormed,
+    out: &mut K,
+) -> Ending
+    requires head { head.now ≡ storm_head }
+    requires stormy { AllByRecursion IsStormy ran.now }
+    ensures { (start count : ℕ) (first : Option Rule) → Storms stormed (beginning storm_head) start count first (reverse ran.now) world.now (L.content world.now.server.keeper)
+        → StormEnds result start count first (K.held out.old) (K.held out.new) (K.faults out.old) (K.faults out.new) }
+{
+    match stormed {
+        Stormed::Done => print_storm(alloc, head, world, ran, out),
+        Stormed::Limit(limit) => tell_limit(alloc, 0, limit, out),
+        Stormed::Fault => Ending::KeepFault,
+        Stormed::Memory => Ending::Memory,
+    }
+}
