@@ -7,7 +7,7 @@ ghost use Rattle.nq_ending.specs.declared.Ending.{Ending};
 
 use crate::ending::Stop;
 use crate::lines::answers_text;
-use nq_base::NoMemory;
+use nq_base::{Journal, NoMemory};
 use nq_ending::{Ending, Halt};
 use nq_io::{Put, Sink};
 use std::alloc::Global;

@@ -21,7 +21,7 @@ ghost use Rattle.nq_world.specs.Playing.{HasSettings, Plays, keeper_in};
 ghost use Rattle.nq_world.specs.declared.stepped.Stepped.{Stepped};
 
 use crate::printing::{Bound, limit_text, put_line, script_text, skew_text};
-use nq_base::{NoMemory, SkewBroken};
+use nq_base::{Journal, NoMemory, SkewBroken};
 use nq_ending::Ending;
 use nq_io::Sink;
 use nq_journal::{Printed, is_in, print};
