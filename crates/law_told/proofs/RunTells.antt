@@ -192,8 +192,8 @@ repeats head earlier host xid seq r who line deed asked home by sq inc same =
     one : (deed.xid ≡ xid) × (deed.asks ≡ r)
     one =
         let both = one-in-every-run head earlier first.0 second.0 who.host host deed.xid xid deed.asks r who seq
-            (record { sent = first.2; by = deed.by ∙ ap Some same-who; sequence = deed.sequence ∙ ap Some same })
-            (record { sent = second.2; by = by; sequence = sq }) in
+        (record { sent = first.2; by = deed.by ∙ ap Some same-who; sequence = deed.sequence ∙ ap Some same })
+        (record { sent = second.2; by = by; sequence = sq }) in
         (both.2, both.3)
 
 module _ (head : Head) (event : Event) (earlier : List Event) (p : Packet) (i : In (run head earlier).packets p) (to : p.to ≡ Party.Server) (t : AllTrue head earlier) where

@@ -161,10 +161,10 @@ module _ (s : Server) (sender next : ℕ) (d : Datagram) (no_null : (xid : ℕ) 
       let answer : Reply = verdict_reply who.inc c.verdict c.value r in
       let after : List File = c.server.kept.files in (
         subst (λ xs. Tell after (xs ++ to_host who.host (reply xid answer) ∷ [])) (sym sent)
-        (behind-notices after number rows who.host xid answer (answers after xid who r answer e by from (verdict-inc who.inc c.verdict c.value r seq sq) (so_after so))),
+            (behind-notices after number rows who.host xid answer (answers after xid who r answer e by from (verdict-inc who.inc c.verdict c.value r seq sq) (so_after so))),
         λ k. line-as c.server.kept who.host k (row_after who seq c) (RowMove s after d sender k)
-        (row_stays (ap (λ hs. host_row (record s.kept { hosts = hs }) k) hosts))
-        (λ here. row_decided xid r who e by from.host here refl sq (λ done. done-so after who.inc c.verdict c.value r done so)),
+            (row_stays (ap (λ hs. host_row (record s.kept { hosts = hs }) k) hosts))
+            (λ here. row_decided xid r who e by from.host here refl sq (λ done. done-so after who.inc c.verdict c.value r done so)),
       )
 
   declined : (xid : ℕ) (who : Who) (seq : ℕ) (r : Request) (v : Verdict) → d ≡ request xid r → asker r ≡ Some who → sequence_of r ≡ Some seq → IsFrom sender who → IsDeclined s who r v → Both (commits who seq xid r (decides s v))

@@ -13,7 +13,12 @@ use nq_io::{Put, Sink};
 use std::alloc::Global;
 
 /// Tells how calls ended.
-pub fn tell_end<K: Sink>(alloc: Global, ended: Result<(), Stop>, log: &Journal, out: &mut K) -> Ending
+pub fn tell_end<K: Sink>(
+    alloc: Global,
+    ended: Result<(), Stop>,
+    log: &Journal,
+    out: &mut K,
+) -> Ending
     ensures { TellsEnd ended log.now.entries result (K.held out.old) (K.held out.new) (K.faults out.old) (K.faults out.new) }
 {
     match ended {
@@ -69,7 +74,13 @@ fn tell_no_answer<K: Sink>(alloc: Global, log: &Journal, number: u32, out: &mut 
 }
 
 /// Prints the answers and a line behind them.
-fn tell_behind<K: Sink>(alloc: Global, log: &Journal, line: &[u8], due: Ending, out: &mut K) -> Ending
+fn tell_behind<K: Sink>(
+    alloc: Global,
+    log: &Journal,
+    line: &[u8],
+    due: Ending,
+    out: &mut K,
+) -> Ending
     ensures { TellsSo due (answers_text log.now.entries ++ line.now) result (K.held out.old) (K.held out.new) (K.faults out.old) (K.faults out.new) }
 {
     match text_behind(alloc, log, line) {
