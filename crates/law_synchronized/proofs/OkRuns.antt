@@ -192,6 +192,10 @@ module _ (stands : StandingInEveryRun) (counts : CountedInEveryRun) (most : ℕ)
     crashed = λ events longest during long few g. server-step (Event.Crash longest) events _ during (crash-makes (run head events).packets (run head events).server longest) g;
   }
 
+-- what is kept of each client in every run
+pub oks-runs : StandingInEveryRun → CountedInEveryRun → InEveryRun (λ head events. Oks (run head events))
+oks-runs stands counts most head events bounds within = run-keeps (oks-keep stands counts most head) events bounds within
+
 -- each answer at its place
 pub answered-runs : StandingInEveryRun → CountedInEveryRun → InEveryRun (λ head events. Throughout KeptHere (run head events).journal)
 answered-runs stands counts most head events bounds within = (run-keeps (oks-keep stands counts most head) events bounds within).kept

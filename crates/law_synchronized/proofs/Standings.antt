@@ -12,7 +12,7 @@ use Rattle.nq_model.specs.World.{run}
 use Rattle.law_reports.proofs.ReportedRuns.{losses-fit}
 use Rattle.law_synchronized.proofs.OkFacts.{CoversNumber, by_store, by_loss, LiesWithin, in_list, under_way}
 use Rattle.law_synchronized.proofs.KeptPlaces.{KeptHere, answers-are-of-calls, busy-at-once}
-use Rattle.law_synchronized.proofs.OkRuns.{StandingInEveryRun, CountedInEveryRun, answered-runs, synchronized-runs}
+use Rattle.law_synchronized.proofs.OkRuns.{Oks, oks-runs, StandingInEveryRun, CountedInEveryRun, answered-runs, synchronized-runs}
 use Rattle.nq_promises.specs.AnswersAreOfTheirCalls.{AnswersAreOfTheirCallsInEveryRun}
 use Rattle.nq_promises.specs.Bounds.{InEveryRun}
 use Rattle.nq_promises.specs.BusyIsSaidAtOnce.{BusyIsSaidAtOnceInEveryRun}
@@ -58,6 +58,10 @@ counted most head events bounds within host c is =
 -- what is answered ok is kept, in every run
 pub synchronized-in-every-run : SynchronizedInEveryRun
 synchronized-in-every-run = synchronized-runs standing counted
+
+-- what is kept of each client
+pub oks-in-every-run : InEveryRun (λ head events. Oks (run head events))
+oks-in-every-run = oks-runs standing counted
 
 -- each answer at its place
 pub answered-in-every-run : InEveryRun (λ head events. Throughout KeptHere (run head events).journal)

@@ -1,3 +1,6 @@
+pub mod ClientRests
+pub mod RunAnswers
 pub mod RunTells
+pub mod ServerEntries
 pub mod ServerTells
 pub mod SomeTold

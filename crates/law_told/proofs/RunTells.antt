@@ -37,7 +37,7 @@ once-now : (P : World → Type 0) (head : Head) (events : List Event) → P (run
 once-now P head [] now = now
 once-now P head (event ∷ earlier) now = inl now
 
-once-map : (P Q : World → Type 0) (head : Head) (events : List Event) → ((w : World) → P w → Q w) → Once P head events → Once Q head events
+pub once-map : (P Q : World → Type 0) (head : Head) (events : List Event) → ((w : World) → P w → Q w) → Once P head events → Once Q head events
 once-map P Q head [] f once = f (run head []) once
 once-map P Q head (event ∷ earlier) f (inl now) = inl (f (run head (event ∷ earlier)) now)
 once-map P Q head (event ∷ earlier) f (inr before) = inr (once-map P Q head earlier f before)
@@ -45,15 +45,16 @@ once-map P Q head (event ∷ earlier) f (inr before) = inr (once-map P Q head ea
 -- ---- what is kept of a run
 
 -- the request had been sent, and what the reply tells was so
-abbrev HadSo : (host xid : ℕ) → Reply → Request → World → Type 0
+abbrev pub HadSo : (host xid : ℕ) → Reply → Request → World → Type 0
 HadSo host xid a r w = Asked w.packets host xid r × IsSo w.server.kept.files a r
 
-record IsTrue (head : Head) (events : List Event) (host xid : ℕ) (a : Reply) : Type 0 where
-  asks : Request
-  who : Who
-  by : asker asks ≡ Some who
-  inc : inc_of a ≡ who.inc
-  was : Once (HadSo host xid a asks) head events
+pub record IsTrue (head : Head) (events : List Event) (host xid : ℕ) (a : Reply) : Type 0 where
+  pub asks : Request
+  pub who : Who
+  pub by : asker asks ≡ Some who
+  pub inc : inc_of a ≡ who.inc
+  pub sent : Asked (run head events).packets host xid asks
+  pub was : Once (HadSo host xid a asks) head events
 
 -- a host's row is of a request that was sent, and what it tells was so
 record IsDeed (head : Head) (events : List Event) (k : ℕ) (line : HostRow) : Type 0 where
@@ -70,12 +71,12 @@ record IsDeed (head : Head) (events : List Event) (k : ℕ) (line : HostRow) : T
 abbrev RowTrue : Head → List Event → ℕ → HostRow → Type 0
 RowTrue head events k line = line.verdict ≡ Verdict.Done → 1 ≤ line.seq → IsDeed head events k line
 
-record AllTrue (head : Head) (events : List Event) : Type 0 where
-  replies : (host xid : ℕ) (a : Reply) → Told (run head events).packets host (reply xid a) → IsTrue head events host xid a
+pub record AllTrue (head : Head) (events : List Event) : Type 0 where
+  pub replies : (host xid : ℕ) (a : Reply) → Told (run head events).packets host (reply xid a) → IsTrue head events host xid a
   rows : (k : ℕ) → RowTrue head events k (host_row (run head events).server.kept k)
 
-later-true : (head : Head) (event : Event) (earlier : List Event) (host xid : ℕ) (a : Reply) → IsTrue head earlier host xid a → IsTrue head (event ∷ earlier) host xid a
-later-true head event earlier host xid a t = record { asks = t.asks; who = t.who; by = t.by; inc = t.inc; was = inr t.was }
+later-true : (head : Head) (event : Event) (earlier : List Event) (host xid : ℕ) (a : Reply) → ((h x : ℕ) (r : Request) → Asked (run head earlier).packets h x r → Asked (run head (event ∷ earlier)).packets h x r) → IsTrue head earlier host xid a → IsTrue head (event ∷ earlier) host xid a
+later-true head event earlier host xid a more t = record { asks = t.asks; who = t.who; by = t.by; inc = t.inc; sent = more host xid t.asks t.sent; was = inr t.was }
 
 later-deed : (head : Head) (event : Event) (earlier : List Event) (k : ℕ) (line : HostRow) → ((host xid : ℕ) (r : Request) → Asked (run head earlier).packets host xid r → Asked (run head (event ∷ earlier)).packets host xid r) → IsDeed head earlier k line → IsDeed head (event ∷ earlier) k line
 later-deed head event earlier k line more d = record {
@@ -95,7 +96,7 @@ later-deed head event earlier k line more d = record {
 -- after an event that tells no host anything new and leaves the rows
 same-true : (head : Head) (event : Event) (earlier : List Event) (w : World) → run head (event ∷ earlier) ≡ w → ((host xid : ℕ) (a : Reply) → Told w.packets host (reply xid a) → Told (run head earlier).packets host (reply xid a)) → ((host xid : ℕ) (r : Request) → Asked (run head earlier).packets host xid r → Asked w.packets host xid r) → ((k : ℕ) → host_row w.server.kept k ≡ host_row (run head earlier).server.kept k) → AllTrue head earlier → AllTrue head (event ∷ earlier)
 same-true head event earlier w is old more rows t = record {
-  replies = λ host xid a told. later-true head event earlier host xid a (t.replies host xid a (old host xid a (subst (λ v. Told v.packets host (reply xid a)) is told)));
+  replies = λ host xid a told. later-true head event earlier host xid a (λ h x r asked. subst (λ v. Asked v.packets h x r) (sym is) (more h x r asked)) (t.replies host xid a (old host xid a (subst (λ v. Told v.packets host (reply xid a)) is told)));
   rows = λ k done one.
       let same : host_row (run head (event ∷ earlier)).server.kept k ≡ host_row (run head earlier).server.kept k = ap (λ v. host_row v.server.kept k) is ∙ rows k in
       subst (IsDeed head (event ∷ earlier) k) (sym same)
@@ -241,7 +242,7 @@ module _ (head : Head) (event : Event) (earlier : List Event) (p : Packet) (i : 
     new-reply : (host xid : ℕ) (a : Reply) → Tells w.server step_of.server.kept.files (datagram_of p.message) (sending_host p.sender) host xid a → IsTrue head (event ∷ earlier) host xid a
     new-reply host xid a k =
         let asked : Asked w.packets host xid k.asks = subst (λ h. Asked w.packets h xid k.asks) (sym k.to) (asked-of xid k.asks k.is) in
-        record { asks = k.asks; who = k.who; by = k.by; inc = k.inc; was = why-true host xid a k.asks k.who asked k.home k.by k.why }
+        record { asks = k.asks; who = k.who; by = k.by; inc = k.inc; sent = asked-later host xid k.asks asked; was = why-true host xid a k.asks k.who asked k.home k.by k.why }
 
     row-true : (k : ℕ) (line : HostRow) → RowMove w.server step_of.server.kept.files (datagram_of p.message) (sending_host p.sender) k line → RowTrue head (event ∷ earlier) k line
     row-true k line (row_stays same) done one =
@@ -272,7 +273,7 @@ module _ (head : Head) (event : Event) (earlier : List Event) (p : Packet) (i : 
         }
       where
         by : (host xid : ℕ) (a : Reply) → ((h x : ℕ) (b : Reply) → In step_of.sends (to_host h (reply x b)) → Tells w.server step_of.server.kept.files (datagram_of p.message) (sending_host p.sender) h x b) → In w.packets (to_host host (reply xid a)) ⊎ In step_of.sends (to_host host (reply xid a)) → IsTrue head (event ∷ earlier) host xid a
-        by host xid a tells (inl old) = later-true head event earlier host xid a (t.replies host xid a old)
+        by host xid a tells (inl old) = later-true head event earlier host xid a asked-later (t.replies host xid a old)
         by host xid a tells (inr new) = new-reply host xid a (tells host xid a new)
 
 -- ---- runs
@@ -320,7 +321,7 @@ starts-true head = record {
   rows = λ k done one. let none = start-seq head k in absurd (omega arith);
 }
 
-all-true : (head : Head) (events : List Event) → AllTrue head events
+pub all-true : (head : Head) (events : List Event) → AllTrue head events
 all-true head [] = starts-true head
 all-true head (event ∷ earlier) = step-true head event earlier (all-true head earlier)
 

@@ -1,13 +1,21 @@
-//! What replies tell. The law stands on a function with an empty body, whose clause is the law and whose proof stands in `proofs/`.
+//! What replies and answers tell. Each law stands on a function with an empty body, whose clause is the law and whose proof stands
+//! in `proofs/`.
 #![tactic(auto)]
 
 ghost use Rattle.law_told.specs.Met.{TellingsAreMet};
+ghost use Rattle.nq_promises.specs.AnswersTellWhatWas.{AnswersTellWhatWas};
 ghost use Rattle.nq_promises.specs.RepliesTellWhatWas.{RepliesTellWhatWas};
 
 /// After every schedule, what a reply to LOOKUP, CREATE or GETATTR tells of a file was so at the server at some moment when the
 /// request had been sent: the file of that name had that id, or the file had that length and that revision.
 pub fn replies_tell_what_was()
     ensures { RepliesTellWhatWas }
+{}
+
+/// After every schedule within skew, what an `ok` to `lookup`, `create` or `attr` tells was so at the server at some moment, and that
+/// not after the answer: the file of that name had that id, or the file had that length.
+pub fn answers_tell_what_was()
+    ensures { AnswersTellWhatWas }
 {}
 
 /// There is such a schedule: a client makes a file, looks it up and asks for its attributes.

@@ -12,6 +12,7 @@ pub mod Headline
 -- journals
 pub mod CallsAreOrdered
 pub mod AnswersAreOfTheirCalls
+pub mod AnswersTellWhatWas
 pub mod OksHaveTheirDeeds
 pub mod BusyIsSaidAtOnce
 pub mod ReadsAreLegal

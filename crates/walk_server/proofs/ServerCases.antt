@@ -256,11 +256,7 @@ module _ (s : Server) (sender next : ℕ) (d : Datagram) (Q : ServerStep → Typ
       (commits_within s who seq xid r (decide s who r))
       (λ below. cases.replying xid who r _ e by current.from (is_old seq current.inc sq (is-below _ _ below) refl))
       (λ above.
-      choice
-      Q
-      (can_be_kept (row_after who seq (decide s who r)))
-      (commits who seq xid r (decide s who r))
-      (drops s out_of_bounds)
+      choice Q (can_be_kept (row_after who seq (decide s who r))) (commits who seq xid r (decide s who r)) (drops s out_of_bounds)
       (λ within. decides-fresh xid who seq r e by sq (record { current = current; above = is-above _ _ differs above }) s.phase refl)
       (λ past. cases.dropping out_of_bounds)))
 
@@ -406,11 +402,7 @@ module _ (s : Server) (sender next : ℕ) (d : Datagram) (Q : ServerStep → Typ
       (attach_later s who xid)
       (if nat_lt who.inc (line_of s who).inc then drops s old_incarnation else replies s who.host xid (Answer.Attach who.inc))
       (λ later.
-      choice
-      Q
-      (can_be_kept (row_of_attach who))
-      (attaches s who xid)
-      (drops s out_of_bounds)
+      choice Q (can_be_kept (row_of_attach who)) (attaches s who xid) (drops s out_of_bounds)
       (λ within. cases.attaching xid who e from (is-below _ _ later))
       (λ past. cases.dropping out_of_bounds))
       (λ no_later.
@@ -492,19 +484,12 @@ ticks-in s now Q cases serving p = ends (find (is_due now) (end_reading now s.ta
     ends : (row : Option Row) → find (is_due now) (end_reading now s.table.rows) ≡ row → Q (end_writing (at_time s now) (end_reading now s.table.rows) row)
     ends None e = cases.ends_reading p (none_due e)
     ends (Some row) e =
-        choice
-        Q
-        (can_rise (find_file row.file s.kept.files))
-        (ends_writing (at_time s now) (end_reading now s.table.rows) row)
+        choice Q (can_rise (find_file row.file s.kept.files)) (ends_writing (at_time s now) (end_reading now s.table.rows) row)
         (quiet (with_table (at_time s now) (with_rows s.table (end_reading now s.table.rows))))
         (λ can. cases.ending_writing row p e)
         (λ last. cases.ends_reading p (first_stays row e last))
 ticks-in s now Q cases (recovering until heard last) p =
-    choice
-    Q
-    (nat_le until now)
-    (opens (at_time s now) until heard)
-    (quiet (at_time s now))
+    choice Q (nat_le until now) (opens (at_time s now) until heard) (quiet (at_time s now))
     (λ over. cases.opening until heard last p (is-at-most _ _ over))
     (λ goes_on. cases.waits until heard last p (is-not-at-most _ _ goes_on))
 
