@@ -10,7 +10,7 @@ prints datagrams and megabytes, or calls of the parts of server and client, per 
     bench/bench.py [--program FILE] --storms
 
 The program is the built `nqnfs` or, with --codecs or --parts, the built `nq_bench` (`rt run` in the crate's folder builds it). Each input is run three times; the fastest run counts. The words are `replay` where none are given. With --journals it times
-`nqnfs check` on sound journals of four kinds, of a tenth of so many lines and of so many.
+`nqnfs check` on sound journals of five kinds, of a tenth of so many lines and of so many.
 """
 import argparse
 import collections
@@ -321,11 +321,31 @@ def many_grants():
         yield f"A {host} 1 {q} ok 0"
 
 
+def stores_backwards(lines):
+    """Delayed writes of one block by one host, which are stored one by one at the end, from the last to the first."""
+    clients = Clients()
+    writes = (lines - 5) // 4
+    for turn in range(writes):
+        q = clients.call(0)
+        yield f"C 0 1 {q} write 1 0 {turn}"
+        if turn == 0:
+            yield "G 0 1 1 writing 1 1 600 0"
+        yield f"W 0 1 1 0 {clients.write(0)} {turn} delayed"
+        yield f"A 0 1 {q} ok"
+    q = clients.call(0)
+    yield f"C 0 1 {q} sync 1"
+    for number in range(writes, 0, -1):
+        yield f"S 0 1 1 0 {number} {number} 0"
+    yield f"A 0 1 {q} ok"
+
+
+# What makes the entries of a journal of so many lines.
 KINDS = [
-    ("many calls", many_calls),
-    ("many writes on one block", many_writes),
-    ("many losses", many_losses),
-    ("many grants", many_grants),
+    ("many calls", lambda lines: many_calls()),
+    ("many writes on one block", lambda lines: many_writes()),
+    ("many losses", lambda lines: many_losses()),
+    ("many grants", lambda lines: many_grants()),
+    ("stores from last to first", stores_backwards),
 ]
 
 
@@ -343,9 +363,9 @@ def write_journal(entries, lines):
     return made.name
 
 
-def judged(program, entries, lines):
+def judged(program, made, lines):
     """Seconds, peak memory in MB and status of the fastest of three runs of the judge."""
-    path = write_journal(entries, lines)
+    path = write_journal(made(lines), lines)
     try:
         runs = [run(program, ["check"], path) for _ in range(3)]
     finally:
@@ -355,12 +375,12 @@ def judged(program, entries, lines):
 
 
 def journals(program, lines):
-    """Prints how fast journals of four kinds are judged, and how much longer ten times the entries take."""
+    """Prints how fast journals of five kinds are judged, and how much longer ten times the entries take."""
     print(f"{'journal':26} {'lines':>9} {'seconds':>8} {'MB':>6} {'times as long':>14} status")
     failed = False
     for name, made in KINDS:
-        short = judged(program, made(), lines // 10)
-        long = judged(program, made(), lines)
+        short = judged(program, made, lines // 10)
+        long = judged(program, made, lines)
         for count, (took, memory, status), ratio in ((lines // 10, short, ""), (lines, long, f"{long[0] / short[0]:.1f}")):
             print(f"{name:26} {count:9,} {took:8.3f} {memory:6.0f} {ratio:>14} {status:6}")
             failed = failed or status != 0

@@ -1,5 +1,5 @@
 -- How many entries of a call are counted reads.
-use Rattle.std.proofs.Common.{◌≡◌, ◌<◌, ◌≤◌, ℕ, ◌+◌, ◌-◌, List, length, take, reverse, Some, Bool, true, false, ◌&&◌, ◌||◌, refl, sym, ◌∙◌, ap, subst, arith}
+use Rattle.std.proofs.Common.{◌≡◌, ◌<◌, ◌≤◌, ℕ, ◌+◌, ◌-◌, List, length, take, reverse, Some, Bool, true, false, ◌&&◌, refl, sym, ◌∙◌, ap, subst, arith}
 use Rattle.std.specs.Prelude.{if◌then◌else◌, nat_eq}
 use Rattle.std.specs.List.{slice_get}
 use Rattle.std.proofs.lemmas.Bool.{and_parts}
@@ -11,9 +11,9 @@ use Rattle.nq_check.specs.declared.links.Kind.{Kind}
 use Rattle.nq_check.specs.declared.links.Kind.TheVariants.{Calls}
 use Rattle.nq_check.specs.Links.{IsFree, is_link}
 use Rattle.nq_check.specs.Marks.{Spot, spot}
-use Rattle.nq_check.proofs.Climbs.{climb, link_call, skip_exists}
+use Rattle.nq_check.proofs.Climbs.{climb, link_call}
 use Rattle.nq_check.proofs.Followed.{taken_last}
-use Rattle.nq_model.specs.JournalTest.{exists, is_counted, number_of}
+use Rattle.nq_model.specs.JournalTest.{is_counted, number_of}
 use Rattle.nq_model.specs.LegalTest.{is_counted_by, is_counted_with}
 use Rattle.nq_model.specs.Table.{same_who}
 
@@ -26,7 +26,7 @@ counted_linked_at whole who q (R by n f b v served) h =
     link_call by who n q (and_parts (same_who by who && nat_eq n q) (is_counted whole (R by n f b v served)) h).0
 counted_linked_at whole who q other h = absurd (cc)
 
-pub counted_linked : (key : Spot) (whole : List Entry) (who : Who) (q : ℕ) → key ≡ spot who q 0 → (entry : Entry) → is_counted_by whole who q entry ≡ true → is_link Calls key entry ≡ true
+counted_linked : (key : Spot) (whole : List Entry) (who : Who) (q : ℕ) → key ≡ spot who q 0 → (entry : Entry) → is_counted_by whole who q entry ≡ true → is_link Calls key entry ≡ true
 counted_linked key whole who q e entry h = subst (λ k. is_link Calls k entry ≡ true) (sym e) (counted_linked_at whole who q entry h)
 
 with_linked_at : (whole : List Entry) (who : Who) (q value : ℕ) (entry : Entry) → is_counted_with whole who q value entry ≡ true → is_counted_by whole who q entry ≡ true
@@ -41,15 +41,6 @@ skip_number test kind key whole from to linked a b free =
     climb (λ l. number_of test l ≡ number_of test (reverse (take from whole))) whole from to a b refl
     (λ place entry before c d there h.
     ap (λ t. if t then 1 + number_of test before else number_of test before) (false_of (test entry) (is_link kind key entry) (linked entry) (free place entry c d there)) ∙ h)
-
-or_none : (b : Bool) → b ≡ (b || false)
-or_none true = refl
-or_none false = refl
-
-or_moved : (a b c : Bool) → ((a || b) || c) ≡ (b || (a || c))
-or_moved true true c = refl
-or_moved true false c = refl
-or_moved false b c = refl
 
 add_none : (n m : ℕ) → n ≡ m → n ≡ m + 0
 add_none n m e = omega arith
@@ -68,11 +59,6 @@ number_first test kind key whole from linked a free =
     let all : number_of test (reverse (take (length whole) whole)) ≡ number_of test (reverse whole) = ap (λ l. number_of test (reverse l)) (take-length whole) in
     add_none (number_of test (reverse whole)) (number_of test (reverse (take from whole))) (sym all ∙ skip_number test kind key whole from (length whole) linked a (omega arith) free)
 
-pub found_first : (test : Entry → Bool) (kind : Kind) (key : Spot) (whole : List Entry) (from : ℕ) → ((entry : Entry) → test entry ≡ true → is_link kind key entry ≡ true) → from ≤ length whole → IsFree kind key whole from (length whole) → exists test (reverse whole) ≡ (exists test (reverse (take from whole)) || false)
-found_first test kind key whole from linked a free =
-    let all : exists test (reverse (take (length whole) whole)) ≡ exists test (reverse whole) = ap (λ l. exists test (reverse l)) (take-length whole) in
-    sym all ∙ skip_exists test kind key whole from (length whole) linked a (omega arith) free ∙ or_none (exists test (reverse (take from whole)))
-
 -- at each entry of the walk
 pub number_last : (test : Entry → Bool) (kind : Kind) (key : Spot) (whole : List Entry) (next k : ℕ) (x : Entry) (counts : Bool) (number : ℕ) → ((entry : Entry) → test entry ≡ true → is_link kind key entry ≡ true) → 0 < k → k ≤ length whole → next ≤ k - 1 → slice_get whole (k - 1) ≡ Some x → counts ≡ test x → IsFree kind key whole next (k - 1) → number_of test (reverse (take k whole)) + number ≡ number_of test (reverse (take next whole)) + (if counts then 1 + number else number)
 number_last test kind key whole next k x counts number linked up within low there is free =
@@ -80,13 +66,6 @@ number_last test kind key whole next k x counts number linked up within low ther
     ∙ ap (λ b. (if b then 1 + number_of test (reverse (take (k - 1) whole)) else number_of test (reverse (take (k - 1) whole))) + number) (sym is)
     ∙ ap (λ n. (if counts then 1 + n else n) + number) (skip_number test kind key whole next (k - 1) linked low (omega arith) free)
     ∙ count_moved counts (number_of test (reverse (take next whole))) number
-
-pub either_last : (test : Entry → Bool) (kind : Kind) (key : Spot) (whole : List Entry) (next k : ℕ) (x : Entry) (here found : Bool) → ((entry : Entry) → test entry ≡ true → is_link kind key entry ≡ true) → 0 < k → k ≤ length whole → next ≤ k - 1 → slice_get whole (k - 1) ≡ Some x → here ≡ test x → IsFree kind key whole next (k - 1) → (exists test (reverse (take k whole)) || found) ≡ (exists test (reverse (take next whole)) || (here || found))
-either_last test kind key whole next k x here found linked up within low there is free =
-    ap (λ l. exists test l || found) (taken_last whole k x up there)
-    ∙ ap (λ b. (b || exists test (reverse (take (k - 1) whole))) || found) (sym is)
-    ∙ ap (λ e. (here || e) || found) (skip_exists test kind key whole next (k - 1) linked low (omega arith) free)
-    ∙ or_moved here (exists test (reverse (take next whole))) found
 
 pub counts_within : (b : Bool) (m next k n new : ℕ) → new ≡ (if b then 1 + m else m) → next ≤ k - 1 → 0 < k → m + k ≤ n → new + next ≤ n
 counts_within b m next k n new e low up within =

@@ -10,7 +10,7 @@ use Rattle.nq_check.specs.Links.{IsFree, IsLinked, is_link, spot_of}
 use Rattle.nq_check.specs.Marks.{Spot, same_spot, spot}
 use Rattle.nq_check.proofs.Climbs.{skip_exists, skip_told}
 use Rattle.nq_check.proofs.Once.{same_is}
-use Rattle.nq_check.proofs.Places.{taken_here}
+use Rattle.nq_rules.proofs.Places.{taken_here}
 use Rattle.nq_model.specs.Journal.{call_of, told_by}
 use Rattle.nq_model.specs.JournalTest.{exists}
 
@@ -19,20 +19,11 @@ pub back_free : (kind : Kind) (whole : List Entry) (n : ℕ) (heads : List (Spot
 back_free kind whole n heads earlier place entry e key h there link same =
     subst (λ k. IsFree kind k whole e place) (same_is (spot_of kind entry) key same) (h.back place entry e there link)
 
--- from a place on no entry stands before the same place
-pub none_between : (kind : Kind) (key : Spot) (whole : List Entry) (place : ℕ) → IsFree kind key whole place place
-none_between kind key whole place p x a b h = absurd (omega arith)
-
 -- the entry before a place, backwards
 pub taken_last : {X : Type 0} (xs : List X) (k : ℕ) (x : X) → 0 < k → slice_get xs (k - 1) ≡ Some x → reverse (take k xs) ≡ x ∷ reverse (take (k - 1) xs)
 taken_last xs k x up e =
     let same : (k - 1) + 1 ≡ k = omega arith in
     subst (λ i. reverse (take i xs) ≡ x ∷ reverse (take (k - 1) xs)) same (taken_here xs (k - 1) x e)
-
--- what is looked for is the entry before a place
-pub found_last : (test : Entry → Bool) (whole : List Entry) (k : ℕ) (x : Entry) → 0 < k → slice_get whole (k - 1) ≡ Some x → test x ≡ true → exists test (reverse (take k whole)) ≡ true
-found_last test whole k x up e t =
-    ap (exists test) (taken_last whole k x up e) ∙ ap (λ b. b || exists test (reverse (take (k - 1) whole))) t
 
 -- it is not, and no link leads to another before the next
 pub none_last : (test : Entry → Bool) (kind : Kind) (key : Spot) (whole : List Entry) (next k : ℕ) (x : Entry) → ((entry : Entry) → test entry ≡ true → is_link kind key entry ≡ true) → 0 < k → k ≤ length whole → next ≤ k - 1 → slice_get whole (k - 1) ≡ Some x → test x ≡ false → IsFree kind key whole next (k - 1) → exists test (reverse (take k whole)) ≡ exists test (reverse (take next whole))

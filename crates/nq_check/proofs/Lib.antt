@@ -1,6 +1,4 @@
-pub mod Agreeing
 pub mod Answering
-pub mod Backwards
 pub mod Climbs
 pub mod Counts
 pub mod Cutoffs
@@ -11,14 +9,11 @@ pub mod Linking
 pub mod Lining
 pub mod Lowest
 pub mod MovesOn
-pub mod NameLosses
 pub mod NamingLosses
 pub mod Once
 pub mod OwnWrite
 pub mod Passing
-pub mod Places
 pub mod Reporting
-pub mod Sounds
 pub mod Standing
 pub mod Timing
 pub mod Verdicts

@@ -364,10 +364,6 @@ write_line whole before who file block number value through highest last (Some o
 
 -- ---- a Z, and a read
 
--- a call that is open is none above the highest
-not_above : (whole before : List Entry) (who : Who) (line : Line) (q n : ℕ) → is_open before who q ≡ true → IsLineOf whole before who line → line.highest < n → q ≡ n → ⊥
-not_above whole before who line q n o h l = no_call_above who before q line.highest o h.calls n l
-
 three : (a b c : Bool) → (a && b && c) ≡ true → (a ≡ true) × (b ≡ true) × (c ≡ true)
 three true true true h = (refl, refl, refl)
 three true true false h = absurd (cc)
@@ -572,16 +568,3 @@ else_stands whole after (R who q file block value served) lines i before h = abs
 else_stands whole after (A who q said) lines i before h = absurd (cc)
 else_stands whole after other lines i before h =
     (refl, all_quiet whole before other lines (λ who. record { call = λ m. refl; answer = λ m. refl; resize = λ m. refl; read = λ m. refl; number = λ m. refl; write = λ m l. refl }) h)
-
--- before the first entry no line tells anything
-pub no_lines : (whole : List Entry) → AreLines whole [] []
-no_lines whole who = record {
-  calls = λ q l. refl;
-  answers = λ q l. refl;
-  resizes = λ q l. refl;
-  reads = λ q l. refl;
-  writes = λ n l. refl;
-  alone = λ q o. absurd (cc);
-  current = tt;
-  busy = tt;
-}

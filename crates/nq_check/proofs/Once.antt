@@ -1,8 +1,8 @@
--- An S or L that covers numbers above a block's mark covers no write again.
+-- An S or L that covers numbers outside of all that are covered on a block covers no write again.
 use Rattle.std.proofs.Common.{◌≡◌, ◌<◌, ◌≤◌, ℕ, ◌+◌, Bool, true, false, not, ◌&&◌, ◌||◌, List, [], ◌∷◌, ◌++◌, take, drop, reverse, Some, inl, inr, refl, sym, ◌∙◌, ap, subst, arith}
-use Rattle.std.specs.Prelude.{if◌then◌else◌, nat_eq, Result, Ok, Err, IfOk}
+use Rattle.std.specs.Prelude.{◌-◌, if◌then◌else◌, nat_eq, nat_lt, Result, Ok, Err, IfOk}
 use Rattle.std.specs.List.{slice_get}
-use Rattle.std.proofs.lemmas.Bool.{and_parts, and_from, cases_Bool, eqb-true, eq-eqb}
+use Rattle.std.proofs.lemmas.Bool.{and_parts, and_from, cases_Bool, eqb-true, eq-eqb, ltb-true, or_cases}
 use Rattle.std.proofs.lemmas.List.{reverse-append, take-append-drop}
 use Rattle.nq_base.specs.declared.Entry.{Entry}
 use Rattle.nq_base.specs.declared.Entry.TheVariants.{W, S, L}
@@ -11,9 +11,10 @@ use Rattle.nq_model.specs.FateTest.{is_first_to_cover}
 use Rattle.nq_model.specs.Journal.{Covers, Each, Exists, IsWithin}
 use Rattle.nq_model.specs.JournalTest.{covers, each, exists, throughout}
 use Rattle.nq_model.proofs.JournalTests.{tells_covers, tells_exists}
-use Rattle.nq_check.specs.Covered.{Accounts, IsAnew, IsCoveredTo}
+use Rattle.nq_check.specs.Covered.{Accounts, IsAnew, IsCoveredTo, IsExtended, IsRaised, IsReached, is_outside}
 use Rattle.nq_check.specs.Marks.{IsMarked, Spot, mark_at, same_spot, spot}
-use Rattle.nq_check.proofs.Places.{taken_here}
+use Rattle.nq_check.specs.declared.covering.Reach.{Reach}
+use Rattle.nq_rules.proofs.Places.{taken_here}
 
 -- ---- spots
 
@@ -62,49 +63,69 @@ no_lower at n old new h l other =
 
 -- ---- how far entries cover
 
-still_one : (old new : List (Spot × ℕ)) → ((at : Spot) → mark_at old at ≤ mark_at new at) → (entry : Entry) → IsCoveredTo old entry → IsCoveredTo new entry
-still_one old new rise (S who file block first last now) h = let more = rise (spot who file block) in omega arith
-still_one old new rise (L who file block first last) h = let more = rise (spot who file block) in omega arith
-still_one old new rise other h = tt
+abbrev Rises : (old new : Reach) → Type 0
+Rises old new = (at : Spot) → (mark_at old.highest.entries at ≤ mark_at new.highest.entries at) × (mark_at old.lowest.entries at ≤ mark_at new.lowest.entries at)
 
-still : (old new : List (Spot × ℕ)) → ((at : Spot) → mark_at old at ≤ mark_at new at) → (before : List Entry) → Each (IsCoveredTo old) before → Each (IsCoveredTo new) before
-still old new rise [] h = tt
-still old new rise (entry ∷ before) h = (still_one old new rise entry h.0, still old new rise before h.1)
+still_at : (most : ℕ) (old new : Reach) → Rises old new → (at : Spot) (first last : ℕ) → IsReached most old at first last → IsReached most new at first last
+still_at most old new rise at first last h =
+    let up : mark_at old.highest.entries at ≤ mark_at new.highest.entries at = (rise at).0 in
+    let down : mark_at old.lowest.entries at ≤ mark_at new.lowest.entries at = (rise at).1 in
+    let upper = h.upper in
+    let lower = h.lower in
+    record { upper = omega arith; lower = omega arith }
 
--- a number that is covered is not above the mark
-spot_of : (marks : List (Spot × ℕ)) (a b : Who) (f g c d n : ℕ) → a ≡ b → f ≡ g → c ≡ d → n ≤ mark_at marks (spot b g d) → n ≤ mark_at marks (spot a f c)
-spot_of marks a b f g c d n w file block h =
-    subst (λ (z : Who). n ≤ mark_at marks (spot z f c)) (sym w)
-    (subst (λ (z : ℕ). n ≤ mark_at marks (spot b z c)) (sym file)
-    (subst (λ (z : ℕ). n ≤ mark_at marks (spot b g z)) (sym block) h))
+still_one : (most : ℕ) (old new : Reach) → Rises old new → (entry : Entry) → IsCoveredTo most old entry → IsCoveredTo most new entry
+still_one most old new rise (S who file block first last now) h = still_at most old new rise (spot who file block) first last h
+still_one most old new rise (L who file block first last) h = still_at most old new rise (spot who file block) first last h
+still_one most old new rise other h = tt
 
-upto : (n last m : ℕ) → n ≤ last → last ≤ m → n ≤ m
-upto n last m a b = omega arith
+still : (most : ℕ) (old new : Reach) → Rises old new → (before : List Entry) → Each (IsCoveredTo most old) before → Each (IsCoveredTo most new) before
+still most old new rise [] h = tt
+still most old new rise (entry ∷ before) h = (still_one most old new rise entry h.0, still most old new rise before h.1)
 
-below_one : (marks : List (Spot × ℕ)) (by : Who) (f b n v : ℕ) (other : Entry) → IsCoveredTo marks other → Covers other (W by f b n v false) → n ≤ mark_at marks (spot by f b)
-below_one marks by f b n v (S who file block first last now) m c =
-    spot_of marks by who f file b block n c.0 c.1 c.2 (upto n last (mark_at marks (spot who file block)) c.4 m)
-below_one marks by f b n v (L who file block first last) m c =
-    spot_of marks by who f file b block n c.0 c.1 c.2 (upto n last (mark_at marks (spot who file block)) c.4 m)
-below_one marks by f b n v other m c = absurd c
+spot_of : (P : Spot → Type 0) (a b : Who) (f g c d : ℕ) → a ≡ b → f ≡ g → c ≡ d → P (spot b g d) → P (spot a f c)
+spot_of P a b f g c d w file block h =
+    subst (λ (z : Who). P (spot z f c)) (sym w)
+    (subst (λ (z : ℕ). P (spot b z c)) (sym file)
+    (subst (λ (z : ℕ). P (spot b g z)) (sym block) h))
 
-below : (marks : List (Spot × ℕ)) (by : Who) (f b n v : ℕ) (before : List Entry) → Each (IsCoveredTo marks) before → Exists (λ other. Covers other (W by f b n v false)) before → n ≤ mark_at marks (spot by f b)
-below marks by f b n v [] m e = absurd e
-below marks by f b n v (other ∷ before) m e =
+-- what reaches to numbers reaches to each of them
+at_number : (most : ℕ) (reach : Reach) (at : Spot) (first last n : ℕ) → first ≤ n → n ≤ last → IsReached most reach at first last → IsReached most reach at n n
+at_number most reach at first last n a b h =
+    let upper = h.upper in
+    let lower = h.lower in
+    record { upper = omega arith; lower = omega arith }
+
+below_one : (most : ℕ) (reach : Reach) (by : Who) (f b n v : ℕ) (other : Entry) → IsCoveredTo most reach other → Covers other (W by f b n v false) → IsReached most reach (spot by f b) n n
+below_one most reach by f b n v (S who file block first last now) m c =
+    spot_of (λ at. IsReached most reach at n n) by who f file b block c.0 c.1 c.2 (at_number most reach (spot who file block) first last n c.3 c.4 m)
+below_one most reach by f b n v (L who file block first last) m c =
+    spot_of (λ at. IsReached most reach at n n) by who f file b block c.0 c.1 c.2 (at_number most reach (spot who file block) first last n c.3 c.4 m)
+below_one most reach by f b n v other m c = absurd c
+
+below : (most : ℕ) (reach : Reach) (by : Who) (f b n v : ℕ) (before : List Entry) → Each (IsCoveredTo most reach) before → Exists (λ other. Covers other (W by f b n v false)) before → IsReached most reach (spot by f b) n n
+below most reach by f b n v [] m e = absurd e
+below most reach by f b n v (other ∷ before) m e =
     elim e [
-      | inl h ↦ below_one marks by f b n v other m.0 h
-      | inr h ↦ below marks by f b n v before m.1 h
+      | inl h ↦ below_one most reach by f b n v other m.0 h
+      | inr h ↦ below most reach by f b n v before m.1 h
     ]
 
-too_low : (n first m : ℕ) → n ≤ m → m < first → first ≤ n → ⊥
-too_low n first m a b c = omega arith
+too_far : (most : ℕ) (reach : Reach) (at : Spot) (first last n : ℕ) → IsReached most reach at n n → is_outside most reach at first last ≡ true → first ≤ n → n ≤ last → ⊥
+too_far most reach at first last n h out a b =
+    let upper : n ≤ mark_at reach.highest.entries at = h.upper in
+    let lower : most - n ≤ mark_at reach.lowest.entries at = h.lower in
+    elim (or_cases (nat_lt (mark_at reach.highest.entries at) first) (nat_lt (mark_at reach.lowest.entries at) (most - last)) out) [
+      | inl t ↦ let above : mark_at reach.highest.entries at < first = ltb-true (mark_at reach.highest.entries at) first t in omega arith
+      | inr t ↦ let under : mark_at reach.lowest.entries at < most - last = ltb-true (mark_at reach.lowest.entries at) (most - last) t in omega arith
+    ]
 
-apart : (marks : List (Spot × ℕ)) (who : Who) (file block first last : ℕ) (before : List Entry) → Each (IsCoveredTo marks) before → mark_at marks (spot who file block) < first → (write : Entry) → IsWithin who file block first last write → Exists (λ other. Covers other write) before → ⊥
-apart marks who file block first last before m above (W by f b n v false) i e =
-    let low : n ≤ mark_at marks (spot by f b) = below marks by f b n v before m e in
-    let here : n ≤ mark_at marks (spot who file block) = spot_of marks who by file f block b n (sym i.0) (sym i.1) (sym i.2) low in
-    too_low n first (mark_at marks (spot who file block)) here above i.3
-apart marks who file block first last before m above other i e = absurd i
+apart : (most : ℕ) (reach : Reach) (who : Who) (file block first last : ℕ) (before : List Entry) → Each (IsCoveredTo most reach) before → is_outside most reach (spot who file block) first last ≡ true → (write : Entry) → IsWithin who file block first last write → Exists (λ other. Covers other write) before → ⊥
+apart most reach who file block first last before m out (W by f b n v false) i e =
+    let there : IsReached most reach (spot by f b) n n = below most reach by f b n v before m e in
+    let here : IsReached most reach (spot who file block) n n = spot_of (λ at. IsReached most reach at n n) who by file f block b (sym i.0) (sym i.1) (sym i.2) there in
+    too_far most reach (spot who file block) first last n here out i.3 i.4
+apart most reach who file block first last before m out other i e = absurd i
 
 -- ---- what an S or L accounts for
 
@@ -122,30 +143,43 @@ first_again entry before none write =
     not_both (covers entry write) (exists (λ other. covers other write) before)
     (λ x y. none write ((tells_covers entry write).sound x) ((tells_exists (λ other. tells_covers other write) before).sound y))
 
-after_it : (at : Spot) (first last : ℕ) (old new : List (Spot × ℕ)) → IsAnew at first last old new → (before : List Entry) → Each (IsCoveredTo old) before → Each (IsCoveredTo new) before
-after_it at first last old new h before m =
-    let above = h.above in
-    let upwards = h.upwards in
-    still old new (no_lower at last old new h.marked (omega arith)) before m
+rises_with : (most : ℕ) (at : Spot) (first last : ℕ) (old new : Reach) → IsExtended most at first last old new → Rises old new
+rises_with most at first last old new h other = (h.upper.rises other, h.lower.rises other)
 
-its_mark : (at : Spot) (first last : ℕ) (old new : List (Spot × ℕ)) → IsAnew at first last old new → last ≤ mark_at new at
-its_mark at first last old new h = let here = marked_there at last old new h.marked in omega arith
+reaches_it : (most : ℕ) (at : Spot) (first last : ℕ) (old new : Reach) → IsExtended most at first last old new → IsReached most new at first last
+reaches_it most at first last old new h = record { upper = h.upper.least; lower = h.lower.least }
 
-pub stored_once : (whole : List Entry) (who : Who) (file block first last now : ℕ) (old new : List (Spot × ℕ)) → IsAnew (spot who file block) first last old new → Accounts whole (S who file block first last now) old new
-stored_once whole who file block first last now old new h before m = (
-  each_of (is_first_to_cover before (S who file block first last now))
-      (first_again (S who file block first last now) before (apart old who file block first last before m h.above)) whole,
-  (its_mark (spot who file block) first last old new h, after_it (spot who file block) first last old new h before m),
+-- what is told of the entries before it is told of an entry, too
+with_it : (most : ℕ) (who : Who) (file block first last : ℕ) (old new : Reach) → IsAnew most (spot who file block) first last old new → (before : List Entry) → Each (IsCoveredTo most old) before → IsReached most new (spot who file block) first last × Each (IsCoveredTo most new) before
+with_it most who file block first last old new h before m = (
+  reaches_it most (spot who file block) first last old new h.extended,
+  still most old new (rises_with most (spot who file block) first last old new h.extended) before m,
 )
 
-pub lost_once : (whole : List Entry) (who : Who) (file block first last : ℕ) (old new : List (Spot × ℕ)) → exists (covers (L who file block first last)) whole ≡ true → IsAnew (spot who file block) first last old new → Accounts whole (L who file block first last) old new
-lost_once whole who file block first last old new some h before m = (
+pub stored_once : (most : ℕ) (whole : List Entry) (who : Who) (file block first last now : ℕ) (old new : Reach) → IsAnew most (spot who file block) first last old new → Accounts most whole (S who file block first last now) old new
+stored_once most whole who file block first last now old new h before m = (
+  each_of (is_first_to_cover before (S who file block first last now))
+      (first_again (S who file block first last now) before (apart most old who file block first last before m h.outside)) whole,
+  with_it most who file block first last old new h before m,
+)
+
+pub lost_once : (most : ℕ) (whole : List Entry) (who : Who) (file block first last : ℕ) (old new : Reach) → exists (covers (L who file block first last)) whole ≡ true → IsAnew most (spot who file block) first last old new → Accounts most whole (L who file block first last) old new
+lost_once most whole who file block first last old new some h before m = (
   and_from (each (is_first_to_cover before (L who file block first last)) whole) (exists (covers (L who file block first last)) whole)
       (each_of (is_first_to_cover before (L who file block first last))
-      (first_again (L who file block first last) before (apart old who file block first last before m h.above)) whole)
+      (first_again (L who file block first last) before (apart most old who file block first last before m h.outside)) whole)
       some,
-  (its_mark (spot who file block) first last old new h, after_it (spot who file block) first last old new h before m),
+  with_it most who file block first last old new h before m,
 )
+
+-- what is said of numbers that were no lower than a mark, or were set
+pub raised_to : (at : Spot) (number : ℕ) (old new : List (Spot × ℕ)) → mark_at old at ≤ number → IsMarked at number old new → IsRaised at number old new
+raised_to at number old new low h =
+    let here : mark_at new at ≡ number = marked_there at number old new h in
+    record { least = omega arith; rises = no_lower at number old new h low }
+
+pub raised_before : (at : Spot) (number : ℕ) (marks : List (Spot × ℕ)) → number ≤ mark_at marks at → IsRaised at number marks marks
+raised_before at number marks low = record { least = low; rises = λ other. omega arith }
 
 -- ---- a place of a journal
 
@@ -171,13 +205,6 @@ exists_there test xs k x e t =
 throughout_later : (test : Entry → List Entry → Bool) (ys zs : List Entry) → throughout test (ys ++ zs) ≡ true → throughout test zs ≡ true
 throughout_later test [] zs h = h
 throughout_later test (y ∷ ys) zs h = throughout_later test ys zs (and_parts (test y (ys ++ zs)) (throughout test (ys ++ zs)) h).1
-
--- what holds throughout holds at a place
-pub throughout_there : (test : Entry → List Entry → Bool) (xs : List Entry) (k : ℕ) (x : Entry) → slice_get xs k ≡ Some x → throughout test (reverse xs) ≡ true → test x (reverse (take k xs)) ≡ true
-throughout_there test xs k x e h =
-    let there : throughout test (x ∷ reverse (take k xs)) ≡ true =
-    throughout_later test (reverse (drop (k + 1) xs)) (x ∷ reverse (take k xs)) (subst (λ l. throughout test l ≡ true) (parted xs k x e) h) in
-    (and_parts (test x (reverse (take k xs))) (throughout test (reverse (take k xs))) there).0
 
 -- what is told of a result that is Ok
 pub ok_so : {X E : Type 0} (r : Result X E) (P Q : X → Type 0) → ((x : X) → P x → Q x) → IfOk r P → IfOk r Q

@@ -9,16 +9,15 @@ use Rattle.nq_base.specs.declared.Entry.TheVariants.{C, A}
 use Rattle.nq_base.specs.declared.Loss.{Loss}
 use Rattle.nq_base.specs.declared.Said.TheVariants.{Lost}
 use Rattle.nq_base.specs.declared.Told.{Told}
-use Rattle.nq_base.specs.declared.Told.TheVariants.{Write, WriteSync, Sync, Resize, Remove}
 use Rattle.nq_base.specs.declared.Who.{Who}
 use Rattle.nq_check.specs.Fronts.{keeps_at}
 use Rattle.nq_check.specs.Marks.{IsMarked, Spot, mark_at, same_spot, spot}
-use Rattle.nq_check.specs.Named.{is_named_at_once, is_reported}
-use Rattle.nq_check.specs.Reports.{AreNext, IsReportKey, TakesReport, answers, reports_of}
+use Rattle.nq_rules.specs.Named.{is_named_at_once, is_reported}
+use Rattle.nq_check.specs.Reports.{AreNext, IsReportKey, TakesReport, answers}
 use Rattle.nq_check.specs.Tables.{NoneBetween}
-use Rattle.nq_check.specs.declared.rules.Rule.TheVariants.{Ordered}
+use Rattle.nq_rules.specs.declared.Rule.TheVariants.{Ordered}
 use Rattle.nq_check.proofs.Once.{same_self}
-use Rattle.nq_check.proofs.Places.{drop_here, taken_here}
+use Rattle.nq_rules.proofs.Places.{drop_here, taken_here}
 use Rattle.nq_model.specs.JournalTest.{exists, is_answer}
 use Rattle.nq_model.specs.OrderedTest.{is_in_order}
 use Rattle.nq_model.specs.ReportedTest.{is_busy_answer, is_reporting, must_report, names}
@@ -34,14 +33,6 @@ none_of false f = refl
 
 -- ---- the key of a call that reports
 
-reporting_spot : (who : Who) (file : ℕ) (told : Told) → is_reporting file told ≡ true → reports_of who told ≡ Some (spot who file 0)
-reporting_spot who file (Write f block value) h = ap (λ n. Some (spot who n 0)) (eqb-true f file h)
-reporting_spot who file (WriteSync f block value) h = ap (λ n. Some (spot who n 0)) (eqb-true f file h)
-reporting_spot who file (Sync f) h = ap (λ n. Some (spot who n 0)) (eqb-true f file h)
-reporting_spot who file (Resize f blocks) h = ap (λ n. Some (spot who n 0)) (eqb-true f file h)
-reporting_spot who file (Remove f) h = ap (λ n. Some (spot who n 0)) (eqb-true f file h)
-reporting_spot who file other h = absurd (cc)
-
 pub busy_key : (whole : List Entry) (by : Who) (q : ℕ) (told : Told) → exists (is_busy_answer by q) whole ≡ true → IsReportKey whole (C by q told) None
 busy_key whole by q told busy who file h =
     let p = and_parts (same_who by who && is_reporting file told) (not (exists (is_busy_answer who q) whole)) h in
@@ -50,13 +41,6 @@ busy_key whole by q told busy who file h =
     let is_busy : exists (is_busy_answer who q) whole ≡ true = subst (λ z. exists (is_busy_answer z q) whole ≡ true) same busy in
     let wrong : false ≡ true = sym (ap not is_busy) ∙ p.1 in
     absurd (cc)
-
-pub told_key : (whole : List Entry) (by : Who) (q : ℕ) (told : Told) (key : Option Spot) → key ≡ reports_of by told → IsReportKey whole (C by q told) key
-told_key whole by q told key e who file h =
-    let p = and_parts (same_who by who && is_reporting file told) (not (exists (is_busy_answer who q) whole)) h in
-    let w = and_parts (same_who by who) (is_reporting file told) p.0 in
-    let same : by ≡ who = tells_who.sound w.0 in
-    e ∙ subst (λ z. reports_of by told ≡ Some (spot z file 0)) same (reporting_spot by file told w.1)
 
 -- ---- what has to report next
 

@@ -13,7 +13,7 @@ use Rattle.nq_check.specs.Marks.{Spot}
 use Rattle.nq_check.specs.Tables.{HasBetween, NoneBetween}
 use Rattle.nq_check.proofs.Climbs.{climb}
 use Rattle.nq_check.proofs.Followed.{taken_last}
-use Rattle.nq_check.proofs.Places.{taken_here}
+use Rattle.nq_rules.proofs.Places.{taken_here}
 use Rattle.nq_model.specs.Journal.{cuts, last_value, since_cut, value_written}
 use Rattle.nq_model.specs.StandsTest.{stands}
 
@@ -41,10 +41,6 @@ none_more test kind key whole next k to x linked up there fails free none p y a 
             | inr m ↦ none p y m b h
           ]
     ]
-
--- from a place that is not below, there is nothing between
-pub none_from : (test : Entry → Bool) (whole : List Entry) (at from to : ℕ) → at ≤ from → NoneBetween test whole at to → NoneBetween test whole from to
-none_from test whole at from to low none p y a b h = none p y (omega arith) b h
 
 -- a write that stands has the key of its block
 stands_linked_at : (whole before : List Entry) (who : Who) (file block : ℕ) (entry : Entry) → stands whole before who file block entry ≡ true → is_link Writes (block_spot file block) entry ≡ true

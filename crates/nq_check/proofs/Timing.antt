@@ -34,10 +34,6 @@ at_place whole k place x entry same e there =
     let at_k : slice_get whole k ≡ Some entry = subst (λ i. slice_get whole i ≡ Some entry) same there in
     some_one x entry (sym e ∙ at_k)
 
--- up to an earlier place
-pub rises_within : (whole : List Entry) (at to : ℕ) → at ≤ to → Rises whole to → Rises whole at
-rises_within whole at to low rises early late x y a b there_x there_y = rises early late x y a (omega arith) there_x there_y
-
 pub no_later_next : (whole : List Entry) (k : ℕ) (x : Entry) (time : ℕ) → slice_get whole k ≡ Some x → time ≤ store_time x time → AreNoLater whole k time → AreNoLater whole (k + 1) (store_time x time)
 no_later_next whole k x time e up all place entry b there =
     elim (cases_lt place k) [

@@ -1,11 +1,8 @@
 pub mod Behind
 pub mod Covered
 pub mod Fronts
-pub mod Grants
-pub mod Named
 pub mod Namings
 pub mod InOrder
-pub mod Kept
 pub mod Leases
 pub mod Links
 pub mod Lines
@@ -14,9 +11,6 @@ pub mod Marks
 pub mod Replies
 pub mod Reports
 pub mod Rising
-pub mod Rules
 pub mod Settling
 pub mod Sought
 pub mod Tables
-pub mod Verdict
-pub mod Words

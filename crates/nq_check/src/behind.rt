@@ -10,7 +10,7 @@ use std::alloc::Global;
 use std::collections::HashMap;
 
 /// How far a number is below the highest one.
-fn below_highest(number: u64) -> u64
+pub(crate) fn below_highest(number: u64) -> u64
     ensures { result ≡ 18446744073709551615 - number }
 {
     u64::MAX - number

@@ -1,27 +1,28 @@
 //! A fast pass over the entries that account for the delayed writes which they cover.
-#![tactic(auto, using(crate::proofs::Backwards::last_first, crate::proofs::Once::stored_once, crate::proofs::Once::lost_once, crate::proofs::Once::exists_there))]
+#![tactic(auto, using(nq_rules::proofs::Backwards::last_first, crate::proofs::Once::exists_there, crate::proofs::Once::raised_to, crate::proofs::Once::raised_before))]
 
-ghost use Rattle.std.specs.Prelude.{◌≡◌, true, reverse, slice_get, Some, IfOk, IfSome, IsTrue};
-ghost use Rattle.nq_check.specs.Covered.{Accounts, IsAnew};
+ghost use Rattle.std.specs.Prelude.{◌≡◌, true, reverse, slice_get, Some, IfOk, IfSome, IsTrue, OnOk};
+ghost use Rattle.nq_check.specs.Covered.{Accounts, IsAnew, IsExtended, IsRaised, is_outside};
 ghost use Rattle.nq_check.specs.Fronts.{KeepsBelow};
-ghost use Rattle.nq_check.specs.declared.rules.Rule.{Rule};
+ghost use Rattle.nq_rules.specs.declared.Rule.{Rule};
 ghost use Rattle.nq_model.specs.JournalTest.{covers, exists};
 
-use crate::entries::covers;
+use crate::behind::below_highest;
 use crate::marks::{Marks, Spot, mark_at, set_mark, spot};
 use nq_base::{BlockNo, Entry, FileId, NoMemory, Number, Who};
+use nq_rules::entries::covers;
 use std::alloc::Global;
 use std::collections::HashMap;
 
 /// Where the place of a write is kept: at its incarnation and its number.
-fn write_spot(who: &Who, number: Number) -> Spot {
+pub(crate) fn write_spot(who: &Who, number: Number) -> Spot {
     let high = (number.0 >> 32) as u32;
     let low = (number.0 & 0xffff_ffff) as u32;
     spot(who, FileId(high), BlockNo(low))
 }
 
 /// The places of the writes, each at its incarnation and its number.
-fn places_of_writes(alloc: Global, whole: &[Entry]) -> Result<Marks, NoMemory> {
+pub(crate) fn places_of_writes(alloc: Global, whole: &[Entry]) -> Result<Marks, NoMemory> {
     let mut places = HashMap::new(alloc);
     for (place, entry) in whole.iter().enumerate() {
         if let Entry::W { who, number, .. } = entry {
@@ -39,7 +40,7 @@ pub(crate) fn entry_at(whole: &[Entry], place: usize) -> Option<&Entry>
 }
 
 /// Whether the write at a place is one that an entry covers.
-fn covers_at(whole: &[Entry], place: u64, entry: &Entry) -> bool
+pub(crate) fn covers_at(whole: &[Entry], place: u64, entry: &Entry) -> bool
     ensures { IsTrue result → exists (covers entry.now) (reverse whole.now) ≡ true }
 {
     match entry_at(whole, place as usize) {
@@ -48,25 +49,61 @@ fn covers_at(whole: &[Entry], place: u64, entry: &Entry) -> bool
     }
 }
 
-/// Whether numbers are above the mark of a block. Then the last of them is its mark.
-fn covers_anew(marks: &mut Marks, at: Spot, first: Number, last: Number) -> Result<bool, NoMemory>
-    ensures { IfOk result (λ anew. IsTrue anew → IsAnew at first last marks.old.entries marks.new.entries) }
+/// How far the writes of each block are covered.
+#[derive(Drop)]
+pub(crate) struct Reach {
+    /// The highest number that is covered.
+    highest: Marks,
+    /// How far the lowest is below the highest number that there is.
+    lowest: Marks,
+}
+
+/// Raises the number of a spot to another where it is lower.
+fn raise(marks: &mut Marks, at: Spot, number: u64) -> Result<(), NoMemory>
+    ensures { OnOk result (IsRaised at number marks.old.entries marks.new.entries) }
 {
-    if first.0 <= mark_at(marks, at) || last < first {
+    if mark_at(marks, at) < number {
+        set_mark(marks, at, number)?;
+    }
+    Ok(())
+}
+
+/// Whether numbers are above all that are covered on a block, or below them.
+fn is_outside(reach: &Reach, at: Spot, first: Number, last: Number) -> bool
+    ensures { result ≡ is_outside 18446744073709551615 reach.now at first last }
+{
+    mark_at(&reach.highest, at) < first.0 || mark_at(&reach.lowest, at) < below_highest(last.0)
+}
+
+/// Takes in that numbers are covered on a block.
+fn extend(reach: &mut Reach, at: Spot, first: Number, last: Number) -> Result<(), NoMemory>
+    ensures { OnOk result (IsExtended 18446744073709551615 at first last reach.old reach.new) }
+{
+    raise(&mut reach.highest, at, last.0)?;
+    raise(&mut reach.lowest, at, below_highest(first.0))?;
+    Ok(())
+}
+
+/// Whether numbers are above all that are covered on a block, or below them. Then they are taken in.
+fn covers_anew(reach: &mut Reach, at: Spot, first: Number, last: Number) -> Result<bool, NoMemory>
+    ensures { IfOk result (λ anew. IsTrue anew → IsAnew 18446744073709551615 at first last reach.old reach.new) }
+{
+    if !is_outside(reach, at, first, last) {
         return Ok(false);
     }
-    set_mark(marks, at, last.0)?;
+    extend(reach, at, first, last)?;
     Ok(true)
 }
 
-/// Whether an entry covers only what is above its block's mark, and a write where it is an L. Then the marks tell of it.
+/// Whether an entry covers only what is outside of what is covered on its block, and a write where it is an L. Then it is taken
+/// in.
 fn accounts(
     whole: &[Entry],
     places: &Marks,
-    marks: &mut Marks,
+    reach: &mut Reach,
     entry: &Entry,
 ) -> Result<bool, NoMemory>
-    ensures { IfOk result (λ yes. IsTrue yes → Accounts (reverse whole.now) entry.now marks.old.entries marks.new.entries) }
+    ensures { IfOk result (λ yes. IsTrue yes → Accounts 18446744073709551615 (reverse whole.now) entry.now reach.old reach.new) }
 {
     match entry {
         Entry::S {
@@ -76,7 +113,7 @@ fn accounts(
             first,
             last,
             ..
-        } => covers_anew(marks, spot(who, *file, *block), *first, *last),
+        } => covers_anew(reach, spot(who, *file, *block), *first, *last),
         Entry::L {
             who,
             file,
@@ -88,20 +125,26 @@ fn accounts(
             if !covers_at(whole, place, entry) {
                 return Ok(false);
             }
-            covers_anew(marks, spot(who, *file, *block), *first, *last)
+            covers_anew(reach, spot(who, *file, *block), *first, *last)
         }
         _ => Ok(true),
     }
 }
 
 /// How far each entry does so, one after another.
-pub(crate) fn accounted_front(alloc: Global, whole: &[Entry]) -> Result<usize, NoMemory>
+pub(crate) fn accounted_front(
+    alloc: Global,
+    places: &Marks,
+    whole: &[Entry],
+) -> Result<usize, NoMemory>
     ensures { IfOk result (KeepsBelow Rule.Accounted whole.now) }
 {
-    let places = places_of_writes(alloc, whole)?;
-    let mut marks = HashMap::new(alloc);
+    let mut reach = Reach {
+        highest: HashMap::new(alloc),
+        lowest: HashMap::new(alloc),
+    };
     for (place, entry) in whole.iter().enumerate() {
-        if !accounts(whole, &places, &mut marks, entry)? {
+        if !accounts(whole, places, &mut reach, entry)? {
             return Ok(place);
         }
     }

@@ -4,11 +4,13 @@
 ghost use Rattle.std.specs.Prelude.{◌≡◌, ◌<◌, length};
 ghost use Rattle.nq_check.specs.Tables.{AreTables};
 
-use crate::entries::covers;
+use crate::covering::{covers_at, write_spot};
 use crate::links::{Heads, Key, head_at, own_key, set_head};
+use crate::marks::{Marks, Spot, mark_at};
 use crate::sought::call_along;
 use crate::tables::Tables;
-use nq_base::{BlockNo, Entry, FileId, NoMemory, Said, Told, Who};
+use nq_base::{BlockNo, Entry, FileId, NoMemory, Number, Said, Told, Who};
+use nq_rules::entries::covers;
 use std::alloc::Global;
 use std::collections::HashMap;
 
@@ -49,17 +51,52 @@ fn settles(entry: &Entry, other: &Entry) -> bool {
     matches!(other, Entry::L { .. }) || covers(entry, other)
 }
 
-/// Sets the fate of what an entry settles, back from a place, counted from 1, to the first that has one.
-fn settle(search: &mut Search, whole: &[Entry], from: usize, place: usize, entry: &Entry) {
+/// Whether an entry is a write whose number is below another.
+fn is_before(entry: &Entry, first: Number) -> bool {
+    match entry {
+        Entry::W { number, .. } => *number < first,
+        _ => false,
+    }
+}
+
+/// The place, counted from 1, of the last write that an S or L covers, whose number is told; of the block's last write where
+/// that is not known.
+fn last_covered(
+    search: &Search,
+    places: &Marks,
+    whole: &[Entry],
+    entry: &Entry,
+    numbered: Spot,
+    key: Key,
+) -> usize {
+    let place = mark_at(places, numbered);
+    let at = place as usize;
+    if at < whole.len() && covers_at(whole, place, entry) {
+        return at + 1;
+    }
+    head_at(&search.writes, key)
+}
+
+/// Sets the fate of what an entry settles, back from a place, counted from 1, to one that has a fate or to a write with a
+/// number below the first that is settled.
+fn settle(
+    search: &mut Search,
+    whole: &[Entry],
+    from: usize,
+    first: Number,
+    place: usize,
+    entry: &Entry,
+) {
     let mut at = from;
     while at > 0 {
-        if fate_at(&search.fates, at - 1) != NOWHERE {
+        let Some(other) = whole.get(at - 1) else {
+            return;
+        };
+        if is_before(other, first) || fate_at(&search.fates, at - 1) != NOWHERE {
             return;
         }
-        if let Some(other) = whole.get(at - 1) {
-            if settles(entry, other) {
-                set_fate(&mut search.fates, at - 1, place);
-            }
+        if settles(entry, other) {
+            set_fate(&mut search.fates, at - 1, place);
         }
         let earlier = search.earlier.get(at - 1).copied().unwrap_or(0);
         if earlier >= at {
@@ -95,6 +132,7 @@ fn file_of(call: Option<Told>) -> FileId {
 fn take_in(
     search: &mut Search,
     tables: &Tables,
+    places: &Marks,
     whole: &[Entry],
     place: usize,
     entry: &Entry,
@@ -119,19 +157,24 @@ fn take_in(
             who,
             file,
             block,
+            first,
+            last,
             ..
         } => {
-            let from = head_at(&search.writes, own_key(who, *file, *block));
-            settle(search, whole, from, place, entry);
+            let key = own_key(who, *file, *block);
+            let from = last_covered(search, places, whole, entry, write_spot(who, *last), key);
+            settle(search, whole, from, *first, place, entry);
         }
         Entry::L {
             who,
             file,
             block,
-            ..
+            first,
+            last,
         } => {
-            let from = head_at(&search.writes, own_key(who, *file, *block));
-            settle(search, whole, from, place, entry);
+            let key = own_key(who, *file, *block);
+            let from = last_covered(search, places, whole, entry, write_spot(who, *last), key);
+            settle(search, whole, from, *first, place, entry);
             let key = file_key(who, *file);
             earlier = head_at(&search.losses, key);
             set_head(&mut search.losses, key, place + 1)?;
@@ -143,7 +186,7 @@ fn take_in(
         } => {
             let file = file_of(call_along(&tables.calls, whole, who, *q));
             let from = head_at(&search.losses, file_key(who, file));
-            settle(search, whole, from, place, entry);
+            settle(search, whole, from, Number(0), place, entry);
         }
         _ => {}
     }
@@ -153,7 +196,12 @@ fn take_in(
 }
 
 /// The fates of the delayed writes of a journal, and of its losses.
-pub(crate) fn find_fates(alloc: Global, tables: &Tables, whole: &[Entry]) -> Result<Fates, NoMemory>
+pub(crate) fn find_fates(
+    alloc: Global,
+    tables: &Tables,
+    places: &Marks,
+    whole: &[Entry],
+) -> Result<Fates, NoMemory>
     requires tables { AreTables whole.now tables.now }
 {
     let mut search = Search {
@@ -163,7 +211,7 @@ pub(crate) fn find_fates(alloc: Global, tables: &Tables, whole: &[Entry]) -> Res
         losses: HashMap::new(alloc),
     };
     for (place, entry) in whole.iter().enumerate() {
-        take_in(&mut search, tables, whole, place, entry)?;
+        take_in(&mut search, tables, places, whole, place, entry)?;
     }
     Ok(search.fates)
 }

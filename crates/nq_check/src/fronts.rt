@@ -3,7 +3,7 @@
 ghost use Rattle.std.specs.Prelude.{IfOk};
 ghost use Rattle.nq_check.specs.Fronts.{AreFronts};
 
-use crate::covering::accounted_front;
+use crate::covering::{accounted_front, places_of_writes};
 use crate::fates::find_fates;
 use crate::kept_front::kept_front;
 use crate::legal_front::legal_front;
@@ -29,8 +29,9 @@ pub(crate) fn find_fronts(alloc: Global, whole: &[Entry]) -> Result<Fronts, NoMe
 {
     let tables = make_tables(alloc, whole)?;
     let ordered = ordered_front(alloc, whole)?;
-    let accounted = accounted_front(alloc, whole)?;
-    let fates = find_fates(alloc, &tables, whole)?;
+    let places = places_of_writes(alloc, whole)?;
+    let accounted = accounted_front(alloc, &places, whole)?;
+    let fates = find_fates(alloc, &tables, &places, whole)?;
     let reported = reported_front(alloc, &tables, whole, ordered)?;
     let synchronized = kept_front(alloc, &tables, &fates, whole, ordered)?;
     Ok(Fronts {

@@ -4,21 +4,22 @@ ghost use Rattle.std.specs.Prelude.{◌≡◌, ◌+◌, ◌-◌, ◌<◌, ◌≤
 ghost use Rattle.std.specs.List.{slice_get};
 ghost use Rattle.nq_check.specs.Fronts.{KeepsBelow};
 ghost use Rattle.nq_check.specs.Tables.{AreTables, HasBetween, NoneBetween};
-ghost use Rattle.nq_check.specs.declared.rules.Rule.{Rule};
+ghost use Rattle.nq_rules.specs.Legal.{is_legal_answer, is_legal_at};
+ghost use Rattle.nq_rules.specs.declared.Rule.{Rule};
 ghost use Rattle.nq_model.specs.Journal.{call_of, cuts};
 ghost use Rattle.nq_model.specs.JournalTest.{is_counted, is_lost, is_stored};
-ghost use Rattle.nq_model.specs.LegalTest.{is_counted_by, is_counted_with, is_legal_answer, is_legal_at, is_legal_read, is_reading};
+ghost use Rattle.nq_model.specs.LegalTest.{is_counted_by, is_counted_with, is_legal_read, is_reading};
 ghost use Rattle.nq_model.specs.StandsTest.{standing_value, stands};
 
-use crate::calls::is_reading;
-use crate::entries::{cuts, is_read_by, is_through, is_write_by, is_write_on, value_written};
 use crate::fates::{Fates, fate_at};
-use crate::legal::Reading;
 use crate::links::{Kind, block_key, call_key};
 use crate::settled::{is_lost_at, is_stored_at};
 use crate::sought::{Sought, back_from, call_along, is_before, is_somewhere, last_of};
 use crate::tables::Tables;
 use nq_base::{BlockNo, Entry, Said, Who};
+use nq_rules::calls::is_reading;
+use nq_rules::entries::{cuts, is_read_by, is_through, is_write_by, is_write_on, value_written};
+use nq_rules::legal::Reading;
 
 /// Whether an entry is a counted read.
 fn is_counted(tables: &Tables, whole: &[Entry], entry: &Entry) -> bool
@@ -241,13 +242,6 @@ fn is_counted_with(
     }
 }
 
-/// Whether one of two is true.
-fn either(here: bool, found: bool) -> bool
-    ensures { result ≡ (here || found) }
-{
-    here || found
-}
-
 /// A number, or the next one where something is counted.
 fn counted(number: usize, here: bool) -> usize
     requires { number < 18446744073709551615 }
@@ -256,23 +250,21 @@ fn counted(number: usize, here: bool) -> usize
     if here { number + 1 } else { number }
 }
 
-/// Whether a call has one counted read, and that is of a value.
+#[tactic(auto, unfolding(nq_rules::specs::Legal::is_legal_answer))]
+/// Whether exactly one counted read is of a call and a value.
 fn is_legal_answer(tables: &Tables, whole: &[Entry], by: &Who, n: u64, v: u32) -> bool
     requires tables { AreTables whole.now tables.now }
     ensures { result ≡ is_legal_answer (reverse whole.now) by.now n v }
 {
     let key = call_key(by, n);
     let mut number: usize = 0;
-    let mut found = false;
     let mut at = last_of(&tables.calls, Kind::Calls, key, whole);
     while at > 0 {
-        let here = is_counted_with(tables, whole, by, n, v, &whole[at - 1]);
-        found = either(here, found);
-        let counts = is_counted_by(tables, whole, by, n, &whole[at - 1]);
+        let counts = is_counted_with(tables, whole, by, n, v, &whole[at - 1]);
         number = counted(number, counts);
         at = back_from(&tables.calls, Kind::Calls, key, whole, at - 1);
     }
-    found && number <= 1
+    number == 1
 }
 
 /// Whether an answer is legal.

@@ -1,40 +1,30 @@
 //! A judge of anybody's journal: whether it is sound, and which of its entries is the first at fault.
 #![tactic(auto)]
 
-mod accounted;
 mod behind;
-mod calls;
 mod covering;
 mod endings;
-mod entries;
-mod excused;
 mod fates;
 mod fronts;
 mod judge;
 mod kept_front;
 mod latest;
-pub mod laws;
-mod legal;
 mod legal_front;
 mod lines;
 mod links;
 mod marks;
-mod named;
 mod namings;
-mod ordered;
 mod ordering;
 mod puts;
 mod replies;
 mod reported_front;
 mod reports;
 mod rising;
-mod rules;
 mod settled;
 mod sought;
-mod synchronized;
 mod syncs;
 mod tables;
 mod trail;
 
 pub use judge::check;
-pub use rules::{Judged, Rule};
+pub use nq_rules::{Judged, Rule};

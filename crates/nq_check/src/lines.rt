@@ -1,6 +1,6 @@
 //! How far the calls of an incarnation have come, as one look over a journal learns it.
 
-ghost use Rattle.std.specs.Prelude.{◌≡◌, OnOk, IfOk};
+ghost use Rattle.std.specs.Prelude.{◌≡◌, OnOk};
 ghost use Rattle.nq_check.specs.Lines.{IsLined, after_answer_of, after_call, after_call_at, after_read_of, after_resize_of, after_write_of, is_sizing, is_writing, line_at, no_line, sizing_of, writing_of};
 
 use nq_base::{BlockNo, FileId, NoMemory, Number, Told, Who};

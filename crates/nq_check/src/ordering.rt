@@ -1,5 +1,5 @@
 //! A fast test of entries that stand in order: it is true only where they do.
-#![tactic(auto, using(crate::proofs::Backwards::last_first))]
+#![tactic(auto, using(nq_rules::proofs::Backwards::last_first))]
 
 ghost use Rattle.std.specs.Prelude.{◌≡◌, ◌+◌, ◌<◌, Some, IfOk, IsTrue, length, reverse, drop};
 ghost use Rattle.std.specs.List.{slice_get};
@@ -7,14 +7,14 @@ ghost use Rattle.nq_check.specs.Fronts.{KeepsBelow};
 ghost use Rattle.nq_check.specs.InOrder.{IsNext, StandsInOrder, is_else};
 ghost use Rattle.nq_check.specs.Replies.{AreTold};
 ghost use Rattle.nq_model.specs.OrderedTest.{is_busy_next};
-ghost use Rattle.nq_check.specs.declared.rules.Rule.TheVariants.{Ordered};
+ghost use Rattle.nq_rules.specs.declared.Rule.TheVariants.{Ordered};
 
 use crate::lines::{
     Line, Lines, after_answer, after_call, after_read, after_resize, after_write, line_at, set_line,
 };
-use crate::ordered::is_busy_next;
 use crate::replies::{Replies, may_count, replies_of};
 use nq_base::{Entry, NoMemory, Who};
+use nq_rules::ordered::is_busy_next;
 use std::alloc::Global;
 use std::collections::HashMap;
 

@@ -5,23 +5,23 @@ ghost use Rattle.std.specs.List.{slice_get};
 ghost use Rattle.nq_check.specs.Fronts.{KeepsBelow};
 ghost use Rattle.nq_check.specs.Losses.{PassBetween, is_told};
 ghost use Rattle.nq_check.specs.Marks.{spot};
-ghost use Rattle.nq_check.specs.Named.{is_reported};
+ghost use Rattle.nq_rules.specs.Named.{is_reported};
 ghost use Rattle.nq_check.specs.Reports.{AreNext, IsReportKey, TakesReport, answers, reports_of};
 ghost use Rattle.nq_check.specs.Tables.{AreTables};
-ghost use Rattle.nq_check.specs.declared.rules.Rule.{Rule};
+ghost use Rattle.nq_rules.specs.declared.Rule.{Rule};
 ghost use Rattle.nq_model.specs.JournalTest.{exists};
 ghost use Rattle.nq_model.specs.ReportedTest.{is_busy_answer, names};
 
 use crate::behind::front_with;
-use crate::calls::speaks_of;
 use crate::covering::entry_at;
-use crate::entries::{is_answer, is_busy_answer};
 use crate::links::{Heads, Key, head_at, own_key, set_head};
-use crate::named::are_names_of;
 use crate::namings::loss_key;
 use crate::sought::call_along;
 use crate::tables::Tables;
 use nq_base::{BlockNo, Entry, FileId, Loss, NoMemory, Said, Told, Who};
+use nq_rules::calls::speaks_of;
+use nq_rules::entries::{is_answer, is_busy_answer};
+use nq_rules::named::are_names_of;
 use std::alloc::Global;
 use std::collections::HashMap;
 

@@ -1,5 +1,5 @@
 //! A fast test that the delayed writes of an incarnation on a file are stored or told: it is true only where they are.
-#![tactic(auto, using(crate::proofs::Backwards::last_first))]
+#![tactic(auto, using(nq_rules::proofs::Backwards::last_first))]
 
 ghost use Rattle.std.specs.Prelude.{◌≡◌, ◌<◌, ◌≤◌, IsTrue, length, reverse, take, true};
 ghost use Rattle.nq_check.specs.Links.{IsFree, IsLinked};
@@ -9,15 +9,15 @@ ghost use Rattle.nq_model.specs.JournalTest.{exists, is_lost, is_stored};
 ghost use Rattle.nq_model.specs.ReportedTest.{names};
 ghost use Rattle.nq_model.specs.SynchronizedTest.{are_stored_or_told, is_named_loss, is_stored_or_told};
 
-use crate::calls::speaks_of;
 use crate::covering::entry_at;
-use crate::entries::{loss_covers, store_covers};
 use crate::fates::{Fates, fate_at, file_key};
 use crate::links::{Key, Kind, Links, head_at, key_of, same_key};
-use crate::named::are_names_of;
 use crate::sought::call_along;
 use crate::tables::Tables;
 use nq_base::{Entry, FileId, Loss, Said, Who};
+use nq_rules::calls::speaks_of;
+use nq_rules::entries::{loss_covers, store_covers};
+use nq_rules::named::are_names_of;
 
 /// Whether an entry is an A `lost` of an incarnation on the file of a loss, and names the loss.
 fn names(tables: &Tables, whole: &[Entry], by: &Who, loss: &Loss, entry: &Entry) -> bool

@@ -1,5 +1,5 @@
 //! Entries that are looked for along links.
-#![tactic(auto, using(crate::proofs::Backwards::last_first))]
+#![tactic(auto, using(nq_rules::proofs::Backwards::last_first))]
 
 ghost use Rattle.std.specs.Prelude.{◌≡◌, ◌<◌, ◌≤◌, length, reverse, take};
 ghost use Rattle.nq_check.specs.Links.{IsFree, IsLinked};
@@ -8,9 +8,9 @@ ghost use Rattle.nq_model.specs.Journal.{call_of};
 ghost use Rattle.nq_model.specs.JournalTest.{exists};
 ghost use Rattle.nq_check.specs.declared.links.Kind.TheVariants.{Calls};
 
-use crate::entries::{is_answer_by, is_answer_with, loss_covers, store_covers, told_by};
 use crate::links::{Key, Kind, Links, call_key, head_at, key_of, own_key, same_key};
 use nq_base::{Entry, Told, Who};
+use nq_rules::entries::{is_answer_by, is_answer_with, loss_covers, store_covers, told_by};
 
 /// What is looked for along links.
 #[derive(Clone, Copy)]

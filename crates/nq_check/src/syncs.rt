@@ -1,17 +1,16 @@
 //! Fast tests that an answered `sync`, `resize` or `remove` is kept: they are true only where it is.
-#![tactic(auto, using(crate::proofs::Backwards::last_first))]
+#![tactic(auto, using(nq_rules::proofs::Backwards::last_first))]
 
-ghost use Rattle.std.specs.Prelude.{◌≡◌, ◌+◌, ◌<◌, ◌≤◌, IsTrue, length, reverse, take, true};
+ghost use Rattle.std.specs.Prelude.{◌≡◌, ◌<◌, ◌≤◌, IsTrue, length, reverse, take, true};
 ghost use Rattle.nq_check.specs.Fronts.{KeepsBelow};
 ghost use Rattle.nq_check.specs.Links.{IsLinked};
 ghost use Rattle.nq_check.specs.Settling.{is_ok_to, is_sizing_of, is_sync_of};
 ghost use Rattle.nq_check.specs.Tables.{AreTables};
 ghost use Rattle.nq_check.specs.declared.links.Kind.TheVariants.{Delays};
-ghost use Rattle.nq_check.specs.declared.rules.Rule.TheVariants.{Synchronized};
+ghost use Rattle.nq_rules.specs.declared.Rule.TheVariants.{Synchronized};
 ghost use Rattle.nq_model.specs.JournalTest.{somewhere};
 ghost use Rattle.nq_model.specs.SynchronizedTest.{are_stored_or_told, is_settled_resize};
 
-use crate::entries::is_resize_by;
 use crate::fates::{Fates, file_key};
 use crate::latest::latest_of;
 use crate::links::head_at;
@@ -20,6 +19,7 @@ use crate::sought::call_along;
 use crate::tables::Tables;
 use crate::trail::Trail;
 use nq_base::{Entry, FileId, Said, Told, Who};
+use nq_rules::entries::is_resize_by;
 
 /// Whether a call is a `sync` of a file.
 fn is_sync_of(on: FileId, call: Option<Told>) -> bool

@@ -1,7 +1,7 @@
 //! Judging a journal.
 
 ghost use Rattle.std.specs.Prelude.{◌≡◌, ◌<◌, ◌^◌, ◌+◌, ℕ, IfOk, Some, length, string_bytes};
-ghost use Rattle.nq_check.specs.Verdict.{Fault, IsVerdict};
+ghost use Rattle.nq_rules.specs.Verdict.{Fault, IsVerdict};
 ghost use Rattle.nq_ending.specs.declared.Ending.{Ending};
 ghost use Rattle.nq_replay.specs.Ending.{IsUnlessFault};
 ghost use Rattle.nq_replay.specs.Judging.{Judges, JudgesText, TellsVerdict, no_line};

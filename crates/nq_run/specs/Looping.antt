@@ -3,7 +3,7 @@
 -- counts of faults before and after.
 use Rattle.std.specs.Prelude.{◌≡◌, ℕ, List, Option, None}
 use Rattle.nq_base.specs.declared.Event.{Event}
-use Rattle.nq_check.specs.Verdict.{verdict}
+use Rattle.nq_rules.specs.Verdict.{verdict}
 use Rattle.nq_ending.specs.Status.{status_of}
 use Rattle.nq_ending.specs.declared.Ending.{Ending}
 use Rattle.nq_io.specs.Told.{with_end}

@@ -3,7 +3,7 @@
 -- and after.
 use Rattle.std.specs.Prelude.{◌≡◌, ◌⊎◌, ℕ, List, Option, Some, None}
 use Rattle.nq_base.specs.declared.Event.{Event}
-use Rattle.nq_check.specs.Verdict.{verdict}
+use Rattle.nq_rules.specs.Verdict.{verdict}
 use Rattle.nq_command.specs.declared.Command.{Command}
 use Rattle.nq_ending.specs.declared.Ending.{Ending}
 use Rattle.nq_io.specs.Told.{with_end}

@@ -2,9 +2,9 @@ use Rattle.std.proofs.Common.{rules, ◌≡◌, true, length, reverse, refl, sym
 use Rattle.std.proofs.lemmas.Option.{slice_get_read}
 use Rattle.nq_model.specs.Journal.{Each}
 use Rattle.nq_check.specs.Covered.{IsCoveredTo}
-use Rattle.nq_check.specs.declared.rules.Rule.TheVariants.{Accounted}
+use Rattle.nq_rules.specs.declared.Rule.TheVariants.{Accounted}
 use Rattle.nq_check.proofs.MovesOn.{one_more}
-use Rattle.nq_check.proofs.Places.{taken_here}
+use Rattle.nq_rules.proofs.Places.{taken_here}
 use Rattle.nq_check.proofs.covering.accounted_front.Goals as goal
 
 pub loop-place-preserved : goal.loop-place-preserved
@@ -16,4 +16,4 @@ loop-place-preserved c =
     let split = taken_here whole place entry there in
     let yes : c.in_ok-accounts.field-0 ≡ true = search rules in
     let h = c.in_ok-accounts.ensures yes (reverse (take place whole)) c.loop-place.invariant.0 in
-    (subst (λ l. Each (IsCoveredTo c.accounts.new.marks.entries) l) (sym split) h.1, one_more Accounted whole place entry there h.0 c.loop-place.invariant.1)
+    (subst (λ l. Each (IsCoveredTo 18446744073709551615 c.accounts.new.reach) l) (sym split) h.1, one_more Accounted whole place entry there h.0 c.loop-place.invariant.1)

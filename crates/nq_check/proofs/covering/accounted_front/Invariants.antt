@@ -1,10 +1,10 @@
 use Rattle.std.proofs.Common.{reverse, take}
 use Rattle.nq_check.specs.Covered.{IsCoveredTo}
 use Rattle.nq_check.specs.Fronts.{KeepsBelow}
-use Rattle.nq_check.specs.declared.rules.Rule.TheVariants.{Accounted}
+use Rattle.nq_rules.specs.declared.Rule.TheVariants.{Accounted}
 use Rattle.nq_model.specs.Journal.{Each}
 use Rattle.nq_check.proofs.covering.accounted_front.Given as goal
 
 abbrev pub invariant-loop-place : goal.invariant-loop-place
 invariant-loop-place l =
-    Each (IsCoveredTo l.marks.entries) (reverse (take l.place l.whole)) × KeepsBelow Accounted l.whole l.place
+    Each (IsCoveredTo 18446744073709551615 l.reach) (reverse (take l.place l.whole)) × KeepsBelow Accounted l.whole l.place

@@ -1,6 +1,6 @@
 use Rattle.std.proofs.Common.{rules, ◌≡◌, true, length, refl, sym, ◌∙◌}
 use Rattle.std.proofs.lemmas.Option.{slice_get_read}
-use Rattle.nq_check.specs.declared.rules.Rule.TheVariants.{Legal}
+use Rattle.nq_rules.specs.declared.Rule.TheVariants.{Legal}
 use Rattle.nq_check.proofs.MovesOn.{one_more}
 use Rattle.nq_check.proofs.legal_front.legal_front.Goals as goal
 

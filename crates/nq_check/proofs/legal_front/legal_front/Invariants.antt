@@ -1,5 +1,5 @@
 use Rattle.nq_check.specs.Fronts.{KeepsBelow}
-use Rattle.nq_check.specs.declared.rules.Rule.TheVariants.{Legal}
+use Rattle.nq_rules.specs.declared.Rule.TheVariants.{Legal}
 use Rattle.nq_check.proofs.legal_front.legal_front.Given as goal
 
 abbrev pub invariant-loop-place : goal.invariant-loop-place

@@ -1,0 +1,5 @@
+pub mod Agreeing
+pub mod Backwards
+pub mod NameLosses
+pub mod Places
+pub mod Sounds
