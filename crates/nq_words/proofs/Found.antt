@@ -61,11 +61,30 @@ found_place words left place e =
 
 -- ---- calls of one shape
 
+-- a call that one number tells
+abbrev one_by : (tell : ℕ → Told) → List (List ℕ) → Option (Told × List (List ℕ))
+one_by tell words = do
+  n ← u32_at words
+  Some (tell n.0, n.1)
+
+-- a call that a file and a block tell
+abbrev place_by : (tell : ℕ → ℕ → Told) → List (List ℕ) → Option (Told × List (List ℕ))
+place_by tell words = do
+  place ← place_at words
+  Some (tell place.0.0 place.0.1, place.1)
+
+-- a call that a file, a block and a value tell
+abbrev value_by : (tell : ℕ → ℕ → ℕ → Told) → List (List ℕ) → Option (Told × List (List ℕ))
+value_by tell words = do
+  place ← place_at words
+  value ← u32_at place.1
+  Some (tell place.0.0 place.0.1 value.0, value.1)
+
 -- what a call names, and the call that is told by it
 abbrev IsOne : (words left : List (List ℕ)) → (tell : ℕ → Told) → Told → Type 0
 IsOne words left tell told = (n : ℕ) × (words ≡ decimal n ∷ left) × (n < 2 ^ 32) × (tell n ≡ told)
 
-of_one : (tell : ℕ → Told) (words left : List (List ℕ)) (told : Told) → (u32_at words >>= λ n. Some (tell n.0, n.1)) ≡ Some (told, left) → IsOne words left tell told
+of_one : (tell : ℕ → Told) (words left : List (List ℕ)) (told : Told) → one_by tell words ≡ Some (told, left) → IsOne words left tell told
 of_one tell words left told e =
     let n = bind_some (u32_at words) (λ n. Some (tell n.0, n.1)) (told, left) e in
     let same = some_pair_parts (tell n.0.0) told n.0.1 left n.2 in
@@ -75,7 +94,7 @@ of_one tell words left told e =
 abbrev IsTwo : (words left : List (List ℕ)) → (tell : ℕ → ℕ → Told) → Told → Type 0
 IsTwo words left tell told = (m : ℕ) × (n : ℕ) × (words ≡ decimal m ∷ decimal n ∷ left) × (m < 2 ^ 32) × (n < 2 ^ 32) × (tell m n ≡ told)
 
-of_place : (tell : ℕ → ℕ → Told) (words left : List (List ℕ)) (told : Told) → (place_at words >>= λ p. Some (tell p.0.0 p.0.1, p.1)) ≡ Some (told, left) → IsTwo words left tell told
+of_place : (tell : ℕ → ℕ → Told) (words left : List (List ℕ)) (told : Told) → place_by tell words ≡ Some (told, left) → IsTwo words left tell told
 of_place tell words left told e =
     let p = bind_some (place_at words) (λ p. Some (tell p.0.0 p.0.1, p.1)) (told, left) e in
     let same = some_pair_parts (tell p.0.0.0 p.0.0.1) told p.0.1 left p.2 in
@@ -87,7 +106,7 @@ IsThree words left tell told =
     (l : ℕ) × (m : ℕ) × (n : ℕ) × (words ≡ decimal l ∷ decimal m ∷ decimal n ∷ left) × (l < 2 ^ 32) × (m < 2 ^ 32) × (n < 2 ^ 32) × (tell l m n ≡ told)
 
 of_value : (tell : ℕ → ℕ → ℕ → Told) (words left : List (List ℕ)) (told : Told)
-    → (place_at words >>= λ p. u32_at p.1 >>= λ v. Some (tell p.0.0 p.0.1 v.0, v.1)) ≡ Some (told, left) → IsThree words left tell told
+    → value_by tell words ≡ Some (told, left) → IsThree words left tell told
 of_value tell words left told e =
     let p = bind_some (place_at words) (λ p. u32_at p.1 >>= λ v. Some (tell p.0.0 p.0.1 v.0, v.1)) (told, left) e in
     let v = bind_some (u32_at p.0.1) (λ v. Some (tell p.0.0.0 p.0.0.1 v.0, v.1)) (told, left) p.2 in
