@@ -13,8 +13,12 @@ use Rattle.nq_io.specs.Faults.{Rose}
 use Rattle.nq_keeper.specs.declared.KeepFault.{KeepFault}
 use Rattle.nq_keeper.specs.Keeping.{StaysOrEnds}
 use Rattle.nq_model.specs.Kept.{Kept}
-use Rattle.nq_model.specs.Profile.{skew, write_slack, most_boots}
+use Rattle.nq_model.specs.Profile.{skew, write_slack}
 use Rattle.nq_model.specs.ServerStep.{booted}
+
+-- the number of the last boot that a server can have: an image can have no greater one
+abbrev pub last_boot : ℕ
+last_boot = 2147483647
 
 -- a recovery over this kept state, from this time on: it waits for the longest term of the boot that served last, the skew
 -- and the write slack (Macklem 1994)
@@ -47,10 +51,10 @@ started_of kept longest now =
 -- left. After a fault nothing is kept, and the keeper may tell nothing from then on
 abbrev pub Starts : (longest time : ℕ) → Result Started StartFault → (told tells : Option Kept) → (before now : ℕ) → Type 0
 Starts longest time (Ok started) told tells before now =
-    ForSome told (λ kept. (kept.boot < most_boots) × (started ≡ started_of kept longest time) × (tells ≡ Some (booted kept longest)))
+    ForSome told (λ kept. (kept.boot < last_boot) × (started ≡ started_of kept longest time) × (tells ≡ Some (booted kept longest)))
     × (now ≡ before)
 Starts longest time (Err Spent) told tells before now =
-    ForSome told (λ kept. kept.boot ≡ most_boots) × (tells ≡ told) × (now ≡ before)
+    ForSome told (λ kept. kept.boot ≡ last_boot) × (tells ≡ told) × (now ≡ before)
 Starts longest time (Err Memory) told tells before now = (tells ≡ told) × (now ≡ before)
 Starts longest time (Err Failed) told tells before now = StaysOrEnds told tells × Rose before now
 

@@ -1,6 +1,11 @@
 -- A boot that recovers.
-use Rattle.std.specs.Prelude.{ℕ, ◌+◌, max}
-use Rattle.nq_model.specs.Profile.{write_slack}
+use Rattle.std.specs.Prelude.{ℕ, ◌+◌, ◌≤◌, max}
+use Rattle.nq_model.specs.Profile.{shortest_term, longest_term, write_slack}
+
+-- a longest term is one that a server can be told to grant
+pub record IsTerm (longest : ℕ) : Type 0 where
+  pub long : shortest_term ≤ longest
+  pub short : longest ≤ longest_term
 
 -- a boot that recovers: its number, the boot that served last, its own longest term, the time until which it recovers at
 -- least, and when a write was last heard

@@ -9,4 +9,4 @@ mod recovering;
 mod starting;
 
 pub use recovering::{Finish, Recovering, Serving};
-pub use starting::{StartFault, Started, start};
+pub use starting::{LAST_BOOT, StartFault, Started, start};

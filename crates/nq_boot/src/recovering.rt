@@ -1,7 +1,7 @@
 //! A boot that recovers, and one that serves.
 
 ghost use Rattle.std.specs.Prelude.{◌≡◌, ◌<◌, ◌≤◌, ◌^◌, ℕ};
-ghost use Rattle.nq_boot.specs.Recovery.{after_write};
+ghost use Rattle.nq_boot.specs.Recovery.{IsTerm, after_write};
 
 use nq_base::Ticks;
 use std::marker::Model;
@@ -9,7 +9,7 @@ use std::marker::Model;
 /// How long a recovery goes on after a write was heard, in ticks (Macklem 1994).
 const WRITE_SLACK: u64 = 5;
 
-/// A boot that recovers: it has to wait for the leases of the boot that served last.
+/// A boot that recovers: it has to wait for the leases of the boot that served last. Its own longest term is 5 to 600 ticks.
 #[derive(Drop)]
 pub struct Recovering {
     boot: u32,
@@ -20,11 +20,13 @@ pub struct Recovering {
 }
 
 impl Model for Recovering {
-    ghost use Rattle.nq_boot.specs.Recovery.{Recovery};
+    ghost use Rattle.nq_boot.specs.Recovery.{IsTerm, Recovery};
 
     ghost Value = { Recovery };
 
     ghost view = { λ r. record { boot = r.boot; opened = r.opened; longest = r.longest; until = r.until; heard = r.heard } };
+
+    ghost invariant = { λ r. IsTerm r.longest };
 }
 
 /// A boot that serves.
@@ -66,6 +68,7 @@ impl Recovering {
         until: Ticks,
         heard: Ticks,
     ) -> Recovering
+        requires { IsTerm longest }
         ensures { result ≡ record { boot = boot; opened = opened; longest = longest; until = until; heard = heard } }
     {
         Recovering {
@@ -93,7 +96,8 @@ impl Recovering {
 
     /// The longest term of this boot, in ticks.
     pub fn longest(&self) -> u32
-        ensures { result ≡ self.now.longest }
+        ensures longest { result ≡ self.now.longest }
+        ensures term { IsTerm result }
     {
         self.longest
     }

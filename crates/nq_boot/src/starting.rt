@@ -2,9 +2,10 @@
 
 ghost use Rattle.std.specs.Prelude.{◌≡◌, ◌<◌, ◌≤◌, ◌^◌, ℕ, IfOk};
 ghost use Rattle.std.specs.Option.{ForSome};
-ghost use Rattle.nq_boot.specs.Booting.{Opens, Starts, Finishes, Ends, LeavesThen, IsOfTerm, ended_at, heads_after_boot, started_of, opened_by, start_fault};
+ghost use Rattle.nq_boot.specs.Booting.{Opens, Starts, Finishes, Ends, LeavesThen, IsOfTerm, ended_at, heads_after_boot, last_boot, started_of, opened_by, start_fault};
+ghost use Rattle.nq_boot.specs.Recovery.{IsTerm};
 ghost use Rattle.nq_keeper.specs.Keeping.{Commits, LeavesTwo};
-ghost use Rattle.nq_model.specs.Change.{Fits, change_of_heads, heads_of};
+ghost use Rattle.nq_model.specs.Change.{AreHeadsWithin, Fits, IsChangeWithin, change_of_heads, heads_of};
 ghost use Rattle.nq_model.specs.Kept.{Kept};
 ghost use Rattle.nq_model.specs.ServerStep.{booted};
 
@@ -15,6 +16,9 @@ use nq_keeper::{KeepFault, Keeper};
 /// How long a recovery goes on beyond the longest term of the boot that served last, in ticks: the skew, and the write
 /// slack (Macklem 1994).
 const BEYOND: u64 = 8;
+
+/// The number of the last boot that a server can have.
+pub const LAST_BOOT: u32 = 0x7fff_ffff;
 
 /// How a boot begins.
 #[derive(Drop)]
@@ -62,7 +66,7 @@ fn fault_of(fault: KeepFault) -> StartFault
 
 /// The server's numbers after a boot.
 fn after_boot(heads: &Heads, longest: u32) -> Heads
-    requires { heads.now.boot < 4294967295 }
+    requires { heads.now.boot < last_boot }
     ensures { result ≡ heads_after_boot heads.now longest }
 {
     let boot = heads.boot + 1;
@@ -86,7 +90,8 @@ fn after_boot(heads: &Heads, longest: u32) -> Heads
 /// How a boot begins, by the numbers that were kept before it.
 #[tactic(auto, unfolding(crate::specs::Booting::recovery_of))]
 fn begun(heads: &Heads, longest: u32, now: Ticks) -> Started
-    requires boot { heads.now.boot < 4294967295 }
+    requires boot { heads.now.boot < last_boot }
+    requires longest { IsTerm longest }
     requires now { now < 2 ^ 62 }
     ensures begun { (kept : Kept) → heads.now ≡ heads_of kept → result ≡ started_of kept longest now }
     ensures term { IsOfTerm longest result }
@@ -101,7 +106,7 @@ fn begun(heads: &Heads, longest: u32, now: Ticks) -> Started
 
 /// Keeps the server's numbers.
 fn keep_heads<K: Keeper>(keeper: &mut K, heads: Heads) -> Result<(), KeepFault>
-    requires { ForSome (K.content keeper.old) (λ kept. kept.next ≤ heads.next) }
+    requires { ForSome (K.content keeper.old) (λ kept. AreHeadsWithin kept.next heads) }
     ensures commits { Commits result (change_of_heads heads) (K.content keeper.old) (K.content keeper.new) (K.faults keeper.old) (K.faults keeper.new) }
     ensures follows { K.follows keeper.old keeper.new }
     ensures leaves { LeavesTwo (change_of_heads heads) (K.content keeper.old) (K.leaves keeper.old keeper.new) }
@@ -125,7 +130,7 @@ pub fn start<K: Keeper>(keeper: &mut K, longest: u32, now: Ticks) -> Result<Star
         Ok(heads) => heads,
         Err(fault) => return Err(fault_of(fault)),
     };
-    if heads.boot == u32::MAX {
+    if heads.boot >= LAST_BOOT {
         return Err(StartFault::Spent);
     }
     match keep_heads(keeper, after_boot(&heads, longest)) {
@@ -143,6 +148,7 @@ impl Recovering {
         ensures leaves { LeavesThen (λ kept. opened_by kept self.longest) (K.content keeper.old) (K.leaves keeper.old keeper.new) }
     {
         if now < self.until() {
+            keeper.pause();
             return Finish::Wait(self);
         }
         match open(keeper, self.longest()) {
@@ -160,6 +166,7 @@ impl Recovering {
         ensures leaves { LeavesThen (ended_at self.now now) (K.content keeper.old) (K.leaves keeper.old keeper.new) }
     {
         if now < self.until() {
+            keeper.pause();
             return Ok(None);
         }
         open(keeper, self.longest())?;
@@ -169,6 +176,7 @@ impl Recovering {
 
 /// Keeps the last boot as one that served, with its longest term.
 fn open<K: Keeper>(keeper: &mut K, longest: u32) -> Result<(), KeepFault>
+    requires { IsTerm longest }
     ensures opens { Opens longest result (K.content keeper.old) (K.content keeper.new) (K.faults keeper.old) (K.faults keeper.new) }
     ensures follows { K.follows keeper.old keeper.new }
     ensures leaves { LeavesThen (λ kept. opened_by kept longest) (K.content keeper.old) (K.leaves keeper.old keeper.new) }

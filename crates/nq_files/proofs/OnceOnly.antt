@@ -6,7 +6,7 @@ use Rattle.std.proofs.lemmas.List.{length-set}
 use Rattle.std.proofs.lemmas.List.Elements.{All-head, All-tail, All-cons, All-nil, Contains-append_cases}
 use Rattle.std.proofs.lemmas.List.Sums.{sum_by-cons}
 use Rattle.nq_base.specs.declared.Decided.{Decided}
-use Rattle.nq_base.specs.declared.Decided.TheVariants.{Fresh, Again, Old, OldIncarnation, NotAttached}
+use Rattle.nq_base.specs.declared.Decided.TheVariants.{Fresh, Again, Old, OldIncarnation, NotAttached, OutOfBounds}
 use Rattle.nq_base.specs.declared.Effect.{Effect}
 use Rattle.nq_base.specs.declared.Gate.{Gate}
 use Rattle.nq_base.specs.declared.Gate.TheVariants.{Recovering, Serving}
@@ -18,8 +18,8 @@ use Rattle.nq_base.specs.declared.Who.{Who}
 use Rattle.nq_files.specs.Deciding.{IsOfHost}
 use Rattle.nq_files.specs.Repeats.{Coming, Key, Execution, key_of, execution_of, kept_after, kept_after_all, executed, is_of, IsRepeat, IsAttachedAgain, AtMostOnce, KeptIsSaid}
 use Rattle.nq_model.specs.Change.{applied, applied_if, kept_as}
-use Rattle.nq_model.specs.Decided.{no_effect, decided, decided_before, attach_decided, or_fresh, if_fresh, effect_of, change_of, change_with}
-use Rattle.nq_model.specs.Kept.{Kept, host_row, fresh_row}
+use Rattle.nq_model.specs.Decided.{no_effect, decided, decided_before, attach_decided, or_fresh, fresh_decided, if_fresh, effect_of, change_of, change_with, row_with}
+use Rattle.nq_model.specs.Kept.{Kept, can_be_kept, host_row, fresh_row}
 use Rattle.nq_model.specs.Message.{sequence_of}
 use Rattle.nq_model.specs.Profile.{most_hosts}
 use Rattle.nq_model.proofs.Finding.{decided as cases_of, same-number, number-same}
@@ -73,34 +73,42 @@ no-value : (effect : Effect) → effect ≡ no_effect Verdict.Done → effect.va
 unfolding no_effect
 no-value effect is = ap (λ e. e.value) is
 
-moves-attach : (kept : Kept) (who : Who) (effect : Effect) → effect ≡ no_effect Verdict.Done → Moves kept (applied_if kept (if_fresh (attach_decided who (host_row kept who.host)) (change_with who 0 effect))) (record { who = who; seq = 0 }) (attach_decided who (host_row kept who.host))
-moves-attach kept who effect is = by (nat_lt (host_row kept who.host).inc who.inc) refl (nat_lt who.inc (host_row kept who.host).inc)
-  where
-    by : (b : Bool) → nat_lt (host_row kept who.host).inc who.inc ≡ b → (c : Bool) → Moves kept (applied_if kept (if_fresh (if b then Fresh Verdict.Done 0 else (if c then OldIncarnation else Again (host_row kept who.host).verdict (host_row kept who.host).value)) (change_with who 0 effect))) (record { who = who; seq = 0 }) (if b then Fresh Verdict.Done 0 else (if c then OldIncarnation else Again (host_row kept who.host).verdict (host_row kept who.host).value))
-    by true e c =
-        let before : (host_row kept who.host).inc < who.inc = grind (arith, nat_tests) in
-        inr (record {
-          verdict = Verdict.Done;
-          value = 0;
-          fresh = refl;
-          behind = inl before;
-          rows = kept-rows kept who 0 effect ∙ ap (λ v. slice_set kept.hosts who.host (row_after (record { who = who; seq = 0 }) v effect.value)) (no-verdict effect is) ∙ ap (λ v. slice_set kept.hosts who.host (row_after (record { who = who; seq = 0 }) Verdict.Done v)) (no-value effect is);
-        })
-    by false e true = inl (refl, refl)
-    by false e false = inl (refl, refl)
+-- how a request is decided of which nothing else is said, by whether its row can be kept
+abbrev or_out : Bool → Verdict → (value : ℕ) → Decided
+or_out can verdict value = if can then Fresh verdict value else OutOfBounds
+
+module _ (kept : Kept) (who : Who) (effect : Effect) (is : effect ≡ no_effect Verdict.Done) where
+  attach-by : (b c can : Bool) → nat_lt (host_row kept who.host).inc who.inc ≡ b → Moves kept (applied_if kept (if_fresh (if b then or_out can Verdict.Done 0 else (if c then OldIncarnation else Again (host_row kept who.host).verdict (host_row kept who.host).value)) (change_with who 0 effect))) (record { who = who; seq = 0 }) (if b then or_out can Verdict.Done 0 else (if c then OldIncarnation else Again (host_row kept who.host).verdict (host_row kept who.host).value))
+  attach-by true c true e =
+      let before : (host_row kept who.host).inc < who.inc = grind (arith, nat_tests) in
+      inr (record {
+        verdict = Verdict.Done;
+        value = 0;
+        fresh = refl;
+        behind = inl before;
+        rows = kept-rows kept who 0 effect ∙ ap (λ v. slice_set kept.hosts who.host (row_after (record { who = who; seq = 0 }) v effect.value)) (no-verdict effect is) ∙ ap (λ v. slice_set kept.hosts who.host (row_after (record { who = who; seq = 0 }) Verdict.Done v)) (no-value effect is);
+      })
+  attach-by true c false e = inl (refl, refl)
+  attach-by false true can e = inl (refl, refl)
+  attach-by false false can e = inl (refl, refl)
+
+  moves-attach : Moves kept (applied_if kept (if_fresh (attach_decided who (host_row kept who.host)) (change_with who 0 effect))) (record { who = who; seq = 0 }) (attach_decided who (host_row kept who.host))
+  unfolding no_effect
+  moves-attach = attach-by (nat_lt (host_row kept who.host).inc who.inc) (nat_lt who.inc (host_row kept who.host).inc) (can_be_kept (row_with who 0 (no_effect Verdict.Done))) refl
 
 -- the choice by which a request of a sequence is decided
-abbrev chosen : HostRow → Effect → (a b c d : Bool) → Decided
-chosen line effect a b c d =
-    or_fresh (if a then Some OldIncarnation else (if b then Some NotAttached else (if c then Some (Again line.verdict line.value) else (if d then Some Old else None)))) effect
+abbrev chosen : HostRow → Decided → (a b c d : Bool) → Decided
+chosen line fresh a b c d =
+    or_fresh (if a then Some OldIncarnation else (if b then Some NotAttached else (if c then Some (Again line.verdict line.value) else (if d then Some Old else None)))) fresh
 
 module _ (kept : Kept) (who : Who) (seq : ℕ) (effect : Effect) where
-  by-tests : (a b c d : Bool) → nat_lt who.inc (host_row kept who.host).inc ≡ a → nat_lt (host_row kept who.host).inc who.inc ≡ b → (seq == (host_row kept who.host).seq) ≡ c → nat_lt seq (host_row kept who.host).seq ≡ d → Moves kept (applied_if kept (if_fresh (chosen (host_row kept who.host) effect a b c d) (change_with who seq effect))) (record { who = who; seq = seq }) (chosen (host_row kept who.host) effect a b c d)
-  by-tests true b c d e f g h = inl (refl, refl)
-  by-tests false true c d e f g h = inl (refl, refl)
-  by-tests false false true d e f g h = inl (refl, refl)
-  by-tests false false false true e f g h = inl (refl, refl)
-  by-tests false false false false e f g h =
+  by-tests : (a b c d can : Bool) → nat_lt who.inc (host_row kept who.host).inc ≡ a → nat_lt (host_row kept who.host).inc who.inc ≡ b → (seq == (host_row kept who.host).seq) ≡ c → nat_lt seq (host_row kept who.host).seq ≡ d → Moves kept (applied_if kept (if_fresh (chosen (host_row kept who.host) (or_out can effect.verdict effect.value) a b c d) (change_with who seq effect))) (record { who = who; seq = seq }) (chosen (host_row kept who.host) (or_out can effect.verdict effect.value) a b c d)
+  by-tests true b c d can e f g h = inl (refl, refl)
+  by-tests false true c d can e f g h = inl (refl, refl)
+  by-tests false false true d can e f g h = inl (refl, refl)
+  by-tests false false false true can e f g h = inl (refl, refl)
+  by-tests false false false false false e f g h = inl (refl, refl)
+  by-tests false false false false true e f g h =
       let same : (host_row kept who.host).inc ≡ who.inc = grind (arith, nat_tests) in
       let less : (host_row kept who.host).seq < seq = grind (arith, nat_tests) in
       inr (record {
@@ -111,8 +119,8 @@ module _ (kept : Kept) (who : Who) (seq : ℕ) (effect : Effect) where
         rows = kept-rows kept who seq effect;
       })
 
-  moves-sequence : Moves kept (applied_if kept (if_fresh (or_fresh (decided_before who seq (host_row kept who.host)) effect) (change_with who seq effect))) (record { who = who; seq = seq }) (or_fresh (decided_before who seq (host_row kept who.host)) effect)
-  moves-sequence = by-tests (nat_lt who.inc (host_row kept who.host).inc) (nat_lt (host_row kept who.host).inc who.inc) (seq == (host_row kept who.host).seq) (nat_lt seq (host_row kept who.host).seq) refl refl refl refl
+  moves-sequence : Moves kept (applied_if kept (if_fresh (or_fresh (decided_before who seq (host_row kept who.host)) (fresh_decided who seq effect)) (change_with who seq effect))) (record { who = who; seq = seq }) (or_fresh (decided_before who seq (host_row kept who.host)) (fresh_decided who seq effect))
+  moves-sequence = by-tests (nat_lt who.inc (host_row kept who.host).inc) (nat_lt (host_row kept who.host).inc who.inc) (seq == (host_row kept who.host).seq) (nat_lt seq (host_row kept who.host).seq) (can_be_kept (row_with who seq effect)) refl refl refl refl
 
 attach-effect : (kept : Kept) (gate : Gate) (who : Who) → effect_of kept gate (Attach who) ≡ no_effect Verdict.Done
 attach-effect kept (Recovering opened) who = refl
@@ -376,8 +384,8 @@ all-settled e kept (c ∷ cs) all few has =
     by rest (inr later) = rest later
 
 -- a request of the sequence of an execution, by the row of its host
-module _ (e : Execution) (line : HostRow) (effect : Effect) where
-  said-again : (a b c d : Bool) → nat_lt e.key.who.inc line.inc ≡ a → nat_lt line.inc e.key.who.inc ≡ b → (e.key.seq == line.seq) ≡ c → nat_lt e.key.seq line.seq ≡ d → Settled e line → IsRepeat e (chosen line effect a b c d)
+module _ (e : Execution) (line : HostRow) (fresh : Decided) where
+  said-again : (a b c d : Bool) → nat_lt e.key.who.inc line.inc ≡ a → nat_lt line.inc e.key.who.inc ≡ b → (e.key.seq == line.seq) ≡ c → nat_lt e.key.seq line.seq ≡ d → Settled e line → IsRepeat e (chosen line fresh a b c d)
   said-again true b c d p q r s settled = inr (inr refl)
   said-again false true c d p q r s (inl at) = let same : line.inc ≡ e.key.who.inc = ap (λ x. x.inc) at in absurd (grind (arith, nat_tests))
   said-again false true c d p q r s (inr (inl less)) = absurd (grind (arith, nat_tests))
@@ -390,7 +398,7 @@ module _ (e : Execution) (line : HostRow) (effect : Effect) where
   said-again false false false false p q r s (inr (inl less)) = absurd (grind (arith, nat_tests))
   said-again false false false false p q r s (inr (inr less)) = let after = less.1 in absurd (grind (arith, nat_tests))
 
-  repeats-sequence : Settled e line → IsRepeat e (or_fresh (decided_before e.key.who e.key.seq line) effect)
+  repeats-sequence : Settled e line → IsRepeat e (or_fresh (decided_before e.key.who e.key.seq line) fresh)
   repeats-sequence settled = said-again (nat_lt e.key.who.inc line.inc) (nat_lt line.inc e.key.who.inc) (e.key.seq == line.seq) (nat_lt e.key.seq line.seq) refl refl refl refl settled
 
 repeats : (e : Execution) (kept : Kept) (gate : Gate) (r : Request) → sequence_of r ≡ Some e.key.seq → key_of r ≡ Some e.key → Settled e (host_row kept e.key.who.host) → IsRepeat e (decided kept gate r)
@@ -404,22 +412,22 @@ repeats e kept gate (Evicted who file tag) seq is settled = cc
 repeats e kept gate (Attach who) seq is settled = cc
 repeats e kept gate (Create who n name blocks) seq is settled =
     let own : e.key ≡ record { who = who; seq = n } = cc in
-    subst (λ k. IsRepeat e (or_fresh (decided_before k.who k.seq (host_row kept k.who.host)) (effect_of kept gate (Create who n name blocks)))) own (repeats-sequence e (host_row kept e.key.who.host) (effect_of kept gate (Create who n name blocks)) settled)
+    subst (λ k. IsRepeat e (or_fresh (decided_before k.who k.seq (host_row kept k.who.host)) (fresh_decided who n (effect_of kept gate (Create who n name blocks))))) own (repeats-sequence e (host_row kept e.key.who.host) (fresh_decided who n (effect_of kept gate (Create who n name blocks))) settled)
 repeats e kept gate (Write who n file block first last push body) seq is settled =
     let own : e.key ≡ record { who = who; seq = n } = cc in
-    subst (λ k. IsRepeat e (or_fresh (decided_before k.who k.seq (host_row kept k.who.host)) (effect_of kept gate (Write who n file block first last push body)))) own (repeats-sequence e (host_row kept e.key.who.host) (effect_of kept gate (Write who n file block first last push body)) settled)
+    subst (λ k. IsRepeat e (or_fresh (decided_before k.who k.seq (host_row kept k.who.host)) (fresh_decided who n (effect_of kept gate (Write who n file block first last push body))))) own (repeats-sequence e (host_row kept e.key.who.host) (fresh_decided who n (effect_of kept gate (Write who n file block first last push body))) settled)
 repeats e kept gate (Resize who n q file blocks) seq is settled =
     let own : e.key ≡ record { who = who; seq = n } = cc in
-    subst (λ k. IsRepeat e (or_fresh (decided_before k.who k.seq (host_row kept k.who.host)) (effect_of kept gate (Resize who n q file blocks)))) own (repeats-sequence e (host_row kept e.key.who.host) (effect_of kept gate (Resize who n q file blocks)) settled)
+    subst (λ k. IsRepeat e (or_fresh (decided_before k.who k.seq (host_row kept k.who.host)) (fresh_decided who n (effect_of kept gate (Resize who n q file blocks))))) own (repeats-sequence e (host_row kept e.key.who.host) (fresh_decided who n (effect_of kept gate (Resize who n q file blocks))) settled)
 repeats e kept gate (Remove who n q file) seq is settled =
     let own : e.key ≡ record { who = who; seq = n } = cc in
-    subst (λ k. IsRepeat e (or_fresh (decided_before k.who k.seq (host_row kept k.who.host)) (effect_of kept gate (Remove who n q file)))) own (repeats-sequence e (host_row kept e.key.who.host) (effect_of kept gate (Remove who n q file)) settled)
+    subst (λ k. IsRepeat e (or_fresh (decided_before k.who k.seq (host_row kept k.who.host)) (fresh_decided who n (effect_of kept gate (Remove who n q file))))) own (repeats-sequence e (host_row kept e.key.who.host) (fresh_decided who n (effect_of kept gate (Remove who n q file))) settled)
 
 -- an ATTACH of an incarnation that was attached
 attached-again : (who : Who) (line : HostRow) → who.inc ≤ line.inc → IsAttachedAgain (attach_decided who line)
 attached-again who line most = by (nat_lt line.inc who.inc) refl (nat_lt who.inc line.inc)
   where
-    by : (b : Bool) → nat_lt line.inc who.inc ≡ b → (c : Bool) → IsAttachedAgain (if b then Fresh Verdict.Done 0 else (if c then OldIncarnation else Again line.verdict line.value))
+    by : (b : Bool) → nat_lt line.inc who.inc ≡ b → (c : Bool) → IsAttachedAgain (if b then fresh_decided who 0 (no_effect Verdict.Done) else (if c then OldIncarnation else Again line.verdict line.value))
     by true e c = absurd (grind (arith, nat_tests))
     by false e true = inr refl
     by false e false = inl (line.verdict, (line.value, refl))
@@ -441,24 +449,30 @@ at-most-once kept cs all few = record {
 abbrev IsSaid : HostRow → (inc : ℕ) → Verdict → (value : ℕ) → Type 0
 IsSaid line inc verdict value = (line.inc ≡ inc) × (line.verdict ≡ verdict) × (line.value ≡ value)
 
-module _ (line : HostRow) (effect : Effect) (inc : ℕ) (verdict : Verdict) (value : ℕ) where
-  said-kept : (a b c d : Bool) → nat_lt inc line.inc ≡ a → nat_lt line.inc inc ≡ b → chosen line effect a b c d ≡ Again verdict value → IsSaid line inc verdict value
+-- what is fresh is not answered again
+fresh-is-new : (can : Bool) (v verdict : Verdict) (n value : ℕ) → or_out can v n ≡ Again verdict value → ⊥
+fresh-is-new true v verdict n value is = cc
+fresh-is-new false v verdict n value is = cc
+
+module _ (line : HostRow) (fresh : Decided) (inc : ℕ) (verdict : Verdict) (value : ℕ) (new : fresh ≡ Again verdict value → ⊥) where
+  said-kept : (a b c d : Bool) → nat_lt inc line.inc ≡ a → nat_lt line.inc inc ≡ b → chosen line fresh a b c d ≡ Again verdict value → IsSaid line inc verdict value
   said-kept true b c d p q is = cc
   said-kept false true c d p q is = cc
   said-kept false false true d p q is = (grind (arith, nat_tests), (cc), (cc))
   said-kept false false false true p q is = cc
-  said-kept false false false false p q is = cc
+  said-kept false false false false p q is = absurd (new is)
 
 attach-kept : (who : Who) (line : HostRow) (verdict : Verdict) (value : ℕ) → attach_decided who line ≡ Again verdict value → IsSaid line who.inc verdict value
 attach-kept who line verdict value is = by (nat_lt line.inc who.inc) refl (nat_lt who.inc line.inc) refl is
   where
-    by : (b : Bool) → nat_lt line.inc who.inc ≡ b → (c : Bool) → nat_lt who.inc line.inc ≡ c → (if b then Fresh Verdict.Done 0 else (if c then OldIncarnation else Again line.verdict line.value)) ≡ Again verdict value → IsSaid line who.inc verdict value
-    by true e c f h = cc
+    by : (b : Bool) → nat_lt line.inc who.inc ≡ b → (c : Bool) → nat_lt who.inc line.inc ≡ c → (if b then fresh_decided who 0 (no_effect Verdict.Done) else (if c then OldIncarnation else Again line.verdict line.value)) ≡ Again verdict value → IsSaid line who.inc verdict value
+    by true e c f h = absurd (fresh-is-new (can_be_kept (row_with who 0 (no_effect Verdict.Done))) (no_effect Verdict.Done).verdict verdict (no_effect Verdict.Done).value value h)
     by false e true f h = cc
     by false e false f h = (grind (arith, nat_tests), (cc), (cc))
 
-sequence-kept : (who : Who) (seq : ℕ) (line : HostRow) (effect : Effect) (verdict : Verdict) (value : ℕ) → or_fresh (decided_before who seq line) effect ≡ Again verdict value → IsSaid line who.inc verdict value
-sequence-kept who seq line effect verdict value is = said-kept line effect who.inc verdict value (nat_lt who.inc line.inc) (nat_lt line.inc who.inc) (seq == line.seq) (nat_lt seq line.seq) refl refl is
+sequence-kept : (who : Who) (seq : ℕ) (line : HostRow) (effect : Effect) (verdict : Verdict) (value : ℕ) → or_fresh (decided_before who seq line) (fresh_decided who seq effect) ≡ Again verdict value → IsSaid line who.inc verdict value
+sequence-kept who seq line effect verdict value is =
+    said-kept line (fresh_decided who seq effect) who.inc verdict value (λ h. fresh-is-new (can_be_kept (row_with who seq effect)) effect.verdict verdict effect.value value h) (nat_lt who.inc line.inc) (nat_lt line.inc who.inc) (seq == line.seq) (nat_lt seq line.seq) refl refl is
 
 pub kept-is-said : KeptIsSaid
 kept-is-said kept c key verdict value is again = by c.request is again

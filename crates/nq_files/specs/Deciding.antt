@@ -4,17 +4,16 @@ use Rattle.std.specs.Prelude.{◌≡◌, ◌⊎◌, ◌<◌, ℕ, Option, Some, 
 use Rattle.std.specs.Option.{ForSome}
 use Rattle.nq_base.specs.declared.Change.{Change}
 use Rattle.nq_base.specs.declared.Decided.{Decided}
-use Rattle.nq_base.specs.declared.Effect.{Effect}
-use Rattle.nq_base.specs.declared.Decided.TheVariants.{Fresh}
+use Rattle.nq_base.specs.declared.Gate.{Gate}
 use Rattle.nq_base.specs.declared.Request.{Request}
 use Rattle.nq_base.specs.declared.Who.{Who}
 use Rattle.nq_io.specs.Faults.{Rose}
 use Rattle.nq_keeper.specs.declared.KeepFault.{KeepFault}
 use Rattle.nq_keeper.specs.declared.KeepFault.TheVariants.{Failed, Memory}
-use Rattle.nq_keeper.specs.Keeping.{StaysOrEnds, told_after}
-use Rattle.nq_model.specs.Change.{IsWithinBounds, applied_if}
-use Rattle.nq_model.specs.Decided.{change_with}
-use Rattle.nq_model.specs.Kept.{Kept}
+use Rattle.nq_keeper.specs.Keeping.{StaysOrEnds}
+use Rattle.nq_model.specs.Change.{applied_if}
+use Rattle.nq_model.specs.Decided.{change_with, decided, effect_of, fresh_change, sequence_decided}
+use Rattle.nq_model.specs.Kept.{Kept, host_row}
 use Rattle.nq_model.specs.Message.{asker}
 use Rattle.nq_model.specs.Profile.{most_hosts}
 
@@ -22,7 +21,7 @@ use Rattle.nq_model.specs.Profile.{most_hosts}
 -- nothing from then on
 abbrev pub Gives : (Kept → Decided) → (Kept → Option Change) → Result Decided KeepFault → (told tells : Option Kept) → (before now : ℕ) → Type 0
 Gives decision change (Ok d) told tells before now =
-    ForSome told (λ kept. IsWithinBounds kept → (d ≡ decision kept) × (tells ≡ Some (applied_if kept (change kept))))
+    ForSome told (λ kept. (d ≡ decision kept) × (tells ≡ Some (applied_if kept (change kept))))
     × (now ≡ before)
 Gives decision change (Err Memory) told tells before now = (tells ≡ told) × (now ≡ before)
 Gives decision change (Err Failed) told tells before now = StaysOrEnds told tells × Rose before now
@@ -30,14 +29,12 @@ Gives decision change (Err Failed) told tells before now = StaysOrEnds told tell
 -- a stop leaves what was kept before the change, or after it
 abbrev pub LeavesGiven : (Kept → Option Change) → (told : Option Kept) → (Option Kept → Type 0) → Type 0
 LeavesGiven change told leaves =
-    ForSome told (λ kept. IsWithinBounds kept → (found : Option Kept) → leaves found → (found ≡ Some kept) ⊎ (found ≡ Some (applied_if kept (change kept))))
+    ForSome told (λ kept. (found : Option Kept) → leaves found → (found ≡ Some kept) ⊎ (found ≡ Some (applied_if kept (change kept))))
 
--- an effect is kept with the row of the host that asked
-abbrev pub Concludes : Who → (seq : ℕ) → Effect → Result Decided KeepFault → (told tells : Option Kept) → (before now : ℕ) → Type 0
-Concludes who seq effect (Ok d) told tells before now =
-    (d ≡ Fresh effect.verdict effect.value) × (tells ≡ told_after (change_with who seq effect) told) × (now ≡ before)
-Concludes who seq effect (Err Memory) told tells before now = (tells ≡ told) × (now ≡ before)
-Concludes who seq effect (Err Failed) told tells before now = StaysOrEnds told tells × Rose before now
+-- a request is one of this incarnation and sequence that is decided once, whatever is kept
+pub record IsOfSequence (who : Who) (seq : ℕ) (r : Request) : Type 0 where
+  pub decides : (kept : Kept) (gate : Gate) → decided kept gate r ≡ sequence_decided who seq (host_row kept who.host) (effect_of kept gate r)
+  pub changes : (kept : Kept) (gate : Gate) → fresh_change kept gate r ≡ change_with who seq (effect_of kept gate r)
 
 -- a request is of a host that there can be
 abbrev pub IsOfHost : Request → Type 0

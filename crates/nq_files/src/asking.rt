@@ -4,7 +4,7 @@ ghost use Rattle.std.specs.Prelude.{◌≡◌, ◌<◌, ℕ, IfOk, is_some};
 ghost use Rattle.std.specs.Option.{ForSome};
 ghost use Rattle.nq_keeper.specs.Keeping.{Reads, LeavesOne};
 ghost use Rattle.nq_model.specs.Change.{row_of_found, heads_of, space_of};
-ghost use Rattle.nq_model.specs.Decided.{effect_of_create, effect_of_write, effect_of_write_recovering, effect_of_resize, effect_of_remove, effect_of};
+ghost use Rattle.nq_model.specs.Decided.{effect_of_create, effect_of_write, effect_of_write_recovering, effect_of_resize, effect_of_remove, effect_of, no_effect};
 ghost use Rattle.nq_model.specs.Kept.{find_file, find_name, blocks_in_all};
 ghost use Rattle.nq_files.specs.Capped.{capped};
 
@@ -19,6 +19,15 @@ use nq_keeper::{KeepFault, Keeper};
 struct Numbers {
     heads: Heads,
     space: Space,
+}
+
+/// A decision for which nothing of what is kept is asked.
+fn unasked<K: Keeper>(keeper: &K, verdict: Verdict) -> Effect
+    ensures effect { result ≡ capped (no_effect verdict) }
+    ensures leaves { LeavesOne (K.content keeper.now) (K.leaves keeper.now keeper.now) }
+{
+    keeper.pause();
+    effects::none(verdict)
 }
 
 /// Reads the server's numbers, and how much is kept.
@@ -117,7 +126,7 @@ fn write_recovering<K: Keeper>(
     ensures leaves { LeavesOne (K.content keeper.old) (K.leaves keeper.old keeper.new) }
 {
     match base {
-        None => Ok(effects::none(Verdict::TryLater)),
+        None => Ok(unasked(keeper, Verdict::TryLater)),
         Some(base) => write(keeper, opened, false, true, file, block, Some(base), body),
     }
 }
@@ -134,7 +143,7 @@ fn while_recovering<K: Keeper>(
     ensures leaves { LeavesOne (K.content keeper.old) (K.leaves keeper.old keeper.new) }
 {
     match request {
-        Request::Attach { .. } => Ok(effects::none(Verdict::Done)),
+        Request::Attach { .. } => Ok(unasked(keeper, Verdict::Done)),
         Request::Write {
             file,
             block,
@@ -142,7 +151,7 @@ fn while_recovering<K: Keeper>(
             body,
             ..
         } => write_recovering(keeper, opened, file, block, push, body),
-        _ => Ok(effects::none(Verdict::TryLater)),
+        _ => Ok(unasked(keeper, Verdict::TryLater)),
     }
 }
 
@@ -160,7 +169,7 @@ fn while_serving<K: Keeper>(
     ensures leaves { LeavesOne (K.content keeper.old) (K.leaves keeper.old keeper.new) }
 {
     match request {
-        Request::Attach { .. } => Ok(effects::none(Verdict::Done)),
+        Request::Attach { .. } => Ok(unasked(keeper, Verdict::Done)),
         Request::Create { name, blocks, .. } => create(keeper, &name, blocks),
         Request::Write {
             file,
@@ -171,7 +180,7 @@ fn while_serving<K: Keeper>(
         } => write(keeper, boot, conflict, writing_row, file, block, push, body),
         Request::Resize { file, blocks, .. } => resize(keeper, conflict, file, blocks),
         Request::Remove { file, .. } => remove(keeper, conflict, file),
-        _ => Ok(effects::none(Verdict::TryLater)),
+        _ => Ok(unasked(keeper, Verdict::TryLater)),
     }
 }
 

@@ -2,7 +2,7 @@
 
 ghost use Rattle.std.specs.Prelude.{◌≡◌, ◌<◌, nat_lt};
 ghost use Rattle.nq_model.specs.Change.{raised_row};
-ghost use Rattle.nq_model.specs.Decided.{decided_before, change_with, no_effect, creation, block_write, length_change, removal, effect_of_create, effect_of_push, effect_of_write_in, effect_of_write, effect_of_resize, effect_of_remove};
+ghost use Rattle.nq_model.specs.Decided.{decided_before, change_with, no_effect, creation, block_write, length_change, removal, row_with, effect_of_create, effect_of_push, effect_of_write_in, effect_of_write, effect_of_resize, effect_of_remove};
 ghost use Rattle.nq_files.specs.Capped.{capped};
 
 use nq_base::{
@@ -255,17 +255,24 @@ pub(crate) fn said_before(who: &Who, seq: Seq, line: &HostRow) -> Option<Decided
     }
 }
 
+/// The row that an effect leaves of the host that asked.
+pub(crate) fn row_after(who: &Who, seq: Seq, effect: &Effect) -> HostRow
+    ensures { result ≡ row_with who.now seq effect.now }
+{
+    HostRow {
+        inc: who.inc,
+        seq,
+        verdict: effect.verdict,
+        value: effect.value,
+    }
+}
+
 /// The change in which an effect is kept, together with the row of the host that asked.
 #[tactic(auto, unfolding(nq_model::specs::Decided::change_with))]
 pub(crate) fn change_of(who: Who, seq: Seq, effect: Effect) -> Change
     ensures { result ≡ change_with who seq effect }
 {
-    let row = HostRow {
-        inc: who.inc,
-        seq,
-        verdict: effect.verdict,
-        value: effect.value,
-    };
+    let row = row_after(&who, seq, &effect);
     Change {
         file: effect.file,
         block: effect.block,

@@ -11,18 +11,18 @@ use Rattle.nq_keeper.specs.declared.keeper.KeepFault.{KeepFault}
 use Rattle.nq_keeper.specs.declared.keeper.KeepFault.TheVariants.{Failed}
 use Rattle.nq_keeper.specs.Keeping.{Reads, Commits, LeavesOne, LeavesTwo}
 use Rattle.nq_keeper.specs.StoredKeeper.{StoredKeeper, GoesOn, LeavesEither, after_commit, after_reading, answer_of, asked, empty_kept, told_of}
-use Rattle.nq_keeper.proofs.Orderly.{orderly-applied}
-use Rattle.nq_keeper.specs.Shape.{told-kept}
-use Rattle.nq_model.specs.Change.{Fits, IsOrderly, applied, kept_as}
+use Rattle.nq_keeper.specs.Bounds.{told-kept}
+use Rattle.nq_model.specs.Change.{Fits, IsChangeWithin, IsWithinBounds, applied, kept_as}
 use Rattle.nq_model.specs.Kept.{File, Kept, fresh_row}
 use Rattle.nq_model.specs.Profile.{most_hosts}
+use Rattle.nq_model.proofs.WithinBounds.{within-applied}
 
 -- what holds of what is kept holds of what is told
-pub of-told : (P : Kept → Type 0) (kept : Kept) → IsOrderly kept → P kept → ForSome (Some (told_of kept)) P
+pub of-told : (P : Kept → Type 0) (kept : Kept) → IsWithinBounds kept → P kept → ForSome (Some (told_of kept)) P
 of-told P kept o holds = λ x e. let same : told_of kept ≡ x = cc in subst P (sym (told-kept kept o) ∙ same) holds
 
 -- what is asked of what is told is asked of what is kept
-pub for-kept : (P : Kept → Type 0) (kept : Kept) → IsOrderly kept → ForSome (Some (told_of kept)) P → P kept
+pub for-kept : (P : Kept → Type 0) (kept : Kept) → IsWithinBounds kept → ForSome (Some (told_of kept)) P → P kept
 for-kept P kept o for = for kept (ap (λ k. Some k) (told-kept kept o))
 
 -- a fault raises the count, where the call is listed
@@ -38,7 +38,7 @@ raises before now result answer is rose listed = subst (λ c. Rose before.faults
 
 -- ---- a call that reads
 
-module _ {X : Type 0} (old new : StoredKeeper) (o : IsOrderly old.kept) (result : Result X KeepFault) (x : Kept → X) (answer : result ≡ answer_of old.calls (x old.kept)) (is : new ≡ after_reading old) (raised : Raises old.calls) where
+module _ {X : Type 0} (old new : StoredKeeper) (o : IsWithinBounds old.kept) (result : Result X KeepFault) (x : Kept → X) (answer : result ≡ answer_of old.calls (x old.kept)) (is : new ≡ after_reading old) (raised : Raises old.calls) where
   answered : (b : Bool) (v : X) → IfOk (if b then Err Failed else Ok v) (λ y. y ≡ v)
   answered true v = tt
   answered false v = refl
@@ -94,16 +94,16 @@ leaves-one old new same = λ kept e found left. by kept e found left
 
 -- ---- a commit
 
-pub told-applied : (kept : Kept) (change : Change) → IsOrderly kept → Fits kept change → told_of (applied kept change) ≡ applied (told_of kept) change
-told-applied kept change o fits =
-    told-kept (applied kept change) (orderly-applied kept change o fits) ∙ ap (λ k. applied k change) (sym (told-kept kept o))
+pub told-applied : (kept : Kept) (change : Change) → IsWithinBounds kept → Fits kept change → IsChangeWithin kept change → told_of (applied kept change) ≡ applied (told_of kept) change
+told-applied kept change o fits own =
+    told-kept (applied kept change) (within-applied kept change o fits own) ∙ ap (λ k. applied k change) (sym (told-kept kept o))
 
-module _ (old new : StoredKeeper) (change : Change) (o : IsOrderly old.kept) (fits : Fits old.kept change) where
+module _ (old new : StoredKeeper) (change : Change) (o : IsWithinBounds old.kept) (fits : Fits old.kept change) (own : IsChangeWithin old.kept change) where
   -- a commit that is done
   pub commits-done : new ≡ after_commit old change (Ok tt) → asked old.calls ≡ after_call old.calls → Commits (Ok tt) change (Some (told_of old.kept)) (Some (told_of new.kept)) old.calls.faults new.calls.faults
   commits-done is calm =
       subst (λ k. (Some (told_of k.kept) ≡ Some (applied (told_of old.kept) change)) × (k.calls.faults ≡ old.calls.faults)) (sym is)
-      (ap (λ k. Some k) (told-applied old.kept change o fits), ap (λ c. c.faults) calm)
+      (ap (λ k. Some k) (told-applied old.kept change o fits own), ap (λ c. c.faults) calm)
 
   pub leaves-two : new.kept ≡ applied old.kept change → LeavesTwo change (Some (told_of old.kept)) (LeavesEither old new)
   leaves-two is = λ kept e found left. by kept e found left
@@ -112,7 +112,7 @@ module _ (old new : StoredKeeper) (change : Change) (o : IsOrderly old.kept) (fi
       by kept e found (inl left) = inl (left ∙ e)
       by kept e found (inr left) =
           let told : told_of old.kept ≡ kept = cc in
-          inr (left ∙ ap (λ k. Some (told_of k)) is ∙ ap (λ k. Some k) (told-applied old.kept change o fits ∙ ap (λ k. applied k change) told))
+          inr (left ∙ ap (λ k. Some (told_of k)) is ∙ ap (λ k. Some k) (told-applied old.kept change o fits own ∙ ap (λ k. applied k change) told))
 
 -- ---- a new keeper
 
@@ -123,9 +123,9 @@ as-empty files hosts none fresh = ap (λ fs. kept_as fs hosts (record { boot = 0
 -- ---- through the fields of a keeper
 
 -- what holds of what the fields keep holds of what is told
-pub told-as : (keeper : StoredKeeper) (kept : Kept) (calls : CallCounts) (P : Kept → Type 0) → record { kept = kept; calls = calls } ≡ keeper → IsOrderly kept → P kept → (x : Kept) → Some (told_of keeper.kept) ≡ Some x → P x
+pub told-as : (keeper : StoredKeeper) (kept : Kept) (calls : CallCounts) (P : Kept → Type 0) → record { kept = kept; calls = calls } ≡ keeper → IsWithinBounds kept → P kept → (x : Kept) → Some (told_of keeper.kept) ≡ Some x → P x
 told-as keeper kept calls P view o holds x e = of-told P kept o holds x (ap (λ k. Some (told_of k.kept)) view ∙ e)
 
 -- and what is asked of what is told is asked of what the fields keep
-pub asked-as : (keeper : StoredKeeper) (kept : Kept) (calls : CallCounts) (P : Kept → Type 0) → record { kept = kept; calls = calls } ≡ keeper → IsOrderly kept → ((x : Kept) → Some (told_of keeper.kept) ≡ Some x → P x) → P kept
+pub asked-as : (keeper : StoredKeeper) (kept : Kept) (calls : CallCounts) (P : Kept → Type 0) → record { kept = kept; calls = calls } ≡ keeper → IsWithinBounds kept → ((x : Kept) → Some (told_of keeper.kept) ≡ Some x → P x) → P kept
 asked-as keeper kept calls P view o for = for kept (sym (ap (λ k. Some (told_of k.kept)) view) ∙ ap (λ k. Some k) (told-kept kept o))

@@ -1,12 +1,12 @@
 -- The laws of a keeper, of one in memory.
 use Rattle.std.proofs.Common.{◌≤◌, ◌≡◌, ◌⊎◌, Option, Some, refl, sym, subst, ◌∙◌, inl, inr, arith}
 use Rattle.nq_keeper.specs.StoredKeeper.{StoredKeeper, GoesOn, LeavesEither, told_of}
-use Rattle.nq_keeper.specs.Shape.{told-shape}
-use Rattle.nq_model.specs.Change.{IsOrderly}
+use Rattle.nq_keeper.specs.Bounds.{told-within}
+use Rattle.nq_model.specs.Change.{IsWithinBounds}
 use Rattle.nq_model.specs.Kept.{Kept}
 
-pub told-is-orderly : (keeper : StoredKeeper) (kept : Kept) → Some (told_of keeper.kept) ≡ Some kept → IsOrderly kept
-told-is-orderly keeper kept e = let same : told_of keeper.kept ≡ kept = cc in subst IsOrderly same (told-shape keeper.kept)
+pub told-is-within : (keeper : StoredKeeper) (kept : Kept) → Some (told_of keeper.kept) ≡ Some kept → IsWithinBounds kept
+told-is-within keeper kept e = let same : told_of keeper.kept ≡ kept = cc in subst IsWithinBounds same (told-within keeper.kept)
 
 pub goes-on-itself : (keeper : StoredKeeper) → GoesOn keeper keeper
 goes-on-itself keeper = record { stays = refl; rises = omega arith; never = λ none. refl }
@@ -23,10 +23,6 @@ goes-on-further first second third one two =
 
 pub faults-rise : (first last : StoredKeeper) → GoesOn first last → first.calls.faults ≤ last.calls.faults
 faults-rise first last goes = goes.rises
-
-pub leaves-kept : (keeper : StoredKeeper) (kept : Kept) (found : Option Kept) → Some (told_of keeper.kept) ≡ Some kept → LeavesEither keeper keeper found → found ≡ Some kept
-leaves-kept keeper kept found e (inl left) = left ∙ e
-leaves-kept keeper kept found e (inr left) = left ∙ e
 
 pub may-leave : (first last : StoredKeeper) (kept : Kept) → GoesOn first last → (Some (told_of first.kept) ≡ Some kept) ⊎ (Some (told_of last.kept) ≡ Some kept) → LeavesEither first last (Some kept)
 may-leave first last kept goes (inl e) = inl (sym e)

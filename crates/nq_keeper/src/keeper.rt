@@ -2,7 +2,7 @@
 
 ghost use Rattle.std.specs.Prelude.{◌≡◌, ◌⊎◌, ◌<◌, ◌≤◌, ℕ, Option, Some, IfOk};
 ghost use Rattle.std.specs.Option.{ForSome};
-ghost use Rattle.nq_model.specs.Change.{Fits, HasBlock, IsOrderly, row_of_found, file_after, heads_of, space_of};
+ghost use Rattle.nq_model.specs.Change.{Fits, HasBlock, IsChangeWithin, IsWithinBounds, row_of_found, file_after, heads_of, space_of};
 ghost use Rattle.nq_model.specs.Kept.{Kept, find_file, find_name, host_row};
 ghost use Rattle.nq_model.specs.Profile.{most_hosts};
 ghost use Rattle.nq_keeper.specs.Keeping.{Reads, Commits, LeavesOne, LeavesTwo, NamesHost, body_at};
@@ -87,12 +87,18 @@ pub trait Keeper {
     fn commit(&mut self, change: Change) -> Result<(), KeepFault>
         requires host { NamesHost change }
         requires fits { ForSome (content self.old) (λ kept. Fits kept change) }
+        requires within { ForSome (content self.old) (λ kept. IsChangeWithin kept change) }
         ensures commits { Commits result change (content self.old) (content self.new) (faults self.old) (faults self.new) }
         ensures follows { follows self.old self.new }
         ensures leaves { LeavesTwo change (content self.old) (leaves self.old self.new) };
 
-    /// What is kept has the shape of a kept state.
-    ghost orderly: { (keeper : Self) (kept : Kept) → content keeper ≡ Some kept → IsOrderly kept };
+    /// A moment between two calls: a stop in it leaves what is kept. It does nothing, and tells whoever asks nothing of the
+    /// keeper what a stop leaves meanwhile.
+    fn pause(&self)
+        ensures leaves { LeavesOne (content self.now) (leaves self.now self.now) };
+
+    /// What is kept is within its bounds.
+    ghost within: { (keeper : Self) (kept : Kept) → content keeper ≡ Some kept → IsWithinBounds kept };
 
     /// A keeper follows itself.
     ghost follows_itself: { (keeper : Self) → follows keeper keeper };
@@ -102,9 +108,6 @@ pub trait Keeper {
 
     /// The count of faults never falls.
     ghost faults_rise: { (first last : Self) → follows first last → faults first ≤ faults last };
-
-    /// At one moment a stop leaves what is kept.
-    ghost leaves_kept: { (keeper : Self) (kept : Kept) (found : Option Kept) → content keeper ≡ Some kept → leaves keeper keeper found → found ≡ Some kept };
 
     /// What is kept at the beginning may be left, and what is kept at the end.
     ghost may_leave: { (first last : Self) (kept : Kept) → follows first last → (content first ≡ Some kept) ⊎ (content last ≡ Some kept) → leaves first last (Some kept) };

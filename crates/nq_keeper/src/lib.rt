@@ -5,6 +5,7 @@
 //! moments may leave. An answer `Failed` comes only where that count rose in the call.
 #![tactic(auto)]
 
+mod bounds;
 mod files;
 mod keeper;
 mod list_keeper;
@@ -12,6 +13,7 @@ mod names;
 mod raising;
 mod stored_file;
 
+pub use bounds::{can_be_kept, can_rise};
 pub use keeper::{KeepFault, Keeper};
 pub use list_keeper::ListKeeper;
 pub use nq_base::{BlockChange, Change, FileRow, Heads, HostChange, HostRow, Space, Verdict};

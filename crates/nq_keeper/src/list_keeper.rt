@@ -6,10 +6,10 @@ ghost use Rattle.nq_io.specs.Calls.{fresh, is_next_listed};
 ghost use Rattle.nq_io.specs.Faults.{Rose};
 ghost use Rattle.nq_keeper.specs.Keeping.{Reads, Commits, LeavesOne, LeavesTwo, NamesHost, body_at};
 ghost use Rattle.nq_keeper.specs.StoredKeeper.{GoesOn, LeavesEither, after_commit, after_reading, answer_of, asked, empty_kept, told_of};
-ghost use Rattle.nq_model.specs.Change.{Fits, HasBlock, file_after, heads_of, heads_with, hosts_with, row_of_found, space_of};
+ghost use Rattle.nq_model.specs.Change.{Fits, HasBlock, IsChangeWithin, file_after, heads_of, heads_with, hosts_with, row_of_found, space_of};
 ghost use Rattle.nq_model.specs.Kept.{find_file, find_name, fresh_row, host_row};
 ghost use Rattle.nq_model.specs.Profile.{most_hosts};
-ghost use Rattle.nq_keeper.specs.KeeperLaws.{told-is-orderly, goes-on-itself, goes-on-further, faults-rise, leaves-kept, may-leave, leaves-parts};
+ghost use Rattle.nq_keeper.specs.KeeperLaws.{told-is-within, goes-on-itself, goes-on-further, faults-rise, may-leave, leaves-parts};
 
 use crate::files::Files;
 use crate::keeper::{KeepFault, Keeper};
@@ -48,13 +48,13 @@ pub struct ListKeeper {
 
 impl Model for ListKeeper {
     ghost use Rattle.nq_keeper.specs.StoredKeeper.{StoredKeeper};
-    ghost use Rattle.nq_model.specs.Change.{IsOrderly, kept_as};
+    ghost use Rattle.nq_model.specs.Change.{IsWithinBounds, kept_as};
 
     ghost Value = { StoredKeeper };
 
     ghost view = { λ k. record { kept = kept_as k.files k.hosts.items k.heads; calls = k.calls } };
 
-    ghost invariant = { λ k. IsOrderly (kept_as k.files k.hosts.items k.heads) };
+    ghost invariant = { λ k. IsWithinBounds (kept_as k.files k.hosts.items k.heads) };
 }
 
 impl From<NoMemory> for KeepFault {
@@ -261,6 +261,7 @@ impl Keeper for ListKeeper {
     fn commit(&mut self, change: Change) -> Result<(), KeepFault>
         requires host { NamesHost change }
         requires fits { ForSome (Some (told_of self.old.kept)) (λ kept. Fits kept change) }
+        requires within { ForSome (Some (told_of self.old.kept)) (λ kept. IsChangeWithin kept change) }
 
         // As of any keeper.
         ensures commits { Commits result change (Some (told_of self.old.kept)) (Some (told_of self.new.kept)) self.old.calls.faults self.new.calls.faults }
@@ -279,15 +280,17 @@ impl Keeper for ListKeeper {
         Ok(())
     }
 
-    ghost orderly = { told-is-orderly };
+    fn pause(&self)
+        ensures leaves { LeavesOne (Some (told_of self.now.kept)) (LeavesEither self.now self.now) }
+    {}
+
+    ghost within = { told-is-within };
 
     ghost follows_itself = { goes-on-itself };
 
     ghost follows_on = { goes-on-further };
 
     ghost faults_rise = { faults-rise };
-
-    ghost leaves_kept = { leaves-kept };
 
     ghost may_leave = { may-leave };
 

@@ -3,6 +3,7 @@ use Rattle.std.proofs.Common.{◌≡◌, ℕ, ◌+◌, ◌<◌, ◌≤◌, List,
 use Rattle.std.proofs.lemmas.Option.{none-some}
 use Rattle.std.specs.List.{AllByRecursion}
 use Rattle.nq_calls.specs.Lines.{AreCalls, IsCall}
+use Rattle.nq_ending.specs.declared.Halt.{Halt}
 use Rattle.nq_words.specs.Reading.{cut}
 use Rattle.nq_script.specs.Text.{text_of}
 use Rattle.nq_script.proofs.Cuts.{cut-again, cut-found}

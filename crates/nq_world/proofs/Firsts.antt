@@ -6,9 +6,9 @@ use Rattle.std.specs.Prelude.{slice_get, slice_set, replicate, Result, Ok, Err, 
 use Rattle.nq_base.specs.declared.Change.{Change}
 use Rattle.nq_base.specs.declared.Heads.{Heads}
 use Rattle.nq_base.specs.declared.FileRow.{FileRow}
-use Rattle.nq_model.specs.Change.{Fits, IsRowOf, file_of, with_file, with_file_at, kept_as, applied}
+use Rattle.nq_model.specs.Change.{Fits, IsChangeWithin, IsRowOf, file_of, with_file, with_file_at, kept_as, applied}
 use Rattle.nq_model.specs.Kept.{File, Kept, blocks_in_all, find_file, new_file, fresh_row}
-use Rattle.nq_model.specs.Profile.{most_hosts}
+use Rattle.nq_model.specs.Profile.{most_hosts, shortest_term, longest_term}
 use Rattle.nq_model.specs.World.{first_files, first_row}
 use Rattle.nq_model.proofs.Files.{resized-none}
 use Rattle.nq_model.proofs.FreshFits.{none-has}
@@ -28,6 +28,19 @@ heads-applied old longest files hosts = refl
 
 pub heads-fit-first : (old longest : ℕ) (files : List (List ℕ × ℕ)) (hosts : ℕ) → Fits (kept_first old files hosts) (heads_change longest (length files + 1))
 heads-fit-first old longest files hosts = record { file = tt; block = tt; host = tt; heads = omega arith; removed = tt }
+
+-- its numbers are within their bounds, where the longest term is
+pub heads-within-first : (old longest : ℕ) → shortest_term ≤ longest → longest ≤ longest_term → IsChangeWithin (kept_first old [] 0) (heads_change longest 1)
+heads-within-first old longest long short = record {
+  file = tt;
+  block = tt;
+  host = tt;
+  heads = record { opened = omega arith; boot = omega arith; long = long; short = short; ids = omega arith; few_ids = omega arith };
+}
+
+-- so are those of the row of a host
+pub host-within : (kept : Kept) (host : ℕ) → IsChangeWithin kept (host_change host)
+host-within kept host = record { file = tt; block = tt; host = record { inc = omega arith; seq = omega arith; value = omega arith }; heads = tt }
 
 -- ---- files
 
@@ -102,6 +115,17 @@ file-fits longest files f fine =
       host = tt;
       heads = omega arith;
       removed = tt;
+    }
+
+pub file-within : (longest : ℕ) (files : List (List ℕ × ℕ)) (f : List ℕ × ℕ) → shortest_term ≤ longest → longest ≤ longest_term → AreFirstFiles (files ++ f ∷ []) → IsChangeWithin (kept_first longest files 0) (file_change longest (length files + 1) f)
+file-within longest files f long short fine =
+    let own : IsFirstFile f = last-file files f fine.each in
+    let few : length (files ++ f ∷ []) ≤ 256 = fine.few_files in
+    record {
+      file = (own.0, omega arith);
+      block = tt;
+      host = tt;
+      heads = record { opened = omega arith; boot = omega arith; long = long; short = short; ids = omega arith; few_ids = omega (arith, length-append files (f ∷ [])) };
     }
 
 -- ---- the front of a list of files

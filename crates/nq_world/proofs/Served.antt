@@ -12,7 +12,6 @@ use Rattle.nq_clock.specs.Tracks.{Follows}
 use Rattle.nq_datagrams.specs.Incoming.{datagram_in}
 use Rattle.nq_datagrams.specs.Messages.{bytes_of}
 use Rattle.nq_base.specs.Entries.{EntryList}
-use Rattle.nq_model.specs.Change.{IsWithinBounds}
 use Rattle.nq_model.specs.Kept.{Kept}
 use Rattle.nq_model.specs.Message.{Packet}
 use Rattle.nq_model.specs.Profile.{shortest_term}
@@ -29,7 +28,6 @@ use Rattle.nq_wire.specs.Outbox.{Datagrams}
 use Rattle.law_bounds.proofs.Saying.{server-says-plainly}
 use Rattle.law_bounds.specs.Says.{SaysPlainly}
 use Rattle.law_bounds.specs.Within.{IsGiven}
-use Rattle.nq_world.proofs.Going.{runs-are-lawful}
 use Rattle.nq_world.proofs.Little.{server-sends-little}
 use Rattle.nq_world.proofs.Passing.{done-passes}
 use Rattle.nq_world.proofs.Played.{IsFit, plays-on}
@@ -54,13 +52,13 @@ moved t how tells new out out' log log' empty x = record {
 }
 
 pub taken-serves : {K : Type 0} (step_of : Kept → ServerStep) (r : Received) (kept : Kept) (told tells : Option Kept) (before count : ℕ) (old new : Holding K) (out out' : Datagrams) (log log' : EntryList)
-    → told ≡ Some kept → IsWithinBounds kept → out.datagrams ≡ [] → IsTaken step_of r told tells before count old new out out' log log'
+    → told ≡ Some kept → out.datagrams ≡ [] → IsTaken step_of r told tells before count old new out out' log log'
     → Serves (step_of kept) (received r) old new told tells out'.datagrams log.entries log'.entries
-taken-serves step_of Received.Done kept told tells before count old new out out' log log' is within empty x = moved (step_of kept) _ tells new out out' log log' empty (x.0 kept is within)
-taken-serves step_of (Received.Dropped reason) kept told tells before count old new out out' log log' is within empty x = moved (step_of kept) _ tells new out out' log log' empty (x.0 kept is within)
-taken-serves step_of Received.Fault kept told tells before count old new out out' log log' is within empty x = (x.2.untouched, x.0, x.2.silent.entries)
-taken-serves step_of Received.Memory kept told tells before count old new out out' log log' is within empty x = (x.2.untouched, x.0, x.2.silent.entries)
-taken-serves step_of Received.Spent kept told tells before count old new out out' log log' is within empty x = (x.2.untouched, x.0, x.2.silent.entries)
+taken-serves step_of Received.Done kept told tells before count old new out out' log log' is empty x = moved (step_of kept) _ tells new out out' log log' empty (x.0 kept is)
+taken-serves step_of (Received.Dropped reason) kept told tells before count old new out out' log log' is empty x = moved (step_of kept) _ tells new out out' log log' empty (x.0 kept is)
+taken-serves step_of Received.Fault kept told tells before count old new out out' log log' is empty x = (x.2.untouched, x.0, x.2.silent.entries)
+taken-serves step_of Received.Memory kept told tells before count old new out out' log log' is empty x = (x.2.untouched, x.0, x.2.silent.entries)
+taken-serves step_of Received.Spent kept told tells before count old new out out' log log' is empty x = (x.2.untouched, x.0, x.2.silent.entries)
 
 pub reboot-serves : {K : Type 0} (longest time : ℕ) (r : Received) (kept : Kept) (told tells : Option Kept) (before count : ℕ) (old new : Holding K) (out : Datagrams) (log log' : EntryList)
     → told ≡ Some kept → out.datagrams ≡ [] → Reboots longest time r told tells before count old new log log'
@@ -79,9 +77,6 @@ reboot-serves longest time Received.Spent kept told tells before count old new o
 -- what is held beside what the keeper tells is the server of the run
 pub same-server : (s : Server) (held : Beside) → held ≡ beside s → server_of held s.kept ≡ s
 same-server s held is = ap (λ (h : Beside). server_of h s.kept) is
-
-pub within-run : {K : Type 0} (head : Head) (events : List Event) (w : WorldOver K) (told : Option Kept) → Plays head events w told → IsWithinBounds (run head events).server.kept
-within-run head events w told plays = (runs-are-lawful head events (seen_of w) w.skew plays.shown).0
 
 -- ---- a packet that is delivered carries names and bodies
 

@@ -28,7 +28,7 @@ use Rattle.law_bounds.proofs.Saying.{server-says-plainly}
 use Rattle.nq_world.proofs.Moved.{acts-steps, client-steps, hearing-steps}
 use Rattle.nq_world.proofs.Passing.{done-passes}
 use Rattle.nq_world.proofs.Played.{clocks-stay}
-use Rattle.nq_world.proofs.Served.{delivery-steps, given-delivery, reboot-serves, same-server, serves-steps, taken-serves, within-run}
+use Rattle.nq_world.proofs.Served.{delivery-steps, given-delivery, reboot-serves, same-server, serves-steps, taken-serves}
 use Rattle.nq_world.specs.Moving.{ActsAt, Clocks, Ends, HasRoom, received}
 use Rattle.nq_world.specs.Playing.{WorldOver, Plays, TakesIn, seen_of}
 use Rattle.nq_world.specs.declared.ending.Halt.{Halt}
@@ -161,7 +161,7 @@ receive-takes content number host d r answer server server' clients packets room
       fit = record { passes = passes; given = given-delivery (run head earlier) (seen_of old) number d plays.shown.shows is below; boots = tt };
       is = delivery-steps head earlier old told number d plays is to ∙ ap (after_server (run head earlier)) own;
       says = server-says-plainly.receives (server_of server.beside s.kept) host (next_of out) (datagram_in d.bytes);
-      serves = taken-serves (λ kept. receive (server_of server.beside kept) host (next_of out) (datagram_in d.bytes)) r s.kept told (content server'.keeper) before count server server' out out' journal journal' plays.keeps (within-run head earlier old told plays) empty taken;
+      serves = taken-serves (λ kept. receive (server_of server.beside kept) host (next_of out) (datagram_in d.bytes)) r s.kept told (content server'.keeper) before count server server' out out' journal journal' plays.keeps empty taken;
       room = x.has_room;
       before = x.same;
       after = refl;
@@ -189,7 +189,7 @@ tick-server-takes content time r answer server server' clients packets room pack
       fit = record { passes = passes; given = tt; boots = tt };
       is = ap (after_server (run head earlier)) own;
       says = server-says-plainly.ticks (server_of server.beside s.kept) time;
-      serves = taken-serves (λ kept. tick (server_of server.beside kept) time) r s.kept told (content server'.keeper) before count server server' out out' journal journal' plays.keeps (within-run head earlier old told plays) empty taken;
+      serves = taken-serves (λ kept. tick (server_of server.beside kept) time) r s.kept told (content server'.keeper) before count server server' out out' journal journal' plays.keeps empty taken;
       room = x.has_room;
       before = x.same;
       after = refl;

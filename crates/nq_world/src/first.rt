@@ -2,7 +2,7 @@
 
 ghost use Rattle.std.specs.Prelude.{◌≡◌, ◌≤◌, ◌<◌, ◌^◌, ◌+◌, ℕ, List, [], length, take, OnOk};
 ghost use Rattle.nq_keeper.specs.StoredKeeper.{empty_kept};
-ghost use Rattle.nq_model.specs.Profile.{most_hosts};
+ghost use Rattle.nq_model.specs.Profile.{most_hosts, shortest_term, longest_term};
 ghost use Rattle.nq_model.specs.World.{first_kept};
 ghost use Rattle.nq_world.specs.First.{AreFirstFiles, Counts, Tells, file_change, heads_change, host_change, kept_first, told_as};
 
@@ -80,7 +80,9 @@ fn host_change(host: u32) -> Change
 
 /// Keeps the longest term.
 fn keep_longest<K: Keeper>(keeper: &mut K, longest: u32) -> Result<(), KeepFault>
-    requires { Tells (kept_first 60 [] 0) (K.content keeper.old) }
+    requires long { shortest_term ≤ longest }
+    requires short { longest ≤ longest_term }
+    requires told { Tells (kept_first 60 [] 0) (K.content keeper.old) }
     ensures told { OnOk result (K.content keeper.new ≡ told_as (kept_first longest [] 0) (K.content keeper.old)) }
     ensures counts { Counts result (K.faults keeper.old) (K.faults keeper.new) }
     ensures follows { K.follows keeper.old keeper.new }
@@ -96,6 +98,8 @@ fn keep_file<K: Keeper>(
     files: &FileList,
     place: usize,
 ) -> Result<(), KeepFault>
+    requires long { shortest_term ≤ longest }
+    requires short { longest ≤ longest_term }
     requires below { place < length files.now }
     requires fine { AreFirstFiles files.now }
     requires told { Tells (kept_first longest (take place files.now) 0) (K.content keeper.old) }
@@ -114,6 +118,8 @@ fn keep_file<K: Keeper>(
 
 /// Keeps the files of a head.
 fn keep_files<K: Keeper>(keeper: &mut K, longest: u32, files: &FileList) -> Result<(), KeepFault>
+    requires long { shortest_term ≤ longest }
+    requires short { longest ≤ longest_term }
     requires fine { AreFirstFiles files.now }
     requires told { Tells (kept_first longest [] 0) (K.content keeper.old) }
     ensures told { OnOk result (K.content keeper.new ≡ told_as (kept_first longest files.now 0) (K.content keeper.old)) }
@@ -142,7 +148,7 @@ fn keep_hosts<K: Keeper>(keeper: &mut K, hosts: u32) -> Result<(), KeepFault>
 }
 
 /// Keeps what the first boot of a world finds: the files, with ids from 1 on, and for each host that its first incarnation
-/// is attached. The keeper keeps nothing before. There are at most 64 hosts.
+/// is attached. The keeper keeps nothing before. There are at most 64 hosts, and the longest term is 5 to 600 ticks.
 ///
 /// # Errors
 ///
@@ -154,6 +160,8 @@ pub fn keep_head<K: Keeper>(
     files: &FileList,
 ) -> Result<(), KeepFault>
     requires hosts { hosts ≤ most_hosts }
+    requires long { shortest_term ≤ longest }
+    requires short { longest ≤ longest_term }
     requires fine { AreFirstFiles files.now }
     requires empty { Tells empty_kept (K.content keeper.old) }
     ensures told { (term : ℕ) → OnOk result (K.content keeper.new

@@ -2,7 +2,7 @@ use Rattle.std.proofs.Common.{sym, subst}
 use Rattle.nq_keeper.specs.Keeping.{LeavesTwo}
 use Rattle.nq_model.specs.Change.{Fits}
 use Rattle.nq_model.proofs.FreshFits.{heads-fit}
-use Rattle.nq_boot.proofs.HeadsChange.{names-none}
+use Rattle.nq_boot.proofs.HeadsChange.{heads-within, names-none}
 use Rattle.nq_boot.proofs.starting.keep_heads.Goals as goal
 
 pub commit-requires-clause-host : goal.commit-requires-clause-host
@@ -10,7 +10,10 @@ commit-requires-clause-host g c = λ h named. names-none c.args.heads c.change_t
 
 pub commit-requires-clause-fits : goal.commit-requires-clause-fits
 commit-requires-clause-fits g c =
-    λ kept told. subst (Fits kept) (sym c.change_to-change.ensures) (heads-fit kept c.args.heads (c.requires kept told))
+    λ kept told. subst (Fits kept) (sym c.change_to-change.ensures) (heads-fit kept c.args.heads (c.requires kept told).ids)
+
+pub commit-requires-clause-within : goal.commit-requires-clause-within
+commit-requires-clause-within g c = λ kept told. heads-within kept c.args.heads c.change_to-change.result c.change_to-change.ensures (c.requires kept told)
 
 pub returns-clause-leaves : goal.returns-clause-leaves
 returns-clause-leaves g c =

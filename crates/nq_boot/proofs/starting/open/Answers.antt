@@ -1,9 +1,14 @@
-use Rattle.std.proofs.Common.{◌∙◌}
+use Rattle.std.proofs.Common.{sym, ◌∙◌}
 use Rattle.nq_keeper.proofs.Leaving.{two-of}
 use Rattle.nq_model.specs.Change.{applied, change_of_heads}
 use Rattle.nq_boot.specs.Booting.{opened_by}
-use Rattle.nq_boot.proofs.HeadsChange.{heads_opened, kept-opened, opens-heads, leaves-booted}
+use Rattle.nq_boot.proofs.HeadsChange.{heads_opened, opened-heads-within, kept-opened, opens-heads, leaves-booted}
 use Rattle.nq_boot.proofs.starting.open.Goals as goal
+
+pub keep_heads-requires : goal.keep_heads-requires
+keep_heads-requires g c =
+    λ kept told.
+    opened-heads-within kept c.args.longest c.in_ok-heads.heads (g.met.K.Keeper.within c.heads.new.self kept told) c.requires (c.in_ok-heads.ensures.told kept (sym c.in_ok-heads.ensures.reads.0 ∙ told))
 
 pub returns-clause-opens : goal.returns-clause-opens
 returns-clause-opens g c =

@@ -1,18 +1,30 @@
-use Rattle.std.proofs.Common.{◌≡◌, ◌<◌, Some, ap, ◌∙◌, subst, arith}
+use Rattle.std.proofs.Common.{◌≡◌, ◌<◌, Some, sym, ap, ◌∙◌, subst, arith}
 use Rattle.nq_keeper.specs.Keeping.{told_after}
 use Rattle.nq_keeper.proofs.Leaving.{two-of}
 use Rattle.nq_model.specs.Change.{applied, change_of_heads, heads_of}
-use Rattle.nq_model.specs.Profile.{most_boots}
 use Rattle.nq_model.specs.ServerStep.{booted}
-use Rattle.nq_boot.proofs.HeadsChange.{kept-booted, leaves-booted}
+use Rattle.nq_boot.specs.Booting.{last_boot}
+use Rattle.nq_boot.proofs.HeadsChange.{after-boot-within, is-last, kept-booted, leaves-booted}
 use Rattle.nq_boot.proofs.starting.start.Goals as goal
+
+pub returns-then-heads-ge-LAST_BOOT-clause-starts : goal.returns-then-heads-ge-LAST_BOOT-clause-starts
+returns-then-heads-ge-LAST_BOOT-clause-starts g c = (
+  λ kept told. is-last kept c.in-Ok.heads (g.met.K.Keeper.within c.args.keeper.now kept told) (c.in-Ok.ensures.told kept told) (omega arith),
+  c.in-Ok.ensures.reads.0,
+  c.in-Ok.ensures.reads.1,
+)
+
+pub keep_heads-requires : goal.keep_heads-requires
+keep_heads-requires g c =
+    λ kept told.
+    after-boot-within kept c.args.longest c.in-Ok.heads c.after_boot.result (g.met.K.Keeper.within c.heads.new.self kept told) (record { long = c.requires.long; short = c.requires.short }) (c.in-Ok.ensures.told kept (sym c.in-Ok.ensures.reads.0 ∙ told)) c.after_boot.ensures (omega arith)
 
 pub returns-in-Ok-keep_heads-clause-starts : goal.returns-in-Ok-keep_heads-clause-starts
 returns-in-Ok-keep_heads-clause-starts g c = (
   λ kept told.
       let is : c.in-Ok.heads ≡ heads_of kept = c.in-Ok.ensures.told kept told in
-      let below : c.in-Ok.heads.boot < most_boots = omega arith in (
-        subst (λ h. h.boot < most_boots) is below,
+      let below : c.in-Ok.heads.boot < last_boot = omega arith in (
+        subst (λ h. h.boot < last_boot) is below,
         c.begun.ensures.begun kept is,
         c.in-Ok-keep_heads.ensures.commits.0 ∙ ap (told_after (change_of_heads c.after_boot.result)) (c.in-Ok.ensures.reads.0 ∙ told) ∙ ap (λ k. Some k) (kept-booted kept c.args.longest c.in-Ok.heads c.after_boot.result is c.after_boot.ensures),
       ),

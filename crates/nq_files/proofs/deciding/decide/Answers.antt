@@ -1,8 +1,8 @@
-use Rattle.std.proofs.Common.{sym, ap, subst}
+use Rattle.std.proofs.Common.{sym, refl, ap, subst}
 use Rattle.nq_model.specs.Decided.{change_with, change_of, if_fresh, sequence_decided, effect_of}
 use Rattle.nq_model.specs.Kept.{host_row}
 use Rattle.nq_model.specs.Message.{asker}
-use Rattle.nq_files.specs.Deciding.{LeavesGiven}
+use Rattle.nq_files.specs.Deciding.{IsOfSequence, LeavesGiven}
 use Rattle.nq_files.proofs.deciding.decide.Goals as goal
 
 pub attach-requires : goal.attach-requires
@@ -12,8 +12,12 @@ pub returns-in-Attach-clause-leaves : goal.returns-in-Attach-clause-leaves
 returns-in-Attach-clause-leaves g c =
     subst (λ r. LeavesGiven (λ kept. change_of kept c.args.gate r) (g.K.Keeper.content c.args.keeper.now) (g.K.Keeper.leaves c.args.keeper.now c.attach.new.keeper)) (sym c.in-Attach.is) c.attach.ensures.leaves
 
-pub decide_sequence-requires : goal.decide_sequence-requires
-decide_sequence-requires g c = c.requires.host c.in-Create.who (ap asker c.in-Create.is)
+pub decide_sequence-requires-clause-host : goal.decide_sequence-requires-clause-host
+decide_sequence-requires-clause-host g c = c.requires.host c.in-Create.who (ap asker c.in-Create.is)
+
+pub decide_sequence-requires-clause-asked : goal.decide_sequence-requires-clause-asked
+decide_sequence-requires-clause-asked g c =
+    subst (IsOfSequence c.in-Create.who c.in-Create.seq) (sym c.in-Create.is) (record { decides = λ kept gate. refl; changes = λ kept gate. refl })
 
 pub returns-in-Create-clause-leaves : goal.returns-in-Create-clause-leaves
 returns-in-Create-clause-leaves g c =
@@ -22,8 +26,12 @@ returns-in-Create-clause-leaves g c =
     (λ h. h)
     c.decide_sequence.ensures.leaves
 
-pub decide_sequence-requires-in-Write : goal.decide_sequence-requires-in-Write
-decide_sequence-requires-in-Write g c = c.requires.host c.in-Write.who (ap asker c.in-Write.is)
+pub decide_sequence-requires-in-Write-clause-host : goal.decide_sequence-requires-in-Write-clause-host
+decide_sequence-requires-in-Write-clause-host g c = c.requires.host c.in-Write.who (ap asker c.in-Write.is)
+
+pub decide_sequence-requires-in-Write-clause-asked : goal.decide_sequence-requires-in-Write-clause-asked
+decide_sequence-requires-in-Write-clause-asked g c =
+    subst (IsOfSequence c.in-Write.who c.in-Write.seq) (sym c.in-Write.is) (record { decides = λ kept gate. refl; changes = λ kept gate. refl })
 
 pub returns-in-Write-clause-leaves : goal.returns-in-Write-clause-leaves
 returns-in-Write-clause-leaves g c =
@@ -32,8 +40,12 @@ returns-in-Write-clause-leaves g c =
     (λ h. h)
     c.decide_sequence-in-Write.ensures.leaves
 
-pub decide_sequence-requires-in-Resize : goal.decide_sequence-requires-in-Resize
-decide_sequence-requires-in-Resize g c = c.requires.host c.in-Resize.who (ap asker c.in-Resize.is)
+pub decide_sequence-requires-in-Resize-clause-host : goal.decide_sequence-requires-in-Resize-clause-host
+decide_sequence-requires-in-Resize-clause-host g c = c.requires.host c.in-Resize.who (ap asker c.in-Resize.is)
+
+pub decide_sequence-requires-in-Resize-clause-asked : goal.decide_sequence-requires-in-Resize-clause-asked
+decide_sequence-requires-in-Resize-clause-asked g c =
+    subst (IsOfSequence c.in-Resize.who c.in-Resize.seq) (sym c.in-Resize.is) (record { decides = λ kept gate. refl; changes = λ kept gate. refl })
 
 pub returns-in-Resize-clause-leaves : goal.returns-in-Resize-clause-leaves
 returns-in-Resize-clause-leaves g c =
@@ -42,8 +54,12 @@ returns-in-Resize-clause-leaves g c =
     (λ h. h)
     c.decide_sequence-in-Resize.ensures.leaves
 
-pub decide_sequence-requires-in-Remove : goal.decide_sequence-requires-in-Remove
-decide_sequence-requires-in-Remove g c = c.requires.host c.in-Remove.who (ap asker c.in-Remove.is)
+pub decide_sequence-requires-in-Remove-clause-host : goal.decide_sequence-requires-in-Remove-clause-host
+decide_sequence-requires-in-Remove-clause-host g c = c.requires.host c.in-Remove.who (ap asker c.in-Remove.is)
+
+pub decide_sequence-requires-in-Remove-clause-asked : goal.decide_sequence-requires-in-Remove-clause-asked
+decide_sequence-requires-in-Remove-clause-asked g c =
+    subst (IsOfSequence c.in-Remove.who c.in-Remove.seq) (sym c.in-Remove.is) (record { decides = λ kept gate. refl; changes = λ kept gate. refl })
 
 pub returns-in-Remove-clause-leaves : goal.returns-in-Remove-clause-leaves
 returns-in-Remove-clause-leaves g c =

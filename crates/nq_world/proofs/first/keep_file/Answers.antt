@@ -1,8 +1,8 @@
 use Rattle.std.proofs.Common.{◌≡◌, ◌+◌, [], ◌∷◌, ◌++◌, suc, length, take, sym, subst, ap, ◌∙◌, arith}
 use Rattle.std.proofs.lemmas.List.{length-take}
 use Rattle.nq_keeper.specs.Keeping.{told_after}
-use Rattle.nq_model.specs.Change.{Fits}
-use Rattle.nq_world.proofs.Firsts.{file-applied, file-fits, take-more, taken-fine, told-next, commit-told}
+use Rattle.nq_model.specs.Change.{Fits, IsChangeWithin}
+use Rattle.nq_world.proofs.Firsts.{file-applied, file-fits, file-within, take-more, taken-fine, told-next, commit-told}
 use Rattle.nq_world.specs.First.{AreFirstFiles, file_change, kept_first, told_as}
 use Rattle.nq_world.proofs.first.keep_file.Goals as goal
 
@@ -18,6 +18,19 @@ commit-requires-clause-fits g c = λ kept told.
     subst (Fits kept) (sym is)
     (subst (λ k. Fits k (file_change c.args.longest (length (take place files) + 1) (c.in-Some.name.now, c.in-Some.blocks))) (sym (c.requires.told kept told))
     (file-fits c.args.longest (take place files) (c.in-Some.name.now, c.in-Some.blocks) (subst AreFirstFiles front (taken-fine (suc place) files c.requires.fine))))
+
+pub commit-requires-clause-within : goal.commit-requires-clause-within
+commit-requires-clause-within g c = λ kept told.
+    let files = c.args.files.now in
+    let place = c.args.place in
+    let front : take (suc place) files ≡ take place files ++ (c.in-Some.name.now, c.in-Some.blocks) ∷ [] = take-more files place (c.in-Some.name.now, c.in-Some.blocks) c.in-Some.ensures.some in
+    let below = c.requires.below in
+    let size : length (take place files) ≡ place = omega (arith, length-take place files) in
+    let is : c.file_change-change.result ≡ file_change c.args.longest (length (take place files) + 1) (c.in-Some.name.now, c.in-Some.blocks) =
+    c.file_change-change.ensures ∙ ap (λ n. file_change c.args.longest (n + 1) (c.in-Some.name.now, c.in-Some.blocks)) (sym size) in
+    subst (IsChangeWithin kept) (sym is)
+    (subst (λ k. IsChangeWithin k (file_change c.args.longest (length (take place files) + 1) (c.in-Some.name.now, c.in-Some.blocks))) (sym (c.requires.told kept told))
+    (file-within c.args.longest (take place files) (c.in-Some.name.now, c.in-Some.blocks) c.requires.long c.requires.short (subst AreFirstFiles front (taken-fine (suc place) files c.requires.fine))))
 
 pub returns-clause-told : goal.returns-clause-told
 returns-clause-told g c =

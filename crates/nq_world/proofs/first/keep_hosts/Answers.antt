@@ -1,8 +1,12 @@
-use Rattle.std.proofs.Common.{◌≡◌, ◌<◌, ◌+◌, suc, ap, ◌∙◌, arith}
+use Rattle.std.proofs.Common.{◌≡◌, ◌<◌, ◌+◌, suc, sym, subst, ap, ◌∙◌, arith}
 use Rattle.nq_keeper.specs.Keeping.{told_after}
-use Rattle.nq_world.proofs.Firsts.{host-applied, told-next, told-told, told-on}
+use Rattle.nq_model.specs.Change.{IsChangeWithin}
+use Rattle.nq_world.proofs.Firsts.{host-applied, host-within, told-next, told-told, told-on}
 use Rattle.nq_world.specs.First.{host_change, kept_first, told_as}
 use Rattle.nq_world.proofs.first.keep_hosts.Goals as goal
+
+pub commit-requires-clause-within : goal.commit-requires-clause-within
+commit-requires-clause-within g c = λ kept told. subst (IsChangeWithin kept) (sym c.host_change-change.ensures) (host-within kept c.loop-host.host)
 
 pub loop-host-preserved : goal.loop-host-preserved
 loop-host-preserved g c =

@@ -19,9 +19,9 @@ leaves-ended r time longest kept found come same (inr h) =
 pub returns-in_err-open-clause-leaves : goal.returns-in_err-open-clause-leaves
 returns-in_err-open-clause-leaves g c =
     λ kept told found left.
-    leaves-ended c.args.self.now c.args.now c.longest.result kept found (first_of (search rules, grind (arith, common_steps, nat_tests))) c.longest.ensures (c.open.ensures.leaves kept told found left)
+    leaves-ended c.args.self.now c.args.now c.longest.result kept found (first_of (search rules, grind (arith, common_steps, nat_tests))) c.longest.ensures.longest (c.open.ensures.leaves kept told found left)
 
 pub returns-clause-leaves : goal.returns-clause-leaves
 returns-clause-leaves g c =
     λ kept told found left.
-    leaves-ended c.args.self.now c.args.now c.longest.result kept found (first_of (search rules, grind (arith, common_steps, nat_tests))) c.longest.ensures (c.open.ensures.leaves kept told found left)
+    leaves-ended c.args.self.now c.args.now c.longest.result kept found (first_of (search rules, grind (arith, common_steps, nat_tests))) c.longest.ensures.longest (c.open.ensures.leaves kept told found left)
