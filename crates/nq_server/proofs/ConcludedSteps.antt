@@ -63,7 +63,6 @@ concluded-drop s who xid r OldIncarnation out out' entries log none first sends 
   outcome = refl;
   makes = record { holds = refl; sends = record { first = first; added = sends; fit = All-nil FitsPacket }; enters = same ∙ sym (append-nil _) };
 }
-
 concluded-drop s who xid r OutOfBounds out out' entries log none first sends same = record {
   outcome = refl;
   makes = record { holds = refl; sends = record { first = first; added = sends; fit = All-nil FitsPacket }; enters = same ∙ sym (append-nil _) };

@@ -12,7 +12,10 @@ ghost use Rattle.nq_server.specs.Stepping.{Enters};
 
 use crate::gates::file_to_change;
 use crate::state::{Phase, State};
-use nq_base::{Access, BlockNo, Decided, Entry, FileId, Host, Number, Request, Row, RowKey, Ticks, Verdict, Who};
+use nq_base::{
+    Access, BlockNo, Decided, Entry, FileId, Host, Journal, Number, Request, Row, RowKey, Ticks,
+    Verdict, Who,
+};
 use nq_boot::Recovering;
 use nq_lease::Table;
 

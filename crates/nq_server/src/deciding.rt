@@ -28,7 +28,7 @@ use crate::replying::{Caller, end_reply};
 use crate::state::{Phase, State};
 use crate::ticks::halt_of;
 use crate::verdicts::{answer_to, drop_reason};
-use nq_base::{Access, Block, Decided, FileId, Heads, NoMemory, Request, Verdict, Who};
+use nq_base::{Access, Block, Decided, FileId, Heads, Journal, NoMemory, Request, Verdict, Who};
 use nq_datagrams::BegunReply;
 use nq_evict::{NoticeTo, notices};
 use nq_files::decide;

@@ -41,7 +41,9 @@ pub(crate) fn take<K: Keeper>(
         Incoming::TooLong => Ok(Taken::Dropped(Reason::TooLong)),
         Incoming::NoMessage(fault) => Ok(Taken::Dropped(Reason::Rpc(fault))),
         Incoming::NoCall => Ok(Taken::Dropped(Reason::NotACall)),
-        Incoming::OtherRpc { xid } => { say_error(alloc, sender, xid, ErrorReply::RpcMismatch, out) }
+        Incoming::OtherRpc { xid } => {
+            say_error(alloc, sender, xid, ErrorReply::RpcMismatch, out)
+        }
         Incoming::OtherProgram { xid } => {
             say_error(alloc, sender, xid, ErrorReply::ProgramUnavailable, out)
         }
