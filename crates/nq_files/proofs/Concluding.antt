@@ -1,5 +1,5 @@
 -- The change that an effect makes.
-use Rattle.std.proofs.Common.{◌≡◌, ◌⊎◌, ◌<◌, ◌+◌, ◌*◌, ◌/◌, ◌%◌, ◌^◌, ℕ, Bool, true, false, if◌then◌else◌, List, [], ◌∷◌, ◌++◌, zero, suc, refl, Option, Some, None, Result, Ok, Err, sym, ap, ◌∙◌, subst, inl, inr, arith}
+use Rattle.std.proofs.Common.{◌≡◌, ◌⊎◌, ◌<◌, ◌+◌, ◌*◌, ◌/◌, ◌%◌, ◌^◌, ℕ, Bool, true, false, if◌then◌else◌, List, [], ◌∷◌, ◌++◌, zero, suc, get_or, refl, Option, Some, None, Result, Ok, Err, sym, ap, ◌∙◌, subst, inl, inr, arith}
 use Rattle.std.specs.List.{All}
 use Rattle.std.specs.Option.{ForSome}
 use Rattle.std.specs.Prelude.{nat_lt}
@@ -29,16 +29,20 @@ use Rattle.nq_files.specs.Capped.{capped}
 use Rattle.nq_files.specs.Deciding.{Gives, IsOfSequence, LeavesGiven}
 use Rattle.nq_files.proofs.Capping.{effect-stays, capped-fits}
 
--- ---- the bytes of a block that repeats a word
+-- ---- the bytes of a block
+
+pub all-below : (xs : List ℕ) → ((i : ℕ) → get_or xs i 0 < 256) → All (λ byte. byte < 256) xs
+all-below [] below = All-nil (λ byte. byte < 256)
+all-below (x ∷ xs) below = All-cons (λ byte. byte < 256) x xs (below 0) (all-below xs (λ i. below (suc i)))
 
 word-bytes : (v : ℕ) → v < 2 ^ 32 → All (λ byte. byte < 256) (word v)
 word-bytes v small =
-    All-cons (λ byte. byte < 256) (v / 16777216) _ (omega arith)
-    (All-cons (λ byte. byte < 256) (v / 65536 % 256) _ (omega arith)
-    (All-cons (λ byte. byte < 256) (v / 256 % 256) _ (omega arith) (All-cons (λ byte. byte < 256) (v % 256) [] (omega arith) (All-nil _))))
+    All-cons (λ byte. byte < 256) (v / 16777216) (v / 65536 % 256 ∷ v / 256 % 256 ∷ v % 256 ∷ []) (omega arith)
+    (All-cons (λ byte. byte < 256) (v / 65536 % 256) (v / 256 % 256 ∷ v % 256 ∷ []) (omega arith)
+    (All-cons (λ byte. byte < 256) (v / 256 % 256) (v % 256 ∷ []) (omega arith) (All-cons (λ byte. byte < 256) (v % 256) [] (omega arith) (All-nil (λ byte. byte < 256)))))
 
 words-bytes : (times v : ℕ) → v < 2 ^ 32 → All (λ byte. byte < 256) (repeated times v)
-words-bytes zero v small = All-nil _
+words-bytes zero v small = All-nil (λ byte. byte < 256)
 words-bytes (suc times) v small = All-append (λ byte. byte < 256) (word v) (repeated times v) (word-bytes v small) (words-bytes times v small)
 
 pub filled-bytes : (v : ℕ) → v < 2 ^ 32 → All (λ byte. byte < 256) (filled v)

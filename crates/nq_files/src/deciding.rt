@@ -1,8 +1,8 @@
 //! Requests that are decided once.
 
-ghost use Rattle.std.specs.Prelude.{◌≡◌, ◌<◌, ℕ, IfOk, Some, None, true};
+ghost use Rattle.std.specs.Prelude.{◌≡◌, ◌<◌, ℕ, All, IfOk, Some, None, true};
 ghost use Rattle.std.specs.Option.{ForSome};
-ghost use Rattle.nq_keeper.specs.Keeping.{LeavesTwo};
+ghost use Rattle.nq_base.specs.Block.{filled};
 ghost use Rattle.nq_model.specs.Change.{Fits, IsBody, IsChangeWithin};
 ghost use Rattle.nq_model.specs.Decided.{HasText, decided, decided_before, no_effect, change_of, change_with, fresh_decided, is_decided_once, sequence_decided, attach_decided, if_fresh, effect_of, row_with};
 ghost use Rattle.nq_model.specs.Kept.{can_be_kept, host_row};
@@ -14,12 +14,25 @@ use crate::{asking, effects};
 use nq_base::{Block, Decided, Effect, Gate, Request, Seen, Seq, Verdict, Who};
 use nq_keeper::{KeepFault, Keeper, can_be_kept};
 
-/// The bytes of a block are such as there can be.
+/// Bytes are numbers below 256.
+fn are_bytes(bytes: &[u8])
+    ensures { All (λ byte. byte < 256) bytes.now }
+{
+    let _count = bytes.len();
+}
+
+/// So are those of a block that repeats a word.
+fn is_fill(_value: u32)
+    ensures { All (λ byte. byte < 256) (filled _value) }
+{}
+
+/// A block has 4096 bytes.
 fn is_body(block: &Block)
     ensures { IsBody block.now }
 {
-    if let Seen::Bytes(bytes) = block.seen() {
-        let _count = bytes.len();
+    match block.seen() {
+        Seen::Filled(value) => is_fill(value),
+        Seen::Bytes(bytes) => are_bytes(bytes),
     }
 }
 
