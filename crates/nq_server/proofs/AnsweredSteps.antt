@@ -20,7 +20,7 @@ use Rattle.nq_wire.specs.Outbox.{Datagrams}
 pub takes-answered : (host : ℕ) (message : Message) (result : Result Taken Halt) (step : Kept → ServerStep) (told tells : Option Kept) (before count : ℕ) (held : Beside) (out out' : Datagrams) (log : EntryList) → tells ≡ told → count ≡ before → Says (to_host host message) result out out' → ((kept : Kept) → told ≡ Some kept → step kept ≡ says (server_of held kept) host message) → Takes step result told tells before count held held out out' log log
 unfolding says
 takes-answered host message (Ok Done) step told tells before count held out out' log stays same said is = (
-  λ kept e within.
+  λ kept e.
       subst
       (λ s. (s.outcome ≡ outcome_of Done) × Makes s tells held out out' log log)
       (sym (is kept e))

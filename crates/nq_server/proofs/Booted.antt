@@ -3,7 +3,7 @@ use Rattle.std.proofs.Common.{◌≡◌, ◌+◌, ℕ, ◌==◌, Bool, true, fal
 use Rattle.std.specs.Option.{ForSome}
 use Rattle.nq_base.specs.declared.Entry.{Entry}
 use Rattle.nq_base.specs.declared.Row.{Row}
-use Rattle.nq_boot.specs.Booting.{Starts, IsOfTerm, recovery_of, started_of}
+use Rattle.nq_boot.specs.Booting.{Starts, IsOfTerm, last_boot, recovery_of, started_of}
 use Rattle.nq_boot.specs.declared.StartFault.{StartFault}
 use Rattle.nq_boot.specs.declared.StartFault.TheVariants.{Failed, Memory, Spent}
 use Rattle.nq_boot.specs.declared.Started.{Started}
@@ -12,7 +12,6 @@ use Rattle.nq_io.specs.Faults.{Rose}
 use Rattle.nq_journal.specs.Items.{EntryList}
 use Rattle.nq_keeper.specs.Keeping.{StaysOrEnds}
 use Rattle.nq_model.specs.Kept.{Kept}
-use Rattle.nq_model.specs.Profile.{most_boots}
 use Rattle.nq_model.specs.Server.{Phase, serving, recovering, last_in}
 use Rattle.nq_model.specs.ServerStep.{at_time, boot, boot_phase, crash}
 use Rattle.nq_model.specs.Table.{Table, empty_table}
@@ -32,7 +31,7 @@ begins-not longest time Failed told between tells before middle count stays same
     (subst (λ o. StaysOrEnds o tells) stays h.0, subst (λ n. Rose n count) same h.1)
 begins-not longest time Memory told between tells before middle count stays same h = (h.0 ∙ stays, h.1 ∙ same)
 begins-not longest time Spent told between tells before middle count stays same h =
-    (subst (λ o. ForSome o (λ kept. kept.boot ≡ most_boots)) stays h.0, h.1 ∙ stays, h.2 ∙ same)
+    (subst (λ o. ForSome o (λ kept. kept.boot ≡ last_boot)) stays h.0, h.1 ∙ stays, h.2 ∙ same)
 
 -- the phase of a boot over this kept state
 pub phase-begun : (kept : Kept) (longest now : ℕ) (last : Option Table) → phase_of (phase_begun (started_of kept longest now) last) ≡ boot_phase kept.opened kept.longest now last

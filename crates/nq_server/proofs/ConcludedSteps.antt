@@ -3,7 +3,7 @@ use Rattle.std.proofs.Common.{◌≡◌, ℕ, Bool, true, false, List, [], ◌�
 use Rattle.std.proofs.lemmas.List.Elements.{All-nil, All-push}
 use Rattle.std.specs.Prelude.{All, reverse}
 use Rattle.nq_base.specs.declared.Decided.{Decided}
-use Rattle.nq_base.specs.declared.Decided.TheVariants.{Fresh, Again, Old, OldIncarnation, NotAttached}
+use Rattle.nq_base.specs.declared.Decided.TheVariants.{Fresh, Again, Old, OldIncarnation, NotAttached, OutOfBounds}
 use Rattle.nq_base.specs.declared.Reply.{Reply as Answer}
 use Rattle.nq_base.specs.declared.Request.{Request}
 use Rattle.nq_base.specs.declared.Verdict.{Verdict}
@@ -17,9 +17,8 @@ use Rattle.nq_model.specs.Server.{Phase, Server, says, drops, to_host}
 use Rattle.nq_model.specs.Table.{Table}
 use Rattle.nq_server.proofs.DecidedSteps.{warned}
 use Rattle.nq_server.proofs.PushedPackets.{behind-notices, one-sent}
-use Rattle.nq_server.specs.declared.received.Reason.TheVariants as reason
 use Rattle.nq_server.specs.declared.received.Taken.TheVariants as took
-use Rattle.nq_server.specs.Deciding.{DoesAside, DoesIfFresh, Concludes, answer_to, is_later, is_put_off, warnings, warnings_if}
+use Rattle.nq_server.specs.Deciding.{DoesAside, DoesIfFresh, Concludes, answer_to, is_later, is_put_off, dropped_for, warnings, warnings_if}
 use Rattle.nq_server.specs.State.{Beside, beside}
 use Rattle.nq_server.specs.Stepping.{Sends}
 use Rattle.nq_wire.specs.Outbox.{Datagrams}
@@ -54,13 +53,17 @@ concluded-says s host xid answer out out' entries log same said = record {
 }
 
 -- one that is dropped
-pub concluded-drop : (s : Server) (who : Who) (xid : ℕ) (r : Request) (d : Decided) (out out' : Datagrams) (entries log : EntryList) → answer_to who r d ≡ None → out'.first ≡ out.first → out'.datagrams ≡ out.datagrams ++ map sent (warnings_if (is_put_off d) (warnings s who r)) → log.entries ≡ entries.entries → Concludes (decided_step s who xid r d) (took.Dropped reason.OldIncarnation) (beside s) out out' entries log
+pub concluded-drop : (s : Server) (who : Who) (xid : ℕ) (r : Request) (d : Decided) (out out' : Datagrams) (entries log : EntryList) → answer_to who r d ≡ None → out'.first ≡ out.first → out'.datagrams ≡ out.datagrams ++ map sent (warnings_if (is_put_off d) (warnings s who r)) → log.entries ≡ entries.entries → Concludes (decided_step s who xid r d) (took.Dropped (dropped_for d)) (beside s) out out' entries log
 unfolding drops
 concluded-drop s who xid r (Fresh verdict value) out out' entries log none first sends same = absurd (cc)
 concluded-drop s who xid r (Again verdict value) out out' entries log none first sends same = absurd (cc)
 concluded-drop s who xid r Old out out' entries log none first sends same = absurd (cc)
 concluded-drop s who xid r NotAttached out out' entries log none first sends same = absurd (cc)
 concluded-drop s who xid r OldIncarnation out out' entries log none first sends same = record {
+  outcome = refl;
+  makes = record { holds = refl; sends = record { first = first; added = sends; fit = All-nil FitsPacket }; enters = same ∙ sym (append-nil _) };
+}
+concluded-drop s who xid r OutOfBounds out out' entries log none first sends same = record {
   outcome = refl;
   makes = record { holds = refl; sends = record { first = first; added = sends; fit = All-nil FitsPacket }; enters = same ∙ sym (append-nil _) };
 }
@@ -110,6 +113,7 @@ module _ (s : Server) (who : Who) (xid : ℕ) (r : Request) (said : Answer) (out
   again-answered Old stale is e = is-alone _ is e
   again-answered NotAttached stale is e = is-alone _ is e
   again-answered OldIncarnation stale is e = absurd (cc)
+  again-answered OutOfBounds stale is e = absurd (cc)
 
   -- each, by what was done beside the kept state
   pub concluded : (d : Decided) (after : Beside) (log' : EntryList) → answer_to who r d ≡ Some said → between.datagrams ≡ out.datagrams ++ map sent (warnings_if (is_put_off d) (warnings s who r)) → All FitsPacket (warnings s who r) → DoesIfFresh s who r d (beside s) after log log' → Concludes (decided_step s who xid r d) took.Done after out out' entries log'
@@ -117,4 +121,5 @@ module _ (s : Server) (who : Who) (xid : ℕ) (r : Request) (said : Answer) (out
   concluded (Again verdict value) after log' is warns fit does = unchanged (Again verdict value) after log' does (again-answered (Again verdict value) tt is warns)
   concluded Old after log' is warns fit does = unchanged Old after log' does (again-answered Old tt is warns)
   concluded OldIncarnation after log' is warns fit does = absurd (cc)
+  concluded OutOfBounds after log' is warns fit does = absurd (cc)
   concluded NotAttached after log' is warns fit does = unchanged NotAttached after log' does (again-answered NotAttached tt is warns)

@@ -2,7 +2,7 @@
 use Rattle.std.proofs.Common.{◌≡◌, ◌⊎◌, ℕ, Option, Some, Ok, Err, inl, inr, refl, sym, ap, subst, ◌∙◌}
 use Rattle.nq_base.specs.declared.Change.{Change}
 use Rattle.nq_base.specs.declared.Decided.{Decided}
-use Rattle.nq_base.specs.declared.Decided.TheVariants.{Fresh, Again, Old, OldIncarnation, NotAttached}
+use Rattle.nq_base.specs.declared.Decided.TheVariants.{Fresh, Again, Old, OldIncarnation, NotAttached, OutOfBounds}
 use Rattle.nq_base.specs.declared.Gate.{Gate}
 use Rattle.nq_base.specs.declared.Request.{Request}
 use Rattle.nq_base.specs.declared.Who.{Who}
@@ -31,6 +31,7 @@ decided-keeps s who xid r (Again verdict value) = refl
 decided-keeps s who xid r Old = refl
 decided-keeps s who xid r OldIncarnation = refl
 decided-keeps s who xid r NotAttached = refl
+decided-keeps s who xid r OutOfBounds = refl
 
 module _ (held : Beside) (who : Who) (xid : ℕ) (r : Request) where
   -- the step of a request that is decided once
@@ -51,8 +52,8 @@ module _ (held : Beside) (who : Who) (xid : ℕ) (r : Request) where
   -- it was decided, and answered
   pub takes-decided : (gate : Gate) (d : Decided) (how : Taken) (told between tells : Option Kept) (before middle count : ℕ) (after : Beside) (out out' : Datagrams) (log log' : EntryList) → between ≡ told → middle ≡ before → ((kept : Kept) → told ≡ Some kept → gate ≡ gate_of (server_of held kept) who r) → Gives (λ kept. decided kept gate r) (λ kept. change_of kept gate r) (Ok d) between tells middle count → ((kept : Kept) → told ≡ Some kept → Concludes (decided_step (server_of held kept) who xid r d) how after out out' log log') → Takes step (Ok how) told tells before count held after out out' log log'
   takes-decided gate d how told between tells before middle count after out out' log log' stays same is gives concludes = (
-    λ kept e within.
-        let given = gives.0 kept (stays ∙ e) within in
+    λ kept e.
+        let given = gives.0 kept (stays ∙ e) in
         let by : d ≡ decided kept (gate_of (server_of held kept) who r) r = given.0 ∙ ap (λ g. decided kept g r) (is kept e) in
         let done : Concludes (step kept) how after out out' log log' =
         subst

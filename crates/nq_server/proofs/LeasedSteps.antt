@@ -161,7 +161,7 @@ some-kept = record { files = []; hosts = []; boot = 0; opened = 0; longest = 0; 
 -- a step that keeps what is kept is made, after that was read
 pub takes-does : (step base : Kept → ServerStep) (result : Result Taken Halt) (told tells : Option Kept) (before count : ℕ) (held after : Beside) (out out' : Datagrams) (log log' : EntryList) → tells ≡ told → count ≡ before → ((kept : Kept) → Does (base kept) result held after out out' log log') → ((kept : Kept) → told ≡ Some kept → step kept ≡ base kept) → ((kept : Kept) → (base kept).server.kept ≡ kept) → Takes step result told tells before count held after out out' log log'
 takes-does step base (Ok how) told tells before count held after out out' log log' stays same does is keeps = (
-  λ kept e within.
+  λ kept e.
       subst
       (λ s. (s.outcome ≡ outcome_of how) × Makes s tells after out out' log log')
       (sym (is kept e))

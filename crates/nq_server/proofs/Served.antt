@@ -19,9 +19,9 @@ module _ {K : Type 0} (step : Kept → ServerStep) (told tells : Option Kept) (b
   -- it was taken in
   pub is-taken : (how : Taken) → new.taken ≡ old.taken + 1 → Takes step (Ok how) told tells before count old.beside new.beside out out' log log' → IsTaken step (done_of how) told tells before count old new out out' log log'
   is-taken Done counted h =
-      (λ kept e within. let m = h.0 kept e within in record { outcome = m.0; makes = m.1 }, h.1, counted)
+      (λ kept e. let m = h.0 kept e in record { outcome = m.0; makes = m.1 }, h.1, counted)
   is-taken (Dropped reason) counted h =
-      (λ kept e within. let m = h.0 kept e within in record { outcome = m.0; makes = m.1 }, h.1, counted)
+      (λ kept e. let m = h.0 kept e in record { outcome = m.0; makes = m.1 }, h.1, counted)
 
   -- or it was not
   pub is-not-taken : (why : Halt) → new.taken ≡ old.taken → Takes step (Err why) told tells before count old.beside new.beside out out' log log' → IsTaken step (halted_of why) told tells before count old new out out' log log'
@@ -47,8 +47,8 @@ stays-held Memory step told tells before count old new out out' log log' h = h.2
 -- the journal had room made in it first
 pub relog : (step : Kept → ServerStep) (r : Result Taken Halt) (told tells : Option Kept) (before count : ℕ) (held after : Beside) (out out' : Datagrams) (log room log' : EntryList) → room.entries ≡ log.entries → Takes step r told tells before count held after out out' room log' → Takes step r told tells before count held after out out' log log'
 relog step (Ok how) told tells before count held after out out' log room log' same h = (
-  λ kept e within.
-      let m = h.0 kept e within in
+  λ kept e.
+      let m = h.0 kept e in
       (m.0, record { keeps = m.1.keeps; holds = m.1.holds; sends = m.1.sends; enters = m.1.enters ∙ ap (λ x. x ++ reverse (step kept).entries) same }),
   h.1,
 )

@@ -5,7 +5,6 @@ use Rattle.nq_datagrams.specs.Sent.{FitsPacket}
 use Rattle.nq_io.specs.Faults.{Rose}
 use Rattle.nq_journal.specs.Items.{EntryList}
 use Rattle.nq_keeper.specs.Keeping.{StaysOrEnds}
-use Rattle.nq_model.specs.Change.{IsWithinBounds}
 use Rattle.nq_model.specs.Kept.{Kept}
 use Rattle.nq_model.specs.Server.{ServerStep, drops}
 use Rattle.nq_server.specs.declared.received.Halt.{Halt}
@@ -17,31 +16,26 @@ use Rattle.nq_server.specs.State.{Beside, server_of}
 use Rattle.nq_server.specs.Stepping.{Takes, Makes, cause_of, outcome_of}
 use Rattle.nq_wire.specs.Outbox.{Datagrams}
 
--- the same step of a kept state within its bounds, told in other words, after what is kept was read
-pub takes-within : (step base : Kept → ServerStep) (result : Result Taken Halt) (told between tells : Option Kept) (before middle count : ℕ) (held after : Beside) (out out' : Datagrams) (log log' : EntryList) → between ≡ told → middle ≡ before → ((kept : Kept) → told ≡ Some kept → IsWithinBounds kept → step kept ≡ base kept) → Takes base result between tells middle count held after out out' log log' → Takes step result told tells before count held after out out' log log'
-takes-within step base (Ok how) told between tells before middle count held after out out' log log' stays same is h = (
-  λ kept e within.
+-- the same step, told in other words, after what is kept was read
+pub takes-after : (step base : Kept → ServerStep) (result : Result Taken Halt) (told between tells : Option Kept) (before middle count : ℕ) (held after : Beside) (out out' : Datagrams) (log log' : EntryList) → between ≡ told → middle ≡ before → ((kept : Kept) → told ≡ Some kept → step kept ≡ base kept) → Takes base result between tells middle count held after out out' log log' → Takes step result told tells before count held after out out' log log'
+takes-after step base (Ok how) told between tells before middle count held after out out' log log' stays same is h = (
+  λ kept e.
       subst
       (λ s. (s.outcome ≡ outcome_of how) × Makes s tells after out out' log log')
-      (sym (is kept e within))
-      (h.0 kept (stays ∙ e) within),
+      (sym (is kept e))
+      (h.0 kept (stays ∙ e)),
   h.1 ∙ same,
 )
-takes-within step base (Err Memory) told between tells before middle count held after out out' log log' stays same is h =
+takes-after step base (Err Memory) told between tells before middle count held after out out' log log' stays same is h =
     (h.0 ∙ stays, h.1 ∙ same, h.2, h.3)
-takes-within step base (Err Fault) told between tells before middle count held after out out' log log' stays same is h =
+takes-after step base (Err Fault) told between tells before middle count held after out out' log log' stays same is h =
     (subst (λ o. StaysOrEnds o tells) stays h.0, subst (λ n. Rose n count) same h.1, h.2, h.3)
-
--- the same step, told in other words
-pub takes-after : (step base : Kept → ServerStep) (result : Result Taken Halt) (told between tells : Option Kept) (before middle count : ℕ) (held after : Beside) (out out' : Datagrams) (log log' : EntryList) → between ≡ told → middle ≡ before → ((kept : Kept) → told ≡ Some kept → step kept ≡ base kept) → Takes base result between tells middle count held after out out' log log' → Takes step result told tells before count held after out out' log log'
-takes-after step base result told between tells before middle count held after out out' log log' stays same is h =
-    takes-within step base result told between tells before middle count held after out out' log log' stays same (λ kept e within. is kept e) h
 
 -- a datagram is dropped, after what is kept was read
 pub takes-dropped : (reason : Reason) (step : Kept → ServerStep) (told tells : Option Kept) (before count : ℕ) (held : Beside) (out : Datagrams) (log : EntryList) → tells ≡ told → count ≡ before → ((kept : Kept) → told ≡ Some kept → step kept ≡ drops (server_of held kept) (cause_of reason)) → Takes step (Ok (Dropped reason)) told tells before count held held out out log log
 unfolding drops
 takes-dropped reason step told tells before count held out log stays same is = (
-  λ kept e within.
+  λ kept e.
       subst
       (λ s. (s.outcome ≡ outcome_of (Dropped reason)) × Makes s tells held out out log log)
       (sym (is kept e))

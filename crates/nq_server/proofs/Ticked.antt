@@ -1,8 +1,8 @@
 -- What a tick does is the protocol's step.
 use Rattle.std.proofs.Common.{◌≡◌, ◌⊎◌, ◌<◌, ◌≤◌, ℕ, Bool, true, false, List, [], ◌∷◌, ◌++◌, Option, Some, None, Ok, Err, if◌then◌else◌, refl, sym, ◌∙◌, ap, subst, arith, append-nil, inl, inr}
-use Rattle.std.specs.Prelude.{nat_le, reverse}
+use Rattle.std.specs.Prelude.{IfOk, OnErr, Result, nat_le, reverse}
 use Rattle.std.specs.List.{find}
-use Rattle.std.specs.Option.{option_map}
+use Rattle.std.specs.Option.{IfSome, option_map}
 use Rattle.std.proofs.lemmas.Bool.Decides.{nat_tests}
 use Rattle.std.proofs.lemmas.List.Elements.{All-nil}
 use Rattle.nq_base.specs.declared.Entry.{Entry}
@@ -11,13 +11,13 @@ use Rattle.nq_base.specs.declared.RowKey.{RowKey}
 use Rattle.nq_boot.specs.Booting.{ended_at, opened_by}
 use Rattle.nq_boot.specs.Recovery.{Recovery}
 use Rattle.nq_datagrams.specs.Sent.{FitsPacket}
-use Rattle.nq_expire.specs.Ending.{fenced}
+use Rattle.nq_expire.specs.Ending.{Fences, fence_of, fenced, fenced_if, has_ended, table_after}
 use Rattle.nq_expire.specs.declared.Fence.{Fence}
 use Rattle.nq_journal.specs.Items.{EntryList}
 use Rattle.nq_keeper.specs.declared.KeepFault.{KeepFault}
 use Rattle.nq_keeper.specs.declared.KeepFault.TheVariants.{Failed, Memory}
 use Rattle.nq_lease.specs.Rows.{key_of}
-use Rattle.nq_model.specs.Kept.{Kept}
+use Rattle.nq_model.specs.Kept.{Kept, can_rise, find_file}
 use Rattle.nq_model.specs.Server.{serving, recovering, ServerStep, taken, quiet, with_table, keeping_with}
 use Rattle.nq_model.specs.ServerStep.{is_due, end_reading, end_writing, ends_writing, fence, opens, at_time, tick, tick_in}
 use Rattle.nq_model.specs.Table.{Table, drop_row, with_rows}
@@ -42,11 +42,19 @@ unfolding at_time quiet with_table
 quiet-tick s kept now is none =
     ap (λ p. tick_in (at_time (server_of s kept) now) p) is ∙ ap (λ o. end_writing (at_time (server_of s kept) now) (end_reading now s.table.rows) o) (due-after-reading now s.table.rows ∙ none)
 
--- and where this row is due
-fenced-tick : (s : Beside) (kept : Kept) (now : ℕ) (row : Row) → s.phase ≡ serving → find (is_due now) s.table.rows ≡ Some row → tick (server_of s kept) now ≡ made (at_tick s (with_rows s.table (drop_row row.file row.who.host (end_reading now s.table.rows))) now) (fenced row.file kept) (Entry.F row.who row.file row.until row.heard now ∷ [])
+-- and where this row is due, and the revision of its file can rise
+fenced-tick : (s : Beside) (kept : Kept) (now : ℕ) (row : Row) → s.phase ≡ serving → find (is_due now) s.table.rows ≡ Some row → can_rise (find_file row.file kept.files) ≡ true → tick (server_of s kept) now ≡ made (at_tick s (with_rows s.table (drop_row row.file row.who.host (end_reading now s.table.rows))) now) (fenced row.file kept) (Entry.F row.who row.file row.until row.heard now ∷ [])
 unfolding at_time ends_writing keeping_with
-fenced-tick s kept now row is due =
+fenced-tick s kept now row is due can =
     ap (λ p. tick_in (at_time (server_of s kept) now) p) is ∙ ap (λ o. end_writing (at_time (server_of s kept) now) (end_reading now s.table.rows) o) (due-after-reading now s.table.rows ∙ due)
+    ∙ ap (λ b. if b then ends_writing (at_time (server_of s kept) now) (end_reading now s.table.rows) row else quiet (with_table (at_time (server_of s kept) now) (with_rows s.table (end_reading now s.table.rows)))) can
+
+-- and where it can not
+stays-tick : (s : Beside) (kept : Kept) (now : ℕ) (row : Row) → s.phase ≡ serving → find (is_due now) s.table.rows ≡ Some row → can_rise (find_file row.file kept.files) ≡ false → tick (server_of s kept) now ≡ made (at_tick s (with_rows s.table (end_reading now s.table.rows)) now) kept []
+unfolding at_time quiet with_table
+stays-tick s kept now row is due can =
+    ap (λ p. tick_in (at_time (server_of s kept) now) p) is ∙ ap (λ o. end_writing (at_time (server_of s kept) now) (end_reading now s.table.rows) o) (due-after-reading now s.table.rows ∙ due)
+    ∙ ap (λ b. if b then ends_writing (at_time (server_of s kept) now) (end_reading now s.table.rows) row else quiet (with_table (at_time (server_of s kept) now) (with_rows s.table (end_reading now s.table.rows)))) can
 
 -- a step that sends nothing was made
 makes : (out : Datagrams) (s : Beside) (kept : Kept) (entries : List Entry) (tells : Option Kept) (after : Beside) (log log' : EntryList) (step : ServerStep) → step ≡ made s kept entries → tells ≡ Some kept → after ≡ s → log'.entries ≡ log.entries ++ reverse entries → (step.outcome ≡ outcome_of Done) × Makes step tells after out out log log'
@@ -68,17 +76,57 @@ takes-ends s after now fence table told tells before count log log' is ends same
   where
     by : (o : Option Row) (f : Option Fence) → find (is_due now) s.table.rows ≡ o → EndsRow now o f s.table table told tells → log'.entries ≡ log.entries ++ reverse (fence_entries f) → Takes (λ kept. tick (server_of s kept) now) (Ok Done) told tells before count s after out out log log'
     by None None due h entries = (
-      λ kept e within.
+      λ kept e.
           makes out _ kept [] tells after log log' _ (quiet-tick s kept now is due) (h.1 ∙ e) (holds ∙ ap (λ t. at_tick s (with_rows t (end_reading now t.rows)) now) h.0) entries,
       same,
     )
     by (Some row) (Some f) due h entries = (
-      λ kept e within.
-          makes out _ (fenced row.file kept) _ tells after log log' _ (fenced-tick s kept now row is due) (h.2 kept e within) (holds ∙ ap (λ t. at_tick s (with_rows t (end_reading now t.rows)) now) h.1 ∙ ap (λ t. at_tick s t now) (both-ended s.table now row.file row.who.host)) (entries ∙ ap (λ x. log.entries ++ reverse (fence_entries (Some x))) h.0),
+      λ kept e.
+          let said = h.2 kept e in
+          makes out _ (fenced row.file kept) _ tells after log log' _ (fenced-tick s kept now row is due said.0) said.1 (holds ∙ ap (λ t. at_tick s (with_rows t (end_reading now t.rows)) now) h.1 ∙ ap (λ t. at_tick s t now) (both-ended s.table now row.file row.who.host)) (entries ∙ ap (λ x. log.entries ++ reverse (fence_entries (Some x))) h.0),
+      same,
+    )
+    by (Some row) None due h entries = (
+      λ kept e.
+          let said = h.1 kept e in
+          makes out _ kept [] tells after log log' _ (stays-tick s kept now row is due said.0) said.1 (holds ∙ ap (λ t. at_tick s (with_rows t (end_reading now t.rows)) now) h.0) entries,
       same,
     )
     by None (Some f) due h entries = absurd h
-    by (Some row) None due h entries = absurd h
+
+-- the end of the row that is due was tried
+module _ (now : ℕ) (row : Row) (table after : Table) (told tells : Option Kept) (before count : ℕ) where
+  tried-by : (result : Result (Option Fence) KeepFault) → IfOk result (λ ended. IfSome ended (λ f. f ≡ fence_of row now)) → IfOk result (λ ended. after ≡ table_after (key_of row) ended table) → OnErr result (after ≡ table) → Fences row.file (has_ended result) told tells before count → EndsFirst now (Some row) result table after told tells before count
+  tried-by (Ok (Some f)) fence drops stays fences = (
+    (
+      fence,
+      drops,
+      λ kept e.
+          let said = fences.0 kept e in
+          (sym said.0, said.1 ∙ ap (λ b. Some (if b then fenced row.file kept else kept)) (sym said.0)),
+    ),
+    fences.1,
+  )
+  tried-by (Ok None) fence drops stays fences = (
+    (
+      drops,
+      λ kept e.
+          let said = fences.0 kept e in
+          (sym said.0, said.1 ∙ ap (λ b. Some (if b then fenced row.file kept else kept)) (sym said.0)),
+    ),
+    fences.1,
+  )
+  tried-by (Err Memory) fence drops stays fences = (stays, fences.0, fences.1)
+  tried-by (Err Failed) fence drops stays fences = (stays, fences.0, fences.1)
+
+pub ends-first : (now : ℕ) (due : Option Row) (key : RowKey) (result : Result (Option Fence) KeepFault) (table after : Table) (told tells : Option Kept) (before count : ℕ) → Some key ≡ option_map key_of due → IfSome due (λ row. IfOk result (λ ended. IfSome ended (λ f. f ≡ fence_of row now))) → IfOk result (λ ended. after ≡ table_after key ended table) → OnErr result (after ≡ table) → Fences key.file (has_ended result) told tells before count → EndsFirst now due result table after told tells before count
+ends-first now None key result table after told tells before count e fence drops stays fences = absurd (cc)
+ends-first now (Some row) key result table after told tells before count e fence drops stays fences =
+    let same : key ≡ key_of row = cc in
+    tried-by now row table after told tells before count result fence
+    (subst (λ k. IfOk result (λ ended. after ≡ table_after k ended table)) same drops)
+    stays
+    (subst (λ k. Fences k.file (has_ended result) told tells before count) same fences)
 
 -- nothing changed at a fault
 pub takes-no-end : (s after : Beside) (now : ℕ) (due : Option Row) (fault : KeepFault) (table : Table) (told tells : Option Kept) (before count : ℕ) (log : EntryList) → EndsFirst now due (Err fault) s.table table told tells before count → after ≡ at_tick s table s.time → (step : Kept → ServerStep) (out : Datagrams) → Takes step (Err (halt_of fault)) told tells before count s after out out log log
@@ -91,14 +139,18 @@ takes-no-end s after now due Memory table told tells before count log h holds st
 pub kept-ended : (s : Beside) (kept : Kept) (now : ℕ) → s.phase ≡ serving → (tick (server_of s kept) now).server.kept ≡ ended (find (is_due now) s.table.rows) kept
 kept-ended s kept now is = by (find (is_due now) s.table.rows) refl
   where
+    tried : (row : Row) → find (is_due now) s.table.rows ≡ Some row → (b : Bool) → can_rise (find_file row.file kept.files) ≡ b → (tick (server_of s kept) now).server.kept ≡ (if b then fenced row.file kept else kept)
+    tried row due true can = ap (λ x. x.server.kept) (fenced-tick s kept now row is due can)
+    tried row due false can = ap (λ x. x.server.kept) (stays-tick s kept now row is due can)
+
     by : (o : Option Row) → find (is_due now) s.table.rows ≡ o → (tick (server_of s kept) now).server.kept ≡ ended o kept
     by None due = ap (λ x. x.server.kept) (quiet-tick s kept now is due)
-    by (Some row) due = ap (λ x. x.server.kept) (fenced-tick s kept now row is due)
+    by (Some row) due = tried row due (can_rise (find_file row.file kept.files)) refl
 
 -- the row that is due by a key
-pub ended-by : (key : RowKey) (o : Option Row) (kept : Kept) → Some key ≡ option_map key_of o → fenced key.file kept ≡ ended o kept
+pub ended-by : (key : RowKey) (o : Option Row) (kept : Kept) → Some key ≡ option_map key_of o → fenced_if key.file kept ≡ ended o kept
 ended-by key None kept e = absurd (cc)
-ended-by key (Some row) kept e = let same : key ≡ key_of row = cc in ap (λ k. fenced k.file kept) same
+ended-by key (Some row) kept e = let same : key ≡ key_of row = cc in ap (λ k. fenced_if k.file kept) same
 
 -- what a stop leaves, told in other words
 pub or-as : (found : Option Kept) (kept after other : Kept) → after ≡ other → (found ≡ Some kept) ⊎ (found ≡ Some after) → (found ≡ Some kept) ⊎ (found ≡ Some other)
@@ -115,7 +167,7 @@ runs-on time now o f table between after told tells later ends same run =
     by None None h = subst (λ t. RowsRun time t.rows) (sym h.0) run
     by (Some row) (Some g) h = subst (λ t. RowsRun time t.rows) (sym h.1) (some-run time _ table.rows run)
     by None (Some g) h = absurd h
-    by (Some row) None h = absurd h
+    by (Some row) None h = subst (λ t. RowsRun time t.rows) (sym h.0) run
 
 -- and no tag was drawn
 pub draws-none : (now : ℕ) (o : Option Row) (f : Option Fence) (table between after : Table) (told tells : Option Kept) → EndsRow now o f table between told tells → after ≡ with_rows between (end_reading now between.rows) → after.drawn ≡ table.drawn
@@ -124,7 +176,7 @@ draws-none now None None table between after told tells h same = ap (λ t. t.dra
 draws-none now (Some row) (Some f) table between after told tells h same =
     ap (λ t. t.drawn) same ∙ ap (λ t. t.drawn) h.1
 draws-none now None (Some f) table between after told tells h same = absurd h
-draws-none now (Some row) None table between after told tells h same = absurd h
+draws-none now (Some row) None table between after told tells h same = ap (λ t. t.drawn) same ∙ ap (λ t. t.drawn) h.0
 
 -- a boot that serves needs no more
 pub serves-of-boot : (longest : ℕ) (phase : Held) (rows : List Row) → phase_of phase ≡ serving → IsOfBoot longest phase rows
@@ -173,9 +225,9 @@ module _ (s : Beside) (r : Recovery) (last : Option Table) (is : s.phase ≡ rec
   -- the recovery ended, or waits
   pub takes-opens : (after : Beside) (now : ℕ) (opened : Option Opened) (told tells : Option Kept) (before count : ℕ) (log log' : EntryList) → OpensAt r now (Ok opened) told tells before count → after ≡ at_tick_opened s opened now → log'.entries ≡ log.entries ++ reverse (opened_entries opened) → (out : Datagrams) → Takes (λ kept. tick (server_of s kept) now) (Ok Done) told tells before count s after out out log log'
   takes-opens after now None told tells before count log log' h holds enters out =
-      (λ kept e within. makes out _ kept [] tells after log log' _ (wait-tick kept now h.0) (h.1 ∙ e) holds enters, h.2)
+      (λ kept e. makes out _ kept [] tells after log log' _ (wait-tick kept now h.0) (h.1 ∙ e) holds enters, h.2)
   takes-opens after now (Some o) told tells before count log log' h holds enters out = (
-    λ kept e within.
+    λ kept e.
         let said = h.1 kept e in
         makes out _ (opened_by kept r.longest) _ tells after log log' _ (open-tick kept now h.0) said.0 holds (enters ∙ ap (λ x. log.entries ++ reverse (x ∷ [])) said.1),
     h.2,

@@ -6,11 +6,10 @@ use Rattle.nq_boot.specs.declared.StartFault.{StartFault}
 use Rattle.nq_boot.specs.declared.StartFault.TheVariants as start
 use Rattle.nq_boot.specs.declared.Started.{Started}
 use Rattle.nq_boot.specs.declared.Started.TheVariants as begins
-use Rattle.nq_boot.specs.Booting.{started_of}
+use Rattle.nq_boot.specs.Booting.{last_boot, started_of}
 use Rattle.nq_io.specs.Faults.{Rose}
 use Rattle.nq_keeper.specs.Keeping.{StaysOrEnds}
 use Rattle.nq_model.specs.Kept.{Kept}
-use Rattle.nq_model.specs.Profile.{most_boots}
 use Rattle.nq_model.specs.ServerStep.{booted}
 use Rattle.nq_model.specs.Table.{Table, empty_table}
 use Rattle.nq_server.specs.declared.booting.Begun.{Begun}
@@ -20,7 +19,7 @@ use Rattle.nq_server.specs.declared.state.Phase.TheVariants.{Serving, Recovering
 
 -- a boot over this kept state began: its number was kept, and it has an empty table
 pub record BeginsOver (longest time : ℕ) (begun : Begun) (kept : Kept) (tells : Option Kept) : Type 0 where
-  pub number : kept.boot < most_boots
+  pub number : kept.boot < last_boot
   pub started : begun.started ≡ started_of kept longest time
   pub table : begun.table ≡ empty_table (kept.boot + 1)
   pub waits : begun.waits ≡ (booted kept longest).longest
@@ -31,7 +30,7 @@ abbrev pub Begins : (longest time : ℕ) → Result Begun StartFault → (told t
 Begins longest time (Ok begun) told tells before count =
     ForSome told (λ kept. BeginsOver longest time begun kept tells) × (count ≡ before)
 Begins longest time (Err start.Spent) told tells before count =
-    ForSome told (λ kept. kept.boot ≡ most_boots) × (tells ≡ told) × (count ≡ before)
+    ForSome told (λ kept. kept.boot ≡ last_boot) × (tells ≡ told) × (count ≡ before)
 Begins longest time (Err start.Memory) told tells before count = (tells ≡ told) × (count ≡ before)
 Begins longest time (Err start.Failed) told tells before count = StaysOrEnds told tells × Rose before count
 

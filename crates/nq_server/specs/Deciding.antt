@@ -2,7 +2,7 @@
 use Rattle.std.specs.Prelude.{◌≡◌, ◌≤◌, ℕ, Bool, true, false, List, [], ◌∷◌, Option, Some, None, length}
 use Rattle.nq_base.specs.Block.{filled, value_of}
 use Rattle.nq_base.specs.declared.Decided.{Decided}
-use Rattle.nq_base.specs.declared.Decided.TheVariants.{Fresh, Again, Old, OldIncarnation, NotAttached}
+use Rattle.nq_base.specs.declared.Decided.TheVariants.{Fresh, Again, Old, OldIncarnation, NotAttached, OutOfBounds}
 use Rattle.nq_base.specs.declared.Entry.{Entry}
 use Rattle.nq_base.specs.declared.Refusal.{Refusal}
 use Rattle.nq_base.specs.declared.Reply.{Reply as Answer}
@@ -20,6 +20,7 @@ use Rattle.nq_model.specs.Message.{Packet}
 use Rattle.nq_model.specs.Server.{Server, ServerStep}
 use Rattle.nq_model.specs.Table.{find_row, put_row, drop_host, drop_rows_of}
 use Rattle.nq_server.specs.declared.deciding.Ready.{Ready}
+use Rattle.nq_server.specs.declared.received.Reason.{Reason}
 use Rattle.nq_server.specs.declared.received.Taken.{Taken}
 use Rattle.nq_server.specs.Leasing.{MakesBeside}
 use Rattle.nq_server.specs.State.{Beside}
@@ -37,13 +38,19 @@ abbrev pub length_in : Kept → Option ℕ → ℕ
 length_in kept None = 0
 length_in kept (Some file) = kept_length (row_of_found (find_file file kept.files))
 
--- the reply to a request that was decided so: none where a later incarnation is attached
+-- the reply to a request that was decided so: none where a later incarnation is attached, or what would be kept is out of bounds
 abbrev pub answer_to : Who → Request → Decided → Option Answer
 answer_to who r (Fresh verdict value) = Some (decided_answer who.inc verdict value r)
 answer_to who r (Again verdict value) = Some (decided_answer who.inc verdict value r)
 answer_to who r Old = Some (Answer.Refused who.inc Refusal.Old)
 answer_to who r OldIncarnation = None
 answer_to who r NotAttached = Some (Answer.Refused who.inc Refusal.NotAttached)
+answer_to who r OutOfBounds = None
+
+-- why a request that was decided so is dropped, where it is
+abbrev pub dropped_for : Decided → Reason
+dropped_for OutOfBounds = Reason.OutOfBounds
+dropped_for other = Reason.OldIncarnation
 
 -- what is done aside was done to what is held beside the kept state, and told
 pub record DoesAside (aside : Aside) (held after : Beside) (log log' : EntryList) : Type 0 where

@@ -2,12 +2,11 @@
 -- `tells` is what it tells after it; `before` and `count` are its counts of faults.
 use Rattle.std.specs.Prelude.{◌≡◌, ◌<◌, ℕ, ◌+◌, Option, Some, None, Result, Ok, Err}
 use Rattle.std.specs.Option.{ForSome}
+use Rattle.nq_boot.specs.Booting.{last_boot}
 use Rattle.nq_io.specs.Faults.{Rose}
 use Rattle.nq_journal.specs.Items.{EntryList}
 use Rattle.nq_keeper.specs.Keeping.{StaysOrEnds}
-use Rattle.nq_model.specs.Change.{IsWithinBounds}
 use Rattle.nq_model.specs.Kept.{Kept}
-use Rattle.nq_model.specs.Profile.{most_boots}
 use Rattle.nq_model.specs.Server.{Phase, serving, recovering, Server, ServerStep, Outcome, taken, dropped}
 use Rattle.nq_model.specs.ServerStep.{at_time, boot, crash}
 use Rattle.nq_model.specs.Table.{Table}
@@ -51,11 +50,11 @@ keeper_in (Err (fault.Spent keeper)) = keeper
 -- what a boot does: it is the protocol's, of a server that knows no last table; it is spent where no number is left
 abbrev pub Boots : {K : Type 0} → (longest time : ℕ) → Result (Holding K) (BootFault K) → (told tells : Option Kept) (before count : ℕ) → Type 0
 Boots longest time (Ok s) told tells before count =
-    ForSome told (λ kept. (kept.boot < most_boots) × IsServer (boot kept longest time None) s tells) × (count ≡ before)
+    ForSome told (λ kept. (kept.boot < last_boot) × IsServer (boot kept longest time None) s tells) × (count ≡ before)
 Boots longest time (Err (fault.Failed keeper)) told tells before count = StaysOrEnds told tells × Rose before count
 Boots longest time (Err (fault.Memory keeper)) told tells before count = (tells ≡ told) × (count ≡ before)
 Boots longest time (Err (fault.Spent keeper)) told tells before count =
-    ForSome told (λ kept. kept.boot ≡ most_boots) × (tells ≡ told) × (count ≡ before)
+    ForSome told (λ kept. kept.boot ≡ last_boot) × (tells ≡ told) × (count ≡ before)
 
 -- an event was taken in as this step, with this outcome
 pub record TakesIn {K : Type 0} (step : ServerStep) (how : Outcome) (tells : Option Kept) (new : Holding K) (out out' : Datagrams) (log log' : EntryList) : Type 0 where
@@ -70,10 +69,10 @@ pub record IsRefused {K : Type 0} (old new : Holding K) (out out' : Datagrams) (
 -- what a call does that takes an event in, by its answer: it makes the step of the kept state that was told, or changes nothing
 abbrev pub IsTaken : {K : Type 0} → (step : Kept → ServerStep) → Received → (told tells : Option Kept) (before count : ℕ) (old new : Holding K) (out out' : Datagrams) (log log' : EntryList) → Type 0
 IsTaken step Done told tells before count old new out out' log log' =
-    ForSome told (λ kept. IsWithinBounds kept → TakesIn (step kept) taken tells new out out' log log')
+    ForSome told (λ kept. TakesIn (step kept) taken tells new out out' log log')
     × (count ≡ before) × (new.taken ≡ old.taken + 1)
 IsTaken step (Dropped reason) told tells before count old new out out' log log' =
-    ForSome told (λ kept. IsWithinBounds kept → TakesIn (step kept) (dropped (cause_of reason)) tells new out out' log log')
+    ForSome told (λ kept. TakesIn (step kept) (dropped (cause_of reason)) tells new out out' log log')
     × (count ≡ before) × (new.taken ≡ old.taken + 1)
 IsTaken step Fault told tells before count old new out out' log log' =
     StaysOrEnds told tells × Rose before count × IsRefused old new out out' log log'
@@ -96,7 +95,7 @@ pub record HasNotCrashed {K : Type 0} (old new : Holding K) (log log' : EntryLis
 -- what a crash does, by the answer; nothing is ever dropped
 abbrev pub Reboots : {K : Type 0} → (longest time : ℕ) → Received → (told tells : Option Kept) (before count : ℕ) (old new : Holding K) (log log' : EntryList) → Type 0
 Reboots longest time Done told tells before count old new log log' =
-    ForSome told (λ kept. (kept.boot < most_boots) × HasCrashed (crash (at_time (server_of old.beside kept) time) longest) tells new log log')
+    ForSome told (λ kept. (kept.boot < last_boot) × HasCrashed (crash (at_time (server_of old.beside kept) time) longest) tells new log log')
     × (count ≡ before) × (new.taken ≡ 0)
 Reboots longest time (Dropped reason) told tells before count old new log log' = ⊥
 Reboots longest time Fault told tells before count old new log log' =
@@ -104,4 +103,4 @@ Reboots longest time Fault told tells before count old new log log' =
 Reboots longest time Memory told tells before count old new log log' =
     (tells ≡ told) × (count ≡ before) × HasNotCrashed old new log log'
 Reboots longest time Spent told tells before count old new log log' =
-    ForSome told (λ kept. kept.boot ≡ most_boots) × (tells ≡ told) × (count ≡ before) × HasNotCrashed old new log log'
+    ForSome told (λ kept. kept.boot ≡ last_boot) × (tells ≡ told) × (count ≡ before) × HasNotCrashed old new log log'

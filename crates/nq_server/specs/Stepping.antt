@@ -9,9 +9,8 @@ use Rattle.nq_datagrams.specs.Sent.{FitsPacket}
 use Rattle.nq_io.specs.Faults.{Rose}
 use Rattle.nq_journal.specs.Items.{EntryList}
 use Rattle.nq_keeper.specs.Keeping.{StaysOrEnds}
-use Rattle.nq_model.specs.Change.{IsWithinBounds}
 use Rattle.nq_model.specs.Kept.{Kept}
-use Rattle.nq_model.specs.Message.{Packet, Reason as Cause, was_too_long, was_no_message, was_no_call, wrong_host, old_incarnation, no_reply_owed}
+use Rattle.nq_model.specs.Message.{Packet, Reason as Cause, was_too_long, was_no_message, was_no_call, wrong_host, old_incarnation, out_of_bounds, no_reply_owed}
 use Rattle.nq_model.specs.Server.{ServerStep, Outcome, taken, dropped}
 use Rattle.nq_rpc.specs.Fault.{fault_number}
 use Rattle.nq_server.specs.declared.received.Halt.{Halt}
@@ -31,6 +30,7 @@ cause_of (reason.Rpc fault) = was_no_message (fault_number fault)
 cause_of reason.NotACall = was_no_call
 cause_of reason.WrongHost = wrong_host
 cause_of reason.OldIncarnation = old_incarnation
+cause_of reason.OutOfBounds = out_of_bounds
 cause_of reason.NoReplyOwed = no_reply_owed
 
 -- how a datagram was taken, as the protocol says it
@@ -72,7 +72,7 @@ pub record SaysNothing (out out' : Datagrams) (log log' : EntryList) : Type 0 wh
 -- what a call does, by its answer: it makes the step of the kept state that was told, or changes nothing
 abbrev pub Takes : (step : Kept → ServerStep) → Result Taken Halt → (told tells : Option Kept) (before count : ℕ) (held after : Beside) (out out' : Datagrams) (log log' : EntryList) → Type 0
 Takes step (Ok how) told tells before count held after out out' log log' =
-    ForSome told (λ kept. IsWithinBounds kept → ((step kept).outcome ≡ outcome_of how) × Makes (step kept) tells after out out' log log')
+    ForSome told (λ kept. ((step kept).outcome ≡ outcome_of how) × Makes (step kept) tells after out out' log log')
     × (count ≡ before)
 Takes step (Err halt.Memory) told tells before count held after out out' log log' =
     (tells ≡ told) × (count ≡ before) × (after ≡ held) × SaysNothing out out' log log'
@@ -89,7 +89,7 @@ Says packet (Err halt.Fault) out out' = ⊥
 -- a stop leaves what was kept before the step, or after it
 abbrev pub LeavesStep : (step : Kept → ServerStep) → (told : Option Kept) → (Option Kept → Type 0) → Type 0
 LeavesStep step told leaves =
-    ForSome told (λ kept. IsWithinBounds kept → (found : Option Kept) → leaves found → (found ≡ Some kept) ⊎ (found ≡ Some (step kept).server.kept))
+    ForSome told (λ kept. (found : Option Kept) → leaves found → (found ≡ Some kept) ⊎ (found ≡ Some (step kept).server.kept))
 
 -- how an event was taken in, for those who sent it
 abbrev pub done_of : Taken → Received

@@ -1,19 +1,18 @@
 -- Ticks of a server's clock. Below, `told` is what the keeper told of its content before the call and `tells` is what it tells
 -- after it; `before` and `count` are its counts of faults.
-use Rattle.std.specs.Prelude.{◌≡◌, ◌⊎◌, ◌<◌, ◌≤◌, ℕ, List, [], ◌∷◌, Option, Some, None, Result, Ok, Err}
+use Rattle.std.specs.Prelude.{◌≡◌, ◌⊎◌, ◌<◌, ◌≤◌, ℕ, true, false, List, [], ◌∷◌, Option, Some, None, Result, Ok, Err}
 use Rattle.std.specs.Option.{ForSome}
 use Rattle.nq_base.specs.declared.Entry.{Entry}
 use Rattle.nq_base.specs.declared.Row.{Row}
 use Rattle.nq_boot.specs.Booting.{opened_by}
 use Rattle.nq_boot.specs.Recovery.{Recovery}
-use Rattle.nq_expire.specs.Ending.{fence_of, fenced}
+use Rattle.nq_expire.specs.Ending.{fence_of, fenced, fenced_if}
 use Rattle.nq_expire.specs.declared.Fence.{Fence}
 use Rattle.nq_io.specs.Faults.{Rose}
 use Rattle.nq_keeper.specs.Keeping.{StaysOrEnds}
 use Rattle.nq_keeper.specs.declared.KeepFault.{KeepFault}
 use Rattle.nq_keeper.specs.declared.KeepFault.TheVariants as keep
-use Rattle.nq_model.specs.Change.{IsWithinBounds}
-use Rattle.nq_model.specs.Kept.{Kept}
+use Rattle.nq_model.specs.Kept.{Kept, can_rise, find_file}
 use Rattle.nq_model.specs.Server.{serving}
 use Rattle.nq_model.specs.Table.{Table, drop_row, with_rows}
 use Rattle.nq_server.specs.declared.received.Halt.{Halt}
@@ -26,15 +25,16 @@ abbrev pub halt_of : KeepFault → Halt
 halt_of keep.Failed = halt.Fault
 halt_of keep.Memory = halt.Memory
 
--- a writing row ended, or none was due
+-- a writing row ended, or none was due, or the revision of its file can not rise and the row stays
 abbrev pub EndsRow : (time : ℕ) → Option Row → Option Fence → (table after : Table) → (told tells : Option Kept) → Type 0
 EndsRow time None None table after told tells = (after ≡ table) × (tells ≡ told)
 EndsRow time (Some row) (Some fence) table after told tells =
     (fence ≡ fence_of row time)
     × (after ≡ with_rows table (drop_row row.file row.who.host table.rows))
-    × ForSome told (λ kept. IsWithinBounds kept → tells ≡ Some (fenced row.file kept))
+    × ForSome told (λ kept. (can_rise (find_file row.file kept.files) ≡ true) × (tells ≡ Some (fenced row.file kept)))
+EndsRow time (Some row) None table after told tells =
+    (after ≡ table) × ForSome told (λ kept. (can_rise (find_file row.file kept.files) ≡ false) × (tells ≡ Some kept))
 EndsRow time None (Some fence) table after told tells = ⊥
-EndsRow time (Some row) None table after told tells = ⊥
 
 -- the writing row that is due first ended, if there is one; or nothing changed
 abbrev pub EndsFirst : (time : ℕ) → Option Row → Result (Option Fence) KeepFault → (table after : Table) → (told tells : Option Kept) → (before count : ℕ) → Type 0
@@ -45,15 +45,15 @@ EndsFirst time due (Err keep.Memory) table after told tells before count =
 EndsFirst time due (Err keep.Failed) table after told tells before count =
     (after ≡ table) × StaysOrEnds told tells × Rose before count
 
--- the kept state after the row that is due first ended
+-- the kept state after the end of the row that is due first was tried
 abbrev pub ended : Option Row → Kept → Kept
 ended None kept = kept
-ended (Some row) kept = fenced row.file kept
+ended (Some row) kept = fenced_if row.file kept
 
 -- a stop leaves what was kept before, or with the file of the row that is due fenced
 abbrev pub LeavesEnded : Option Row → (told : Option Kept) → (Option Kept → Type 0) → Type 0
 LeavesEnded due told leaves =
-    ForSome told (λ kept. IsWithinBounds kept → (found : Option Kept) → leaves found → (found ≡ Some kept) ⊎ (found ≡ Some (ended due kept)))
+    ForSome told (λ kept. (found : Option Kept) → leaves found → (found ≡ Some kept) ⊎ (found ≡ Some (ended due kept)))
 
 -- what a journal tells of a writing lease that ended, if one did
 abbrev pub fence_entries : Option Fence → List Entry

@@ -1,6 +1,6 @@
 //! What a request that is decided once does beside the kept state.
 
-ghost use Rattle.std.specs.Prelude.{◌≡◌, ◌<◌, ◌≤◌, ◌^◌, [], ◌∷◌, Some, length};
+ghost use Rattle.std.specs.Prelude.{◌≡◌, ◌<◌, ◌≤◌, ◌^◌, [], ◌∷◌, Some, length, true};
 ghost use Rattle.nq_base.specs.declared.Entry.{Entry as Line};
 ghost use Rattle.nq_model.specs.Decided.{aside, done_aside, file_to_change as changed_file, later_aside};
 ghost use Rattle.nq_model.specs.Kept.{Kept};
@@ -12,7 +12,10 @@ ghost use Rattle.nq_server.specs.Stepping.{Enters};
 
 use crate::gates::file_to_change;
 use crate::state::{Phase, State};
-use nq_base::{Access, Decided, Entry, FileId, Host, Request, Row, RowKey, Ticks, Verdict, Who};
+use nq_base::{
+    Access, BlockNo, Decided, Entry, FileId, Host, Number, Request, Row, RowKey, Ticks, Verdict,
+    Who,
+};
 use nq_boot::Recovering;
 use nq_journal::Journal;
 use nq_lease::Table;
@@ -46,6 +49,34 @@ fn enter(log: &mut Journal, entry: Entry)
     ensures { Enters (entry ∷ []) log.old log.new }
 {
     log.push(entry).unwrap();
+}
+
+/// What a journal tells of a write that went through.
+fn through(who: Who, file: FileId, block: BlockNo, number: Number, value: u32) -> Entry
+    ensures { result ≡ Line.W who file block number value true }
+{
+    Entry::W {
+        who,
+        file,
+        block,
+        number,
+        value,
+        through: true,
+    }
+}
+
+/// What a journal tells of a push that was stored.
+fn stored(who: Who, file: FileId, block: BlockNo, first: Number, last: Number, now: Ticks) -> Entry
+    ensures { result ≡ Line.S who file block first last now }
+{
+    Entry::S {
+        who,
+        file,
+        block,
+        first,
+        last,
+        now,
+    }
 }
 
 /// Tells of a length that a file got.
@@ -86,17 +117,7 @@ fn done_serving(
             push: None,
             body,
             ..
-        } => {
-            let entry = Entry::W {
-                who,
-                file: *file,
-                block: *block,
-                number: *first,
-                value: body.value(),
-                through: true,
-            };
-            enter(log, entry);
-        }
+        } => enter(log, through(who, *file, *block, *first, body.value())),
         Request::Write {
             file,
             block,
@@ -106,15 +127,7 @@ fn done_serving(
             ..
         } => {
             hear(table, *file, who.host, now);
-            let entry = Entry::S {
-                who,
-                file: *file,
-                block: *block,
-                first: *first,
-                last: *last,
-                now,
-            };
-            enter(log, entry);
+            enter(log, stored(who, *file, *block, *first, *last, now));
         }
         Request::Resize {
             call,
@@ -152,15 +165,7 @@ fn done_recovering(
             ..
         } => {
             recovery.wrote(now);
-            let entry = Entry::S {
-                who,
-                file: *file,
-                block: *block,
-                first: *first,
-                last: *last,
-                now,
-            };
-            enter(log, entry);
+            enter(log, stored(who, *file, *block, *first, *last, now));
         }
         _ => {}
     }
@@ -242,6 +247,10 @@ pub(crate) fn do_if_fresh(
         Decided::Fresh { verdict, .. } => {
             do_aside(state, who, request, *verdict, length, notice, log);
         }
-        Decided::Again { .. } | Decided::Old | Decided::OldIncarnation | Decided::NotAttached => {}
+        Decided::Again { .. }
+        | Decided::Old
+        | Decided::OldIncarnation
+        | Decided::NotAttached
+        | Decided::OutOfBounds => {}
     }
 }

@@ -13,7 +13,7 @@ ghost use Rattle.nq_server.specs.State.{beside, beside_of, phase_of};
 
 use crate::state::{Phase, State};
 use nq_base::{Entry, Heads, Ticks};
-use nq_boot::{StartFault, Started, start};
+use nq_boot::{LAST_BOOT, StartFault, Started, start};
 use nq_journal::Journal;
 use nq_keeper::{KeepFault, Keeper};
 use nq_lease::Table;
@@ -72,7 +72,7 @@ pub(crate) fn begin<K: Keeper>(
         Ok(heads) => heads,
         Err(fault) => return Err(fault_of(fault)),
     };
-    if heads.boot == u32::MAX {
+    if heads.boot >= LAST_BOOT {
         return Err(StartFault::Spent);
     }
     let Ok(table) = Table::new(alloc, heads.boot + 1) else {

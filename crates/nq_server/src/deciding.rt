@@ -1,6 +1,6 @@
 //! Requests that are decided once.
 
-ghost use Rattle.std.specs.Prelude.{◌≡◌, ◌≤◌, ◌+◌, ◌++◌, ℕ, List, true, length, map, take, OnOk, OnErr, IfOk};
+ghost use Rattle.std.specs.Prelude.{◌≡◌, ◌≤◌, ◌+◌, ◌++◌, ℕ, List, true, length, map, take, OnOk, OnErr, IfOk, IsSome};
 ghost use Rattle.std.specs.Option.{ForSome};
 ghost use Rattle.nq_base.specs.declared.Party.{Party as Receiver};
 ghost use Rattle.nq_datagrams.specs.Sent.{sent};
@@ -23,11 +23,11 @@ use crate::aside::do_if_fresh;
 use crate::finding;
 use crate::gates::{file_to_change, file_to_tell, gate};
 use crate::leasing::make_room;
-use crate::received::{Halt, Reason, Taken};
+use crate::received::{Halt, Taken};
 use crate::replying::{Caller, end_reply};
 use crate::state::{Phase, State};
 use crate::ticks::halt_of;
-use crate::verdicts::answer_to;
+use crate::verdicts::{answer_to, drop_reason};
 use nq_base::{Access, Block, Decided, FileId, Heads, NoMemory, Request, Verdict, Who};
 use nq_datagrams::BegunReply;
 use nq_evict::{NoticeTo, notices};
@@ -57,6 +57,7 @@ fn length_of<K: Keeper>(keeper: &mut K, file: Option<FileId>) -> Result<u32, Hal
     ensures leaves { LeavesOne (K.content keeper.old) (K.leaves keeper.old keeper.new) }
 {
     let Some(file) = file else {
+        keeper.pause();
         return Ok(0);
     };
     match finding::file(keeper, file)? {
@@ -116,6 +117,8 @@ struct Ready {
     notice: u32,
     /// The front of the reply.
     begun: BegunReply,
+    /// The length of the file that the journal tells of, in blocks.
+    length: u32,
 }
 
 /// Takes all memory that a request may need: the notices that are due where it is put off, and room for its reply and its
@@ -125,11 +128,13 @@ fn prepare(
     state: &State,
     caller: Caller,
     request: &Request,
+    length: u32,
     out: &mut Outbox,
     log: &mut Journal,
 ) -> Result<Ready, NoMemory>
     ensures ready { IfOk result (λ ready. IsReady caller.xid ready out.old out.new log.old log.new) }
     ensures warns { IfOk result (λ ready. (kept : Kept) → Warns (server_of (beside_of state.now) kept) caller.who request.now ready.notice out.old out.new) }
+    ensures length { IfOk result (λ ready. ready.length ≡ length) }
     ensures refused { OnErr result (SaysNothing out.old out.new log.old log.new) }
 {
     let len = out.len();
@@ -137,7 +142,12 @@ fn prepare(
     let file = file_to_change(request);
     warn(alloc, state, caller.who, file, &mut notice, out)?;
     match make_room(alloc, caller.xid, LONGEST_DECIDED, 1, out, log) {
-        Ok(begun) => Ok(Ready { len, notice, begun }),
+        Ok(begun) => Ok(Ready {
+            len,
+            notice,
+            begun,
+            length,
+        }),
         Err(fault) => {
             out.cut(len);
             Err(fault)
@@ -178,7 +188,6 @@ fn conclude(
     request: &Request,
     decided: &Decided,
     ready: Ready,
-    blocks: u32,
     out: &mut Outbox,
     log: &mut Journal,
 ) -> Taken
@@ -188,20 +197,26 @@ fn conclude(
     requires room { 16 ≤ ready.begun.room }
     requires datagram { 1 ≤ out.old.spare }
     requires line { 1 ≤ log.old.spare }
-    ensures makes { (kept : Kept) (before : Datagrams) (entries : EntryList) → IsReady caller.xid ready before out.old entries log.old → Warns (server_of (beside_of state.old) kept) caller.who request.now ready.notice before out.old → blocks ≡ length_in kept (told_file request.now) → Concludes (decided_step (server_of (beside_of state.old) kept) caller.who caller.xid request.now decided.now) result (beside_of state.new) before out.new entries log.new }
+    ensures makes { (kept : Kept) (before : Datagrams) (entries : EntryList) → IsReady caller.xid ready before out.old entries log.old → Warns (server_of (beside_of state.old) kept) caller.who request.now ready.notice before out.old → ready.length ≡ length_in kept (told_file request.now) → Concludes (decided_step (server_of (beside_of state.old) kept) caller.who caller.xid request.now decided.now) result (beside_of state.new) before out.new entries log.new }
     ensures sound { IsSound state.new }
     ensures drawn { state.new.table.drawn ≡ state.old.table.drawn }
 {
-    let Ready { len, notice, begun } = ready;
+    let Ready {
+        len,
+        notice,
+        begun,
+        length,
+    } = ready;
     let who = caller.who;
     keep_warnings(decided, len, out);
     let Some(said) = answer_to(&who, request, decided) else {
-        return Taken::Dropped(Reason::OldIncarnation);
+        return Taken::Dropped(drop_reason(decided));
     };
     end_reply(who.host, begun, &said, out);
-    do_if_fresh(state, who, request, decided, blocks, notice, log);
+    do_if_fresh(state, who, request, decided, length, notice, log);
     Taken::Done
 }
+
 /// Takes the datagrams back behind the first `len`, and gives up.
 fn give_up(fault: KeepFault, len: usize, out: &mut Outbox) -> Halt
     requires { len ≤ length out.old.datagrams }
@@ -211,6 +226,40 @@ fn give_up(fault: KeepFault, len: usize, out: &mut Outbox) -> Halt
 {
     out.cut(len);
     halt_of(fault)
+}
+
+/// A second RESIZE or REMOVE of the same words.
+fn second_change(request: &Request) -> Request
+    requires { IsSome (told_file request.now) }
+    ensures { result ≡ request.now }
+{
+    match request {
+        Request::Resize {
+            who,
+            seq,
+            call,
+            file,
+            blocks,
+        } => Request::Resize {
+            who: *who,
+            seq: *seq,
+            call: *call,
+            file: *file,
+            blocks: *blocks,
+        },
+        Request::Remove {
+            who,
+            seq,
+            call,
+            file,
+        } => Request::Remove {
+            who: *who,
+            seq: *seq,
+            call: *call,
+            file: *file,
+        },
+        _ => unreachable!(),
+    }
 }
 
 /// A request of which the body is handed on: a block that repeats its value stands in its place, for the journal tells of the
@@ -251,32 +300,19 @@ fn without_body(request: &Request) -> Request
             push: *push,
             body: Block::fill(body.value()),
         },
-        Request::Resize {
-            who,
-            seq,
-            call,
-            file,
-            blocks,
-        } => Request::Resize {
-            who: *who,
-            seq: *seq,
-            call: *call,
-            file: *file,
-            blocks: *blocks,
-        },
-        Request::Remove {
-            who,
-            seq,
-            call,
-            file,
-        } => Request::Remove {
-            who: *who,
-            seq: *seq,
-            call: *call,
-            file: *file,
-        },
+        Request::Resize { .. } => second_change(request),
+        Request::Remove { .. } => second_change(request),
         _ => unreachable!(),
     }
+}
+
+/// A request, and what is told of it.
+#[derive(Drop)]
+struct Asked {
+    /// The request.
+    request: Request,
+    /// The same, with a block that repeats its value in place of its body.
+    told: Request,
 }
 
 /// Decides a request, and answers it by what is told of it.
@@ -285,39 +321,30 @@ fn decide_told<K: Keeper>(
     keeper: &mut K,
     state: &mut State,
     caller: Caller,
-    request: Request,
-    told: &Request,
+    asked: Asked,
     out: &mut Outbox,
     log: &mut Journal,
 ) -> Result<Taken, Halt>
     requires sound { IsSound state.old }
-    requires once { is_decided_once request ≡ true }
-    requires host { IsOfHost request }
-    requires told { told.now ≡ as_told request }
-    ensures takes { Takes (λ kept. decided_step (server_of (beside_of state.old) kept) caller.who caller.xid request (decided_of kept (gate_of (server_of (beside_of state.old) kept) caller.who request) request)) result (K.content keeper.old) (K.content keeper.new) (K.faults keeper.old) (K.faults keeper.new) (beside_of state.old) (beside_of state.new) out.old out.new log.old log.new }
+    requires once { is_decided_once asked.request ≡ true }
+    requires host { IsOfHost asked.request }
+    requires told { asked.told ≡ as_told asked.request }
+    ensures takes { Takes (λ kept. decided_step (server_of (beside_of state.old) kept) caller.who caller.xid asked.request (decided_of kept (gate_of (server_of (beside_of state.old) kept) caller.who asked.request) asked.request)) result (K.content keeper.old) (K.content keeper.new) (K.faults keeper.old) (K.faults keeper.new) (beside_of state.old) (beside_of state.new) out.old out.new log.old log.new }
     ensures sound { IsSound state.new }
     ensures drawn { state.new.table.drawn ≡ state.old.table.drawn }
     ensures follows { K.follows keeper.old keeper.new }
-    ensures leaves { LeavesStep (λ kept. decided_step (server_of (beside_of state.old) kept) caller.who caller.xid request (decided_of kept (gate_of (server_of (beside_of state.old) kept) caller.who request) request)) (K.content keeper.old) (K.leaves keeper.old keeper.new) }
+    ensures leaves { LeavesStep (λ kept. decided_step (server_of (beside_of state.old) kept) caller.who caller.xid asked.request (decided_of kept (gate_of (server_of (beside_of state.old) kept) caller.who asked.request) asked.request)) (K.content keeper.old) (K.leaves keeper.old keeper.new) }
 {
-    let before = read_before(keeper, told)?;
+    let Asked { request, told } = asked;
+    let before = read_before(keeper, &told)?;
     let gate = gate(state, &before.heads, &caller.who, file_to_change(&request));
-    let ready = match prepare(alloc, state, caller, told, out, log) {
+    let ready = match prepare(alloc, state, caller, &told, before.length, out, log) {
         Ok(ready) => ready,
         Err(NoMemory::Memory) => return Err(Halt::Memory),
     };
     match decide(keeper, request, gate) {
         Err(fault) => Err(give_up(fault, ready.len, out)),
-        Ok(decided) => Ok(conclude(
-            state,
-            caller,
-            told,
-            &decided,
-            ready,
-            before.length,
-            out,
-            log,
-        )),
+        Ok(decided) => Ok(conclude(state, caller, &told, &decided, ready, out, log)),
     }
 }
 
@@ -341,5 +368,6 @@ pub(crate) fn decide_once<K: Keeper>(
     ensures leaves { LeavesStep (λ kept. decided_step (server_of (beside_of state.old) kept) caller.who caller.xid request (decided_of kept (gate_of (server_of (beside_of state.old) kept) caller.who request) request)) (K.content keeper.old) (K.leaves keeper.old keeper.new) }
 {
     let told = without_body(&request);
-    decide_told(alloc, keeper, state, caller, request, &told, out, log)
+    let asked = Asked { request, told };
+    decide_told(alloc, keeper, state, caller, asked, out, log)
 }

@@ -47,6 +47,26 @@ pub(crate) struct Wish {
     pub(crate) want: Option<Want>,
 }
 
+/// What a GETLEASE asks for.
+#[derive(Clone, Copy)]
+pub(crate) struct LeaseWish {
+    /// The file.
+    pub(crate) file: FileId,
+    /// The lease.
+    pub(crate) want: Want,
+}
+
+/// A block that was read for a call.
+#[derive(Drop)]
+struct Found {
+    /// The number of the call.
+    call: u64,
+    /// The block.
+    block: BlockNo,
+    /// What it holds.
+    body: Block,
+}
+
 /// The most bytes of results of a GETLEASE: those with a grant.
 const LONGEST_LEASE: usize = 56;
 
@@ -159,17 +179,12 @@ fn later(
     ensures drawn { state.new.table.drawn ≤ state.old.table.drawn + 1 }
 {
     let mut notice = state.notice;
-    let told = put_off(
-        alloc,
-        &state.table,
-        question.file,
-        to,
-        question.who,
+    let caller = Caller {
+        who: question.who,
         xid,
-        &mut notice,
-        out,
-    );
-    match told {
+    };
+    let file = question.file;
+    match put_off(alloc, &state.table, file, to, caller, &mut notice, out) {
         Ok(()) => {
             ask(&mut state.table, question);
             state.notice = notice;
@@ -256,24 +271,23 @@ pub(crate) fn get_lease<K: Keeper>(
     keeper: &mut K,
     state: &mut State,
     caller: Caller,
-    file: FileId,
-    want: Want,
+    wish: LeaseWish,
     out: &mut Outbox,
     log: &mut Journal,
 ) -> Result<Taken, Halt>
     requires sound { IsSound state.old }
     requires serves { phase_of state.old.phase ≡ serving }
     requires drawn { state.old.table.drawn < 2 ^ 62 }
-    ensures takes { Takes (λ kept. gets_lease (server_of (beside_of state.old) kept) caller.who caller.xid want (find_file file kept.files)) result (K.content keeper.old) (K.content keeper.new) (K.faults keeper.old) (K.faults keeper.new) (beside_of state.old) (beside_of state.new) out.old out.new log.old log.new }
+    ensures takes { Takes (λ kept. gets_lease (server_of (beside_of state.old) kept) caller.who caller.xid wish.want (find_file wish.file kept.files)) result (K.content keeper.old) (K.content keeper.new) (K.faults keeper.old) (K.faults keeper.new) (beside_of state.old) (beside_of state.new) out.old out.new log.old log.new }
     ensures sound { IsSound state.new }
     ensures drawn { state.new.table.drawn ≤ state.old.table.drawn + 1 }
     ensures follows { K.follows keeper.old keeper.new }
     ensures leaves { LeavesOne (K.content keeper.old) (K.leaves keeper.old keeper.new) }
 {
-    match finding::file(keeper, file)? {
+    match finding::file(keeper, wish.file)? {
         None => refuse(alloc, caller.who, caller.xid, Refusal::Stale, out),
         Some(row) => {
-            let question = question(state, caller.who, &row, Some(want));
+            let question = question(state, caller.who, &row, Some(wish.want));
             lease(alloc, state, &question, caller.xid, out, log)
         }
     }
@@ -298,8 +312,7 @@ fn find_block<K: Keeper>(keeper: &mut K, file: FileId, block: BlockNo) -> Result
 fn serve_in_room(
     state: &mut State,
     question: &Question,
-    wish: &Wish,
-    body: Block,
+    found: Found,
     begun: BegunReply,
     out: &mut Outbox,
     log: &mut Journal,
@@ -308,10 +321,11 @@ fn serve_in_room(
     requires room { 4164 ≤ begun.room }
     requires datagram { 1 ≤ out.old.spare }
     requires lines { 2 ≤ log.old.spare }
-    ensures makes { (kept : Kept) → MakesBeside (serves (server_of (beside_of state.old) kept) question.now.who begun.xid (next_of out.old) wish.now.call (file_asked question.now) wish.now.block body (asked_of state.old.table question.now).table (grant_of (asked_of state.old.table question.now).asked)) (beside_of state.new) out.old out.new log.old log.new }
+    ensures makes { (kept : Kept) → MakesBeside (serves (server_of (beside_of state.old) kept) question.now.who begun.xid (next_of out.old) found.call (file_asked question.now) found.block found.body (asked_of state.old.table question.now).table (grant_of (asked_of state.old.table question.now).asked)) (beside_of state.new) out.old out.new log.old log.new }
     ensures sound { IsSound state.new }
     ensures drawn { state.new.table.drawn ≤ state.old.table.drawn + 1 }
 {
+    let Found { call, block, body } = found;
     let value = body.value();
     let number = out.next();
     let who = question.who;
@@ -326,9 +340,9 @@ fn serve_in_room(
     enter_grant(log, question, &grant);
     let entry = Entry::R {
         who,
-        q: wish.call,
+        q: call,
         file: question.file,
-        block: wish.block,
+        block,
         value,
         served: Some(number),
     };
@@ -342,20 +356,19 @@ fn serve(
     state: &mut State,
     question: &Question,
     xid: u32,
-    wish: &Wish,
-    body: Block,
+    found: Found,
     out: &mut Outbox,
     log: &mut Journal,
 ) -> Result<Taken, Halt>
     requires may { MayAsk state.old question.now }
-    ensures does { (kept : Kept) → Does (serves (server_of (beside_of state.old) kept) question.now.who xid (next_of out.old) wish.now.call (file_asked question.now) wish.now.block body (asked_of state.old.table question.now).table (grant_of (asked_of state.old.table question.now).asked)) result (beside_of state.old) (beside_of state.new) out.old out.new log.old log.new }
+    ensures does { (kept : Kept) → Does (serves (server_of (beside_of state.old) kept) question.now.who xid (next_of out.old) found.call (file_asked question.now) found.block found.body (asked_of state.old.table question.now).table (grant_of (asked_of state.old.table question.now).asked)) result (beside_of state.old) (beside_of state.new) out.old out.new log.old log.new }
     ensures sound { IsSound state.new }
     ensures drawn { state.new.table.drawn ≤ state.old.table.drawn + 1 }
 {
     match make_room(alloc, xid, LONGEST_RESULTS, 2, out, log) {
         Err(NoMemory::Memory) => Err(Halt::Memory),
         Ok(begun) => {
-            serve_in_room(state, question, wish, body, begun, out, log);
+            serve_in_room(state, question, found, begun, out, log);
             Ok(Taken::Done)
         }
     }
@@ -367,19 +380,18 @@ fn read_found(
     state: &mut State,
     question: &Question,
     xid: u32,
-    wish: &Wish,
-    body: Block,
+    found: Found,
     out: &mut Outbox,
     log: &mut Journal,
 ) -> Result<Taken, Halt>
     requires may { MayAsk state.old question.now }
-    ensures does { (kept : Kept) → Does (read_asked (server_of (beside_of state.old) kept) question.now.who xid (next_of out.old) wish.now.call (file_asked question.now) wish.now.block body question.now.access (asked_of state.old.table question.now).table (asked_of state.old.table question.now).asked) result (beside_of state.old) (beside_of state.new) out.old out.new log.old log.new }
+    ensures does { (kept : Kept) → Does (read_asked (server_of (beside_of state.old) kept) question.now.who xid (next_of out.old) found.call (file_asked question.now) found.block found.body question.now.access (asked_of state.old.table question.now).table (asked_of state.old.table question.now).asked) result (beside_of state.old) (beside_of state.new) out.old out.new log.old log.new }
     ensures sound { IsSound state.new }
     ensures drawn { state.new.table.drawn ≤ state.old.table.drawn + 1 }
 {
     match to_tell(&state.table, question) {
         Some(to) => later(alloc, state, question, to, xid, out),
-        None => serve(alloc, state, question, xid, wish, body, out, log),
+        None => serve(alloc, state, question, xid, found, out, log),
     }
 }
 
@@ -408,7 +420,12 @@ pub(crate) fn read<K: Keeper>(
         ReadOut::Invalid => refuse(alloc, who, caller.xid, Refusal::Inval, out),
         ReadOut::Got { row, body } => {
             let question = question(state, who, &row, wish.want);
-            read_found(alloc, state, &question, caller.xid, wish, body, out, log)
+            let found = Found {
+                call: wish.call,
+                block: wish.block,
+                body,
+            };
+            read_found(alloc, state, &question, caller.xid, found, out, log)
         }
     }
 }

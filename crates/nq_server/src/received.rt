@@ -15,6 +15,8 @@ pub enum Reason {
     WrongHost,
     /// A later incarnation of its host is attached.
     OldIncarnation,
+    /// What would be kept of it is out of its bounds: an incarnation from 2^31 on, or a sequence or a revision from 2^61 on.
+    OutOfBounds,
     /// It is a VACATED whose arguments are not in its grammar: no reply is owed.
     NoReplyOwed,
 }

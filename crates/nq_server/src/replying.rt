@@ -138,12 +138,11 @@ pub(crate) fn put_off(
     table: &Table,
     file: FileId,
     to: NoticeTo,
-    who: Who,
-    xid: u32,
+    caller: Caller,
     notice: &mut u32,
     out: &mut Outbox,
 ) -> Result<(), NoMemory>
-    ensures sends { OnOk result (Sends (notices_of notice.old (told_rows file to table.now.rows) ++ to_host who.host (reply_to xid (Answer.Refused who.inc Status.TryLater)) ∷ []) out.old out.new) }
+    ensures sends { OnOk result (Sends (notices_of notice.old (told_rows file to table.now.rows) ++ to_host caller.who.host (reply_to caller.xid (Answer.Refused caller.who.inc Status.TryLater)) ∷ []) out.old out.new) }
     ensures counted { OnOk result (notice.new ≡ (notice.old + length (told_rows file to table.now.rows)) % xid_end) }
     ensures silent { OnErr result (IsSilent out.old out.new) }
     ensures number { OnErr result (notice.new ≡ notice.old) }
@@ -151,7 +150,7 @@ pub(crate) fn put_off(
     let before = *notice;
     let len = out.len();
     notices(alloc, table, file, to, notice, out)?;
-    match reply_later(alloc, who, xid, out) {
+    match reply_later(alloc, caller.who, caller.xid, out) {
         Ok(()) => Ok(()),
         Err(fault) => {
             out.cut(len);

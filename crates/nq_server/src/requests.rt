@@ -17,7 +17,7 @@ ghost use Rattle.nq_server.specs.Stepping.{LeavesStep, Takes, next_of};
 
 use crate::deciding::decide_once;
 use crate::finding;
-use crate::leasing::{Wish, get_lease, read};
+use crate::leasing::{LeaseWish, Wish, get_lease, read};
 use crate::looking::{get_attr, look_up};
 use crate::received::{Halt, Reason, Taken};
 use crate::replying::{self, Caller, refuse};
@@ -122,9 +122,16 @@ fn look<K: Keeper>(
             read(alloc, keeper, state, caller, &wish, out, log)
         }
         Request::GetLease { file, want, .. } => {
-            get_lease(alloc, keeper, state, caller, *file, *want, out, log)
+            let wish = LeaseWish {
+                file: *file,
+                want: *want,
+            };
+            get_lease(alloc, keeper, state, caller, wish, out, log)
         }
-        _ => Ok(Taken::Done),
+        _ => {
+            keeper.pause();
+            Ok(Taken::Done)
+        }
     }
 }
 
@@ -150,12 +157,17 @@ fn perform<K: Keeper>(
 {
     match (request, &state.phase) {
         (Request::Vacated { file, tag, .. }, _) => {
+            keeper.pause();
             vacated(&mut state.table, caller.who, *file, *tag);
             Ok(Taken::Done)
         }
-        (Request::Null | Request::Evicted { .. }, _) => Ok(Taken::Done),
+        (Request::Null | Request::Evicted { .. }, _) => {
+            keeper.pause();
+            Ok(Taken::Done)
+        }
         (_, Phase::Serving(_)) => look(alloc, keeper, state, caller, request, out, log),
         (_, Phase::Recovering { .. }) => {
+            keeper.pause();
             refuse(alloc, caller.who, caller.xid, Refusal::TryLater, out)
         }
     }
@@ -223,29 +235,39 @@ fn is_of_sender(who: &Who, sender: Host) -> bool
     who.host == sender && is_known(who.host)
 }
 
-/// Answers a request that came from this host. At most one change is kept, and all memory is taken before it.
+/// Where a call comes from.
+#[derive(Clone, Copy)]
+pub(crate) struct Origin {
+    /// The host that sent it.
+    pub(crate) host: Host,
+    /// The number of the call.
+    pub(crate) xid: u32,
+}
+
+/// Answers a request that came from a host. At most one change is kept, and all memory is taken before it.
 pub(crate) fn answer<K: Keeper>(
     alloc: Global,
     keeper: &mut K,
     state: &mut State,
-    sender: Host,
-    xid: u32,
+    origin: Origin,
     request: Request,
     out: &mut Outbox,
     log: &mut Journal,
 ) -> Result<Taken, Halt>
     requires sound { IsSound state.old }
     requires drawn { state.old.table.drawn < 2 ^ 62 }
-    ensures takes { Takes (λ kept. answer_request (server_of (beside_of state.old) kept) sender xid (next_of out.old) request (asked_by request)) result (K.content keeper.old) (K.content keeper.new) (K.faults keeper.old) (K.faults keeper.new) (beside_of state.old) (beside_of state.new) out.old out.new log.old log.new }
+    ensures takes { Takes (λ kept. answer_request (server_of (beside_of state.old) kept) origin.host origin.xid (next_of out.old) request (asked_by request)) result (K.content keeper.old) (K.content keeper.new) (K.faults keeper.old) (K.faults keeper.new) (beside_of state.old) (beside_of state.new) out.old out.new log.old log.new }
     ensures sound { IsSound state.new }
     ensures drawn { state.new.table.drawn ≤ state.old.table.drawn + 1 }
     ensures follows { K.follows keeper.old keeper.new }
-    ensures leaves { LeavesStep (λ kept. answer_request (server_of (beside_of state.old) kept) sender xid (next_of out.old) request (asked_by request)) (K.content keeper.old) (K.leaves keeper.old keeper.new) }
+    ensures leaves { LeavesStep (λ kept. answer_request (server_of (beside_of state.old) kept) origin.host origin.xid (next_of out.old) request (asked_by request)) (K.content keeper.old) (K.leaves keeper.old keeper.new) }
 {
+    keeper.pause();
+    let Origin { host, xid } = origin;
     let Some(who) = asker(&request) else {
-        return replying::answer(alloc, sender, xid, &Reply::Null, out);
+        return replying::answer(alloc, host, xid, &Reply::Null, out);
     };
-    if !is_of_sender(&who, sender) {
+    if !is_of_sender(&who, host) {
         return Ok(Taken::Dropped(Reason::WrongHost));
     }
     let caller = Caller { who, xid };

@@ -16,12 +16,13 @@ ghost use Rattle.nq_server.specs.State.{server_of};
 ghost use Rattle.nq_server.specs.Stepping.{LeavesStep, done_of, halted_of, next_of};
 
 use crate::booting::{begin, replace_state, state_after, tell_crash};
-use crate::reading::take_in;
+use crate::reading::take;
 use crate::received::{Halt, Received, Taken};
 use crate::state::{Phase, State};
 use crate::ticks::tick;
 use nq_base::{FileId, FileRow, Host, Inc, Spare, Ticks};
 use nq_boot::StartFault;
+use nq_datagrams::read_incoming;
 use nq_journal::Journal;
 use nq_keeper::{KeepFault, Keeper};
 use nq_lease::Table;
@@ -149,19 +150,16 @@ impl<K: Keeper> Server<K> {
         ensures follows { K.follows self.old.keeper self.new.keeper }
         ensures leaves { LeavesStep (λ kept. received (server_of self.old.beside kept) sender (next_of out.old) (datagram_in datagram.now)) (K.content self.old.keeper) (K.leaves self.old.keeper self.new.keeper) }
     {
+        self.keeper.pause();
         if self.taken == MOST_TAKEN {
             return Received::Spent;
         }
-        match take_in(
-            alloc,
-            &mut self.keeper,
-            &mut self.state,
-            sender,
-            datagram,
-            &mut self.room,
-            out,
-            log,
-        ) {
+        if self.room.reserve(alloc).is_err() {
+            return Received::Memory;
+        }
+        let incoming = read_incoming(datagram, &mut self.room);
+        let keeper = &mut self.keeper;
+        match take(alloc, keeper, &mut self.state, sender, incoming, out, log) {
             Ok(taken) => {
                 self.taken += 1;
                 done(taken)
@@ -185,6 +183,7 @@ impl<K: Keeper> Server<K> {
         ensures follows { K.follows self.old.keeper self.new.keeper }
         ensures leaves { LeavesStep (λ kept. ticked (server_of self.old.beside kept) now) (K.content self.old.keeper) (K.leaves self.old.keeper self.new.keeper) }
     {
+        self.keeper.pause();
         if self.taken == MOST_TAKEN {
             return Received::Spent;
         }
@@ -216,6 +215,7 @@ impl<K: Keeper> Server<K> {
         ensures follows { K.follows self.old.keeper self.new.keeper }
         ensures leaves { LeavesThen (λ kept. booted kept longest) (K.content self.old.keeper) (K.leaves self.old.keeper self.new.keeper) }
     {
+        self.keeper.pause();
         if log.reserve(1).is_err() {
             return Received::Memory;
         }

@@ -29,7 +29,7 @@ pub(crate) fn halt_of(fault: KeepFault) -> Halt
     }
 }
 
-/// Ends the writing row that is due first, if one is.
+/// Ends the writing row that is due first, if one is and the revision of its file can rise.
 fn end_first<K: Keeper>(
     keeper: &mut K,
     table: &mut Table,
@@ -40,8 +40,11 @@ fn end_first<K: Keeper>(
     ensures leaves { LeavesEnded (find (is_due now) table.old.rows) (K.content keeper.old) (K.leaves keeper.old keeper.new) }
 {
     match due(table, now) {
-        None => Ok(None),
-        Some(key) => Ok(Some(end_writing(table, keeper, key, now)?)),
+        None => {
+            keeper.pause();
+            Ok(None)
+        }
+        Some(key) => end_writing(table, keeper, key, now),
     }
 }
 

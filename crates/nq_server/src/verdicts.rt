@@ -4,9 +4,10 @@ ghost use Rattle.std.specs.Prelude.{◌≡◌, ◌≤◌, IfSome};
 ghost use Rattle.nq_base.specs.declared.Reply.{Reply as Answer};
 ghost use Rattle.nq_base.specs.declared.Verdict.{Verdict as Said};
 ghost use Rattle.nq_model.specs.Decided.{decided_answer};
-ghost use Rattle.nq_server.specs.Deciding.{answer_to as answer_of};
+ghost use Rattle.nq_server.specs.Deciding.{answer_to as answer_of, dropped_for};
 ghost use Rattle.nq_wire.specs.Reply.{results_len};
 
+use crate::received::Reason;
 use nq_base::{Decided, FileId, Refusal, Reply, Request, Rev, Verdict, Who};
 
 /// The reply to a request that was done, with the kept value.
@@ -62,7 +63,7 @@ fn verdict_reply(who: &Who, verdict: Verdict, value: u64, request: &Request) -> 
     refused(who, status)
 }
 
-/// The reply to a request that was decided; None where a later incarnation is attached.
+/// The reply to a request that was decided; None where it is dropped.
 pub(crate) fn answer_to(who: &Who, request: &Request, decided: &Decided) -> Option<Reply>
     ensures is { result ≡ answer_of who.now request.now decided.now }
     ensures short { IfSome result (λ said. results_len said ≤ 16) }
@@ -71,7 +72,17 @@ pub(crate) fn answer_to(who: &Who, request: &Request, decided: &Decided) -> Opti
         Decided::Fresh { verdict, value } => Some(verdict_reply(who, *verdict, *value, request)),
         Decided::Again { verdict, value } => Some(verdict_reply(who, *verdict, *value, request)),
         Decided::Old => Some(refused(who, Refusal::Old)),
-        Decided::OldIncarnation => None,
+        Decided::OldIncarnation | Decided::OutOfBounds => None,
         Decided::NotAttached => Some(refused(who, Refusal::NotAttached)),
+    }
+}
+
+/// Why a request that was decided so is dropped, where it is.
+pub(crate) fn drop_reason(decided: &Decided) -> Reason
+    ensures { result ≡ dropped_for decided.now }
+{
+    match decided {
+        Decided::OutOfBounds => Reason::OutOfBounds,
+        _ => Reason::OldIncarnation,
     }
 }

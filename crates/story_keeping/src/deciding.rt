@@ -33,6 +33,8 @@ fn what_comes_again_is_answered_again(rt: HostRuntime) {
     s.seq = 0;
     assert!(rt; s.remove(&rt, 1, RECOVERING) == again(1));
     s.seq = u64::MAX;
+    assert!(rt; s.remove(&rt, 1, SERVING) == Decided::OutOfBounds);
+    s.seq = (1 << 61) - 2;
     assert!(rt; s.attach(&rt, WHO) == again(1));
     assert!(rt; s.remove(&rt, 1, SERVING) == fresh(Verdict::Done, 0));
     s.seq = 0;
@@ -41,6 +43,11 @@ fn what_comes_again_is_answered_again(rt: HostRuntime) {
         host: Host(0),
         inc: Inc(2),
     };
+    let beyond = Who {
+        host: Host(0),
+        inc: Inc(1 << 31),
+    };
+    assert!(rt; s.attach(&rt, beyond) == Decided::OutOfBounds);
     assert!(rt; s.attach(&rt, later) == fresh(Verdict::Done, 0));
     assert!(rt; s.attach(&rt, WHO) == Decided::OldIncarnation);
     assert!(rt; s.remove(&rt, 1, SERVING) == Decided::OldIncarnation);

@@ -54,7 +54,8 @@ fn a_writing_lease_ends_after_its_file_was_fenced(rt: HostRuntime) -> Result<(),
     let mut table = Table::new(rt.alloc(), 1).ok().ok_or("memory")?;
     assert!(rt; table.put_row(row(1, Mode::Writing, 40, 38)).is_ok());
     let key = due(&table, Ticks(45)).ok_or("none is due")?;
-    let fence = end_writing(&mut table, &mut keeper, key, Ticks(45)).expect(&rt, "no fault");
+    let ended = end_writing(&mut table, &mut keeper, key, Ticks(45)).expect(&rt, "no fault");
+    let fence = ended.expect(&rt, "its revision rises");
     assert!(rt; fence.file == FileId(1) && fence.until == Ticks(40) && fence.now == Ticks(45));
     assert!(rt; table.is_empty());
     let kept = keeper.file(FileId(1)).expect(&rt, "no fault");

@@ -20,9 +20,22 @@ const NULL: u32 = 0;
 
 const ATTACH: u32 = 1;
 
+const CREATE: u32 = 3;
+
+const WRITE: u32 = 6;
+
 const VACATED: u32 = 8;
 
 const EVICTED: u32 = 9;
+
+const RESIZE: u32 = 10;
+
+const REMOVE: u32 = 11;
+
+/// The incarnations that can be kept are below this, and so is the upper half of a sequence below the other.
+const INCARNATIONS: u32 = 0x8000_0000;
+
+const UPPER_SEQUENCES: u32 = 0x2000_0000;
 
 /// The statuses of which there can be no doubt.
 const OK: u32 = 0;
@@ -92,6 +105,9 @@ fn owed_to_request(procedure: u32, arguments: &[u8], sender: u32, kept: u32) -> 
     }
     match procedure {
         VACATED => Owed::Silence(Received::Done),
+        ATTACH if incarnation >= INCARNATIONS => {
+            Owed::Silence(Received::Dropped(Reason::OutOfBounds))
+        }
         ATTACH => Owed::Status {
             incarnation,
             status: OK,
@@ -100,8 +116,16 @@ fn owed_to_request(procedure: u32, arguments: &[u8], sender: u32, kept: u32) -> 
             incarnation,
             status: NOT_ATTACHED,
         },
+        CREATE | WRITE | RESIZE | REMOVE if is_beyond(arguments) => {
+            Owed::Silence(Received::Dropped(Reason::OutOfBounds))
+        }
         _ => Owed::Reply { incarnation },
     }
+}
+
+/// Whether a request that is decided once has a sequence that cannot be kept.
+fn is_beyond(arguments: &[u8]) -> bool {
+    word_at(arguments, 8).unwrap_or(0) >= UPPER_SEQUENCES
 }
 
 /// Whether a datagram was taken in and answered as it is owed.

@@ -138,6 +138,7 @@ fn word_of_reason(reason: Reason) -> &'static str {
         Reason::NotACall => "dropped reply",
         Reason::WrongHost => "dropped wrong host",
         Reason::OldIncarnation => "dropped old incarnation",
+        Reason::OutOfBounds => "dropped out of bounds",
         Reason::NoReplyOwed => "dropped no reply owed",
     }
 }

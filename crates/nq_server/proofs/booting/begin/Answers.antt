@@ -1,8 +1,16 @@
-use Rattle.std.proofs.Common.{◌+◌, ◌∙◌}
+use Rattle.std.proofs.Common.{◌+◌, ◌∙◌, arith}
+use Rattle.nq_boot.proofs.HeadsChange.{is-last}
 use Rattle.nq_keeper.proofs.Leaving.{two-of}
 use Rattle.nq_model.specs.ServerStep.{booted}
 use Rattle.nq_server.proofs.Booted.{own-boot}
 use Rattle.nq_server.proofs.booting.begin.Goals as goal
+
+pub returns-then-heads-ge-LAST_BOOT-clause-begins : goal.returns-then-heads-ge-LAST_BOOT-clause-begins
+returns-then-heads-ge-LAST_BOOT-clause-begins g c = (
+  λ kept told. is-last kept c.in-Ok.heads (g.met.K.Keeper.within c.args.keeper.now kept told) (c.in-Ok.ensures.told kept told) (omega arith),
+  c.in-Ok.ensures.reads.0,
+  c.in-Ok.ensures.reads.1,
+)
 
 pub returns-in_err-started-clause-leaves : goal.returns-in_err-started-clause-leaves
 returns-in_err-started-clause-leaves g c =

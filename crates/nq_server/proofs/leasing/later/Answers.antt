@@ -9,7 +9,7 @@ ask-requires-clause-shared c =
 
 pub returns-in-Ok-clause-sound : goal.returns-in-Ok-clause-sound
 returns-in-Ok-clause-sound c =
-    asked-sound c.args.state.now c.ask.new.table c.args.question.now c.put_off-told.new.notice c.requires c.ask.ensures.table
+    asked-sound c.args.state.now c.ask.new.table c.args.question.now c.put_off.new.notice c.requires c.ask.ensures.table
 
 pub returns-in-Ok-clause-drawn : goal.returns-in-Ok-clause-drawn
 returns-in-Ok-clause-drawn c =

@@ -10,7 +10,7 @@ returns-in-Some-clause-does c =
     λ kept.
     subst
     (λ step. Does step c.later.result (beside_of c.args.state.now) (beside_of c.later.new.state) c.args.out.now c.later.new.out c.args.log.now c.args.log.now)
-    (read-later (server_of (beside_of c.args.state.now) kept) c.args.xid (next_of c.args.out.now) c.args.wish.now.call c.args.question.now (file_asked c.args.question.now) c.args.wish.now.block c.args.body c.in-Some.to refl (sym c.in-Some.ensures))
+    (read-later (server_of (beside_of c.args.state.now) kept) c.args.xid (next_of c.args.out.now) c.args.found.call c.args.question.now (file_asked c.args.question.now) c.args.found.block c.args.found.body c.in-Some.to refl (sym c.in-Some.ensures))
     (c.later.ensures.does kept c.args.log.now)
 
 pub returns-in-None-clause-does : goal.returns-in-None-clause-does
@@ -18,5 +18,5 @@ returns-in-None-clause-does c =
     λ kept.
     subst
     (λ step. Does step c.serve.result (beside_of c.args.state.now) (beside_of c.serve.new.state) c.args.out.now c.serve.new.out c.args.log.now c.serve.new.log)
-    (read-given (server_of (beside_of c.args.state.now) kept) c.args.xid (next_of c.args.out.now) c.args.wish.now.call c.args.question.now (file_asked c.args.question.now) c.args.wish.now.block c.args.body (sym c.in-None.ensures))
+    (read-given (server_of (beside_of c.args.state.now) kept) c.args.xid (next_of c.args.out.now) c.args.found.call c.args.question.now (file_asked c.args.question.now) c.args.found.block c.args.found.body (sym c.in-None.ensures))
     (c.serve.ensures.does kept)

@@ -14,12 +14,12 @@ returns-in-Ok-clause-does c =
     let q = c.args.question.now in
     let table = c.args.state.now.table in (
       refl,
-      after-room (serves (server_of (beside_of c.args.state.now) kept) q.who c.args.xid (next_of c.args.out.now) c.args.wish.now.call (file_asked q) c.args.wish.now.block c.args.body (ask table q).table (granted_in (ask table q).asked)) (beside_of c.serve_in_room.new.state) c.args.out.now c.make_room.new.out c.serve_in_room.new.out c.args.log.now c.make_room.new.log c.serve_in_room.new.log c.in-Ok.ensures.room.nothing
+      after-room (serves (server_of (beside_of c.args.state.now) kept) q.who c.args.xid (next_of c.args.out.now) c.args.found.call (file_asked q) c.args.found.block c.args.found.body (ask table q).table (granted_in (ask table q).asked)) (beside_of c.serve_in_room.new.state) c.args.out.now c.make_room.new.out c.serve_in_room.new.out c.args.log.now c.make_room.new.log c.serve_in_room.new.log c.in-Ok.ensures.room.nothing
           (subst
-          (λ next. MakesBeside (serves (server_of (beside_of c.args.state.now) kept) q.who c.args.xid next c.args.wish.now.call (file_asked q) c.args.wish.now.block c.args.body (ask table q).table (granted_in (ask table q).asked)) (beside_of c.serve_in_room.new.state) c.make_room.new.out c.serve_in_room.new.out c.make_room.new.log c.serve_in_room.new.log)
+          (λ next. MakesBeside (serves (server_of (beside_of c.args.state.now) kept) q.who c.args.xid next c.args.found.call (file_asked q) c.args.found.block c.args.found.body (ask table q).table (granted_in (ask table q).asked)) (beside_of c.serve_in_room.new.state) c.make_room.new.out c.serve_in_room.new.out c.make_room.new.log c.serve_in_room.new.log)
           (next-same c.args.out.now c.make_room.new.out c.args.log.now c.make_room.new.log c.in-Ok.ensures.room.nothing)
           (subst
-          (λ xid. MakesBeside (serves (server_of (beside_of c.args.state.now) kept) q.who xid (next_of c.make_room.new.out) c.args.wish.now.call (file_asked q) c.args.wish.now.block c.args.body (ask table q).table (granted_in (ask table q).asked)) (beside_of c.serve_in_room.new.state) c.make_room.new.out c.serve_in_room.new.out c.make_room.new.log c.serve_in_room.new.log)
+          (λ xid. MakesBeside (serves (server_of (beside_of c.args.state.now) kept) q.who xid (next_of c.make_room.new.out) c.args.found.call (file_asked q) c.args.found.block c.args.found.body (ask table q).table (granted_in (ask table q).asked)) (beside_of c.serve_in_room.new.state) c.make_room.new.out c.serve_in_room.new.out c.make_room.new.log c.serve_in_room.new.log)
           c.in-Ok.ensures.begun.0
           (c.serve_in_room.ensures.makes kept))),
     )

@@ -8,8 +8,8 @@ use Rattle.nq_server.proofs.ticks.end_leases.Goals as goal
 
 pub returns-in-Err-clause-leaves : goal.returns-in-Err-clause-leaves
 returns-in-Err-clause-leaves g c =
-    λ kept told within found left.
-    or-as found kept _ _ (sym (kept-ended (beside_of c.args.state.now) kept c.args.now c.requires.serves)) (c.end_first.ensures.leaves kept told within found left)
+    λ kept told found left.
+    or-as found kept _ _ (sym (kept-ended (beside_of c.args.state.now) kept c.args.now c.requires.serves)) (c.end_first.ensures.leaves kept told found left)
 
 pub returns-in-Ok-clause-takes : goal.returns-in-Ok-clause-takes
 returns-in-Ok-clause-takes g c =
@@ -31,5 +31,5 @@ returns-in-Ok-clause-drawn g c =
 
 pub returns-in-Ok-clause-leaves : goal.returns-in-Ok-clause-leaves
 returns-in-Ok-clause-leaves g c =
-    λ kept told within found left.
-    or-as found kept _ _ (sym (kept-ended (beside_of c.args.state.now) kept c.args.now c.requires.serves)) (c.end_first.ensures.leaves kept told within found left)
+    λ kept told found left.
+    or-as found kept _ _ (sym (kept-ended (beside_of c.args.state.now) kept c.args.now c.requires.serves)) (c.end_first.ensures.leaves kept told found left)

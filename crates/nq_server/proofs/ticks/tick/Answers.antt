@@ -6,7 +6,7 @@ use Rattle.nq_server.proofs.ticks.tick.Goals as goal
 pub returns-in-Err-clause-leaves : goal.returns-in-Err-clause-leaves
 returns-in-Err-clause-leaves g c =
     let longest = (of-recovering c.args.state.now.longest c.args.state.now.phase c.in-Recovering.recovery c.in-Recovering.last c.args.state.now.table.rows c.in-Recovering.is c.requires.sound.of_boot).0 in
-    λ kept told within found left.
+    λ kept told found left.
     or-as found kept _ _ (sym (kept-opened (beside_of c.args.state.now) c.in-Recovering.recovery c.in-Recovering.last (ap phase_of c.in-Recovering.is) longest kept c.args.now)) (c.open.ensures.leaves kept told found left)
 
 pub returns-in-Ok-clause-takes : goal.returns-in-Ok-clause-takes
@@ -18,5 +18,5 @@ returns-in-Ok-clause-takes g c =
 pub returns-in-Ok-clause-leaves : goal.returns-in-Ok-clause-leaves
 returns-in-Ok-clause-leaves g c =
     let longest = (of-recovering c.args.state.now.longest c.args.state.now.phase c.in-Recovering.recovery c.in-Recovering.last c.args.state.now.table.rows c.in-Recovering.is c.requires.sound.of_boot).0 in
-    λ kept told within found left.
+    λ kept told found left.
     or-as found kept _ _ (sym (kept-opened (beside_of c.args.state.now) c.in-Recovering.recovery c.in-Recovering.last (ap phase_of c.in-Recovering.is) longest kept c.args.now)) (c.open.ensures.leaves kept told found left)

@@ -1,5 +1,5 @@
 use Rattle.std.proofs.Common.{◌+◌, refl}
-use Rattle.nq_datagrams.specs.Incoming.{datagram_in}
+use Rattle.nq_datagrams.specs.Told.{told}
 use Rattle.nq_model.specs.Kept.{Kept}
 use Rattle.nq_model.specs.Server.{ServerStep}
 use Rattle.nq_model.specs.ServerStep.{receive as received}
@@ -10,21 +10,21 @@ use Rattle.nq_server.proofs.server.Server.receive.Goals as goal
 
 pub returns-in-Ok-clause-takes : goal.returns-in-Ok-clause-takes
 returns-in-Ok-clause-takes g c =
-    let step : Kept → ServerStep = λ kept. received (server_of (beside_of c.self.inside.state) kept) c.args.sender (next_of c.args.out.now) (datagram_in c.args.datagram.now) in
+    let step : Kept → ServerStep = λ kept. received (server_of (beside_of c.self.inside.state) kept) c.args.sender (next_of c.args.out.now) (told c.read_incoming-incoming.result) in
     rw
-    (← c.self.view_is)
+    (← c.read_incoming-incoming.ensures, ← c.self.view_is)
     (is-said-taken
     step
     (g.K.Keeper.content c.self.inside.keeper)
-    (g.K.Keeper.content c.take_in.new.keeper)
+    (g.K.Keeper.content c.take.new.keeper)
     (g.K.Keeper.faults c.self.inside.keeper)
-    (g.K.Keeper.faults c.take_in.new.keeper)
+    (g.K.Keeper.faults c.take.new.keeper)
     (record { keeper = c.self.inside.keeper; beside = beside_of c.self.inside.state; taken = c.self.inside.taken })
-    (record { keeper = c.take_in.new.keeper; beside = beside_of c.take_in.new.state; taken = c.self.inside.taken + 1 })
+    (record { keeper = c.take.new.keeper; beside = beside_of c.take.new.state; taken = c.self.inside.taken + 1 })
     c.args.out.now
-    c.take_in.new.out
+    c.take.new.out
     c.args.log.now
-    c.take_in.new.log
+    c.take.new.log
     c.done.result
     c.in-Ok.taken
     c.done.ensures
@@ -32,25 +32,25 @@ returns-in-Ok-clause-takes g c =
     c.in-Ok.ensures.takes)
 
 pub returns-in-Ok-clause-leaves : goal.returns-in-Ok-clause-leaves
-returns-in-Ok-clause-leaves g c = rw (← c.self.view_is) c.take_in.ensures.leaves
+returns-in-Ok-clause-leaves g c = rw (← c.read_incoming-incoming.ensures, ← c.self.view_is) c.take.ensures.leaves
 
 pub returns-in-Err-clause-takes : goal.returns-in-Err-clause-takes
 returns-in-Err-clause-takes g c =
-    let step : Kept → ServerStep = λ kept. received (server_of (beside_of c.self.inside.state) kept) c.args.sender (next_of c.args.out.now) (datagram_in c.args.datagram.now) in
+    let step : Kept → ServerStep = λ kept. received (server_of (beside_of c.self.inside.state) kept) c.args.sender (next_of c.args.out.now) (told c.read_incoming-incoming.result) in
     rw
-    (← c.self.view_is)
+    (← c.read_incoming-incoming.ensures, ← c.self.view_is)
     (is-said-not-taken
     step
     (g.K.Keeper.content c.self.inside.keeper)
-    (g.K.Keeper.content c.take_in.new.keeper)
+    (g.K.Keeper.content c.take.new.keeper)
     (g.K.Keeper.faults c.self.inside.keeper)
-    (g.K.Keeper.faults c.take_in.new.keeper)
+    (g.K.Keeper.faults c.take.new.keeper)
     (record { keeper = c.self.inside.keeper; beside = beside_of c.self.inside.state; taken = c.self.inside.taken })
-    (record { keeper = c.take_in.new.keeper; beside = beside_of c.take_in.new.state; taken = c.self.inside.taken })
+    (record { keeper = c.take.new.keeper; beside = beside_of c.take.new.state; taken = c.self.inside.taken })
     c.args.out.now
-    c.take_in.new.out
+    c.take.new.out
     c.args.log.now
-    c.take_in.new.log
+    c.take.new.log
     c.halted.result
     c.in-Err.halt
     c.halted.ensures
@@ -58,4 +58,4 @@ returns-in-Err-clause-takes g c =
     c.in-Err.ensures.takes)
 
 pub returns-in-Err-clause-leaves : goal.returns-in-Err-clause-leaves
-returns-in-Err-clause-leaves g c = rw (← c.self.view_is) c.take_in.ensures.leaves
+returns-in-Err-clause-leaves g c = rw (← c.read_incoming-incoming.ensures, ← c.self.view_is) c.take.ensures.leaves
