@@ -1,14 +1,15 @@
 -- Requests by the incarnation that is attached.
-use Rattle.std.proofs.Common.{◌≡◌, ℕ, Bool, true, false, if◌then◌else◌, refl}
+use Rattle.std.proofs.Common.{◌≡◌, ℕ, Bool, true, false, if◌then◌else◌, refl, ap}
 use Rattle.std.specs.Prelude.{nat_lt}
 use Rattle.nq_base.specs.declared.HostRow.{HostRow}
 use Rattle.nq_base.specs.declared.Request.{Request}
-use Rattle.nq_base.specs.declared.Request.TheVariants.{Attach, Vacated}
+use Rattle.nq_base.specs.declared.Request.TheVariants.{Null, Attach, Lookup, Create, GetAttr, Read, Write, GetLease, Vacated, Evicted, Resize, Remove}
+use Rattle.nq_base.specs.declared.Tag.{Tag}
 use Rattle.nq_base.specs.declared.Who.{Who}
 use Rattle.nq_model.specs.Decided.{is_decided_once}
 use Rattle.nq_model.specs.Message.{old_incarnation}
-use Rattle.nq_model.specs.Server.{Server, drops, quiet, says}
-use Rattle.nq_model.specs.ServerStep.{admit, attach, is_attach, not_attached, perform}
+use Rattle.nq_model.specs.Server.{Server, serving, drops, quiet, says}
+use Rattle.nq_model.specs.ServerStep.{admit, attach, is_attach, look, not_attached, perform}
 
 not-attach : (r : Request) → is_decided_once r ≡ false → is_attach r ≡ false
 not-attach (Attach who) h = absurd (cc)
@@ -49,3 +50,18 @@ pub stranger-keeps : (s : Server) (who : Who) (xid : ℕ) (r : Request) → (not
 unfolding quiet says
 stranger-keeps s who xid (Vacated w file tag) = refl
 stranger-keeps s who xid other = refl
+
+-- while the server serves, a request that is not decided once and gives nothing up is looked at
+pub looks-served : (s : Server) (who : Who) (xid next : ℕ) (line : HostRow) (r : Request) → is_decided_once r ≡ false → ((w : Who) (file : ℕ) (tag : Tag) → r ≡ Vacated w file tag → ⊥) → s.phase ≡ serving → perform s who xid next line r ≡ look s serving who xid next r
+looks-served s who xid next line Null other given is = refl
+looks-served s who xid next line (Evicted w file tag) other given is = refl
+looks-served s who xid next line (Lookup w name) other given is = ap (λ p. look s p who xid next (Lookup w name)) is
+looks-served s who xid next line (GetAttr w file) other given is = ap (λ p. look s p who xid next (GetAttr w file)) is
+looks-served s who xid next line (Read w q file block want) other given is = ap (λ p. look s p who xid next (Read w q file block want)) is
+looks-served s who xid next line (GetLease w file want) other given is = ap (λ p. look s p who xid next (GetLease w file want)) is
+looks-served s who xid next line (Vacated w file tag) other given is = absurd (given w file tag refl)
+looks-served s who xid next line (Attach w) other given is = absurd (cc)
+looks-served s who xid next line (Create w seq name blocks) other given is = absurd (cc)
+looks-served s who xid next line (Write w seq file block first last push body) other given is = absurd (cc)
+looks-served s who xid next line (Resize w seq q file blocks) other given is = absurd (cc)
+looks-served s who xid next line (Remove w seq q file) other given is = absurd (cc)

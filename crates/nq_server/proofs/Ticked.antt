@@ -1,8 +1,8 @@
 -- What a tick does is the protocol's step.
 use Rattle.std.proofs.Common.{◌≡◌, ◌⊎◌, ◌<◌, ◌≤◌, ℕ, Bool, true, false, List, [], ◌∷◌, ◌++◌, Option, Some, None, Ok, Err, if◌then◌else◌, refl, sym, ◌∙◌, ap, subst, arith, append-nil, inl, inr}
-use Rattle.std.specs.Prelude.{nat_le, reverse}
+use Rattle.std.specs.Prelude.{IfOk, OnErr, Result, nat_le, reverse}
 use Rattle.std.specs.List.{find}
-use Rattle.std.specs.Option.{option_map}
+use Rattle.std.specs.Option.{IfSome, option_map}
 use Rattle.std.proofs.lemmas.Bool.Decides.{nat_tests}
 use Rattle.std.proofs.lemmas.List.Elements.{All-nil}
 use Rattle.nq_base.specs.declared.Entry.{Entry}
@@ -11,7 +11,7 @@ use Rattle.nq_base.specs.declared.RowKey.{RowKey}
 use Rattle.nq_boot.specs.Booting.{ended_at, opened_by}
 use Rattle.nq_boot.specs.Recovery.{Recovery}
 use Rattle.nq_datagrams.specs.Sent.{FitsPacket}
-use Rattle.nq_expire.specs.Ending.{fenced, fenced_if}
+use Rattle.nq_expire.specs.Ending.{Fences, fence_of, fenced, fenced_if, has_ended, table_after}
 use Rattle.nq_expire.specs.declared.Fence.{Fence}
 use Rattle.nq_base.specs.Entries.{EntryList}
 use Rattle.nq_keeper.specs.declared.KeepFault.{KeepFault}
@@ -93,6 +93,40 @@ takes-ends s after now fence table told tells before count log log' is ends same
       same,
     )
     by None (Some f) due h entries = absurd h
+
+-- the end of the row that is due was tried
+module _ (now : ℕ) (row : Row) (table after : Table) (told tells : Option Kept) (before count : ℕ) where
+  tried-by : (result : Result (Option Fence) KeepFault) → IfOk result (λ ended. IfSome ended (λ f. f ≡ fence_of row now)) → IfOk result (λ ended. after ≡ table_after (key_of row) ended table) → OnErr result (after ≡ table) → Fences row.file (has_ended result) told tells before count → EndsFirst now (Some row) result table after told tells before count
+  tried-by (Ok (Some f)) fence drops stays fences = (
+    (
+      fence,
+      drops,
+      λ kept e.
+          let said = fences.0 kept e in
+          (sym said.0, said.1 ∙ ap (λ b. Some (if b then fenced row.file kept else kept)) (sym said.0)),
+    ),
+    fences.1,
+  )
+  tried-by (Ok None) fence drops stays fences = (
+    (
+      drops,
+      λ kept e.
+          let said = fences.0 kept e in
+          (sym said.0, said.1 ∙ ap (λ b. Some (if b then fenced row.file kept else kept)) (sym said.0)),
+    ),
+    fences.1,
+  )
+  tried-by (Err Memory) fence drops stays fences = (stays, fences.0, fences.1)
+  tried-by (Err Failed) fence drops stays fences = (stays, fences.0, fences.1)
+
+pub ends-first : (now : ℕ) (due : Option Row) (key : RowKey) (result : Result (Option Fence) KeepFault) (table after : Table) (told tells : Option Kept) (before count : ℕ) → Some key ≡ option_map key_of due → IfSome due (λ row. IfOk result (λ ended. IfSome ended (λ f. f ≡ fence_of row now))) → IfOk result (λ ended. after ≡ table_after key ended table) → OnErr result (after ≡ table) → Fences key.file (has_ended result) told tells before count → EndsFirst now due result table after told tells before count
+ends-first now None key result table after told tells before count e fence drops stays fences = absurd (cc)
+ends-first now (Some row) key result table after told tells before count e fence drops stays fences =
+    let same : key ≡ key_of row = cc in
+    tried-by now row table after told tells before count result fence
+    (subst (λ k. IfOk result (λ ended. after ≡ table_after k ended table)) same drops)
+    stays
+    (subst (λ k. Fences k.file (has_ended result) told tells before count) same fences)
 
 -- nothing changed at a fault
 pub takes-no-end : (s after : Beside) (now : ℕ) (due : Option Row) (fault : KeepFault) (table : Table) (told tells : Option Kept) (before count : ℕ) (log : EntryList) → EndsFirst now due (Err fault) s.table table told tells before count → after ≡ at_tick s table s.time → (step : Kept → ServerStep) (out : Datagrams) → Takes step (Err (halt_of fault)) told tells before count s after out out log log

@@ -4,7 +4,7 @@ use Rattle.nq_base.proofs.Filling.{filled-value}
 use Rattle.nq_base.specs.Block.{filled, value_of}
 use Rattle.nq_base.specs.declared.Change.{Change}
 use Rattle.nq_base.specs.declared.Decided.{Decided}
-use Rattle.nq_base.specs.declared.Decided.TheVariants.{Fresh, Again, Old, OldIncarnation, NotAttached}
+use Rattle.nq_base.specs.declared.Decided.TheVariants.{Fresh, Again, Old, OldIncarnation, NotAttached, OutOfBounds}
 use Rattle.nq_base.specs.declared.Entry.{Entry}
 use Rattle.nq_base.specs.declared.PushBase.{PushBase}
 use Rattle.nq_base.specs.declared.Reply.{Reply as Answer}
@@ -76,6 +76,7 @@ module _ (s : Server) (who : Who) (xid : ℕ) where
   written-told w seq file block first last push body Old how after out out' log log' h = h
   written-told w seq file block first last push body OldIncarnation how after out out' log log' h = h
   written-told w seq file block first last push body NotAttached how after out out' log log' h = h
+  written-told w seq file block first last push body OutOfBounds how after out out' log log' h = h
 
   any-told : (r : Request) (d : Decided) (how : Taken) (after : Beside) (out out' : Datagrams) (log log' : EntryList) → Concludes (decided_step s who xid (as_told r) d) how after out out' log log' → Concludes (decided_step s who xid r d) how after out out' log log'
   any-told (Write w seq file block first last push body) d how after out out' log log' h = written-told w seq file block first last push body d how after out out' log log' h

@@ -127,7 +127,10 @@ fn look<K: Keeper>(
             };
             get_lease(alloc, keeper, state, caller, wish, out, log)
         }
-        _ => Ok(Taken::Done),
+        _ => {
+            keeper.pause();
+            Ok(Taken::Done)
+        }
     }
 }
 
@@ -151,15 +154,19 @@ fn perform<K: Keeper>(
     ensures follows { K.follows keeper.old keeper.new }
     ensures leaves { LeavesOne (K.content keeper.old) (K.leaves keeper.old keeper.new) }
 {
-    keeper.pause();
     match (request, &state.phase) {
         (Request::Vacated { file, tag, .. }, _) => {
+            keeper.pause();
             vacated(&mut state.table, caller.who, *file, *tag);
             Ok(Taken::Done)
         }
-        (Request::Null | Request::Evicted { .. }, _) => Ok(Taken::Done),
+        (Request::Null | Request::Evicted { .. }, _) => {
+            keeper.pause();
+            Ok(Taken::Done)
+        }
         (_, Phase::Serving(_)) => look(alloc, keeper, state, caller, request, out, log),
         (_, Phase::Recovering { .. }) => {
+            keeper.pause();
             refuse(alloc, caller.who, caller.xid, Refusal::TryLater, out)
         }
     }

@@ -32,8 +32,8 @@ returns-in-Err-clause-leaves g c =
     (c.read_before.ensures.leaves kept told found)
     (c.decide.ensures.leaves kept (c.in_ok-before.ensures.finds.0 ∙ told) found))
 
-pub returns-in-Ok-decide-clause-takes : goal.returns-in-Ok-decide-clause-takes
-returns-in-Ok-decide-clause-takes g c =
+pub returns-clause-takes : goal.returns-clause-takes
+returns-clause-takes g c =
     let held = beside_of c.args.state.now in
     takes-decided held c.args.caller.who c.args.caller.xid c.args.asked.request c.gate-gate.result c.in-Ok-decide.decided c.conclude.result (g.K.Keeper.content c.args.keeper.now) (g.K.Keeper.content c.read_before.new.keeper) (g.K.Keeper.content c.decide.new.keeper) (g.K.Keeper.faults c.args.keeper.now) (g.K.Keeper.faults c.read_before.new.keeper) (g.K.Keeper.faults c.decide.new.keeper) (beside_of c.conclude.new.state) c.args.out.now c.conclude.new.out c.args.log.now c.conclude.new.log c.in_ok-before.ensures.finds.0 c.in_ok-before.ensures.finds.1
     (λ kept told. c.gate-gate.ensures kept (c.in_ok-before.ensures.heads kept told) ∙ ap (gate_in (server_of held kept) (phase_of c.args.state.now.phase) c.args.caller.who) c.file_to_change.ensures)
@@ -42,8 +42,8 @@ returns-in-Ok-decide-clause-takes g c =
     concludes-told (server_of held kept) c.args.caller.who c.args.caller.xid c.args.asked.request c.args.asked.told c.in-Ok-decide.decided c.conclude.result (beside_of c.conclude.new.state) c.args.out.now c.conclude.new.out c.args.log.now c.conclude.new.log c.requires.told
     (c.conclude.ensures.makes kept c.args.out.now c.args.log.now c.in-Ok.ensures.ready (c.in-Ok.ensures.warns kept) (c.in-Ok.ensures.length ∙ c.in_ok-before.ensures.length kept told)))
 
-pub returns-in-Ok-decide-clause-leaves : goal.returns-in-Ok-decide-clause-leaves
-returns-in-Ok-decide-clause-leaves g c =
+pub returns-clause-leaves : goal.returns-clause-leaves
+returns-clause-leaves g c =
     λ kept told found left.
     let held = beside_of c.args.state.now in
     let is : c.gate-gate.result ≡ gate_of (server_of held kept) c.args.caller.who c.args.asked.request =
