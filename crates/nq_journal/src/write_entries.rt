@@ -180,10 +180,14 @@ fn push_words(out: &mut Vec<u8>, version: u32, entry: &Entry) -> Result<(), NoMe
             until,
             heard,
             now,
-        } => { push_command(out, b"O", &[u64::from(*boot), until.0, heard.0, now.0]) }
+        } => {
+            push_bytes(out, b"O")?;
+            push_numbers(out, &[u64::from(*boot), until.0, heard.0, now.0])
+        }
         Entry::B { who } => push_who(out, b"B", who),
         Entry::X { boot, now, longest } => {
-            push_command(out, b"X", &[u64::from(*boot), now.0])?;
+            push_bytes(out, b"X")?;
+            push_numbers(out, &[u64::from(*boot), now.0])?;
             push_longest(out, version, *longest)
         }
         Entry::Z {
