@@ -124,7 +124,11 @@ pub fn begin<L: Keeper>(alloc: Global, head: &Head, keeper: L) -> Result<World<L
 }
 
 /// The world before the first event of a schedule with this head, over a keeper that keeps nothing yet and never fails.
-fn begin_surely<L: Keeper + Drop>(
+///
+/// # Errors
+///
+/// Only want of memory.
+pub fn begin_surely<L: Keeper + Drop>(
     alloc: Global,
     head: &Head,
     keeper: L,

@@ -7,9 +7,10 @@ ghost use Rattle.nq_command.specs.Commands.{IsCheck, IsReplay, command_of};
 ghost use Rattle.nq_command.specs.declared.Command.{Command};
 ghost use Rattle.nq_ending.specs.Status.{WithStatus, status_of};
 ghost use Rattle.nq_ending.specs.declared.Ending.{Ending};
+ghost use Rattle.nq_journal.specs.Fault.{IsFaultyAt, IsJournal};
 ghost use Rattle.nq_loop.specs.Sending.{told_of};
 ghost use Rattle.nq_replay.specs.Ending.{Ends, IsUnlessFault};
-ghost use Rattle.nq_replay.specs.Judging.{Judges};
+ghost use Rattle.nq_replay.specs.Judging.{IsSaidUnlessFault, Judges};
 ghost use Rattle.nq_replay.specs.Lines.{PrintsLine, usage_line};
 ghost use Rattle.nq_replay.specs.Replay.{BreaksSkew, FaultyLine, OfInput, Passes, Runs};
 ghost use Rattle.nq_replay.specs.declared.Bound.{Bound};
@@ -65,6 +66,16 @@ pub fn run<S: Source, K: Sink, P: Keeper + Drop, L: Link, C: Clock>(
         (S.faults input.old) (S.faults input.new) (K.faults out.old) (K.faults out.new)) }
     ensures judges { IsCheck words.now
         → WithStatus result (λ end. Judges end most_bytes (S.left input.old) (S.left input.new) (K.held out.old) (K.held out.new)
+        (S.faults input.old) (S.faults input.new) (K.faults out.old) (K.faults out.new)) }
+    ensures judged_limit { IsCheck words.now → (text : List ℕ) → S.left input.old ≡ Some text → most_bytes < length text
+        → WithStatus result (λ end. IsUnlessFault end Ending.Limit
+        (S.faults input.old) (S.faults input.new) (K.faults out.old) (K.faults out.new)) }
+    ensures judged_script { IsCheck words.now → (text : List ℕ) → S.left input.old ≡ Some text → length text ≤ most_bytes
+        → (number : ℕ) → IsFaultyAt number text
+        → WithStatus result (λ end. IsUnlessFault end Ending.Script
+        (S.faults input.old) (S.faults input.new) (K.faults out.old) (K.faults out.new)) }
+    ensures judged_said { IsCheck words.now → (text : List ℕ) → S.left input.old ≡ Some text → length text ≤ most_bytes → IsJournal text
+        → WithStatus result (λ end. IsSaidUnlessFault end
         (S.faults input.old) (S.faults input.new) (K.faults out.old) (K.faults out.new)) }
     ensures usage { result ≡ status_of Ending.Usage → RunsNothing (command_of words.now) (map (λ fate. told fate) fates.items) }
     ensures never { NeverRuns (command_of words.now) (map (λ fate. told fate) fates.items) → result ≡ status_of Ending.Usage }

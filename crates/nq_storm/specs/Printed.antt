@@ -64,5 +64,4 @@ StormEnds Ending.Done start count first held now w w' = PrintsStorm Ending.Done 
 StormEnds Ending.WriteFault start count first held now w w' = PrintsStorm Ending.WriteFault start count first held now w w'
 StormEnds Ending.Memory start count first held now w w' = (now ≡ held) ⊎ PrintsStorm Ending.Memory start count first held now w w'
 StormEnds Ending.Limit start count first held now w w' = PrintsReached start count first held now w w'
-StormEnds Ending.KeepFault start count first held now w w' = now ≡ held
 StormEnds other start count first held now w w' = ⊥

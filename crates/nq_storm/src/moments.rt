@@ -77,6 +77,7 @@ fn give_last<K: Keeper>(
     ensures kept { result ≡ Stormed.Done → ran.new ≡ ran.old }
     ensures dropped { (result ≡ Stormed.Done → ⊥) → ran.new ≡ take (length ran.old - 1) ran.old }
     ensures faults { CountsFaults result (K.faults world.old.server.keeper) (K.faults world.new.server.keeper) }
+    ensures follows { K.follows world.old.server.keeper world.new.server.keeper }
     ensures settings { HasSettings 4 60 30 world.new }
 {
     match world.step(event) {
@@ -106,6 +107,7 @@ fn give<K: Keeper>(
     ensures kept { result ≡ Stormed.Done → ran.new ≡ ran.old ++ event.now ∷ [] }
     ensures same { (result ≡ Stormed.Done → ⊥) → ran.new ≡ ran.old }
     ensures faults { CountsFaults result (K.faults world.old.server.keeper) (K.faults world.new.server.keeper) }
+    ensures follows { K.follows world.old.server.keeper world.new.server.keeper }
     ensures settings { HasSettings 4 60 30 world.new }
 {
     match ran.push_filled(event) {
@@ -135,6 +137,7 @@ pub(crate) fn pass_moment<K: Keeper>(
     ensures same { (result ≡ Stormed.Done → ⊥) → ran.new ≡ ran.old }
     ensures stormy { AllByRecursion IsStormy ran.old → AllByRecursion IsStormy ran.new }
     ensures faults { CountsFaults result (K.faults world.old.server.keeper) (K.faults world.new.server.keeper) }
+    ensures follows { K.follows world.old.server.keeper world.new.server.keeper }
     ensures settings { HasSettings 4 60 30 world.new }
 {
     let sent = world.packets().len();

@@ -1,10 +1,13 @@
 //! Running a storm.
 
 ghost use Rattle.std.specs.List.{AllByRecursion};
-ghost use Rattle.std.specs.Prelude.{◌≡◌, ℕ, Option, Some, reverse};
+ghost use Rattle.std.specs.Prelude.{◌≡◌, [], ℕ, Option, Some, reverse};
 ghost use Rattle.nq_keeper.specs.StoredKeeper.{empty_kept};
 ghost use Rattle.nq_play.specs.Playing.{beginning};
-ghost use Rattle.nq_storm.specs.Ending.{Storms};
+ghost use Rattle.nq_model.specs.World.{Head};
+ghost use Rattle.nq_replay.specs.Schedules.{NeverFails};
+ghost use Rattle.nq_storm.specs.Ending.{IsNoFault, Storms};
+ghost use Rattle.nq_world.specs.Playing.{HasSettings, Plays};
 ghost use Rattle.nq_storm.specs.Heads.{storm_head};
 ghost use Rattle.nq_storm.specs.Printed.{StormEnds};
 ghost use Rattle.nq_storm_rules.specs.Rules.{Rule};
@@ -17,7 +20,7 @@ use crate::storms::storm;
 use nq_ending::Ending;
 use nq_io::Sink;
 use nq_keeper::{Keeper, ListKeeper};
-use nq_replay::{begin, tell_limit};
+use nq_replay::{begin_surely, tell_limit};
 use nq_script::{Head, Schedule};
 use nq_storm_rules::Fate;
 use nq_world::World;
@@ -45,7 +48,7 @@ pub fn run_storm<K: Sink>(
     }
 }
 
-/// Runs a storm over a keeper that keeps nothing yet, which is told to fail in no call.
+/// Runs a storm over a keeper that keeps nothing yet and never fails.
 fn storm_over<L: Keeper + Drop, K: Sink>(
     alloc: Global,
     keeper: L,
@@ -54,7 +57,8 @@ fn storm_over<L: Keeper + Drop, K: Sink>(
     events: u32,
     out: &mut K,
 ) -> Ending
-    requires { L.content keeper ≡ Some empty_kept }
+    requires empty { L.content keeper ≡ Some empty_kept }
+    requires never { NeverFails L.faults L.follows keeper }
     ensures { StormEnds result start events (told fate) (K.held out.old) (K.held out.new) (K.faults out.old) (K.faults out.new) }
 {
     let Ok(head) = storm_head(alloc) else {
@@ -63,16 +67,36 @@ fn storm_over<L: Keeper + Drop, K: Sink>(
     let Ok(mut ran) = Schedule::new(alloc) else {
         return Ending::Memory;
     };
-    let Ok(mut world) = begin(alloc, &head, keeper) else {
+    let Ok(mut world) = begin_surely(alloc, &head, keeper) else {
         return Ending::Memory;
     };
-    let stormed = storm(alloc, &mut world, fate, start, events, &mut ran);
+    let stormed = storm_surely(alloc, &mut world, fate, start, events, &mut ran);
     let ending = tell(alloc, &head, &world, &ran, stormed, out);
     let _keeper = world.into_keeper();
     ending
 }
 
-/// Prints what a storm is, or at which limit it stopped. A keeper that is told to fail in no call has no fault.
+/// Runs a storm over a world whose keeper never fails.
+fn storm_surely<L: Keeper>(
+    alloc: Global,
+    world: &mut World<L>,
+    fate: Box<dyn Fate>,
+    start: u64,
+    events: u32,
+    ran: &mut Schedule,
+) -> Stormed
+    requires settings { HasSettings 4 60 30 world.old }
+    requires empty { ran.old ≡ [] }
+    requires never { NeverFails L.faults L.follows world.old.server.keeper }
+    ensures storms { (head : Head) → Plays head [] world.old (L.content world.old.server.keeper)
+        → Storms result head start events (told fate) (reverse ran.new) world.new (L.content world.new.server.keeper) }
+    ensures stormy { AllByRecursion IsStormy ran.new }
+    ensures reason { IsNoFault result }
+{
+    storm(alloc, world, fate, start, events, ran)
+}
+
+/// Prints what a storm is, or at which limit it stopped.
 fn tell<L: Keeper, K: Sink>(
     alloc: Global,
     head: &Head,
@@ -83,13 +107,14 @@ fn tell<L: Keeper, K: Sink>(
 ) -> Ending
     requires head { head.now ≡ storm_head }
     requires stormy { AllByRecursion IsStormy ran.now }
+    requires reason { IsNoFault stormed }
     ensures { (start count : ℕ) (first : Option Rule) → Storms stormed (beginning storm_head) start count first (reverse ran.now) world.now (L.content world.now.server.keeper)
         → StormEnds result start count first (K.held out.old) (K.held out.new) (K.faults out.old) (K.faults out.new) }
 {
     match stormed {
         Stormed::Done => print_storm(alloc, head, world, ran, out),
         Stormed::Limit(limit) => tell_limit(alloc, 0, limit, out),
-        Stormed::Fault => Ending::KeepFault,
+        Stormed::Fault => unreachable!(),
         Stormed::Memory => Ending::Memory,
     }
 }

@@ -36,6 +36,7 @@ pub fn storm<K: Keeper>(
         → Storms result head start events (told fate) (reverse ran.new) world.new (K.content world.new.server.keeper) }
     ensures stormy { AllByRecursion IsStormy ran.new }
     ensures faults { CountsFaults result (K.faults world.old.server.keeper) (K.faults world.new.server.keeper) }
+    ensures follows { K.follows world.old.server.keeper world.new.server.keeper }
     ensures settings { HasSettings 4 60 30 world.new }
 {
     let mut fate = fate;

@@ -28,6 +28,18 @@ pub returns-in-Some-Replay-clause-sound : goal.returns-in-Some-Replay-clause-sou
 unfolding most_bytes
 returns-in-Some-Replay-clause-sound g c = λ is done. input_sound _ _ _ _ _ (c.replay.ensures.lawful (one_end c.replay.result Ending.Done c.status.result c.status.ensures done))
 
+pub returns-in-Some-Check-clause-judged_limit : goal.returns-in-Some-Check-clause-judged_limit
+unfolding most_bytes
+returns-in-Some-Check-clause-judged_limit g c = λ is text told longer. (c.judge.result, c.status-in-Some-Check.ensures, c.judge.ensures.limit text told longer)
+
+pub returns-in-Some-Check-clause-judged_script : goal.returns-in-Some-Check-clause-judged_script
+unfolding most_bytes
+returns-in-Some-Check-clause-judged_script g c = λ is text told within number faulty. (c.judge.result, c.status-in-Some-Check.ensures, c.judge.ensures.script text told within number faulty)
+
+pub returns-in-Some-Check-clause-judged_said : goal.returns-in-Some-Check-clause-judged_said
+unfolding most_bytes
+returns-in-Some-Check-clause-judged_said g c = λ is text told within journal. (c.judge.result, c.status-in-Some-Check.ensures, c.judge.ensures.said text told within journal)
+
 pub returns-in-Some-Storm-clause-usage : goal.returns-in-Some-Storm-clause-usage
 returns-in-Some-Storm-clause-usage g c = λ none.
     storm_usage (command_of c.args.words.now) c.storm.result c.in-Some-Storm.kind c.in-Some-Storm.start c.in-Some-Storm.events _ _ _ _ _ (sym c.command.ensures.says ∙ c.in-Some-Storm.is ∙ ap Some c.in-Some-Storm.field-0-is) c.storm.ensures none

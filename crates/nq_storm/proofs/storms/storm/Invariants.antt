@@ -17,5 +17,6 @@ invariant-loop-earlier g l = record {
       ((goal.Fate-dyn g (l.fate.vtable, l.fate.value)).told l.fate.value) l.world (g.K.Keeper.content l.world.server.keeper) l.delivered;
   stormy : AllByRecursion IsStormy l.ran;
   faults : g.K.Keeper.faults l.world.server.keeper ≡ g.K.Keeper.faults l.fn.world.server.keeper;
+  follows : g.K.Keeper.follows l.fn.world.server.keeper l.world.server.keeper;
   settings : HasSettings 4 60 30 l.world;
 }
