@@ -33,8 +33,8 @@ use Rattle.nq_world.specs.declared.Stepped.{Stepped}
 
 pub limited-tells : {K : Type 0} (end : Ending) (limit : Limit) (head : Head) (world : WorldOver K) (kept : Option Kept) (ran : List Event) (held now : Option (List ℕ)) (w w' : ℕ) → TellsStop end 0 (Stepped.Limit limit) held now w w'
     → TellsEnd end (LoopTurn.Limit limit) head world kept ran held now w w'
-limited-tells Ending.Limit limit head world kept ran held now w w' tells = inr (inr (inr (inl (refl, record { limit = limit; reached = refl; printed = tells }))))
-limited-tells Ending.Memory limit head world kept ran held now w w' tells = inr (inr (inr (inr (refl, tt, tells))))
+limited-tells Ending.Limit limit head world kept ran held now w w' tells = inr (inr (inl (refl, record { limit = limit; reached = refl; printed = tells })))
+limited-tells Ending.Memory limit head world kept ran held now w w' tells = inr (inr (inr (refl, tt, tells)))
 limited-tells Ending.Usage limit head world kept ran held now w w' tells = absurd tells
 limited-tells Ending.Script limit head world kept ran held now w w' tells = absurd tells
 limited-tells Ending.Skew limit head world kept ran held now w w' tells = absurd tells
@@ -135,17 +135,12 @@ ends end last hosts turns clock clock' links l held now w w' takes stands (inr (
     let stops = subst (λ t. TakesTurns head turns t (between [] links clock) (now_at l clock')) failed.1 takes in
     subst (λ e. LoopEnds e hosts turns clock clock' links l.links held now w w') (sym failed.0)
     (stops-silently LoopTurn.Link last hosts turns clock clock' links l held now w w' stops failed.2 failed.3)
-ends end last hosts turns clock clock' links l held now w w' takes stands (inr (inr (inl failed))) =
-    let head = beginning (loop_head hosts) in
-    let stops = subst (λ t. TakesTurns head turns t (between [] links clock) (now_at l clock')) failed.1 takes in
-    subst (λ e. LoopEnds e hosts turns clock clock' links l.links held now w w') (sym failed.0)
-    (stops-silently LoopTurn.Keep last hosts turns clock clock' links l held now w w' stops failed.2 failed.3)
-ends end last hosts turns clock clock' links l held now w w' takes stands (inr (inr (inr (inl reached)))) =
+ends end last hosts turns clock clock' links l held now w w' takes stands (inr (inr (inl reached))) =
     let head = beginning (loop_head hosts) in
     let stops = subst (λ t. TakesTurns head turns t (between [] links clock) (now_at l clock')) reached.1.reached takes in
     subst (λ e. LoopEnds e hosts turns clock clock' links l.links held now w w') (sym reached.0)
     (record { events = reverse l.ran; limit = reached.1.limit; stops = stops; printed = reached.1.printed })
-ends end last hosts turns clock clock' links l held now w w' takes stands (inr (inr (inr (inr wanting)))) =
+ends end last hosts turns clock clock' links l held now w w' takes stands (inr (inr (inr wanting))) =
     lacks end last hosts turns clock clock' links l held now w w' takes wanting.0 wanting.1 wanting.2
 
 -- ---- before the first turn

@@ -3,12 +3,15 @@ use Rattle.std.proofs.Common.{◌≡◌, ℕ, ◌+◌, ◌<◌, Bool, true, fals
 use Rattle.std.proofs.lemmas.Bool.Decides.{nat_tests}
 use Rattle.std.specs.Prelude.{◌&&◌, not, min, nat_le, slice_get}
 use Rattle.nq_base.specs.declared.Event.{Event}
+use Rattle.nq_io.specs.Faults.{Rose}
 use Rattle.nq_loop.specs.Counting.{begun_in}
-use Rattle.nq_loop.specs.Holding.{IsLooping, Loop, StandsBehind, Turns, moment_of}
+use Rattle.nq_loop.specs.Holding.{CountsTurn, IsLooping, Loop, StandsBehind, Turns, moment_of}
+use Rattle.nq_loop.specs.Looped.{IsNoKeep}
 use Rattle.nq_loop.specs.Looping.{is_busy}
 use Rattle.nq_loop.specs.Turning.{Between, Goes, Stops, TakesTurns, all_answered, all_below, is_over, is_through, went_on}
 use Rattle.nq_loop.specs.declared.turns.LoopTurn.{LoopTurn}
 use Rattle.nq_model.specs.World.{Head, run}
+use Rattle.nq_replay.proofs.Never.{none_rose}
 
 -- ---- whether all is answered
 
@@ -64,3 +67,36 @@ stopped head count turns LoopTurn.Memory last at clock clock' old new is fewer g
 stopped head count turns (LoopTurn.Limit limit) last at clock clock' old new is fewer goes left turned =
     let same : LoopTurn.Limit limit ≡ last = cc in
     subst (λ t. TakesTurns head turns t at (now_at new clock') × StandsBehind head t new) same (stops head count turns (LoopTurn.Limit limit) at clock clock' old new fewer goes left turned, turned.stands)
+
+-- ---- the keeper's faults
+
+-- a turn that did not stop met none
+pub went-counts : (turn : LoopTurn) (before now : ℕ) → went_on turn ≡ Ok tt → CountsTurn turn before now → now ≡ before
+went-counts LoopTurn.Took before now is counts = counts
+went-counts LoopTurn.Quiet before now is counts = counts
+went-counts LoopTurn.Link before now is counts = counts
+went-counts LoopTurn.Keep before now is counts = absurd (cc)
+went-counts LoopTurn.Memory before now is counts = counts
+went-counts (LoopTurn.Limit limit) before now is counts = counts
+
+-- behind turns that met none, the count is that of the turn that stopped
+pub stopped-counts : (turn last : LoopTurn) (first before now : ℕ) → went_on turn ≡ Err last → before ≡ first → CountsTurn turn before now → CountsTurn last first now
+stopped-counts LoopTurn.Took last first before now is same counts = absurd (cc)
+stopped-counts LoopTurn.Quiet last first before now is same counts = absurd (cc)
+stopped-counts LoopTurn.Link last first before now is same counts =
+    let here : LoopTurn.Link ≡ last = cc in subst (λ t. CountsTurn t first now) here (counts ∙ same)
+stopped-counts LoopTurn.Keep last first before now is same counts =
+    let here : LoopTurn.Keep ≡ last = cc in subst (λ t. CountsTurn t first now) here (subst (λ n. Rose n now) same counts)
+stopped-counts LoopTurn.Memory last first before now is same counts =
+    let here : LoopTurn.Memory ≡ last = cc in subst (λ t. CountsTurn t first now) here (counts ∙ same)
+stopped-counts (LoopTurn.Limit limit) last first before now is same counts =
+    let here : LoopTurn.Limit limit ≡ last = cc in subst (λ t. CountsTurn t first now) here (counts ∙ same)
+
+-- over a keeper that never fails no turn stops for it
+pub no-keep : (last : LoopTurn) (before now : ℕ) → before ≡ 0 → now ≡ 0 → CountsTurn last before now → IsNoKeep last
+no-keep LoopTurn.Took before now b n counts = tt
+no-keep LoopTurn.Quiet before now b n counts = tt
+no-keep LoopTurn.Link before now b n counts = tt
+no-keep LoopTurn.Keep before now b n counts = absurd (none_rose before now b n counts)
+no-keep LoopTurn.Memory before now b n counts = tt
+no-keep (LoopTurn.Limit limit) before now b n counts = tt

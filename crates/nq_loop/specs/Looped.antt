@@ -84,7 +84,6 @@ LoopEnds Ending.Memory hosts turns clock clock' links links' held now w w' =
     BeginsNone clock clock' links links' held now w w'
     ⊎ (LacksMemory hosts turns clock clock' links links' held now ⊎ PrintsLoop Ending.Memory hosts turns clock clock' links links' held now w w')
 LoopEnds Ending.LinkFault hosts turns clock clock' links links' held now w w' = StopsSilently LoopTurn.Link hosts turns clock clock' links links' held now w w'
-LoopEnds Ending.KeepFault hosts turns clock clock' links links' held now w w' = StopsSilently LoopTurn.Keep hosts turns clock clock' links links' held now w w'
 LoopEnds Ending.Limit hosts turns clock clock' links links' held now w w' = PrintsReached hosts turns clock clock' links links' held now w w'
 LoopEnds other hosts turns clock clock' links links' held now w w' = ⊥
 
@@ -93,6 +92,11 @@ abbrev pub HasEnded : LoopTurn → Type 0
 HasEnded LoopTurn.Took = Unit {0}
 HasEnded LoopTurn.Quiet = Unit {0}
 HasEnded other = ⊥
+
+-- a turn stopped for no fault of a keeper
+abbrev pub IsNoKeep : LoopTurn → Type 0
+IsNoKeep LoopTurn.Keep = ⊥
+IsNoKeep other = Unit {0}
 
 -- what telling a limit did
 pub record TellsLimit (last : LoopTurn) (held now : Option (List ℕ)) (w w' : ℕ) : Type 0 where
@@ -104,9 +108,8 @@ pub record TellsLimit (last : LoopTurn) (held now : Option (List ℕ)) (w w' : �
 abbrev pub TellsStopped : Ending → LoopTurn → (held now : Option (List ℕ)) → (w w' : ℕ) → Type 0
 TellsStopped end last held now w w' =
     ((end ≡ Ending.LinkFault) × (last ≡ LoopTurn.Link) × (now ≡ held) × (w' ≡ w))
-    ⊎ (((end ≡ Ending.KeepFault) × (last ≡ LoopTurn.Keep) × (now ≡ held) × (w' ≡ w))
     ⊎ (((end ≡ Ending.Limit) × TellsLimit last held now w w')
-    ⊎ ((end ≡ Ending.Memory) × MayLack last × (now ≡ held))))
+    ⊎ ((end ≡ Ending.Memory) × MayLack last × (now ≡ held)))
 
 -- what telling the end of turns did, by the end and by the last of them
 abbrev pub TellsEnd : {K : Type 0} → Ending → LoopTurn → Head → WorldOver K → Option Kept → (ran : List Event) → (held now : Option (List ℕ)) → (w w' : ℕ) → Type 0

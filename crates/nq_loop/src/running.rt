@@ -4,12 +4,13 @@ ghost use Rattle.std.specs.List.{AllByRecursion};
 ghost use Rattle.std.specs.Prelude.{◌≡◌, ◌≤◌, ◌+◌, [], ℕ, Option, Some, length, map, reverse};
 ghost use Rattle.nq_keeper.specs.StoredKeeper.{empty_kept};
 ghost use Rattle.nq_loop.specs.Holding.{IsLooped, IsLooping, StandsBehind, loop_of, moment_of};
-ghost use Rattle.nq_loop.specs.Looped.{HasEnded, LoopEnds, TellsEnd};
+ghost use Rattle.nq_loop.specs.Looped.{HasEnded, IsNoKeep, LoopEnds, TellsEnd};
 ghost use Rattle.nq_loop.specs.Sending.{told_of};
 ghost use Rattle.nq_loop.specs.Turning.{Between, TakesTurns};
 ghost use Rattle.nq_loop.specs.Whole.{loop_head};
 ghost use Rattle.nq_loop.specs.declared.turns.LoopTurn.{LoopTurn};
 ghost use Rattle.nq_play.specs.Playing.{beginning};
+ghost use Rattle.nq_replay.specs.Schedules.{NeverFails};
 
 use crate::printing::print_loop;
 use crate::schedules::loop_head;
@@ -21,7 +22,7 @@ use nq_ending::Ending;
 use nq_io::Sink;
 use nq_keeper::{Keeper, ListKeeper};
 use nq_link::Link;
-use nq_replay::{begin, tell_limit};
+use nq_replay::{begin_surely, tell_limit};
 use nq_script::{Head, Schedule};
 use nq_world::World;
 use std::alloc::Global;
@@ -33,7 +34,6 @@ use std::alloc::Global;
 /// - `Done`: all of that was printed, when all calls were answered or all turns were taken. The schedule is within skew and keeps to the
 ///   bounds.
 /// - `WriteFault`: the sink failed, which it has counted; a front of that is printed.
-/// - `KeepFault`: the keeper in memory failed; prints nothing.
 /// - `Memory`: memory was wanting; a front of that may be printed.
 /// - `LinkFault`: a link failed, which it has counted; prints nothing.
 /// - `Limit`: more than 999,936 packets came before an event, or 100,000 events; prints `limit line 0 packets` or `events`.
@@ -58,7 +58,7 @@ pub fn run_loop<K: Sink, L: Link, C: Clock>(
     }
 }
 
-/// Runs a loop over a keeper that keeps nothing yet, which is told to fail in no call.
+/// Runs a loop over a keeper that keeps nothing yet and never fails.
 fn loop_over<P: Keeper + Drop, K: Sink, L: Link, C: Clock>(
     alloc: Global,
     keeper: P,
@@ -69,6 +69,7 @@ fn loop_over<P: Keeper + Drop, K: Sink, L: Link, C: Clock>(
     out: &mut K,
 ) -> Ending
     requires empty { P.content keeper ≡ Some empty_kept }
+    requires never { NeverFails P.faults P.follows keeper }
     requires some { 1 ≤ hosts }
     requires few { hosts ≤ 64 }
     requires links { length links.old ≡ hosts + 1 }
@@ -85,7 +86,7 @@ fn loop_over<P: Keeper + Drop, K: Sink, L: Link, C: Clock>(
     let Ok(mut state) = LoopState::new(alloc, hosts) else {
         return Ending::Memory;
     };
-    let Ok(mut world) = begin(alloc, &head, keeper) else {
+    let Ok(mut world) = begin_surely(alloc, &head, keeper) else {
         return Ending::Memory;
     };
     let last = take_turns(alloc, &mut world, links, clock, &mut state, &mut ran, turns);
@@ -94,7 +95,7 @@ fn loop_over<P: Keeper + Drop, K: Sink, L: Link, C: Clock>(
     ending
 }
 
-/// Prints a loop whose last turn was this, or why it stopped. A keeper that is told to fail in no call has no fault.
+/// Prints a loop whose last turn was this, or why it stopped.
 fn tell<P: Keeper, K: Sink>(
     alloc: Global,
     head: &Head,
@@ -107,6 +108,7 @@ fn tell<P: Keeper, K: Sink>(
     requires few { head.now.hosts ≤ 64 }
     requires head { head.now ≡ loop_head head.now.hosts }
     requires looped { AllByRecursion (IsLooped head.now.hosts) ran.now }
+    requires reason { IsNoKeep last }
     ensures { TellsEnd result last head.now world.now (P.content world.now.server.keeper) ran.now (K.held out.old) (K.held out.new) (K.faults out.old) (K.faults out.new) }
 {
     match last {
@@ -114,7 +116,7 @@ fn tell<P: Keeper, K: Sink>(
         LoopTurn::Quiet => print_whole(alloc, head, world, ran, out),
         LoopTurn::Limit(limit) => tell_limit(alloc, 0, limit, out),
         LoopTurn::Link => Ending::LinkFault,
-        LoopTurn::Keep => Ending::KeepFault,
+        LoopTurn::Keep => unreachable!(),
         LoopTurn::Memory => Ending::Memory,
     }
 }

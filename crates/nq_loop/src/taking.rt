@@ -3,7 +3,7 @@
 ghost use Rattle.std.specs.Prelude.{◌≡◌, ◌≤◌, ◌<◌, ◌+◌, ◌&&◌, ℕ, List, length, slice_get};
 ghost use Rattle.nq_base.specs.declared.Event.{Event};
 ghost use Rattle.nq_loop.specs.Counting.{Counts};
-ghost use Rattle.nq_loop.specs.Holding.{IsLooping, StandsBehind, loop_of, moment_of};
+ghost use Rattle.nq_loop.specs.Holding.{CountsTurn, IsLooping, StandsBehind, loop_of, moment_of};
 ghost use Rattle.nq_loop.specs.Turning.{TakesTurns, all_answered, is_over, is_through, went_on};
 ghost use Rattle.nq_model.specs.World.{Head};
 ghost use Rattle.nq_world.specs.Playing.{Plays};
@@ -34,12 +34,14 @@ pub(crate) fn take_turns<P: Keeper, L: Link, C: Clock>(
     requires hosts { length world.old.clients ≡ length state.old.begun }
     requires few { length state.old.begun ≤ 64 }
     requires links { length links.old ≡ length state.old.begun + 1 }
-    ensures { (head : Head) → head.hosts ≡ length state.old.begun
+    ensures turns { (head : Head) → head.hosts ≡ length state.old.begun
         → IsLooping head (loop_of P.content L.sent L.waiting L.faults world.old state.old ran.old links.old)
         → TakesTurns head turns result
         (record { moment = moment_of (loop_of P.content L.sent L.waiting L.faults world.old state.old ran.old links.old); clock = C.readings clock.old })
         (record { moment = moment_of (loop_of P.content L.sent L.waiting L.faults world.new state.new ran.new links.new); clock = C.readings clock.new })
         × StandsBehind head result (loop_of P.content L.sent L.waiting L.faults world.new state.new ran.new links.new) }
+    ensures faults { CountsTurn result (P.faults world.old.server.keeper) (P.faults world.new.server.keeper) }
+    ensures follows { P.follows world.old.server.keeper world.new.server.keeper }
 {
     for turn in 0..turns {
         if all_answered(world, state) {

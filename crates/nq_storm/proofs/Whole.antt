@@ -6,8 +6,8 @@ use Rattle.nq_base.specs.declared.Event.{Event}
 use Rattle.nq_model.specs.Kept.{Kept}
 use Rattle.nq_model.specs.World.{Head}
 use Rattle.nq_play.specs.Delivering.{Marks}
-use Rattle.nq_storm.proofs.Passing.{ends_early}
 use Rattle.nq_replay.proofs.Never.{none_rose}
+use Rattle.nq_storm.proofs.Passing.{ends_early}
 use Rattle.nq_storm.specs.Ending.{CountsFaults, Halts, IsInStorm, IsNoFault, Stands, Storms}
 use Rattle.nq_storm.specs.Storming.{generator, word_behind}
 use Rattle.nq_storm.specs.declared.stormed.Stormed.{Stormed}

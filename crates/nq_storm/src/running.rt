@@ -3,15 +3,15 @@
 ghost use Rattle.std.specs.List.{AllByRecursion};
 ghost use Rattle.std.specs.Prelude.{◌≡◌, [], ℕ, Option, Some, reverse};
 ghost use Rattle.nq_keeper.specs.StoredKeeper.{empty_kept};
-ghost use Rattle.nq_play.specs.Playing.{beginning};
 ghost use Rattle.nq_model.specs.World.{Head};
+ghost use Rattle.nq_play.specs.Playing.{beginning};
 ghost use Rattle.nq_replay.specs.Schedules.{NeverFails};
 ghost use Rattle.nq_storm.specs.Ending.{IsNoFault, Storms};
-ghost use Rattle.nq_world.specs.Playing.{HasSettings, Plays};
 ghost use Rattle.nq_storm.specs.Heads.{storm_head};
 ghost use Rattle.nq_storm.specs.Printed.{StormEnds};
 ghost use Rattle.nq_storm_rules.specs.Rules.{Rule};
 ghost use Rattle.nq_storm_rules.specs.Stormy.{IsStormy};
+ghost use Rattle.nq_world.specs.Playing.{HasSettings, Plays};
 
 use crate::printing::print_storm;
 use crate::schedules::storm_head;

@@ -32,6 +32,7 @@ returns-in-Done g c =
         clients_are = c.step.ensures.settings.hosts_are;
         hosts_are = c.note.ensures.hosts;
       };
+      follows = c.step.ensures.follows;
     }
 
 pub returns-in_default : goal.returns-in_default
@@ -46,4 +47,5 @@ returns-in_default g c = record {
     clients_are = c.step.ensures.settings.hosts_are;
     hosts_are = refl;
   };
+  follows = c.step.ensures.follows;
 }

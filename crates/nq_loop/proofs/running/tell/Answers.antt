@@ -15,8 +15,5 @@ returns-in-Limit g c = rw c.in-Limit.is (limited-tells c.tell_limit.result c.in-
 pub returns-in-Link : goal.returns-in-Link
 returns-in-Link g c = inr (inl (refl, c.in-Link.is, refl, refl))
 
-pub returns-in-Keep : goal.returns-in-Keep
-returns-in-Keep g c = inr (inr (inl (refl, c.in-Keep.is, refl, refl)))
-
 pub returns-in-Memory : goal.returns-in-Memory
-returns-in-Memory g c = inr (inr (inr (inr (refl, rw c.in-Memory.is tt, refl))))
+returns-in-Memory g c = inr (inr (inr (refl, rw c.in-Memory.is tt, refl)))

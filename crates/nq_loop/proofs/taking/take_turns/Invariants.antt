@@ -12,4 +12,6 @@ invariant-loop-turn g l = record {
       × IsLooping head (loop_of g.P.Keeper.content g.L.Link.sent g.L.Link.waiting g.L.Link.faults l.world l.state l.ran l.links);
   clients : length l.world.clients ≡ length l.fn.world.clients;
   hosts : length l.state.begun ≡ length l.fn.state.begun;
+  faults : g.P.Keeper.faults l.world.server.keeper ≡ g.P.Keeper.faults l.fn.world.server.keeper;
+  follows : g.P.Keeper.follows l.fn.world.server.keeper l.world.server.keeper;
 }
