@@ -75,58 +75,62 @@ TakesTurns content faults turns (Err why) at after = StopsEarly content faults t
 unfoldable pub turns_line : (turns : ℕ) → List ℕ
 turns_line turns = codes "turns " ++ decimal turns ++ codes "\n"
 
--- turns of this server over this link, with a journal that is empty at first and datagrams that are numbered from 0; they ended so
-pub record Ran {K : Type 0} (content : K → Option Kept) (faults : K → ℕ) (turns : ℕ) (server : Holding K) (ended : Result Unit Halt) (clock clock' : Option (List ℕ)) (link link' : LinkTold) : Type 0 where
+-- turns of this server over this link, with a journal that is empty at first and datagrams that are numbered from 0; they ended so. The
+-- server has its keeper still, after the calls that the turns made of it
+pub record Ran {K : Type 0} (content : K → Option Kept) (faults : K → ℕ) (follows : K → K → Type 0) (turns : ℕ) (server : Holding K) (ended : Result Unit Halt) (clock clock' : Option (List ℕ)) (link link' : LinkTold) : Type 0 where
   pub log : EntryList
   pub silent : log.entries ≡ []
   pub last : Between K
+  pub same : follows server.keeper last.server.keeper
   pub taken : TakesTurns content faults turns ended (record { server = server; log = log; next = 0; clock = clock; link = link }) last
   pub clocks : clock' ≡ last.clock
   pub links : link' ≡ last.link
 
--- a server that booted over this keeper at this time: it is the protocol's, and knows no last table
-abbrev pub Booted : {K : Type 0} → (content : K → Option Kept) → (longest time : ℕ) → (keeper : K) → Holding K → Type 0
-Booted content longest time keeper server =
+-- a server that booted over this keeper at this time: it is the protocol's, knows no last table, and has this very keeper
+abbrev pub Booted : {K : Type 0} → (content : K → Option Kept) → (follows : K → K → Type 0) → (longest time : ℕ) → (keeper : K) → Holding K → Type 0
+Booted content follows longest time keeper server =
     ForSome (content keeper) (λ kept. (kept.boot < most_boots) × IsServer (boot kept longest time None) server (content server.keeper))
+    × follows keeper server.keeper
 
--- the keeper failed, and counted that
-pub record HasFailed {K : Type 0} (faults : K → ℕ) (keeper : K) : Type 0 where
+-- this very keeper failed, and counted that
+pub record HasFailed {K : Type 0} (faults : K → ℕ) (follows : K → K → Type 0) (keeper : K) : Type 0 where
   pub left : K
+  pub same : follows keeper left
   pub count : Rose (faults keeper) (faults left)
 
 -- why no server booted over this keeper: it failed, memory was wanting, or no number is left for a boot
-abbrev pub NoBoot : {K : Type 0} → (content : K → Option Kept) → (faults : K → ℕ) → (keeper : K) → Halt → Type 0
-NoBoot content faults keeper Halt.Link = ⊥
-NoBoot content faults keeper Halt.NoAnswer = ⊥
-NoBoot content faults keeper Halt.Keep = HasFailed faults keeper
-NoBoot content faults keeper Halt.Memory = ⊤
-NoBoot content faults keeper Halt.Spent = ForSome (content keeper) (λ kept. kept.boot ≡ most_boots)
+abbrev pub NoBoot : {K : Type 0} → (content : K → Option Kept) → (faults : K → ℕ) → (follows : K → K → Type 0) → (keeper : K) → Halt → Type 0
+NoBoot content faults follows keeper Halt.Link = ⊥
+NoBoot content faults follows keeper Halt.NoAnswer = ⊥
+NoBoot content faults follows keeper Halt.Keep = HasFailed faults follows keeper
+NoBoot content faults follows keeper Halt.Memory = ⊤
+NoBoot content faults follows keeper Halt.Spent = ForSome (content keeper) (λ kept. kept.boot ≡ most_boots)
 
 -- what a boot over this keeper at this time gives: a server, or why none booted
-abbrev pub EndsBoot : {K : Type 0} → (content : K → Option Kept) → (faults : K → ℕ) → (longest time : ℕ) → (keeper : K) → Result (Holding K) Halt → Type 0
-EndsBoot content faults longest time keeper (Ok server) = Booted content longest time keeper server
-EndsBoot content faults longest time keeper (Err why) = NoBoot content faults keeper why
+abbrev pub EndsBoot : {K : Type 0} → (content : K → Option Kept) → (faults : K → ℕ) → (follows : K → K → Type 0) → (longest time : ℕ) → (keeper : K) → Result (Holding K) Halt → Type 0
+EndsBoot content faults follows longest time keeper (Ok server) = Booted content follows longest time keeper server
+EndsBoot content faults follows longest time keeper (Err why) = NoBoot content faults follows keeper why
 
 -- a server booted over this keeper at this time, and turns of it ended so
-pub record RanBooted {K : Type 0} (content : K → Option Kept) (faults : K → ℕ) (longest turns time : ℕ) (keeper : K) (ended : Result Unit Halt) (clock clock' : Option (List ℕ)) (link link' : LinkTold) : Type 0 where
+pub record RanBooted {K : Type 0} (content : K → Option Kept) (faults : K → ℕ) (follows : K → K → Type 0) (longest turns time : ℕ) (keeper : K) (ended : Result Unit Halt) (clock clock' : Option (List ℕ)) (link link' : LinkTold) : Type 0 where
   pub server : Holding K
-  pub booted : Booted content longest time keeper server
-  pub ran : Ran content faults turns server ended clock clock' link link'
+  pub booted : Booted content follows longest time keeper server
+  pub ran : Ran content faults follows turns server ended clock clock' link link'
 
 -- likewise, or no server booted, and then no turn was taken
-abbrev pub Runs : {K : Type 0} → (content : K → Option Kept) → (faults : K → ℕ) → (longest turns time : ℕ) → (keeper : K) → Result Unit Halt → (clock clock' : Option (List ℕ)) → (link link' : LinkTold) → Type 0
-Runs content faults longest turns time keeper (Ok done) clock clock' link link' =
-    RanBooted content faults longest turns time keeper (Ok done) clock clock' link link'
-Runs content faults longest turns time keeper (Err why) clock clock' link link' =
-    RanBooted content faults longest turns time keeper (Err why) clock clock' link link'
-    ⊎ (NoBoot content faults keeper why × (clock' ≡ clock) × (link' ≡ link))
+abbrev pub Runs : {K : Type 0} → (content : K → Option Kept) → (faults : K → ℕ) → (follows : K → K → Type 0) → (longest turns time : ℕ) → (keeper : K) → Result Unit Halt → (clock clock' : Option (List ℕ)) → (link link' : LinkTold) → Type 0
+Runs content faults follows longest turns time keeper (Ok done) clock clock' link link' =
+    RanBooted content faults follows longest turns time keeper (Ok done) clock clock' link link'
+Runs content faults follows longest turns time keeper (Err why) clock clock' link link' =
+    RanBooted content faults follows longest turns time keeper (Err why) clock clock' link link'
+    ⊎ (NoBoot content faults follows keeper why × (clock' ≡ clock) × (link' ≡ link))
 
 -- the clock was read once, and what was to be done from that time on ended so
-pub record Serves {K : Type 0} (content : K → Option Kept) (faults : K → ℕ) (longest turns : ℕ) (keeper : K) (ended : Result Unit Halt) (clock clock' : Option (List ℕ)) (link link' : LinkTold) : Type 0 where
+pub record Serves {K : Type 0} (content : K → Option Kept) (faults : K → ℕ) (follows : K → K → Type 0) (longest turns : ℕ) (keeper : K) (ended : Result Unit Halt) (clock clock' : Option (List ℕ)) (link link' : LinkTold) : Type 0 where
   pub time : ℕ
   pub between : Option (List ℕ)
   pub read : Reads time clock between
-  pub runs : Runs content faults longest turns time keeper ended between clock' link link'
+  pub runs : Runs content faults follows longest turns time keeper ended between clock' link link'
 
 -- what was printed, by the end of serving: the line only behind all turns. `P` says what was done when turns ended so
 abbrev pub Tells : Ending → (turns : ℕ) → (P : Result Unit Halt → Type 0) → (held now : Option (List ℕ)) → (w w' : ℕ) → Type 0

@@ -33,7 +33,7 @@ pub fn serve<K: Keeper + Drop, L: Link, C: Clock, S: Sink>(
 ) -> Ending
     requires long { 5 ≤ longest }
     requires short { longest ≤ 600 }
-    ensures { Tells result turns (λ ended. Serves K.content K.faults longest turns keeper ended (C.readings clock.old) (C.readings clock.new)
+    ensures { Tells result turns (λ ended. Serves K.content K.faults K.follows longest turns keeper ended (C.readings clock.old) (C.readings clock.new)
         (record { sent = L.sent link.old; waiting = L.waiting link.old; faults = L.faults link.old })
         (record { sent = L.sent link.new; waiting = L.waiting link.new; faults = L.faults link.new }))
         (S.held out.old) (S.held out.new) (S.faults out.old) (S.faults out.new) }
@@ -86,7 +86,7 @@ fn boot_and_run<K: Keeper + Drop, L: Link, C: Clock>(
     requires long { 5 ≤ longest }
     requires short { longest ≤ 600 }
     requires early { now < 2 ^ 62 }
-    ensures { Runs K.content K.faults longest turns now keeper result (C.readings clock.old) (C.readings clock.new)
+    ensures { Runs K.content K.faults K.follows longest turns now keeper result (C.readings clock.old) (C.readings clock.new)
         (record { sent = L.sent link.old; waiting = L.waiting link.old; faults = L.faults link.old })
         (record { sent = L.sent link.new; waiting = L.waiting link.new; faults = L.faults link.new }) }
 {
@@ -106,7 +106,7 @@ fn booted<K: Keeper + Drop>(
     requires long { 5 ≤ longest }
     requires short { longest ≤ 600 }
     requires early { now < 2 ^ 62 }
-    ensures { EndsBoot K.content K.faults longest now keeper result }
+    ensures { EndsBoot K.content K.faults K.follows longest now keeper result }
 {
     match Server::boot(alloc, keeper, longest, now) {
         Ok(server) => Ok(server),
@@ -124,7 +124,7 @@ fn run_server<K: Keeper + Drop, L: Link, C: Clock>(
     link: &mut L,
     clock: &mut C,
 ) -> Result<(), Halt>
-    ensures { Ran K.content K.faults turns server result (C.readings clock.old) (C.readings clock.new)
+    ensures { Ran K.content K.faults K.follows turns server result (C.readings clock.old) (C.readings clock.new)
         (record { sent = L.sent link.old; waiting = L.waiting link.old; faults = L.faults link.old })
         (record { sent = L.sent link.new; waiting = L.waiting link.new; faults = L.faults link.new }) }
 {

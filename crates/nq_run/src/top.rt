@@ -105,7 +105,7 @@ pub fn run<S: Source, K: Sink, P: Keeper + Drop, L: Link, C: Clock>(
     ensures sound { IsReplay words.now → result ≡ status_of Ending.Done
         → OfInput most_bytes (S.left input.old) (S.left input.new) (λ text. PrintsSound (K.held out.old) (K.held out.new)) }
     ensures serves { (turns longest : ℕ) → command_of words.now ≡ Some (Command.Serve turns longest)
-        → ServesFor P.content P.faults result longest turns keeper (C.readings clock.old) (C.readings clock.new)
+        → ServesFor P.content P.faults P.follows result longest turns keeper (C.readings clock.old) (C.readings clock.new)
         (record { sent = L.sent link.old; waiting = L.waiting link.old; faults = L.faults link.old })
         (record { sent = L.sent link.new; waiting = L.waiting link.new; faults = L.faults link.new })
         (K.held out.old) (K.held out.new) (K.faults out.old) (K.faults out.new) }
