@@ -1,25 +1,22 @@
 -- The numbers of a run stay within their bounds.
 use Rattle.std.specs.List.{AllByRecursion, sum_by}
-use Rattle.std.specs.Prelude.{◌≡◌, ◌≢◌, ◌≤◌, ℕ, ◌+◌, List, [], ◌∷◌, Some, All, length, slice_get}
+use Rattle.std.specs.Prelude.{◌≡◌, ◌≢◌, ◌≤◌, ℕ, ◌+◌, false, List, [], ◌∷◌, Some, All, length, slice_get}
 use Rattle.nq_base.specs.Name.{IsName}
 use Rattle.nq_base.specs.declared.Event.{Event}
+use Rattle.nq_base.specs.declared.Party.{Party}
 use Rattle.nq_base.specs.declared.Request.{Request}
-use Rattle.nq_base.specs.declared.Request.TheVariants.{Create, Write}
-use Rattle.nq_model.specs.Change.{IsBody, IsWithinBounds}
-use Rattle.nq_model.specs.Kept.{File, Kept}
-use Rattle.nq_model.specs.Message.{Message, Packet, call}
+use Rattle.nq_base.specs.declared.Who.{Who}
+use Rattle.nq_model.specs.Change.{IsWithinBounds}
+use Rattle.nq_model.specs.Decided.{HasText}
+use Rattle.nq_model.specs.Kept.{File, Kept, host_row}
+use Rattle.nq_model.specs.Message.{Message, Packet, call, request, datagram_of, asker}
 use Rattle.nq_model.specs.Profile.{shortest_term, longest_term, most_hosts, most_files, most_blocks, most_blocks_of_file}
 use Rattle.nq_model.specs.Server.{Server}
 use Rattle.nq_model.specs.Stepped.{most_events, most_sent}
 use Rattle.nq_model.specs.World.{Head, World, run}
+use Rattle.nq_promises.specs.RepliesAreOwed.{is_out_of_bounds}
 
--- a request's name is a name, and its body a block of bytes
-abbrev pub HasText : Request → Type 0
-HasText (Create who seq name blocks) = IsName name
-HasText (Write who seq file block first last push body) = IsBody body
-HasText other = Unit {0}
-
--- so are those of the request that a message is, if it is one
+-- if a message is a request, its name is a name, and its body a block of bytes
 abbrev pub CarriesText : Message → Type 0
 CarriesText (call xid r) = HasText r
 CarriesText other = Unit {0}
@@ -87,7 +84,22 @@ NumbersStayWithin =
     → length events ≤ most_events
     → IsServerAfter (length events) (run head events).server
 
--- that this law speaks of something: there is a schedule that is given so, after which a file was made
+-- in every run of so few events, no request that was sent to the server goes out of bounds: it drops none for its numbers
+abbrev pub NoneGoesOut : Type 0
+NoneGoesOut =
+    (head : Head) (events : List Event)
+    → IsHeadWithin head
+    → AreGiven head events
+    → length events ≤ most_events
+    → length (run head events).packets ≤ most_sent
+    → (k : ℕ) (p : Packet) (xid : ℕ) (r : Request) (who : Who)
+    → slice_get (run head events).packets k ≡ Some p
+    → p.to ≡ Party.Server
+    → datagram_of p.message ≡ request xid r
+    → asker r ≡ Some who
+    → is_out_of_bounds (run head events).server who r (host_row (run head events).server.kept who.host) ≡ false
+
+-- that these laws speak of something: there is a schedule that is given so, after which a file was made
 pub record NumbersAreMet : Type 0 where
   pub head : Head
   pub events : List Event

@@ -5,5 +5,5 @@
 mod bounds;
 mod says;
 
-pub use bounds::{numbers_are_met, numbers_stay_within};
+pub use bounds::{none_goes_out, numbers_are_met, numbers_stay_within};
 pub use says::server_says_plainly;

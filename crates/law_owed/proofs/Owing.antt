@@ -1,5 +1,5 @@
 -- A server sends one reply to each datagram that is owed one, and nothing to another.
-use Rattle.std.proofs.Common.{◌≡◌, ◌⊎◌, ℕ, ◌==◌, Bool, true, false, ◌&&◌, nat_lt, List, [], ◌∷◌, ◌++◌, Option, Some, None, if◌then◌else◌, refl, sym, subst, ap, ◌∙◌, inl, inr, arith}
+use Rattle.std.proofs.Common.{◌≡◌, ◌⊎◌, ℕ, ◌==◌, Bool, true, false, not, ◌&&◌, nat_lt, List, [], ◌∷◌, ◌++◌, Option, Some, None, if◌then◌else◌, refl, sym, subst, ap, ◌∙◌, inl, inr, arith}
 use Rattle.std.proofs.lemmas.Bool.Decides.{nat_tests}
 use Rattle.std.specs.Prelude.{slice_get}
 use Rattle.nq_base.specs.declared.Access.{Access}
@@ -13,13 +13,13 @@ use Rattle.nq_base.specs.declared.Tag.{Tag}
 use Rattle.nq_base.specs.declared.Verdict.{Verdict}
 use Rattle.nq_base.specs.declared.Want.{Want}
 use Rattle.nq_base.specs.declared.Who.{Who}
-use Rattle.nq_promises.specs.RepliesAreOwed.{has_reply, owes_incarnation, owes_request, owes, CanBe, IsReply, brings_result, brings_error, IsReplied, AnswersAsOwed, RepliesAreOwed}
-use Rattle.nq_model.specs.Decide.{Decision, decide, decides, creates, writes_through, stores, stores_recovering, resizes, removes, puts_off, verdict_reply, commits, decided_once}
-use Rattle.nq_model.specs.Kept.{File, find_file, find_name, host_row}
+use Rattle.nq_promises.specs.RepliesAreOwed.{has_reply, goes_out, is_out_of_bounds, owes_incarnation, owes_request, owes, CanBe, IsReply, brings_result, brings_error, IsReplied, AnswersAsOwed, RepliesAreOwed}
+use Rattle.nq_model.specs.Decide.{Decision, decide, decides, creates, writes_through, stores, stores_recovering, resizes, removes, puts_off, verdict_reply, row_after, commits, decided_once}
+use Rattle.nq_model.specs.Kept.{File, find_file, find_name, can_be_kept, host_row}
 use Rattle.nq_model.specs.Message.{Message, reply, Packet, Datagram, too_long, no_message, no_call, other_rpc, other_program, other_version, unknown_procedure, garbage_vacated, garbage, request, Reason, wrong_host, asker}
 use Rattle.nq_model.specs.Profile.{most_hosts}
 use Rattle.nq_model.specs.Server.{Phase, serving, recovering, Server, ServerStep, to_host, says, quiet, drops, notices}
-use Rattle.nq_model.specs.ServerStep.{attaches, attach, look_up, get_attr, read_asked, read_block, read, lease_asked, get_lease, vacates, tells_later, serves, leases, look, perform, not_attached, is_attach, admit, answer_request, receive}
+use Rattle.nq_model.specs.ServerStep.{row_of_attach, attaches, attach, look_up, get_attr, read_asked, read_block, read, lease_asked, get_lease, vacates, tells_later, serves, leases, look, perform, not_attached, is_attach, admit, answer_request, receive}
 use Rattle.nq_model.specs.Table.{Table}
 use Rattle.walk_client.proofs.ClientMoves.{some-same, none-some}
 use Rattle.walk_server.proofs.Rows.{choice}
@@ -143,6 +143,57 @@ module _ (s : Server) where
 abbrev Sends : ServerStep → Type 0
 Sends t = t.sends ≡ [] → ⊥
 
+true-false : (b : Bool) → b ≡ true → b ≡ false → ⊥
+true-false b t f = cc
+
+both-hold : (a b : Bool) → a ≡ true → b ≡ false → (a && not b) ≡ false → ⊥
+both-hold true true e f h = cc
+both-hold true false e f h = cc
+both-hold false b e f h = cc
+
+owed-parts : (has out : Bool) → (has && not out) ≡ true → (has ≡ true) × (out ≡ false)
+owed-parts true true h = absurd (cc)
+owed-parts true false h = (refl, refl)
+owed-parts false out h = absurd (cc)
+
+unowed-parts : (has out : Bool) → (has && not out) ≡ false → (has ≡ false) ⊎ (out ≡ true)
+unowed-parts true true h = inr refl
+unowed-parts true false h = absurd (cc)
+unowed-parts false out h = inl refl
+
+-- a later sequence of the kept incarnation, which does not go out of bounds, leaves a row that can be kept
+stays-within :
+    (inc kept seq last : ℕ) (can : Bool) → nat_lt inc kept ≡ false → nat_lt kept inc ≡ false → (seq == last) ≡ false → nat_lt seq last ≡ false
+    → (inc == kept && nat_lt last seq && not can) ≡ false → can ≡ true
+stays-within inc kept seq last true young old differs above h = refl
+stays-within inc kept seq last false young old differs above h = grind (arith, nat_tests)
+
+both-fail : (a b : Bool) → b ≡ true → (a && not b) ≡ true → ⊥
+both-fail true true e h = cc
+both-fail true false e h = cc
+both-fail false b e h = cc
+
+first-fails : (a b : Bool) → a ≡ false → (a && not b) ≡ true → ⊥
+first-fails true b e h = cc
+first-fails false b e h = cc
+
+bools-cancel : (a b : Bool) → (a && b && false) ≡ true → ⊥
+bools-cancel true true h = cc
+bools-cancel true false h = cc
+bools-cancel false b h = cc
+
+-- what led to a request that goes out of bounds
+record GoesOut (inc kept seq last : ℕ) (can : Bool) : Type 0 where
+  now : nat_lt kept inc ≡ false
+  differs : (seq == last) ≡ false
+  above : nat_lt seq last ≡ false
+  past : can ≡ false
+
+goes-parts : (inc kept seq last : ℕ) (can : Bool) → (inc == kept && nat_lt last seq && not can) ≡ true → GoesOut inc kept seq last can
+goes-parts inc kept seq last true h = absurd (bools-cancel (inc == kept) (nat_lt last seq) h)
+goes-parts inc kept seq last false h =
+    record { now = grind (arith, nat_tests); differs = grind (arith, nat_tests); above = grind (arith, nat_tests); past = refl }
+
 older : (a b : ℕ) → nat_lt a b ≡ true → nat_lt b a ≡ false
 older a b h = grind (arith, nat_tests)
 
@@ -207,50 +258,79 @@ module _ (s : Server) where
   gets-attr who xid None = said who.host _
   gets-attr who xid (Some f) = said who.host _
 
-  decided-sends : (who : Who) (seq xid : ℕ) (r : Request) (line : HostRow) → Sends (decided_once s who seq xid r line)
-  decided-sends who seq xid r line =
-      choice Sends (seq == line.seq) _ _ (λ e. said who.host _) (λ e. choice Sends (nat_lt seq line.seq) _ _ (λ f. said who.host _) (λ f. committed who seq xid r (decide s who r)))
+  decided-sends :
+      (who : Who) (seq xid : ℕ) (r : Request) (line : HostRow) → nat_lt who.inc line.inc ≡ false → nat_lt line.inc who.inc ≡ false
+      → goes_out s who r line (Some seq) ≡ false → Sends (decided_once s who seq xid r line)
+  decided-sends who seq xid r line young old stays =
+      choice Sends (seq == line.seq) _ _ (λ e. said who.host _) (λ e.
+      choice Sends (nat_lt seq line.seq) _ _ (λ f. said who.host _) (λ f.
+      choice Sends (can_be_kept (row_after who seq (decide s who r))) _ _ (λ can. committed who seq xid r (decide s who r)) (λ past.
+      absurd (true-false _ (stays-within who.inc line.inc seq line.seq _ young old e f stays) past))))
 
-  attach-sends : (who : Who) (xid : ℕ) (line : HostRow) → nat_lt who.inc line.inc ≡ false → Sends (attach s who xid line)
-  attach-sends who xid line young =
-      choice Sends (nat_lt line.inc who.inc) _ _ (λ e. attached who xid) (λ e. choice Sends (nat_lt who.inc line.inc) _ _ (λ old. absurd (cc)) (λ f. said who.host _))
+  attach-sends :
+      (who : Who) (xid : ℕ) (line : HostRow) → nat_lt who.inc line.inc ≡ false → (nat_lt line.inc who.inc && not (can_be_kept (row_of_attach who))) ≡ false
+      → Sends (attach s who xid line)
+  attach-sends who xid line young stays =
+      choice Sends (nat_lt line.inc who.inc) _ _
+      (λ e. choice Sends (can_be_kept (row_of_attach who)) _ _ (λ can. attached who xid) (λ past. absurd (both-hold _ _ e past stays)))
+      (λ e. choice Sends (nat_lt who.inc line.inc) _ _ (λ old. absurd (cc)) (λ f. said who.host _))
 
   look-sends : (p : Phase) (who : Who) (xid next : ℕ) (r : Request) → (p ≡ serving → Sends (look s serving who xid next r)) → Sends (look s p who xid next r)
   look-sends serving who xid next r when = when refl
   look-sends (recovering until heard last) who xid next r when = said who.host _
 
-  performs : (who : Who) (xid next : ℕ) (line : HostRow) (r : Request) → nat_lt who.inc line.inc ≡ false → asker r ≡ Some who → has_reply r ≡ true → Sends (perform s who xid next line r)
-  performs who xid next line (Request.Create w seq name blocks) young by has = decided-sends who seq xid _ line
-  performs who xid next line (Request.Write w seq file block first last push body) young by has = decided-sends who seq xid _ line
-  performs who xid next line (Request.Resize w seq q file blocks) young by has = decided-sends who seq xid _ line
-  performs who xid next line (Request.Remove w seq q file) young by has = decided-sends who seq xid _ line
-  performs who xid next line (Request.Vacated w file tag) young by has = absurd (cc)
-  performs who xid next line (Request.Lookup w name) young by has = look-sends s.phase who xid next _ (λ p. looks-up who xid (find_name name s.kept.files))
-  performs who xid next line (Request.GetAttr w file) young by has = look-sends s.phase who xid next _ (λ p. gets-attr who xid (find_file file s.kept.files))
-  performs who xid next line (Request.Read w q file block want) young by has = look-sends s.phase who xid next _ (λ p. reads who xid next q block want (find_file file s.kept.files))
-  performs who xid next line (Request.GetLease w file want) young by has = look-sends s.phase who xid next _ (λ p. gets who xid want (find_file file s.kept.files))
-  performs who xid next line (Request.Attach w) young by has = attach-sends who xid line young
-  performs who xid next line (Request.Evicted w file tag) young by has = absurd (cc)
-  performs who xid next line Request.Null young by has = none-some who by
+  performs :
+      (who : Who) (xid next : ℕ) (line : HostRow) (r : Request) → nat_lt who.inc line.inc ≡ false → nat_lt line.inc who.inc ≡ false → asker r ≡ Some who
+      → has_reply r ≡ true → is_out_of_bounds s who r line ≡ false → Sends (perform s who xid next line r)
+  performs who xid next line (Request.Create w seq name blocks) young old by has stays = decided-sends who seq xid _ line young old stays
+  performs who xid next line (Request.Write w seq file block first last push body) young old by has stays = decided-sends who seq xid _ line young old stays
+  performs who xid next line (Request.Resize w seq q file blocks) young old by has stays = decided-sends who seq xid _ line young old stays
+  performs who xid next line (Request.Remove w seq q file) young old by has stays = decided-sends who seq xid _ line young old stays
+  performs who xid next line (Request.Vacated w file tag) young old by has stays = absurd (cc)
+  performs who xid next line (Request.Lookup w name) young old by has stays =
+      look-sends s.phase who xid next _ (λ p. looks-up who xid (find_name name s.kept.files))
+  performs who xid next line (Request.GetAttr w file) young old by has stays =
+      look-sends s.phase who xid next _ (λ p. gets-attr who xid (find_file file s.kept.files))
+  performs who xid next line (Request.Read w q file block want) young old by has stays =
+      look-sends s.phase who xid next _ (λ p. reads who xid next q block want (find_file file s.kept.files))
+  performs who xid next line (Request.GetLease w file want) young old by has stays =
+      look-sends s.phase who xid next _ (λ p. gets who xid want (find_file file s.kept.files))
+  performs who xid next line (Request.Attach w) young old by has stays = attach-sends who xid line young stays
+  performs who xid next line (Request.Evicted w file tag) young old by has stays = absurd (cc)
+  performs who xid next line Request.Null young old by has stays = none-some who by
 
   unattached : (who : Who) (xid : ℕ) (r : Request) → has_reply r ≡ true → Sends (not_attached s who xid r)
   unattached who xid (Request.Vacated w file tag) has = absurd (cc)
   unattached who xid other has = said who.host _
 
-  admits : (who : Who) (xid next : ℕ) (r : Request) (line : HostRow) → asker r ≡ Some who → owes_incarnation who r line ≡ true → Sends (admit s who xid next r line)
+  admits :
+      (who : Who) (xid next : ℕ) (r : Request) (line : HostRow) → asker r ≡ Some who → owes_incarnation s who r line ≡ true
+      → Sends (admit s who xid next r line)
   admits who xid next r line by owed = by-age (nat_lt who.inc line.inc) refl owed
     where
-      by-age : (b : Bool) → nat_lt who.inc line.inc ≡ b → (if b then false else has_reply r) ≡ true → Sends (admit s who xid next r line)
+      attaching :
+          (q : Request) → is_attach q ≡ true → is_out_of_bounds s who q line ≡ false
+          → (nat_lt line.inc who.inc && not (can_be_kept (row_of_attach who))) ≡ false
+      attaching (Request.Attach w) is stays = stays
+      attaching other is stays = absurd (cc)
+
+      by-age :
+          (b : Bool) → nat_lt who.inc line.inc ≡ b → (if b then false else has_reply r && not (is_out_of_bounds s who r line)) ≡ true
+          → Sends (admit s who xid next r line)
       by-age true old bad = absurd (cc)
       by-age false young has =
-          choice Sends (is_attach r) _ _ (λ e. attach-sends who xid line young)
-          (λ e. choice Sends (nat_lt who.inc line.inc) _ _ (λ old. absurd (cc)) (λ f. choice Sends (nat_lt line.inc who.inc) _ _ (λ g. unattached who xid r has) (λ g. performs who xid next line r young by has)))
+          let parts = owed-parts (has_reply r) (is_out_of_bounds s who r line) has in
+          choice Sends (is_attach r) _ _ (λ e. attach-sends who xid line young (attaching r e parts.1))
+          (λ e. choice Sends (nat_lt who.inc line.inc) _ _ (λ old. absurd (cc)) (λ f.
+          choice Sends (nat_lt line.inc who.inc) _ _ (λ g. unattached who xid r parts.0) (λ g. performs who xid next line r young g by parts.0 parts.1)))
 
   requests : (sender xid next : ℕ) (r : Request) (o : Option Who) → asker r ≡ o → owes_request s sender r o ≡ true → Sends (answer_request s sender xid next r o)
   requests sender xid next r None by owed = said sender _
   requests sender xid next r (Some who) by owed = step (who.host == sender && nat_lt who.host most_hosts) owed
     where
-      step : (b : Bool) → (if b then owes_incarnation who r (host_row s.kept who.host) else false) ≡ true → Sends (if b then admit s who xid next r (host_row s.kept who.host) else drops s wrong_host)
+      step :
+          (b : Bool) → (if b then owes_incarnation s who r (host_row s.kept who.host) else false) ≡ true
+          → Sends (if b then admit s who xid next r (host_row s.kept who.host) else drops s wrong_host)
       step true e = admits who xid next r (host_row s.kept who.host) by e
       step false e = absurd (cc)
 
@@ -300,18 +380,57 @@ module _ (s : Server) where
   mute who xid next (Request.Resize w seq q file blocks) line can young has = absurd (cc)
   mute who xid next (Request.Remove w seq q file) line can young has = absurd (cc)
 
-  admitted-silent : (who : Who) (xid next : ℕ) (r : Request) (line : HostRow) → CanBe (request xid r) → owes_incarnation who r line ≡ false → Silent (admit s who xid next r line)
+  -- a request that goes out of bounds is dropped
+  past-silent : (who : Who) (seq xid : ℕ) (r : Request) (line : HostRow) → goes_out s who r line (Some seq) ≡ true → Silent (decided_once s who seq xid r line)
+  past-silent who seq xid r line out =
+      let parts = goes-parts who.inc line.inc seq line.seq (can_be_kept (row_after who seq (decide s who r))) out in
+      choice Silent (seq == line.seq) _ _ (λ e. absurd (true-false _ e parts.differs)) (λ e.
+      choice Silent (nat_lt seq line.seq) _ _ (λ f. absurd (true-false _ f parts.above)) (λ f.
+      choice Silent (can_be_kept (row_after who seq (decide s who r))) _ _ (λ can. absurd (true-false _ can parts.past)) (λ past. dropped _)))
+
+  admits-past :
+      (who : Who) (xid next seq : ℕ) (r : Request) (line : HostRow) → is_attach r ≡ false → goes_out s who r line (Some seq) ≡ true
+      → perform s who xid next line r ≡ decided_once s who seq xid r line → Silent (admit s who xid next r line)
+  admits-past who xid next seq r line other out is =
+      let parts = goes-parts who.inc line.inc seq line.seq (can_be_kept (row_after who seq (decide s who r))) out in
+      choice Silent (is_attach r) _ _ (λ e. absurd (true-false _ e other)) (λ e.
+      choice Silent (nat_lt who.inc line.inc) _ _ (λ f. dropped _) (λ f.
+      choice Silent (nat_lt line.inc who.inc) _ _ (λ g. absurd (true-false _ g parts.now)) (λ g. subst Silent (sym is) (past-silent who seq xid r line out))))
+
+  out-silent : (who : Who) (xid next : ℕ) (r : Request) (line : HostRow) → is_out_of_bounds s who r line ≡ true → Silent (admit s who xid next r line)
+  out-silent who xid next (Request.Attach w) line out =
+      choice Silent (nat_lt line.inc who.inc) _ _
+      (λ e. choice Silent (can_be_kept (row_of_attach who)) _ _ (λ can. absurd (both-fail _ _ can out)) (λ past. dropped _))
+      (λ e. absurd (first-fails _ _ e out))
+  out-silent who xid next (Request.Create w seq name blocks) line out = admits-past who xid next seq (Request.Create w seq name blocks) line refl out refl
+  out-silent who xid next (Request.Write w seq file block first last push body) line out =
+      admits-past who xid next seq (Request.Write w seq file block first last push body) line refl out refl
+  out-silent who xid next (Request.Resize w seq q file blocks) line out = admits-past who xid next seq (Request.Resize w seq q file blocks) line refl out refl
+  out-silent who xid next (Request.Remove w seq q file) line out = admits-past who xid next seq (Request.Remove w seq q file) line refl out refl
+  out-silent who xid next other line out = absurd (cc)
+
+  admitted-silent :
+      (who : Who) (xid next : ℕ) (r : Request) (line : HostRow) → CanBe (request xid r) → owes_incarnation s who r line ≡ false
+      → Silent (admit s who xid next r line)
   admitted-silent who xid next r line can unowed = by-age (nat_lt who.inc line.inc) refl unowed
     where
-      by-age : (b : Bool) → nat_lt who.inc line.inc ≡ b → (if b then false else has_reply r) ≡ false → Silent (admit s who xid next r line)
+      by-cause : nat_lt who.inc line.inc ≡ false → (has_reply r ≡ false) ⊎ (is_out_of_bounds s who r line ≡ true) → Silent (admit s who xid next r line)
+      by-cause young (inl has) = mute who xid next r line can young has
+      by-cause young (inr out) = out-silent who xid next r line out
+
+      by-age :
+          (b : Bool) → nat_lt who.inc line.inc ≡ b → (if b then false else has_reply r && not (is_out_of_bounds s who r line)) ≡ false
+          → Silent (admit s who xid next r line)
       by-age true old e = old-silent who xid next r line old (older who.inc line.inc old)
-      by-age false young has = mute who xid next r line can young has
+      by-age false young has = by-cause young (unowed-parts (has_reply r) (is_out_of_bounds s who r line) has)
 
   requests-silent : (sender xid next : ℕ) (r : Request) (o : Option Who) → CanBe (request xid r) → owes_request s sender r o ≡ false → Silent (answer_request s sender xid next r o)
   requests-silent sender xid next r None can unowed = absurd (cc)
   requests-silent sender xid next r (Some who) can unowed = step (who.host == sender && nat_lt who.host most_hosts) unowed
     where
-      step : (b : Bool) → (if b then owes_incarnation who r (host_row s.kept who.host) else false) ≡ false → Silent (if b then admit s who xid next r (host_row s.kept who.host) else drops s wrong_host)
+      step :
+          (b : Bool) → (if b then owes_incarnation s who r (host_row s.kept who.host) else false) ≡ false
+          → Silent (if b then admit s who xid next r (host_row s.kept who.host) else drops s wrong_host)
       step true e = admitted-silent who xid next r (host_row s.kept who.host) can e
       step false e = dropped wrong_host
 

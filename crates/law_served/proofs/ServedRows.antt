@@ -6,7 +6,7 @@ use Rattle.law_served.specs.Serving.{Coming, datagram, ticks, crashes, Does, Has
 use Rattle.law_servers.proofs.KeptTags.{own-keys}
 use Rattle.nq_base.specs.declared.Row.{Row}
 use Rattle.nq_datagrams.specs.Incoming.{datagram_in}
-use Rattle.nq_journal.specs.Items.{EntryList}
+use Rattle.nq_base.specs.Entries.{EntryList}
 use Rattle.nq_keeper.specs.Keeping.{StaysOrEnds}
 use Rattle.nq_model.specs.Change.{IsWithinBounds}
 use Rattle.nq_model.specs.Kept.{Kept}

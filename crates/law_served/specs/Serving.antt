@@ -4,7 +4,7 @@ use Rattle.std.specs.Prelude.{◌≡◌, ◌<◌, ◌≤◌, ◌^◌, ℕ, List,
 use Rattle.law_served.specs.declared.arriving.Arrival.{Arrival}
 use Rattle.law_served.specs.declared.arriving.Arrival.TheVariants as arrival
 use Rattle.nq_datagrams.specs.Incoming.{datagram_in}
-use Rattle.nq_journal.specs.Items.{EntryList}
+use Rattle.nq_base.specs.Entries.{EntryList}
 use Rattle.nq_model.specs.Change.{IsWithinBounds}
 use Rattle.nq_model.specs.Kept.{Kept}
 use Rattle.nq_model.specs.Profile.{shortest_term, longest_term}

@@ -2,8 +2,7 @@
 
 ghost use Rattle.law_served.specs.Serving.{CanCome, Does, coming_of};
 
-use nq_base::{Host, Ticks};
-use nq_journal::Journal;
+use nq_base::{Host, Journal, Ticks};
 use nq_keeper::Keeper;
 use nq_server::{Received, Server};
 use nq_wire::Outbox;

@@ -22,7 +22,7 @@ use Rattle.nq_model.specs.Message.{Message}
 use Rattle.nq_model.specs.Send.{sends_request, after_seq, after_number, takes_push, sends_write, gives_up, send_next}
 use Rattle.nq_model.specs.Settle.{answers, reads_cached, after_read, delays, marks_written, names_losses, settle}
 use Rattle.law_versions.proofs.Tells.{AllTell}
-use Rattle.nq_journal.specs.Text.{HasTold}
+use Rattle.nq_words.specs.Forms.{HasTold}
 
 abbrev pub Keeps : ClientStep → Type 0
 Keeps t = AllTell t.entries

@@ -13,7 +13,8 @@ use Rattle.law_versions.proofs.ClientTells.{call-tells, tick-tells, hear-tells, 
 use Rattle.law_versions.proofs.ServerTells.{received-tells, server-tick-tells}
 use Rattle.law_versions.proofs.Tells.{AllTell, Tells, tell-more}
 use Rattle.law_versions.specs.Versions.{FirstTellsItsRuns, IsOfFirst}
-use Rattle.nq_journal.specs.Text.{Has, HasTold}
+use Rattle.nq_words.specs.Forms.{HasTold}
+use Rattle.nq_journal.specs.Text.{Has}
 use Rattle.nq_model.specs.Client.{Client, ClientStep, Ticket}
 use Rattle.nq_model.specs.ClientStep.{client_call, client_tick, restart}
 use Rattle.nq_model.specs.Hear.{hear}

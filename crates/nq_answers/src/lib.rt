@@ -4,7 +4,6 @@
 mod ending;
 mod lines;
 mod telling;
-mod words;
 
 pub use ending::Stop;
 pub use lines::answers_text;

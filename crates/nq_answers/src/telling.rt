@@ -7,14 +7,18 @@ ghost use Rattle.nq_ending.specs.declared.Ending.{Ending};
 
 use crate::ending::Stop;
 use crate::lines::answers_text;
-use nq_base::NoMemory;
+use nq_base::{Journal, NoMemory};
 use nq_ending::{Ending, Halt};
 use nq_io::{Put, Sink};
-use nq_journal::Journal;
 use std::alloc::Global;
 
 /// Tells how calls ended.
-pub fn tell_end<K: Sink>(alloc: Global, ended: Result<(), Stop>, log: &Journal, out: &mut K) -> Ending
+pub fn tell_end<K: Sink>(
+    alloc: Global,
+    ended: Result<(), Stop>,
+    log: &Journal,
+    out: &mut K,
+) -> Ending
     ensures { TellsEnd ended log.now.entries result (K.held out.old) (K.held out.new) (K.faults out.old) (K.faults out.new) }
 {
     match ended {
@@ -70,7 +74,13 @@ fn tell_no_answer<K: Sink>(alloc: Global, log: &Journal, number: u32, out: &mut 
 }
 
 /// Prints the answers and a line behind them.
-fn tell_behind<K: Sink>(alloc: Global, log: &Journal, line: &[u8], due: Ending, out: &mut K) -> Ending
+fn tell_behind<K: Sink>(
+    alloc: Global,
+    log: &Journal,
+    line: &[u8],
+    due: Ending,
+    out: &mut K,
+) -> Ending
     ensures { TellsSo due (answers_text log.now.entries ++ line.now) result (K.held out.old) (K.held out.new) (K.faults out.old) (K.faults out.new) }
 {
     match text_behind(alloc, log, line) {

@@ -1,5 +1,6 @@
 pub mod Block
 pub mod Content
+pub mod Entries
 pub mod Lists
 pub mod Name
 pub mod Order

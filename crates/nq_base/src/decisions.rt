@@ -35,6 +35,8 @@ pub enum Decided {
     OldIncarnation,
     /// The incarnation is not attached.
     NotAttached,
+    /// What would be kept of it is out of its bounds: an incarnation from 2^31 on, or a sequence or a revision from 2^61 on.
+    OutOfBounds,
 }
 
 /// What a fresh request comes to. It is kept together with the row of the host that asked.

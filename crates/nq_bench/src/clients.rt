@@ -1,12 +1,11 @@
 //! A client that holds leases on so many files: its cached reads and its delayed writes.
 
 use nq_base::{
-    Answer, Block, BlockNo, Call, FileId, Grant, Host, Inc, Mode, Reply, Rev, Spare, Tag, Ticks,
-    Value,
+    Answer, Block, BlockNo, Call, FileId, Grant, Host, Inc, Journal, Mode, Reply, Rev, Spare, Tag,
+    Ticks, Value,
 };
 use nq_client::Client;
 use nq_datagrams::reply_bytes;
-use nq_journal::Journal;
 use nq_wire::Outbox;
 use std::alloc::Global;
 

@@ -1,8 +1,8 @@
 //! A journal of about 16 MiB of text, printed and parsed.
 
-use nq_base::{BlockNo, Entry, FileId, Host, Inc, Number, Said, Told, Who};
+use nq_base::{BlockNo, Entry, FileId, Host, Inc, Journal, Number, Said, Told, Who};
 use nq_io::MemSink;
-use nq_journal::{Journal, Printed, parse, print};
+use nq_journal::{Printed, is_in, parse, print};
 use std::alloc::Global;
 
 /// How many calls the journal has. Each makes three entries.
@@ -61,7 +61,7 @@ fn journal(alloc: Global) -> Option<Journal> {
 
 fn printed(alloc: Global, journal: &Journal) -> Option<MemSink> {
     let mut sink = MemSink::new(alloc, ROOM, Vec::new(alloc)).ok()?;
-    if !journal.is_in(1) {
+    if !is_in(journal, 1) {
         return None;
     }
     match print(alloc, journal, 1, &mut sink) {

@@ -5,11 +5,10 @@ ghost use Rattle.nq_wire.specs.Parts.{IsWanted};
 ghost use Rattle.nq_wire.specs.Request.{HasSpelling};
 
 use nq_base::{
-    Block, BlockNo, FileId, Host, Inc, Mode, Name, Number, PushBase, Request, Rev, Seq, Ticks,
-    Want, Who,
+    Block, BlockNo, FileId, Host, Inc, Journal, Mode, Name, Number, PushBase, Request, Rev, Seq,
+    Ticks, Want, Who,
 };
 use nq_datagrams::call_bytes;
-use nq_journal::Journal;
 use nq_keeper::ListKeeper;
 use nq_server::{Received, Server};
 use nq_wire::Outbox;

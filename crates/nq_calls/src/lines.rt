@@ -5,21 +5,17 @@ ghost use Rattle.std.specs.Option.{option_map};
 ghost use Rattle.nq_base.specs.declared.Call.{Call};
 ghost use Rattle.nq_calls.specs.Lines.{StepsOver, Tells};
 ghost use Rattle.nq_script.specs.Calls.{SpellsCall};
-ghost use Rattle.nq_script.specs.Reading.{cut_at};
+ghost use Rattle.nq_words.specs.Reading.{cut};
 
 use nq_script::parse_call;
+use nq_words::cut;
 use std::alloc::Global;
 
 /// The bytes before the first line feed, and those after it; None where there is none.
 pub fn cut_line(text: &[u8]) -> Option<(&[u8], &[u8])>
-    ensures { option_map (λ p. (p.0.now, p.1.now)) result ≡ cut_at 10 text.now }
+    ensures { option_map (λ p. (p.0.now, p.1.now)) result ≡ cut 10 text.now }
 {
-    for (i, byte) in text.iter().enumerate() {
-        if *byte == b'\n' {
-            return Some((&text[..i], &text[i + 1..]));
-        }
-    }
-    None
+    cut(text, b'\n')
 }
 
 /// The number, from 1, of the first line of a text that spells no call of version 1; None where each does. What follows the last

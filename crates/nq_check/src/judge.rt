@@ -15,8 +15,7 @@ use crate::named::is_reported_at;
 use crate::ordered::is_in_order;
 use crate::rules::{Judged, Rule};
 use crate::synchronized::is_kept_at;
-use nq_base::{Entry, NoMemory};
-use nq_journal::Journal;
+use nq_base::{Entry, Journal, NoMemory};
 use std::alloc::Global;
 
 /// Whether the entry at a place keeps a rule, which the entries before the front are known to keep.

@@ -24,7 +24,7 @@ use Rattle.nq_client.specs.declared.state.State.{State}
 use Rattle.nq_client.specs.declared.step.Step.{Step}
 use Rattle.nq_client.specs.declared.step.Vacated.{Vacated}
 use Rattle.nq_datagrams.specs.declared.Heard.{Heard}
-use Rattle.nq_journal.specs.Items.{EntryList}
+use Rattle.nq_base.specs.Entries.{EntryList}
 use Rattle.nq_model.specs.Client.{Client, ClientStep, Ticket, begun}
 use Rattle.nq_model.specs.ClientStep.{at_time, client_call, client_tick}
 use Rattle.nq_model.specs.Message.{Message}

@@ -5,7 +5,7 @@ use Rattle.nq_base.specs.declared.Answer.{Answer}
 use Rattle.nq_client.specs.Counted.{Counted}
 use Rattle.nq_client.specs.Finishing.{Grows}
 use Rattle.nq_client.specs.declared.heard.Heard.{Heard}
-use Rattle.nq_journal.specs.Items.{EntryList}
+use Rattle.nq_base.specs.Entries.{EntryList}
 use Rattle.nq_model.specs.Client.{ClientStep}
 use Rattle.nq_wire.specs.Outbox.{Datagrams}
 

@@ -23,10 +23,11 @@ use crate::starting::begin;
 use crate::state::State;
 use crate::step::Step;
 use crate::stepping::{hear, make_call, make_tick, reserve, room_for_call};
-use nq_base::{Answer, Block, BlockNo, Call, FileId, Host, Inc, NoMemory, Spare, Ticks, Who};
-use nq_dirty::Dirty;
+use nq_base::{
+    Answer, Block, BlockNo, Call, FileId, Host, Inc, Journal, NoMemory, Spare, Ticks, Who,
+};
 use nq_client_leases::Held;
-use nq_journal::Journal;
+use nq_dirty::Dirty;
 use nq_wire::Outbox;
 use std::alloc::Global;
 use std::marker::Model;

@@ -8,8 +8,8 @@ ghost use Rattle.nq_model.specs.Send.{ending_in, is_to_push_in, is_to_renew_in, 
 use crate::leases::Row;
 use crate::notices::Notices;
 use nq_base::{FileId, Mode, Ticks};
-use nq_dirty::Dirty;
 use nq_client_leases::Held;
+use nq_dirty::Dirty;
 
 /// From so many ticks before a writing lease ends its delayed writes are pushed (Macklem 1994).
 const RENEWAL: u64 = 3;

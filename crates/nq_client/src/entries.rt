@@ -4,8 +4,7 @@ ghost use Rattle.std.specs.Prelude.{◌≡◌, ◌≤◌, ◌+◌, ◌++◌, [],
 ghost use Rattle.nq_base.specs.Plain.{plain};
 ghost use Rattle.nq_client.specs.Entries.{Tells};
 
-use nq_base::{Entry, NoMemory};
-use nq_journal::Journal;
+use nq_base::{Entry, Journal, NoMemory};
 use std::alloc::Global;
 use std::collections::VecDeque;
 use std::marker::Model;

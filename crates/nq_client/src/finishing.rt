@@ -14,8 +14,7 @@ use crate::heard::Heard;
 use crate::letters::Letter;
 use crate::rooms::Rooms;
 use crate::step::{Step, Vacated};
-use nq_base::{Answer, NoMemory, Party, Request, Who};
-use nq_journal::Journal;
+use nq_base::{Answer, Journal, NoMemory, Party, Request, Who};
 use nq_wire::Outbox;
 use std::alloc::Global;
 

@@ -12,8 +12,8 @@ ghost use Rattle.nq_client.specs.Leases.{lease_in, file_of_row};
 use crate::due;
 use crate::notices::Notices;
 use nq_base::{FileId, Mode, NoMemory, Ticks};
-use nq_dirty::Dirty;
 use nq_client_leases::{Held, Lease};
+use nq_dirty::Dirty;
 use std::alloc::Global;
 use std::marker::Model;
 

@@ -14,8 +14,7 @@ use crate::asked::Job;
 use crate::finishing::Letters;
 use crate::state::State;
 use crate::step::Step;
-use nq_base::{NoMemory, Request, Ticks, Who};
-use nq_journal::Journal;
+use nq_base::{Journal, NoMemory, Request, Ticks, Who};
 use nq_wire::Outbox;
 use std::alloc::Global;
 

@@ -14,8 +14,7 @@ use crate::calling::{Named, named_for};
 use crate::finishing::Letters;
 use crate::receiving::most_entries;
 use crate::step::Step;
-use nq_base::{Call, NoMemory, Ticks};
-use nq_journal::Journal;
+use nq_base::{Call, Journal, NoMemory, Ticks};
 use nq_wire::Outbox;
 
 /// Takes the memory that a step may want: for so many entries, a block that becomes dirty, and what may be sent.

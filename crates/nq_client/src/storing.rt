@@ -12,8 +12,8 @@ use crate::leases::Leases;
 use crate::step::Step;
 use nq_base::{Block, BlockNo, FileId, NoMemory, Refusal, Rev};
 use nq_cache::Cache;
-use nq_dirty::Dirty;
 use nq_client_leases::Held;
+use nq_dirty::Dirty;
 use std::alloc::Global;
 
 /// Whether a caching lease is held, live or not.

@@ -3,7 +3,7 @@
 ghost use Rattle.std.specs.Prelude.{◌≡◌, ◌≤◌, IfSome};
 ghost use Rattle.nq_command.specs.Commands.{IsRanged, IsTerm, alone_of, client_of, counted_of, kind_of, loop_of, numbered_of, paired_of, ranged_of, serve_of, storm_of};
 
-use nq_script::number;
+use nq_words::number;
 
 /// What to run.
 #[derive(Clone, Copy)]

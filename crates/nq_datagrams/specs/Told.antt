@@ -1,11 +1,10 @@
 -- What the code makes of a datagram, as the protocol's definitions see it.
-use Rattle.std.specs.Prelude.{ℕ, Bool, true, false, Option, Some, None}
-use Rattle.nq_base.specs.declared.Reply.{Reply}
-use Rattle.nq_base.specs.declared.Request.{Request as Asked}
+use Rattle.std.specs.Prelude.{Option, Some, None}
 use Rattle.nq_model.specs.Message.{Message, call, reply, RpcError, rpc_mismatch, program_unavailable, program_mismatch, procedure_unavailable, garbage_arguments, Datagram, too_long, no_message, no_call, other_rpc, other_program, other_version, unknown_procedure, garbage_vacated, garbage, request}
 use Rattle.nq_rpc.specs.Fault.{fault_number}
+use Rattle.nq_wire.specs.Lent.{lent_reply}
 use Rattle.nq_datagrams.specs.declared.to_client.Heard.{Heard}
-use Rattle.nq_datagrams.specs.declared.to_server.Class.{Class}
+use Rattle.nq_datagrams.specs.declared.to_client.LentHeard.{LentHeard}
 use Rattle.nq_datagrams.specs.declared.to_server.Incoming.{Incoming}
 use Rattle.nq_datagrams.specs.declared.writing.ErrorReply.{ErrorReply}
 
@@ -22,19 +21,6 @@ told Incoming.GarbageVacated = garbage_vacated
 told (Incoming.Garbage xid) = garbage xid
 told (Incoming.Request xid r) = request xid r
 
--- the same, where the request stands apart
-abbrev pub told_as : Class → Asked → Datagram
-told_as Class.TooLong r = too_long
-told_as (Class.NoMessage fault) r = no_message (fault_number fault)
-told_as Class.NoCall r = no_call
-told_as (Class.OtherRpc xid) r = other_rpc xid
-told_as (Class.OtherProgram xid) r = other_program xid
-told_as (Class.OtherVersion xid) r = other_version xid
-told_as (Class.UnknownProcedure xid) r = unknown_procedure xid
-told_as Class.GarbageVacated r = garbage_vacated
-told_as (Class.Garbage xid) r = garbage xid
-told_as (Class.Request xid) r = request xid r
-
 -- what it is to a client
 abbrev pub told_message : Heard → Message
 told_message (Heard.Notice xid r) = call xid r
@@ -44,10 +30,15 @@ abbrev pub told_client : Option Heard → Option Message
 told_client None = None
 told_client (Some heard) = Some (told_message heard)
 
--- the reply to the request under way, where it is one
-abbrev pub told_reply : (xid : ℕ) → Reply → Bool → Option Message
-told_reply xid r true = Some (reply xid r)
-told_reply xid r false = None
+-- the same with a body of its own
+abbrev pub owned : LentHeard → Heard
+owned (LentHeard.Notice xid r) = Heard.Notice xid r
+owned (LentHeard.Reply xid r) = Heard.Reply xid (lent_reply r)
+
+-- what it is to a client, where a body is lent
+abbrev pub told_lent : Option LentHeard → Option Message
+told_lent None = None
+told_lent (Some heard) = Some (told_message (owned heard))
 
 -- which reply without a result it is
 abbrev pub told_error : ErrorReply → RpcError

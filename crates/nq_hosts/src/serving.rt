@@ -4,11 +4,10 @@ ghost use Rattle.std.specs.Prelude.{◌≡◌, ◌<◌, ◌≤◌, ◌^◌, IfOk
 ghost use Rattle.nq_hosts.specs.Serving.{EndsBoot, PrintsTurns, Ran, Runs, Serves, Tells, turns_line};
 
 use crate::turning::take_turns;
-use nq_base::{NoMemory, Ticks};
+use nq_base::{Journal, NoMemory, Ticks};
 use nq_clock::Clock;
 use nq_ending::{Ending, Halt};
 use nq_io::{Put, Sink};
-use nq_journal::Journal;
 use nq_keeper::Keeper;
 use nq_link::Link;
 use nq_server::{BootFault, Server};

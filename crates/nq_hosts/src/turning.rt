@@ -2,9 +2,9 @@
 
 ghost use Rattle.nq_hosts.specs.Serving.{Between, TakesTurn, TakesTurns};
 
+use nq_base::Journal;
 use nq_clock::Clock;
 use nq_ending::Halt;
-use nq_journal::Journal;
 use nq_keeper::Keeper;
 use nq_link::Link;
 use nq_node::{Turn, serve_turn};

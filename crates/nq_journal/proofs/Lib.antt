@@ -1,15 +1,8 @@
 mod Again
 mod Clean
-mod Cuts
-mod Digits
 mod Faulty
-mod LineWords
-mod Names
-mod Numerals
-mod Options
 mod Pieces
 mod Rests
-mod SpanWords
 mod Tails
 mod TextLines
 mod Whole

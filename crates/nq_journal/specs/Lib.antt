@@ -1,10 +1,5 @@
 pub mod Fault
-pub mod Items
 pub mod Parsing
 pub mod Printing
-pub mod Reading
-pub mod ReadingAnswers
-pub mod ReadingCalls
 pub mod ReadingEntries
 pub mod Text
-pub mod Words

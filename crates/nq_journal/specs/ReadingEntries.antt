@@ -3,13 +3,12 @@ use Rattle.std.specs.Prelude.{◌≡◌, ℕ, ◌==◌, Bool, true, false, ◌&&
 use Rattle.std.specs.Str.{bytes_eq}
 use Rattle.nq_base.specs.declared.Entry.{Entry}
 use Rattle.nq_base.specs.declared.Mode.{Mode}
-use Rattle.nq_base.specs.declared.Told.{Told}
 use Rattle.nq_base.specs.Steps.{◌>>=◌}
 use Rattle.nq_journal.specs.Text.{entry_words, Fits}
 use Rattle.nq_journal.specs.declared.read_entries.Kind.{Kind}
-use Rattle.nq_journal.specs.Reading.{only_if, word_at, u64_at, u32_at, who_at, place_at, is_done, tag_at}
-use Rattle.nq_journal.specs.ReadingCalls.{told_at}
-use Rattle.nq_journal.specs.ReadingAnswers.{said_at}
+use Rattle.nq_words.specs.Reading.{only_if, word_at, u64_at, u32_at, who_at, place_at, is_done, tag_at}
+use Rattle.nq_words.specs.ReadingCalls.{told_at, has_told}
+use Rattle.nq_words.specs.ReadingAnswers.{said_at}
 
 -- the mode that a word names
 unfoldable pub mode_of : List ℕ → Option Mode
@@ -212,12 +211,6 @@ entry_by version Kind.B words = b_at words
 entry_by version Kind.X words = x_at version words
 entry_by version Kind.Z words = z_at words
 entry_by version Kind.A words = a_at words
-
--- whether a version has a call
-abbrev pub has_told : (version : ℕ) → Told → Bool
-has_told version (Told.Resize file blocks) = version == 2
-has_told version (Told.Remove file) = version == 2
-has_told version other = true
 
 -- whether a version has an entry
 abbrev pub has : (version : ℕ) → Entry → Bool

@@ -2,45 +2,11 @@
 use Rattle.std.specs.Prelude.{◌≡◌, ◌⊎◌, ℕ, ◌<◌, ◌^◌, ◌==◌, Bool, true, false, List, [], ◌∷◌, ◌++◌, map, Option, Some, None, All, codes, if◌then◌else◌}
 use Rattle.std.specs.Fmt.{decimal}
 use Rattle.std.specs.List.{flat_map}
-use Rattle.nq_base.specs.Name.{IsName}
 use Rattle.nq_base.specs.declared.Entry.{Entry}
 use Rattle.nq_base.specs.declared.Mode.{Mode}
-use Rattle.nq_base.specs.declared.Said.{Said}
-use Rattle.nq_base.specs.declared.Span.{Span}
-use Rattle.nq_base.specs.declared.Told.{Told}
 use Rattle.nq_base.specs.declared.Who.{Who}
-use Rattle.nq_journal.specs.Words.{line}
-
--- the words of a call
-abbrev pub told_words : Told → List (List ℕ)
-told_words (Told.Create name blocks) = codes "create" ∷ name ∷ decimal blocks ∷ []
-told_words (Told.Lookup name) = codes "lookup" ∷ name ∷ []
-told_words (Told.Attr file) = codes "attr" ∷ decimal file ∷ []
-told_words (Told.Read file block) = codes "read" ∷ decimal file ∷ decimal block ∷ []
-told_words (Told.Fetch file block) = codes "fetch" ∷ decimal file ∷ decimal block ∷ []
-told_words (Told.Write file block value) = codes "write" ∷ decimal file ∷ decimal block ∷ decimal value ∷ []
-told_words (Told.WriteSync file block value) = codes "put" ∷ decimal file ∷ decimal block ∷ decimal value ∷ []
-told_words (Told.Sync file) = codes "sync" ∷ decimal file ∷ []
-told_words (Told.Resize file blocks) = codes "resize" ∷ decimal file ∷ decimal blocks ∷ []
-told_words (Told.Remove file) = codes "remove" ∷ decimal file ∷ []
-
--- the word of a span: the block, the first write and the last
-unfoldable pub span_word : Span → List ℕ
-span_word span = decimal span.block ++ codes ":" ++ decimal span.first ++ codes "-" ++ decimal span.last
-
--- the words of an answer
-abbrev pub said_words : Said → List (List ℕ)
-said_words Said.Ok = codes "ok" ∷ []
-said_words (Said.OkValue value) = codes "ok" ∷ decimal value ∷ []
-said_words (Said.OkBy value packet) = codes "ok" ∷ decimal value ∷ codes "by" ∷ decimal packet ∷ []
-said_words (Said.Lost spans) = codes "lost" ∷ map span_word spans.items
-said_words Said.Busy = codes "busy" ∷ []
-said_words Said.Stale = codes "stale" ∷ []
-said_words Said.NoEntry = codes "noentry" ∷ []
-said_words Said.Exists = codes "exists" ∷ []
-said_words Said.NoSpace = codes "nospace" ∷ []
-said_words Said.Range = codes "range" ∷ []
-said_words Said.DirtyFull = codes "dirtyfull" ∷ []
+use Rattle.nq_words.specs.Forms.{told_words, said_words, HasTold, FitsWho, FitsTold, FitsSaid}
+use Rattle.nq_words.specs.Words.{line}
 
 abbrev pub mode_word : Mode → List ℕ
 mode_word Mode.NonCaching = codes "noncaching"
@@ -108,46 +74,12 @@ journal_text version entries = head_line version ++ flat_map (entry_line version
 abbrev pub IsVersion : ℕ → Type 0
 IsVersion version = (version ≡ 1) ⊎ (version ≡ 2)
 
--- a call that a version has: only version 2 changes the length of files and removes them
-abbrev pub HasTold : (version : ℕ) → Told → Type 0
-HasTold version (Told.Resize file blocks) = version ≡ 2
-HasTold version (Told.Remove file) = version ≡ 2
-HasTold version other = Unit {0}
-
 -- An entry that a version has. Only version 2 tells changed lengths; in version 1 the longest term is 60.
 abbrev pub Has : (version : ℕ) → Entry → Type 0
 Has version (Entry.C who q told) = HasTold version told
 Has version (Entry.Z who q file from to) = version ≡ 2
 Has version (Entry.X boot now longest) = (version ≡ 2) ⊎ (longest ≡ 60)
 Has version other = Unit {0}
-
--- an incarnation whose numbers are below 2^32
-abbrev pub FitsWho : Who → Type 0
-FitsWho who = (who.host < 2 ^ 32) × (who.inc < 2 ^ 32)
-
--- a call whose names are names and whose numbers are below 2^32
-abbrev pub FitsTold : Told → Type 0
-FitsTold (Told.Create name blocks) = IsName name × (blocks < 2 ^ 32)
-FitsTold (Told.Lookup name) = IsName name
-FitsTold (Told.Attr file) = file < 2 ^ 32
-FitsTold (Told.Read file block) = (file < 2 ^ 32) × (block < 2 ^ 32)
-FitsTold (Told.Fetch file block) = (file < 2 ^ 32) × (block < 2 ^ 32)
-FitsTold (Told.Write file block value) = (file < 2 ^ 32) × (block < 2 ^ 32) × (value < 2 ^ 32)
-FitsTold (Told.WriteSync file block value) = (file < 2 ^ 32) × (block < 2 ^ 32) × (value < 2 ^ 32)
-FitsTold (Told.Sync file) = file < 2 ^ 32
-FitsTold (Told.Resize file blocks) = (file < 2 ^ 32) × (blocks < 2 ^ 32)
-FitsTold (Told.Remove file) = file < 2 ^ 32
-
--- a span whose block is below 2^32 and whose writes are below 2^64
-abbrev pub FitsSpan : Span → Type 0
-FitsSpan span = (span.block < 2 ^ 32) × (span.first < 2 ^ 64) × (span.last < 2 ^ 64)
-
--- an answer whose values are below 2^32 and whose packet is below 2^64
-abbrev pub FitsSaid : Said → Type 0
-FitsSaid (Said.OkValue value) = value < 2 ^ 32
-FitsSaid (Said.OkBy value packet) = (value < 2 ^ 32) × (packet < 2 ^ 64)
-FitsSaid (Said.Lost spans) = All FitsSpan spans.items
-FitsSaid other = Unit {0}
 
 abbrev pub FitsSource : Option ℕ → Type 0
 FitsSource None = Unit {0}

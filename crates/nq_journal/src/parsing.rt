@@ -8,8 +8,8 @@ ghost use Rattle.nq_journal.specs.Text.{IsVersion, IsText, head_line};
 ghost use Rattle.nq_journal.specs.declared.parsing.JournalFault.TheVariants.{Memory};
 
 use crate::read_entries::entry_of;
-use crate::read_words::{cut, is};
-use crate::{Journal, NoMemory};
+use nq_base::{Journal, NoMemory};
+use nq_words::{cut, is};
 use std::alloc::Global;
 use thiserror::Error;
 

@@ -1,13 +1,14 @@
 //! Printing a journal.
 
-ghost use Rattle.std.specs.Prelude.{◌≡◌, ◌++◌, All, OnOk};
+ghost use Rattle.std.specs.Prelude.{◌≡◌, ◌↔◌, ◌++◌, All, IsTrue, OnOk};
 ghost use Rattle.nq_journal.specs.Printing.{Prints, CountsPrint};
 ghost use Rattle.nq_journal.specs.Text.{Has, IsVersion, IsText, journal_text, head_line, end_line};
 
+use crate::read_entries::has;
 use crate::write_entries::push_line;
-use crate::write_words::push_numbers;
-use crate::{Journal, NoMemory};
+use nq_base::{Journal, NoMemory};
 use nq_io::{Put, Sink};
+use nq_words::push_numbers;
 use std::alloc::Global;
 
 // A sink is given as many bytes at once, or more, but for the last time.
@@ -22,6 +23,13 @@ pub enum Printed {
     Failed,
     /// Memory is wanting. Some of the text, from the first byte on, was appended.
     Memory,
+}
+
+/// Whether a version of the text has each entry, so that the journal can be printed in it.
+pub fn is_in(journal: &Journal, version: u32) -> bool
+    ensures { IsTrue result ↔ All (Has version) journal.now.entries }
+{
+    journal.entries().iter().all(|entry| has(version, entry))
 }
 
 /// Prints a journal in a version of its text, 1 or 2, which has each of its entries.
@@ -58,7 +66,7 @@ pub fn print<K: Sink>(alloc: Global, journal: &Journal, version: u32, out: &mut 
 }
 
 // Appends the first line.
-#[tactic(auto, unfolding(crate::specs::Words::joined, crate::specs::Words::line, crate::specs::Text::head_line))]
+#[tactic(auto, unfolding(nq_words::specs::Words::joined, nq_words::specs::Words::line, crate::specs::Text::head_line))]
 fn push_head(out: &mut Vec<u8>, version: u32) -> Result<(), NoMemory>
     ensures { OnOk result (out.new.items ≡ out.old.items ++ head_line version) }
 {
@@ -69,7 +77,7 @@ fn push_head(out: &mut Vec<u8>, version: u32) -> Result<(), NoMemory>
 }
 
 // Appends the last line.
-#[tactic(auto, unfolding(crate::specs::Words::joined, crate::specs::Words::line, crate::specs::Text::end_line))]
+#[tactic(auto, unfolding(nq_words::specs::Words::joined, nq_words::specs::Words::line, crate::specs::Text::end_line))]
 fn push_end(out: &mut Vec<u8>) -> Result<(), NoMemory>
     ensures { OnOk result (out.new.items ≡ out.old.items ++ end_line) }
 {

@@ -2,15 +2,13 @@
 
 ghost use Rattle.std.specs.Prelude.{◌≡◌, ◌↔◌, ℕ, ◌<◌, ◌^◌, [], ◌∷◌, ◌++◌, codes, option_map, IsTrue, IfSome, IfOk};
 ghost use Rattle.nq_base.specs.Plain.{plain};
-ghost use Rattle.nq_journal.specs.Reading.{Takes, words_of};
-ghost use Rattle.nq_journal.specs.ReadingEntries.{Spells, kind_of, kind_word, entry_by, entry_of, has, has_told, mode_of, mode_at, way_of, way_at, source_at, longest_at, c_at, w_at, r_at, s_at, l_at, g_at, f_at, o_at, b_at, x_at, z_at, a_at};
-ghost use Rattle.nq_journal.specs.Text.{mode_word, way_word, source_words, longest_words, FitsSource, HasTold, Has};
+ghost use Rattle.nq_words.specs.Reading.{Takes, words_of};
+ghost use Rattle.nq_journal.specs.ReadingEntries.{Spells, kind_of, kind_word, entry_by, entry_of, has, mode_of, mode_at, way_of, way_at, source_at, longest_at, c_at, w_at, r_at, s_at, l_at, g_at, f_at, o_at, b_at, x_at, z_at, a_at};
+ghost use Rattle.nq_journal.specs.Text.{mode_word, way_word, source_words, longest_words, FitsSource, Has};
+ghost use Rattle.nq_words.specs.Forms.{HasTold};
 
-use crate::NoMemory;
-use crate::read_answers::take_said;
-use crate::read_calls::take_told;
-use crate::read_words::{Words, is};
-use nq_base::{Entry, FileId, Mode, Number, Ticks, Told};
+use nq_base::{Entry, FileId, Mode, NoMemory, Number, Ticks};
+use nq_words::{Words, has_told, is, take_said, take_told};
 use std::alloc::Global;
 
 // The kinds of entry, by their letters.
@@ -366,17 +364,6 @@ fn take_entry(
         Kind::X => Ok(take_x(words, version)),
         Kind::Z => Ok(take_z(words)),
         Kind::A => take_a(alloc, words),
-    }
-}
-
-// Whether a version has a call.
-fn has_told(version: u32, told: &Told) -> bool
-    ensures test { result ≡ has_told version told.now }
-    ensures has { IsTrue result ↔ HasTold version told.now }
-{
-    match told {
-        Told::Resize { .. } | Told::Remove { .. } => version == 2,
-        _ => true,
     }
 }
 

@@ -3,21 +3,20 @@
 ghost use Rattle.std.specs.Prelude.{◌≡◌, ◌<◌, ◌^◌, [], ◌++◌, OnOk};
 ghost use Rattle.std.specs.Fmt.{decimal};
 ghost use Rattle.std.specs.List.{flat_map};
-ghost use Rattle.nq_journal.specs.Words.{joined, spaced};
-ghost use Rattle.nq_journal.specs.Text.{Fits, FitsWho, FitsSource, entry_words, entry_line, of_who, way_word, mode_word, source_words, longest_words};
+ghost use Rattle.nq_words.specs.Words.{joined, spaced};
+ghost use Rattle.nq_journal.specs.Text.{Fits, FitsSource, entry_words, entry_line, of_who, way_word, mode_word, source_words, longest_words};
+ghost use Rattle.nq_words.specs.Forms.{FitsWho, FitsTold, FitsSaid, told_words, said_words};
 
-use crate::NoMemory;
-use crate::write_words::{push_command, push_numbers, push_said, push_told, push_word};
-use nq_base::{BlockNo, Entry, FileId, Mode, Who};
+use nq_base::{BlockNo, Entry, FileId, Mode, NoMemory, Said, Told, Who};
+use nq_words::{push_bytes, push_command, push_numbers, push_said, push_told, push_word};
 
 // Appends the letter of a line and the incarnation of which it tells.
-#[tactic(auto, unfolding(crate::specs::Words::joined))]
+#[tactic(auto, unfolding(nq_words::specs::Words::joined))]
 fn push_who(out: &mut Vec<u8>, letter: &[u8], who: &Who) -> Result<(), NoMemory>
     ensures written { OnOk result (out.new.items ≡ out.old.items ++ joined (of_who letter.now who.now [])) }
     ensures fits { OnOk result (FitsWho who.now) }
 {
-    out.extend_from_slice(letter)?;
-    push_numbers(out, &[u64::from(who.host.0), u64::from(who.inc.0)])
+    push_command(out, letter, &[u64::from(who.host.0), u64::from(who.inc.0)])
 }
 
 // The word of a write's way.
@@ -45,7 +44,10 @@ fn push_source(out: &mut Vec<u8>, served: Option<u64>) -> Result<(), NoMemory>
 {
     match served {
         None => push_word(out, b"cached"),
-        Some(packet) => push_command(out, b"served", &[packet]),
+        Some(packet) => {
+            push_word(out, b"served")?;
+            push_numbers(out, &[packet])
+        }
     }
 }
 
@@ -67,8 +69,26 @@ fn push_longest(out: &mut Vec<u8>, version: u32, longest: u32) -> Result<(), NoM
     Ok(())
 }
 
+// Appends the words of a call, each with the blank before it.
+fn push_call(out: &mut Vec<u8>, told: &Told) -> Result<(), NoMemory>
+    ensures written { OnOk result (out.new.items ≡ out.old.items ++ flat_map spaced (told_words told.now)) }
+    ensures fits { OnOk result (FitsTold told.now) }
+{
+    push_bytes(out, b" ")?;
+    push_told(out, told)
+}
+
+// Appends the words of an answer, each with the blank before it.
+fn push_answer(out: &mut Vec<u8>, said: &Said) -> Result<(), NoMemory>
+    ensures written { OnOk result (out.new.items ≡ out.old.items ++ flat_map spaced (said_words said.now)) }
+    ensures fits { OnOk result (FitsSaid said.now) }
+{
+    push_bytes(out, b" ")?;
+    push_said(out, said)
+}
+
 // Appends the words of an entry.
-#[tactic(auto, unfolding(crate::specs::Words::joined))]
+#[tactic(auto, unfolding(nq_words::specs::Words::joined))]
 fn push_words(out: &mut Vec<u8>, version: u32, entry: &Entry) -> Result<(), NoMemory>
     ensures written { OnOk result (out.new.items ≡ out.old.items ++ joined (entry_words version entry.now)) }
     ensures fits { OnOk result (Fits entry.now) }
@@ -77,7 +97,7 @@ fn push_words(out: &mut Vec<u8>, version: u32, entry: &Entry) -> Result<(), NoMe
         Entry::C { who, q, told } => {
             push_who(out, b"C", who)?;
             push_numbers(out, &[*q])?;
-            push_told(out, told)
+            push_call(out, told)
         }
         Entry::W {
             who,
@@ -160,14 +180,10 @@ fn push_words(out: &mut Vec<u8>, version: u32, entry: &Entry) -> Result<(), NoMe
             until,
             heard,
             now,
-        } => {
-            out.extend_from_slice(b"O")?;
-            push_numbers(out, &[u64::from(*boot), until.0, heard.0, now.0])
-        }
+        } => { push_command(out, b"O", &[u64::from(*boot), until.0, heard.0, now.0]) }
         Entry::B { who } => push_who(out, b"B", who),
         Entry::X { boot, now, longest } => {
-            out.extend_from_slice(b"X")?;
-            push_numbers(out, &[u64::from(*boot), now.0])?;
+            push_command(out, b"X", &[u64::from(*boot), now.0])?;
             push_longest(out, version, *longest)
         }
         Entry::Z {
@@ -186,13 +202,13 @@ fn push_words(out: &mut Vec<u8>, version: u32, entry: &Entry) -> Result<(), NoMe
         Entry::A { who, q, said } => {
             push_who(out, b"A", who)?;
             push_numbers(out, &[*q])?;
-            push_said(out, said)
+            push_answer(out, said)
         }
     }
 }
 
 // Appends the line of an entry.
-#[tactic(auto, unfolding(crate::specs::Words::line, crate::specs::Text::entry_line))]
+#[tactic(auto, unfolding(nq_words::specs::Words::line, crate::specs::Text::entry_line))]
 pub(crate) fn push_line(out: &mut Vec<u8>, version: u32, entry: &Entry) -> Result<(), NoMemory>
     ensures written { OnOk result (out.new.items ≡ out.old.items ++ entry_line version entry.now) }
     ensures fits { OnOk result (Fits entry.now) }

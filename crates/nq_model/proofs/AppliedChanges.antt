@@ -6,14 +6,10 @@ use Rattle.nq_base.specs.declared.HostRow.{HostRow}
 use Rattle.nq_base.specs.declared.Verdict.{Verdict}
 use Rattle.nq_base.specs.declared.Who.{Who}
 use Rattle.nq_model.specs.Change.{IsNextFree, raised_row, row_of, row_of_found, heads_of, file_of, with_body, with_file, with_file_at, with_block, with_block_in, kept_as, applied, applied_if, change_of_heads, booted_heads, opened_heads, fencing, fencing_of}
-use Rattle.nq_model.specs.Decided.{no_effect, creation, block_write, length_change, removal, change_with}
+use Rattle.nq_model.specs.Decided.{no_effect, creation, block_write, length_change, removal, row_with, change_with}
 use Rattle.nq_model.specs.Kept.{File, Kept, blocks_of, find_file, replace_file, drop_file, new_file, written_file, resized_file, fenced_file, with_row, with_files, with_new_file}
 use Rattle.nq_model.specs.ServerStep.{fence, booted}
 use Rattle.nq_model.proofs.Files.{found-id, replaced-found, replaced-twice, resized-same, resized-none}
-
--- the row of a host that an effect leaves
-abbrev pub row_with : Who → (seq : ℕ) → Effect → HostRow
-row_with who seq effect = record { inc = who.inc; seq = seq; verdict = effect.verdict; value = effect.value }
 
 -- a decision without effect changes the host's row alone
 pub applied-none : (kept : Kept) (who : Who) (seq : ℕ) (verdict : Verdict) → applied kept (change_with who seq (no_effect verdict)) ≡ with_row kept who.host (row_with who seq (no_effect verdict))

@@ -9,7 +9,7 @@ use Rattle.nq_base.specs.declared.HostChange.{HostChange}
 use Rattle.nq_base.specs.declared.HostRow.{HostRow}
 use Rattle.nq_base.specs.declared.Space.{Space}
 use Rattle.nq_model.specs.Kept.{File, Kept, blocks_of, blocks_in_all, find_file, find_name, replace_file, drop_file, resized}
-use Rattle.nq_model.specs.Profile.{shortest_term, longest_term, most_hosts, most_files, most_blocks, most_blocks_of_file, most_ids}
+use Rattle.nq_model.specs.Profile.{shortest_term, longest_term, most_hosts, most_files, most_blocks, most_blocks_of_file, most_ids, inc_end, seq_end, rev_end}
 
 -- a file without its blocks
 abbrev pub row_of : File → FileRow
@@ -193,7 +193,7 @@ pub record IsFileWithin (next : ℕ) (file : File) : Type 0 where
   pub from_one : 1 ≤ file.id
   pub below_next : file.id < next
   pub name : IsName file.name
-  pub rev : file.rev < 2 ^ 61
+  pub rev : file.rev < rev_end
   pub not_empty : 1 ≤ blocks_of file
   pub short : blocks_of file ≤ most_blocks_of_file
   pub bodies : All IsBody file.bodies
@@ -206,8 +206,8 @@ AreApart (file ∷ files) =
 
 -- the numbers of a host's row are within their bounds
 pub record IsHostWithin (row : HostRow) : Type 0 where
-  pub inc : row.inc < 2 ^ 31
-  pub seq : row.seq < 2 ^ 61
+  pub inc : row.inc < inc_end
+  pub seq : row.seq < seq_end
   pub value : row.value < 2 ^ 64
 
 -- the next id is that of no kept file
@@ -250,7 +250,7 @@ pub record AreHeadsWithin (next : ℕ) (heads : Heads) : Type 0 where
 
 -- the numbers of a change are within their bounds
 pub record IsChangeWithin (kept : Kept) (change : Change) : Type 0 where
-  pub file : IfSome change.file (λ row. IsName row.name × (row.rev < 2 ^ 61))
+  pub file : IfSome change.file (λ row. IsName row.name × (row.rev < rev_end))
   pub block : IfSome change.block (λ b. IsBody b.body)
   pub host : IfSome change.host (λ h. IsHostWithin h.row)
   pub heads : IfSome change.heads (AreHeadsWithin kept.next)

@@ -17,10 +17,10 @@ use Rattle.nq_base.specs.declared.Verdict.{Verdict}
 use Rattle.nq_base.specs.declared.Verdict.TheVariants.{Done, Fenced, Exist, NoSpace, Invalid, Stale, TryLater}
 use Rattle.nq_base.specs.declared.Who.{Who}
 use Rattle.nq_model.specs.Ask.{Reply, ask, conflicts}
-use Rattle.nq_model.specs.Kept.{File, blocks_of, blocks_in_all, find_file, find_name, replace_file, drop_file, written_file, resized_file, with_files, with_new_file, with_row}
-use Rattle.nq_model.specs.Message.{Packet, reply}
+use Rattle.nq_model.specs.Kept.{File, blocks_of, blocks_in_all, find_file, find_name, replace_file, drop_file, written_file, resized_file, with_files, with_new_file, with_row, can_be_kept}
+use Rattle.nq_model.specs.Message.{Packet, out_of_bounds, reply}
 use Rattle.nq_model.specs.Profile.{write_slack, most_files, most_blocks, most_blocks_of_file, most_ids}
-use Rattle.nq_model.specs.Server.{Phase, serving, recovering, Server, ServerStep, taken, to_host, refuses, replies, notices, after_notices, keeping, keeping_with}
+use Rattle.nq_model.specs.Server.{Phase, serving, recovering, Server, ServerStep, taken, to_host, drops, refuses, replies, notices, after_notices, keeping, keeping_with}
 use Rattle.nq_model.specs.Table.{Table, is_writing, find_row, put_row, drop_rows_of, with_rows}
 
 -- a decision: the server with the effect but without the host's row, the notices that it sends, its entries, and what
@@ -268,6 +268,11 @@ commits who seq xid request d = record {
   outcome = taken;
 }
 
+-- a request that would leave a row of its host which can not be kept is dropped, and changes nothing
+abbrev pub commits_within : Server → Who → (seq xid : ℕ) → Request → Decision → ServerStep
+commits_within s who seq xid request d =
+    if can_be_kept (row_after who seq d) then commits who seq xid request d else drops s out_of_bounds
+
 -- a request of this sequence: the one that was decided last is answered again, an older one is refused, and a later
 -- one is decided now
 abbrev pub decided_once : Server → Who → (seq xid : ℕ) → Request → HostRow → ServerStep
@@ -276,4 +281,4 @@ decided_once s who seq xid request line =
     then replies s who.host xid (verdict_reply who.inc line.verdict line.value request)
     else (if nat_lt seq line.seq
     then refuses s who xid Refusal.Old
-    else commits who seq xid request (decide s who request))
+    else commits_within s who seq xid request (decide s who request))

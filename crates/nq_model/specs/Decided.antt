@@ -1,12 +1,12 @@
 -- How requests are decided that are decided once, from the kept state and a gate alone: ATTACH, CREATE, WRITE, RESIZE
 -- and REMOVE. A fresh one is kept with its effect in one change. The server's step is this, and what it does aside.
-use Rattle.std.specs.Prelude.{◌<◌, ◌^◌, All, ℕ, ◌+◌, ◌-◌, ◌%◌, ◌==◌, Bool, true, false, ◌&&◌, ◌||◌, List, [], ◌∷◌, ◌++◌, Option, Some, None, find, length, max, nat_lt, nat_le, is_some, if◌then◌else◌}
+use Rattle.std.specs.Prelude.{ℕ, ◌+◌, ◌-◌, ◌%◌, ◌==◌, Bool, true, false, ◌&&◌, ◌||◌, List, [], ◌∷◌, ◌++◌, Option, Some, None, find, length, max, nat_lt, nat_le, is_some, if◌then◌else◌}
 use Rattle.nq_base.specs.Block.{value_of}
 use Rattle.nq_base.specs.Name.{IsName}
 use Rattle.nq_base.specs.declared.Access.{Access}
 use Rattle.nq_base.specs.declared.Change.{Change}
 use Rattle.nq_base.specs.declared.Decided.{Decided}
-use Rattle.nq_base.specs.declared.Decided.TheVariants.{Fresh, Again, Old, OldIncarnation, NotAttached}
+use Rattle.nq_base.specs.declared.Decided.TheVariants.{Fresh, Again, Old, OldIncarnation, NotAttached, OutOfBounds}
 use Rattle.nq_base.specs.declared.Effect.{Effect}
 use Rattle.nq_base.specs.declared.Entry.{Entry}
 use Rattle.nq_base.specs.declared.FileRow.{FileRow}
@@ -27,8 +27,8 @@ use Rattle.nq_base.specs.declared.Who.{Who}
 use Rattle.nq_model.specs.Ask.{conflicts, marked}
 use Rattle.nq_model.specs.Change.{raised_row, row_of_found, heads_of, space_of, applied, no_change, IsBody}
 use Rattle.nq_model.specs.Decide.{in_the_way, verdict_reply}
-use Rattle.nq_model.specs.Kept.{Kept, blocks_in_all, find_file, find_name, host_row}
-use Rattle.nq_model.specs.Message.{Packet, reply, old_incarnation}
+use Rattle.nq_model.specs.Kept.{Kept, blocks_in_all, find_file, find_name, can_be_kept, host_row}
+use Rattle.nq_model.specs.Message.{Packet, reply, old_incarnation, out_of_bounds}
 use Rattle.nq_model.specs.Profile.{write_slack, most_files, most_blocks, most_blocks_of_file, most_ids, xid_end}
 use Rattle.nq_model.specs.Server.{Phase, serving, recovering, Server, ServerStep, taken, to_host, drops, refuses, replies, notices}
 use Rattle.nq_model.specs.Table.{Table, is_writing, find_row, put_row, drop_host, drop_rows_of, with_rows}
@@ -150,11 +150,20 @@ is_decided_once (Resize who seq q file blocks) = true
 is_decided_once (Remove who seq q file) = true
 is_decided_once other = false
 
+-- the row of a host that an effect leaves
+abbrev pub row_with : Who → (seq : ℕ) → Effect → HostRow
+row_with who seq effect = record { inc = who.inc; seq = seq; verdict = effect.verdict; value = effect.value }
+
+-- how a fresh request is decided: as its effect says, where the row that it leaves of its host can be kept
+abbrev pub fresh_decided : Who → (seq : ℕ) → Effect → Decided
+fresh_decided who seq effect =
+    if can_be_kept (row_with who seq effect) then Fresh effect.verdict effect.value else OutOfBounds
+
 -- how an ATTACH is decided, by the kept row of its host
 abbrev pub attach_decided : Who → HostRow → Decided
 attach_decided who line =
     if nat_lt line.inc who.inc
-    then Fresh Done 0
+    then fresh_decided who 0 (no_effect Done)
     else (if nat_lt who.inc line.inc then OldIncarnation else Again line.verdict line.value)
 
 -- what is said of a request of this sequence that is not fresh, by the kept row of its host
@@ -167,13 +176,13 @@ decided_before who seq line =
     else (if seq == line.seq then Some (Again line.verdict line.value) else (if nat_lt seq line.seq then Some Old else None)))
 
 -- a request of which nothing is said is fresh
-abbrev pub or_fresh : Option Decided → Effect → Decided
-or_fresh (Some decision) effect = decision
-or_fresh None effect = Fresh effect.verdict effect.value
+abbrev pub or_fresh : Option Decided → (fresh : Decided) → Decided
+or_fresh (Some decision) fresh = decision
+or_fresh None fresh = fresh
 
 -- how a request of this sequence is decided
 abbrev pub sequence_decided : Who → (seq : ℕ) → HostRow → Effect → Decided
-sequence_decided who seq line effect = or_fresh (decided_before who seq line) effect
+sequence_decided who seq line effect = or_fresh (decided_before who seq line) (fresh_decided who seq effect)
 
 -- how a request is decided; the others are not decided once, and say nothing here
 abbrev pub decided : Kept → Gate → Request → Decided
@@ -199,7 +208,7 @@ change_with who seq effect = record {
   block = effect.block;
   host = Some (record {
     host = who.host;
-    row = record { inc = who.inc; seq = seq; verdict = effect.verdict; value = effect.value };
+    row = row_with who seq effect;
   });
   heads = effect.heads;
   removed = effect.removed;
@@ -389,16 +398,10 @@ decided_step s who xid r (Again verdict value) = replies s who.host xid (decided
 decided_step s who xid r Old = refuses s who xid Refusal.Old
 decided_step s who xid r OldIncarnation = drops s old_incarnation
 decided_step s who xid r NotAttached = refuses s who xid Refusal.NotAttached
+decided_step s who xid r OutOfBounds = drops s out_of_bounds
 
--- the numbers of a request that is decided once, its name and its body are within their bounds
-abbrev pub IsRequestWithin : Request → Type 0
-IsRequestWithin (Attach who) = who.inc < 2 ^ 31
-IsRequestWithin (Create who seq name blocks) = (who.inc < 2 ^ 31) × (seq < 2 ^ 61) × IsName name
-IsRequestWithin (Write who seq file block first last push body) = (who.inc < 2 ^ 31) × (seq < 2 ^ 61) × IsBody body
-IsRequestWithin (Resize who seq q file blocks) = (who.inc < 2 ^ 31) × (seq < 2 ^ 61)
-IsRequestWithin (Remove who seq q file) = (who.inc < 2 ^ 31) × (seq < 2 ^ 61)
-IsRequestWithin other = Unit {0}
-
--- each revision can rise once more within its bound
-abbrev pub RevisionsCanRise : Kept → Type 0
-RevisionsCanRise kept = All (λ file. file.rev + 1 < 2 ^ 61) kept.files
+-- a request's name is one that a file can have, and its body one that a block can have
+abbrev pub HasText : Request → Type 0
+HasText (Create who seq name blocks) = IsName name
+HasText (Write who seq file block first last push body) = IsBody body
+HasText other = Unit {0}

@@ -1,9 +1,9 @@
 -- What the server keeps over its boots: files, one row for each host, and the numbers of its boots.
-use Rattle.std.specs.Prelude.{ℕ, ◌+◌, ◌==◌, not, List, [], ◌∷◌, ◌++◌, Option, find, filter, map, sum_by, length, take, replicate, slice_get, slice_set, unwrap_or, if◌then◌else◌}
+use Rattle.std.specs.Prelude.{ℕ, ◌+◌, ◌==◌, Bool, true, not, ◌&&◌, nat_lt, List, [], ◌∷◌, ◌++◌, Option, Some, None, find, filter, map, sum_by, length, take, replicate, slice_get, slice_set, unwrap_or, if◌then◌else◌}
 use Rattle.nq_base.specs.Block.{zeros}
 use Rattle.nq_base.specs.declared.HostRow.{HostRow}
 use Rattle.nq_base.specs.declared.Verdict.{Verdict}
-use Rattle.nq_model.specs.Profile.{same_bytes}
+use Rattle.nq_model.specs.Profile.{inc_end, seq_end, rev_end, same_bytes}
 
 -- a file: its id, its name, its modify revision (Macklem 1994), and the body of each block
 pub record File : Type 0 where
@@ -69,6 +69,15 @@ fenced_file file = record file { rev = file.rev + 1 }
 -- the row of a host of which nothing was heard
 abbrev pub fresh_row : HostRow
 fresh_row = record { inc = 0; seq = 0; verdict = Verdict.Done; value = 0 }
+
+-- whether a row of a host can be kept: its numbers are below their ends. Its value is a revision or an id
+abbrev pub can_be_kept : HostRow → Bool
+can_be_kept row = nat_lt row.inc inc_end && nat_lt row.seq seq_end && nat_lt row.value rev_end
+
+-- whether a file's revision can rise once more; a file that is not kept has none
+abbrev pub can_rise : Option File → Bool
+can_rise None = true
+can_rise (Some file) = nat_lt (file.rev + 1) rev_end
 
 -- the row of a host
 abbrev pub host_row : Kept → ℕ → HostRow

@@ -58,6 +58,7 @@ pub data Reason : Type 0 where
   was_no_call : Reason
   wrong_host : Reason
   old_incarnation : Reason
+  out_of_bounds : Reason
   no_reply_owed : Reason
 
 -- the datagram that a call is: EVICTED is sent by the server alone, and no procedure that it serves

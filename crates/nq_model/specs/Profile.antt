@@ -69,6 +69,16 @@ most_taken_by_client = 1073741824
 abbrev pub most_boots : ℕ
 most_boots = 4294967295
 
+-- the kept incarnations, sequences and revisions are below these ends, so that an image can have them
+abbrev pub inc_end : ℕ
+inc_end = 2147483648
+
+abbrev pub seq_end : ℕ
+seq_end = 2305843009213693952
+
+abbrev pub rev_end : ℕ
+rev_end = 2305843009213693952
+
 -- the numbers of notices and requests wrap here
 abbrev pub xid_end : ℕ
 xid_end = 4294967296

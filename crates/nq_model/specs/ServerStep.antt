@@ -18,29 +18,37 @@ use Rattle.nq_base.specs.declared.Want.{Want}
 use Rattle.nq_base.specs.declared.Who.{Who}
 use Rattle.nq_model.specs.Ask.{Reply, ask}
 use Rattle.nq_model.specs.Decide.{decided_once, in_the_way}
-use Rattle.nq_model.specs.Kept.{File, Kept, blocks_of, find_file, find_name, replace_file, fenced_file, with_files, with_row, host_row}
-use Rattle.nq_model.specs.Message.{reply, error, Datagram, too_long, no_message, no_call, other_rpc, other_program, other_version, unknown_procedure, garbage_vacated, garbage, request, rpc_mismatch, program_unavailable, program_mismatch, procedure_unavailable, garbage_arguments, was_too_long, was_no_message, was_no_call, wrong_host, old_incarnation, no_reply_owed, asker}
+use Rattle.nq_model.specs.Kept.{File, Kept, blocks_of, find_file, find_name, replace_file, fenced_file, with_files, with_row, can_be_kept, can_rise, host_row}
+use Rattle.nq_model.specs.Message.{reply, error, Datagram, too_long, no_message, no_call, other_rpc, other_program, other_version, unknown_procedure, garbage_vacated, garbage, request, rpc_mismatch, program_unavailable, program_mismatch, procedure_unavailable, garbage_arguments, was_too_long, was_no_message, was_no_call, wrong_host, old_incarnation, out_of_bounds, no_reply_owed, asker}
 use Rattle.nq_model.specs.Profile.{skew, write_slack, most_hosts}
 use Rattle.nq_model.specs.Server.{Phase, serving, recovering, Server, ServerStep, taken, to_host, quiet, drops, says, replies, refuses, notices, after_notices, keeping_with, with_table, last_in}
 use Rattle.nq_model.specs.Table.{Table, is_writing, same_tag, find_row, drop_row, drop_host, with_rows, empty_table}
+
+-- the row with which an incarnation begins
+abbrev pub row_of_attach : Who → HostRow
+row_of_attach who = record { inc = who.inc; seq = 0; verdict = Verdict.Done; value = 0 }
 
 -- ATTACH of a later incarnation: the host's row begins anew, and its leases are gone
 unfoldable pub attaches : Server → Who → (xid : ℕ) → ServerStep
 attaches s who xid = record {
   server = keeping_with
       s
-      (with_row s.kept who.host (record { inc = who.inc; seq = 0; verdict = Verdict.Done; value = 0 }))
+      (with_row s.kept who.host (row_of_attach who))
       (with_rows s.table (drop_host who.host s.table.rows));
   sends = to_host who.host (reply xid (Answer.Attach who.inc)) ∷ [];
   entries = [];
   outcome = taken;
 }
 
+-- ATTACH of a later incarnation, which is dropped where its number can not be kept
+abbrev pub attach_later : Server → Who → (xid : ℕ) → ServerStep
+attach_later s who xid = if can_be_kept (row_of_attach who) then attaches s who xid else drops s out_of_bounds
+
 -- ATTACH: a later incarnation begins, the kept one is answered again, an older one is dropped
 abbrev pub attach : Server → Who → (xid : ℕ) → HostRow → ServerStep
 attach s who xid line =
     if nat_lt line.inc who.inc
-    then attaches s who xid
+    then attach_later s who xid
     else (if nat_lt who.inc line.inc then drops s old_incarnation else replies s who.host xid (Answer.Attach who.inc))
 
 -- LOOKUP while serving
@@ -257,10 +265,17 @@ ends_writing s rows row = record {
   outcome = taken;
 }
 
+-- a row that is due ends where the revision of its file can rise; else it stays
+abbrev pub end_due : Server → List Row → Row → ServerStep
+end_due s rows row =
+    if can_rise (find_file row.file s.kept.files)
+    then ends_writing s rows row
+    else quiet (with_table s (with_rows s.table rows))
+
 -- at most one writing row ends, the first that is due
 abbrev pub end_writing : Server → List Row → Option Row → ServerStep
 end_writing s rows None = quiet (with_table s (with_rows s.table rows))
-end_writing s rows (Some row) = ends_writing s rows row
+end_writing s rows (Some row) = end_due s rows row
 
 abbrev pub end_leases : Server → List Row → ServerStep
 end_leases s rows = end_writing s rows (find (is_due s.now) rows)

@@ -8,7 +8,7 @@ use Rattle.nq_client.specs.declared.Heard.{Heard}
 use Rattle.nq_clock.specs.Clock.{Reads}
 use Rattle.nq_datagrams.specs.Incoming.{hears_in}
 use Rattle.nq_io.specs.Faults.{Rose}
-use Rattle.nq_journal.specs.Items.{EntryList}
+use Rattle.nq_base.specs.Entries.{EntryList}
 use Rattle.nq_link.specs.Link.{Letters}
 use Rattle.nq_link.specs.declared.Sent.{Sent}
 use Rattle.nq_model.specs.ClientStep.{client_tick}

@@ -5,7 +5,7 @@ use Rattle.nq_base.specs.declared.Party.{Party}
 use Rattle.nq_clock.specs.Clock.{Reads}
 use Rattle.nq_datagrams.specs.Incoming.{datagram_in}
 use Rattle.nq_io.specs.Faults.{Rose}
-use Rattle.nq_journal.specs.Items.{EntryList}
+use Rattle.nq_base.specs.Entries.{EntryList}
 use Rattle.nq_link.specs.Link.{Letters}
 use Rattle.nq_link.specs.declared.Sent.{Sent}
 use Rattle.nq_model.specs.Kept.{Kept}

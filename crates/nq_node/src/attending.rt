@@ -8,10 +8,9 @@ ghost use Rattle.nq_node.specs.Links.{LinkTold, most_bytes};
 
 use crate::sending::send_all;
 use crate::turns::{ClientTurn, MOST_BYTES, Stop};
-use nq_base::{Answer, Party, Ticks};
+use nq_base::{Answer, Journal, Party, Ticks};
 use nq_client::{Client, Heard};
 use nq_clock::Clock;
-use nq_journal::Journal;
 use nq_link::{Came, Link, Sent};
 use nq_wire::Outbox;
 use std::alloc::Global;

@@ -7,9 +7,8 @@ ghost use Rattle.nq_node.specs.ServerTurn.{GoesOn, Moment, Receives, SendsOut, S
 
 use crate::sending::send_all;
 use crate::turns::{Halt, MOST_BYTES, Turn};
-use nq_base::{Party, Ticks};
+use nq_base::{Journal, Party, Ticks};
 use nq_clock::Clock;
-use nq_journal::Journal;
 use nq_keeper::Keeper;
 use nq_link::{Came, Link, Sent};
 use nq_server::{Received, Server};

@@ -4,9 +4,10 @@ ghost use Rattle.std.specs.Prelude.{◌++◌};
 ghost use Rattle.nq_journal.specs.Text.{journal_text};
 ghost use Rattle.nq_replay.specs.Schedules.{PrintsBytes};
 
+use nq_base::Journal;
 use nq_ending::Ending;
 use nq_io::{Put, Sink};
-use nq_journal::{Journal, Printed, print};
+use nq_journal::{Printed, is_in, print};
 use std::alloc::Global;
 
 /// Prints a text, a journal in version 1, and another text. How it ends:
@@ -24,7 +25,7 @@ pub fn print_parts<K: Sink>(
     ensures { PrintsBytes result (before.now ++ (journal_text 1 journal.now.entries ++ after.now))
         (K.held out.old) (K.held out.new) (K.faults out.old) (K.faults out.new) }
 {
-    if !journal.is_in(1) {
+    if !is_in(journal, 1) {
         return Ending::Memory;
     }
     match out.put(before) {

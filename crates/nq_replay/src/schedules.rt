@@ -21,10 +21,10 @@ ghost use Rattle.nq_world.specs.Playing.{HasSettings, Plays, keeper_in};
 ghost use Rattle.nq_world.specs.declared.stepped.Stepped.{Stepped};
 
 use crate::printing::{Bound, limit_text, put_line, script_text, skew_text};
-use nq_base::{NoMemory, SkewBroken};
+use nq_base::{Journal, NoMemory, SkewBroken};
 use nq_ending::Ending;
 use nq_io::Sink;
-use nq_journal::{Journal, Printed, print};
+use nq_journal::{Printed, is_in, print};
 use nq_keeper::{Keeper, ListKeeper};
 use nq_play::{Played, play};
 use nq_script::{Head, Script, ScriptFault, parse};
@@ -187,7 +187,7 @@ pub fn print_journal<K: Sink>(alloc: Global, journal: &Journal, version: u32, ou
     ensures { (entries : List Entry) → map plain journal.now.entries ≡ entries
         → PrintsEntries result version entries (K.held out.old) (K.held out.new) (K.faults out.old) (K.faults out.new) }
 {
-    if journal.is_in(version) {
+    if is_in(journal, version) {
         print_entries(alloc, journal, version, out)
     } else {
         Ending::Memory

@@ -11,7 +11,8 @@ use Rattle.nq_base.specs.Name.{IsName, IsNameByte}
 use Rattle.nq_script.specs.Heads.{IsNew, FitFiles, FitsHead, AreSettings, IsLongest, blocks_of, file_line, file_lines, first_file, version_line, hosts_line, term_line, longest_line, most_term, settings_lines, head_lines}
 use Rattle.nq_script.specs.Lines.{line_of}
 use Rattle.nq_script.specs.Progress.{NoNumber, WrongFile, WrongLine, WrongEnd, ReadSoFar, EndsWith}
-use Rattle.nq_script.specs.Reading.{cut_at, told_line, file_of, ranged_of}
+use Rattle.nq_script.specs.Reading.{told_line, file_of, ranged_of}
+use Rattle.nq_words.specs.Reading.{cut as cut_at}
 use Rattle.nq_script.specs.Schedule.{NamesEvents, SpellsSchedule, FirstBadHeadLine, FirstBadLine, StandsInFront}
 use Rattle.nq_script.specs.Text.{IsVersion, text_of}
 use Rattle.nq_script.specs.declared.heads.Head.{Head}

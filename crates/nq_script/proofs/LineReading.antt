@@ -10,7 +10,8 @@ use Rattle.nq_base.proofs.Options.{bind_some}
 use Rattle.nq_base.specs.declared.Event.{Event}
 use Rattle.nq_script.specs.Calls.{call_words}
 use Rattle.nq_script.specs.Lines.{IsRepeat, SpellsLine, line_of, longest_words}
-use Rattle.nq_script.specs.Reading.{either, after, number_of, number_then, told_of, times_of, call_line, deliver_line, server_ticks, client_ticks, tick_line, round_line, restart_line, crash_line, word_line, clock_line, told_line}
+use Rattle.nq_script.specs.Reading.{either, after, number_then, told_of, times_of, call_line, deliver_line, server_ticks, client_ticks, tick_line, round_line, restart_line, crash_line, word_line, clock_line, told_line}
+use Rattle.nq_words.specs.Reading.{number_of, u32_of}
 use Rattle.nq_script.specs.declared.heads.Head.{Head}
 use Rattle.nq_script.specs.declared.lines.Line.{Line}
 use Rattle.nq_script.specs.declared.lines.ToldLine.{ToldLine}
@@ -96,7 +97,7 @@ round-found head told text e =
 restart-found : (head : Head) (told : ToldLine) (text : List ℕ) → restart_line head.hosts text ≡ Some told → SpellsLine head (line_of told) (codes "restart " ++ text)
 unfolding restart_line
 restart-found head told text e =
-    let host = bind_some (number_of 4294967295 text) (λ h. if nat_lt h head.hosts then Some (ToldLine.Restart h) else None) told e in
+    let host = bind_some (u32_of text) (λ h. if nat_lt h head.hosts then Some (ToldLine.Restart h) else None) told e in
     let within = cond_some (nat_lt host.0 head.hosts) (ToldLine.Restart host.0) told host.2 in
     let number = number32-found text host.0 host.1 in
     subst (λ t. SpellsLine head (line_of t) (codes "restart " ++ text)) within.1
@@ -111,7 +112,7 @@ second-crash head longest text second low high small spelled =
 crash-found : (head : Head) (told : ToldLine) (text : List ℕ) → crash_line head text ≡ Some told → SpellsLine head (line_of told) (codes "crash " ++ text)
 unfolding crash_line
 crash-found head told text e =
-    let longest = bind_some (number_of 4294967295 text)
+    let longest = bind_some (u32_of text)
     (λ l. if head.version == 2 && (nat_le 5 l && nat_le l head.longest) then Some (ToldLine.Crash l) else None) told e in
     let within = cond_some (head.version == 2 && (nat_le 5 longest.0 && nat_le longest.0 head.longest)) (ToldLine.Crash longest.0) told longest.2 in
     let parts = and_parts (head.version == 2) (nat_le 5 longest.0 && nat_le longest.0 head.longest) within.0 in

@@ -1,8 +1,8 @@
 -- What is printed is spelled so.
 use Rattle.std.proofs.Common.{◌≡◌, ℕ, ◌+◌, ◌/◌, ◌%◌, ◌<◌, ◌≤◌, ◌^◌, List, [], ◌∷◌, ◌++◌, refl, ap, sym, ◌∙◌, arith, append_assoc, codes, length, get_or, map, take, slice_get, Some, zero, suc, subst}
 use Rattle.std.specs.Fmt.{decimal}
-use Rattle.std.proofs.lemmas.Fmt.{decimal_step, decimal_digit}
-use Rattle.std.proofs.lemmas.List.{map-append, take_more}
+use Rattle.std.specs.List.{flat_map}
+use Rattle.std.proofs.lemmas.List.{append-nil, map-append, take_more}
 use Rattle.std.proofs.lemmas.Option.{none-some, same_Some, slice_get_within, get_or_from_slice_get}
 use Rattle.nq_base.specs.declared.Call.{Call}
 use Rattle.nq_script.specs.Calls.{call_words}
@@ -12,39 +12,14 @@ use Rattle.nq_script.specs.Schedule.{SpellsLines}
 use Rattle.nq_script.specs.Text.{spaced, text_of}
 use Rattle.nq_script.specs.declared.heads.Head.{Head}
 use Rattle.nq_script.specs.declared.lines.Line.{Line}
+use Rattle.nq_words.specs.Words.{spaced as behind_blank}
 use Rattle.nq_script.proofs.CallWords.{spaced-call}
 use Rattle.nq_script.proofs.FileLines.{text_of-append}
 
--- the digits of a number: those of its tenth, if it has one, and the last
-pub digits-more : (n : ℕ) (old front new : List ℕ) → n < 2 ^ 64 → 10 ≤ n → front ≡ old ++ decimal (n / 10) → new ≡ front ++ (48 + n % 10) ∷ []
-    → new ≡ old ++ decimal n
-digits-more n old front new small big first last =
-    last ∙ ap (λ xs. xs ++ (48 + n % 10) ∷ []) first ∙ append_assoc old (decimal (n / 10)) ((48 + n % 10) ∷ [])
-    ∙ ap (λ xs. old ++ xs) (sym (decimal_step n big small))
-
-pub digits-one : (n : ℕ) (old new : List ℕ) → n < 10 → new ≡ old ++ (48 + n % 10) ∷ [] → new ≡ old ++ decimal n
-digits-one n old new small last =
-    let same : n % 10 ≡ n = omega arith in
-    last ∙ ap (λ d. old ++ (48 + d) ∷ []) same ∙ ap (λ xs. old ++ xs) (sym (decimal_digit n small))
-
--- one word more, with a blank before it
-pub spaced-more : (word : List ℕ) (words : List (List ℕ)) (next : List ℕ) → spaced (word ∷ words ++ next ∷ []) ≡ spaced (word ∷ words) ++ 32 ∷ next
-spaced-more word [] next = refl
-spaced-more word (w ∷ words) next =
-    ap (λ t. word ++ 32 ∷ t) (spaced-more w words next) ∙ sym (append_assoc word (32 ∷ spaced (w ∷ words)) (32 ∷ next))
-
--- one number more is printed
-pub number-printed : (before text blank new word : List ℕ) (numbers : List ℕ) (place : ℕ) → place < length numbers
-    → text ≡ before ++ spaced (word ∷ map decimal (take place numbers)) → blank ≡ text ++ codes " " → new ≡ blank ++ decimal (get_or numbers place 0)
-    → new ≡ before ++ spaced (word ∷ map decimal (take (place + 1) numbers))
-number-printed before text blank new word numbers place within so-far space last =
-    let number = get_or numbers place 0 in
-    last ∙ ap (λ t. t ++ decimal number) (space ∙ ap (λ t. t ++ codes " ") so-far)
-    ∙ append_assoc (before ++ spaced (word ∷ map decimal (take place numbers))) (codes " ") (decimal number)
-    ∙ append_assoc before (spaced (word ∷ map decimal (take place numbers))) (32 ∷ decimal number)
-    ∙ ap (λ t. before ++ t) (sym (spaced-more word (map decimal (take place numbers)) (decimal number)))
-    ∙ ap (λ l. before ++ spaced (word ∷ l)) (sym (map-append decimal (take place numbers) (number ∷ [])))
-    ∙ ap (λ l. before ++ spaced (word ∷ map decimal l)) (sym (take_more numbers place 0 within))
+-- a word and numbers, each behind a blank, are words with blanks between them
+pub command_spaced : (word : List ℕ) (numbers : List ℕ) → word ++ flat_map (λ n. behind_blank (decimal n)) numbers ≡ spaced (word ∷ map decimal numbers)
+command_spaced word [] = append-nil word
+command_spaced word (n ∷ numbers) = ap (λ t. word ++ 32 ∷ t) (command_spaced (decimal n) numbers)
 
 -- the words of a call are printed behind those of its host
 pub call-printed : (before first blank new : List ℕ) (host : ℕ) (call : Call) → first ≡ before ++ spaced (codes "call" ∷ decimal host ∷ [])

@@ -1,11 +1,11 @@
--- The words of a call.
-use Rattle.std.specs.Prelude.{◌≡◌, ℕ, ◌<◌, ◌^◌, List, [], ◌∷◌, codes}
-use Rattle.std.specs.Fmt.{decimal}
+-- The words of a call. A call has a block, of which words tell the value, so a call and what is told of it are two types.
+use Rattle.std.specs.Prelude.{◌≡◌, ℕ, ◌<◌, ◌^◌, List}
 use Rattle.nq_base.specs.Block.{filled, value_of}
 use Rattle.nq_base.specs.Name.{IsName}
 use Rattle.nq_base.specs.declared.Call.{Call}
 use Rattle.nq_base.specs.declared.Told.{Told}
 use Rattle.nq_script.specs.Text.{spaced}
+use Rattle.nq_words.specs.Forms.{told_words}
 
 -- a body that a word can tell: a block filled with a number below 2 ^ 32
 abbrev pub IsFilled : (body : List ℕ) → Type 0
@@ -17,18 +17,22 @@ IsFilledCall (Call.Write file block body) = IsFilled body
 IsFilledCall (Call.WriteSync file block body) = IsFilled body
 IsFilledCall other = Unit {0}
 
+-- the call as words tell it: a body by its value
+abbrev pub told_as : Call → Told
+told_as (Call.Create name blocks) = Told.Create name blocks
+told_as (Call.Lookup name) = Told.Lookup name
+told_as (Call.Attr file) = Told.Attr file
+told_as (Call.Read file block) = Told.Read file block
+told_as (Call.Fetch file block) = Told.Fetch file block
+told_as (Call.Write file block body) = Told.Write file block (value_of body)
+told_as (Call.WriteSync file block body) = Told.WriteSync file block (value_of body)
+told_as (Call.Sync file) = Told.Sync file
+told_as (Call.Resize file blocks) = Told.Resize file blocks
+told_as (Call.Remove file) = Told.Remove file
+
 -- the words of a call; a body is told by its value
 abbrev pub call_words : Call → List (List ℕ)
-call_words (Call.Create name blocks) = codes "create" ∷ name ∷ decimal blocks ∷ []
-call_words (Call.Lookup name) = codes "lookup" ∷ name ∷ []
-call_words (Call.Attr file) = codes "attr" ∷ decimal file ∷ []
-call_words (Call.Read file block) = codes "read" ∷ decimal file ∷ decimal block ∷ []
-call_words (Call.Fetch file block) = codes "fetch" ∷ decimal file ∷ decimal block ∷ []
-call_words (Call.Write file block body) = codes "write" ∷ decimal file ∷ decimal block ∷ decimal (value_of body) ∷ []
-call_words (Call.WriteSync file block body) = codes "put" ∷ decimal file ∷ decimal block ∷ decimal (value_of body) ∷ []
-call_words (Call.Sync file) = codes "sync" ∷ decimal file ∷ []
-call_words (Call.Resize file blocks) = codes "resize" ∷ decimal file ∷ decimal blocks ∷ []
-call_words (Call.Remove file) = codes "remove" ∷ decimal file ∷ []
+call_words call = told_words (told_as call)
 
 -- a call that a version can tell: its body is a filled block, and only version 2 has resizes and removals
 abbrev pub HasCall : (version : ℕ) → Call → Type 0

@@ -1,41 +1,19 @@
 -- How words and numbers are read from the front of a text. The grammar does not speak of these; the laws in proofs/
 -- tie the two.
-use Rattle.std.specs.Prelude.{ℕ, ◌+◌, ◌*◌, ◌-◌, ◌==◌, ◌&&◌, nat_le, nat_lt, List, [], ◌∷◌, Option, Some, None, if◌then◌else◌, codes}
-use Rattle.nq_base.specs.Name.{is_name}
+use Rattle.std.specs.Prelude.{ℕ, ◌==◌, ◌&&◌, nat_le, nat_lt, List, [], ◌∷◌, Option, Some, None, if◌then◌else◌, codes}
+use Rattle.std.specs.Str.{bytes_eq}
 use Rattle.nq_base.specs.Steps.{◌>>=◌}
 use Rattle.nq_base.specs.declared.Told.{Told}
-use Rattle.std.specs.Char.{is_ascii_digit}
-use Rattle.std.specs.Option.{option_map, option_and_then}
-use Rattle.std.specs.Str.{bytes_eq}
 use Rattle.nq_script.specs.declared.heads.Head.{Head}
 use Rattle.nq_script.specs.declared.lines.ToldLine.{ToldLine}
-
--- the bytes before the first one that is `at`, and those after it
-unfoldable pub cut_at : (at : ℕ) → List ℕ → Option (List ℕ × List ℕ)
-cut_at at [] = None
-cut_at at (b ∷ bytes) = if b == at then Some ([], bytes) else option_map (λ p. (b ∷ p.0, p.1)) (cut_at at bytes)
+use Rattle.nq_words.specs.Reading.{cut, number_of, u32_of, words_of}
+use Rattle.nq_words.specs.ReadingCalls.{told_in}
 
 -- what follows a prefix
 abbrev pub after : (prefix bytes : List ℕ) → Option (List ℕ)
 after [] bytes = Some bytes
 after (p ∷ prefix) [] = None
 after (p ∷ prefix) (b ∷ bytes) = if b == p then after prefix bytes else None
-
--- a number with one more digit behind, if it is at most `most`
-unfoldable pub digit_on : (most value digit : ℕ) → Option ℕ
-digit_on most value digit =
-    if is_ascii_digit digit && nat_le (value * 10 + (digit - 48)) most then Some (value * 10 + (digit - 48)) else None
-
--- a number with digits behind
-abbrev pub digits_of : (most value : ℕ) → List ℕ → Option ℕ
-digits_of most value [] = Some value
-digits_of most value (c ∷ cs) = option_and_then (λ longer. digits_of most longer cs) (digit_on most value c)
-
--- the number up to `most` that a word writes without a needless zero
-unfoldable pub number_of : (most : ℕ) → (word : List ℕ) → Option ℕ
-number_of most [] = None
-number_of most (c ∷ []) = digits_of most 0 (c ∷ [])
-number_of most (c ∷ d ∷ cs) = if c == 48 then None else digits_of most 0 (c ∷ d ∷ cs)
 
 -- what is made of the first, if it is there, and else the second
 abbrev pub either : {A B : Type 0} → Option A → (A → Option B) → Option B → Option B
@@ -45,88 +23,13 @@ either (Some x) f other = f x
 -- the number below 2 ^ 32 before the first blank, and what follows the blank
 unfoldable pub number_then : List ℕ → Option (ℕ × List ℕ)
 number_then text = do
-  parts ← cut_at 32 text
-  value ← number_of 4294967295 parts.0
+  parts ← cut 32 text
+  value ← u32_of parts.0
   Some (value, parts.1)
 
--- two numbers below 2 ^ 32 with a blank between them
-unfoldable pub two_numbers : List ℕ → Option (ℕ × ℕ)
-two_numbers text = do
-  first ← number_then text
-  second ← number_of 4294967295 first.1
-  Some (first.0, second)
-
--- three numbers below 2 ^ 32 with blanks between them
-unfoldable pub three_numbers : List ℕ → Option (ℕ × ℕ × ℕ)
-three_numbers text = do
-  first ← number_then text
-  others ← two_numbers first.1
-  Some (first.0, others.0, others.1)
-
--- the name that a word spells
-unfoldable pub name_of : List ℕ → Option (List ℕ)
-name_of word = if is_name word then Some word else None
-
--- what `create` tells by the words behind it
-unfoldable pub create_of : List ℕ → Option Told
-create_of text = do
-  parts ← cut_at 32 text
-  name ← name_of parts.0
-  blocks ← number_of 4294967295 parts.1
-  Some (Told.Create name blocks)
-
--- what `lookup` tells by the word behind it
-unfoldable pub lookup_of : List ℕ → Option Told
-lookup_of text = do
-  name ← name_of text
-  Some (Told.Lookup name)
-
--- what a call of one number tells by the word behind it
-unfoldable pub one_of : (tell : ℕ → Told) → List ℕ → Option Told
-one_of tell text = do
-  found ← number_of 4294967295 text
-  Some (tell found)
-
--- what a call of two numbers tells by the words behind it
-unfoldable pub two_of : (tell : ℕ → ℕ → Told) → List ℕ → Option Told
-two_of tell text = do
-  found ← two_numbers text
-  Some (tell found.0 found.1)
-
--- what a call of three numbers tells by the words behind it
-unfoldable pub three_of : (tell : ℕ → ℕ → ℕ → Told) → List ℕ → Option Told
-three_of tell text = do
-  found ← three_numbers text
-  Some (tell found.0 found.1 found.2)
-
--- the call on blocks that the words tell
-unfoldable pub block_call : List ℕ → Option Told
-block_call words =
-    either (after (codes "read ") words) (two_of Told.Read)
-    (either (after (codes "write ") words) (three_of Told.Write)
-    (either (after (codes "fetch ") words) (two_of Told.Fetch)
-    (either (after (codes "put ") words) (three_of Told.WriteSync) None)))
-
--- the call on a whole file that the words tell
-unfoldable pub file_call : List ℕ → Option Told
-file_call words =
-    either (after (codes "sync ") words) (one_of Told.Sync)
-    (either (after (codes "create ") words) create_of
-    (either (after (codes "lookup ") words) lookup_of
-    (either (after (codes "attr ") words) (one_of Told.Attr) None)))
-
--- the call that the words tell and that came with version 2
-unfoldable pub later_call : List ℕ → Option Told
-later_call words =
-    either (after (codes "resize ") words) (two_of Told.Resize)
-    (either (after (codes "remove ") words) (one_of Told.Remove) None)
-
 -- the call that the words tell in a version
-unfoldable pub told_of : (version : ℕ) → List ℕ → Option Told
-told_of version words =
-    either (block_call words) Some
-    (either (file_call words) Some
-    (if version == 2 then later_call words else None))
+abbrev pub told_of : (version : ℕ) → List ℕ → Option Told
+told_of version text = told_in version (words_of text)
 
 -- a number from `least` to `most` behind a prefix
 unfoldable pub ranged_of : (prefix : List ℕ) → (least most : ℕ) → List ℕ → Option ℕ
@@ -178,13 +81,13 @@ round_line text = do
 -- a host that starts again
 unfoldable pub restart_line : (hosts : ℕ) → List ℕ → Option ToldLine
 restart_line hosts text = do
-  host ← number_of 4294967295 text
+  host ← u32_of text
   if nat_lt host hosts then Some (ToldLine.Restart host) else None
 
 -- a crash that tells the longest term, as version 2 has it
 unfoldable pub crash_line : Head → List ℕ → Option ToldLine
 crash_line head text = do
-  longest ← number_of 4294967295 text
+  longest ← u32_of text
   if head.version == 2 && (nat_le 5 longest && nat_le longest head.longest) then Some (ToldLine.Crash longest) else None
 
 -- a line of one word
@@ -213,6 +116,6 @@ told_line head text =
 unfoldable pub file_of : List ℕ → Option (List ℕ × ℕ)
 file_of line = do
   words ← after (codes "file ") line
-  parts ← cut_at 32 words
+  parts ← cut 32 words
   blocks ← ranged_of [] 1 1024 parts.1
   Some (parts.0, blocks)

@@ -1,16 +1,15 @@
-//! The words of a call.
+//! Calls, which have a block where words tell its value.
 
 ghost use Rattle.std.specs.Prelude.{◌≡◌, ◌≢◌};
-ghost use Rattle.nq_script.specs.Calls.{call_of, SpellsCall};
+ghost use Rattle.nq_script.specs.Calls.{call_of, told_as, SpellsCall};
 ghost use Rattle.nq_base.specs.declared.Call.{Call};
 ghost use Rattle.nq_base.specs.declared.Told.{Told};
 ghost use Rattle.nq_script.specs.Faults.{Answers};
 ghost use Rattle.nq_script.specs.declared.faults.ScriptFault.{ScriptFault};
-ghost use Rattle.nq_script.specs.Reading.{told_of, block_call, file_call, later_call, create_of, lookup_of, one_of, two_of, three_of};
 
 use crate::faults::ScriptFault;
-use crate::words::{cut, name, number32, rest_after, three_numbers, two_numbers};
-use nq_base::{Block, BlockNo, Call, FileId, Told};
+use nq_base::{Block, Call, Told};
+use nq_words::read_told;
 use std::alloc::Global;
 
 /// The call that is told, with its body.
@@ -39,165 +38,42 @@ pub(crate) fn call_of(told: &Told) -> Call
     }
 }
 
-/// The call that the words write in a version; None where they are outside the grammar.
-#[tactic(auto, unfolding(crate::specs::Reading::told_of))]
-pub(crate) fn read_told(words: &[u8], version: u32) -> Option<Told>
-    ensures { result ≡ told_of version words.now }
+/// The call as words tell it: a body by its value.
+pub(crate) fn told_as(call: &Call) -> Told
+    ensures { result ≡ told_as call.now }
 {
-    if let Some(told) = read_block_call(words) {
-        Some(told)
-    } else if let Some(told) = read_file_call(words) {
-        Some(told)
-    } else if version == 2 {
-        read_later_call(words)
-    } else {
-        None
+    match call {
+        Call::Create { name, blocks } => Told::Create {
+            name: *name,
+            blocks: *blocks,
+        },
+        Call::Lookup { name } => Told::Lookup { name: *name },
+        Call::Attr { file } => Told::Attr { file: *file },
+        Call::Read { file, block } => Told::Read {
+            file: *file,
+            block: *block,
+        },
+        Call::Fetch { file, block } => Told::Fetch {
+            file: *file,
+            block: *block,
+        },
+        Call::Write { file, block, body } => Told::Write {
+            file: *file,
+            block: *block,
+            value: body.value(),
+        },
+        Call::WriteSync { file, block, body } => Told::WriteSync {
+            file: *file,
+            block: *block,
+            value: body.value(),
+        },
+        Call::Sync { file } => Told::Sync { file: *file },
+        Call::Resize { file, blocks } => Told::Resize {
+            file: *file,
+            blocks: *blocks,
+        },
+        Call::Remove { file } => Told::Remove { file: *file },
     }
-}
-
-#[tactic(auto, unfolding(crate::specs::Reading::block_call))]
-fn read_block_call(words: &[u8]) -> Option<Told>
-    ensures { result ≡ block_call words.now }
-{
-    if let Some(rest) = rest_after(words, b"read ") {
-        read_read(rest)
-    } else if let Some(rest) = rest_after(words, b"write ") {
-        read_write(rest)
-    } else if let Some(rest) = rest_after(words, b"fetch ") {
-        read_fetch(rest)
-    } else if let Some(rest) = rest_after(words, b"put ") {
-        read_put(rest)
-    } else {
-        None
-    }
-}
-
-#[tactic(auto, unfolding(crate::specs::Reading::file_call))]
-fn read_file_call(words: &[u8]) -> Option<Told>
-    ensures { result ≡ file_call words.now }
-{
-    if let Some(rest) = rest_after(words, b"sync ") {
-        read_sync(rest)
-    } else if let Some(rest) = rest_after(words, b"create ") {
-        read_create(rest)
-    } else if let Some(rest) = rest_after(words, b"lookup ") {
-        read_lookup(rest)
-    } else if let Some(rest) = rest_after(words, b"attr ") {
-        read_attr(rest)
-    } else {
-        None
-    }
-}
-
-/// A call that came with version 2.
-#[tactic(auto, unfolding(crate::specs::Reading::later_call))]
-fn read_later_call(words: &[u8]) -> Option<Told>
-    ensures { result ≡ later_call words.now }
-{
-    if let Some(rest) = rest_after(words, b"resize ") {
-        read_resize(rest)
-    } else if let Some(rest) = rest_after(words, b"remove ") {
-        read_remove(rest)
-    } else {
-        None
-    }
-}
-
-#[tactic(auto, unfolding(crate::specs::Reading::create_of))]
-fn read_create(text: &[u8]) -> Option<Told>
-    ensures { result ≡ create_of text.now }
-{
-    let (word, length) = cut(text, b' ')?;
-    let name = name(word)?;
-    let blocks = number32(length)?;
-    Some(Told::Create { name, blocks })
-}
-
-#[tactic(auto, unfolding(crate::specs::Reading::lookup_of))]
-fn read_lookup(text: &[u8]) -> Option<Told>
-    ensures { result ≡ lookup_of text.now }
-{
-    let name = name(text)?;
-    Some(Told::Lookup { name })
-}
-
-#[tactic(auto, unfolding(crate::specs::Reading::one_of))]
-fn read_attr(text: &[u8]) -> Option<Told>
-    ensures { result ≡ one_of Told.Attr text.now }
-{
-    let file = FileId(number32(text)?);
-    Some(Told::Attr { file })
-}
-
-#[tactic(auto, unfolding(crate::specs::Reading::two_of))]
-fn read_read(text: &[u8]) -> Option<Told>
-    ensures { result ≡ two_of Told.Read text.now }
-{
-    let (file, block) = two_numbers(text)?;
-    Some(Told::Read {
-        file: FileId(file),
-        block: BlockNo(block),
-    })
-}
-
-#[tactic(auto, unfolding(crate::specs::Reading::two_of))]
-fn read_fetch(text: &[u8]) -> Option<Told>
-    ensures { result ≡ two_of Told.Fetch text.now }
-{
-    let (file, block) = two_numbers(text)?;
-    Some(Told::Fetch {
-        file: FileId(file),
-        block: BlockNo(block),
-    })
-}
-
-#[tactic(auto, unfolding(crate::specs::Reading::three_of))]
-fn read_write(text: &[u8]) -> Option<Told>
-    ensures { result ≡ three_of Told.Write text.now }
-{
-    let (file, block, value) = three_numbers(text)?;
-    Some(Told::Write {
-        file: FileId(file),
-        block: BlockNo(block),
-        value,
-    })
-}
-
-#[tactic(auto, unfolding(crate::specs::Reading::three_of))]
-fn read_put(text: &[u8]) -> Option<Told>
-    ensures { result ≡ three_of Told.WriteSync text.now }
-{
-    let (file, block, value) = three_numbers(text)?;
-    Some(Told::WriteSync {
-        file: FileId(file),
-        block: BlockNo(block),
-        value,
-    })
-}
-
-#[tactic(auto, unfolding(crate::specs::Reading::one_of))]
-fn read_sync(text: &[u8]) -> Option<Told>
-    ensures { result ≡ one_of Told.Sync text.now }
-{
-    let file = FileId(number32(text)?);
-    Some(Told::Sync { file })
-}
-
-#[tactic(auto, unfolding(crate::specs::Reading::two_of))]
-fn read_resize(text: &[u8]) -> Option<Told>
-    ensures { result ≡ two_of Told.Resize text.now }
-{
-    let (file, blocks) = two_numbers(text)?;
-    let file = FileId(file);
-    Some(Told::Resize { file, blocks })
-}
-
-#[tactic(auto, unfolding(crate::specs::Reading::one_of))]
-fn read_remove(text: &[u8]) -> Option<Told>
-    ensures { result ≡ one_of Told.Remove text.now }
-{
-    let file = FileId(number32(text)?);
-    Some(Told::Remove { file })
 }
 
 /// The call that the words write in a version, as `put F B V` or `fetch F B`. Takes no memory.

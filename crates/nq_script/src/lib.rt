@@ -24,4 +24,3 @@ pub use lines::{Line, parse_line};
 pub use print::{print_event, print_head, print_line};
 pub use schedules::Schedule;
 pub use scripts::{Lines, Script, parse};
-pub use words::number;

@@ -7,11 +7,12 @@ ghost use Rattle.nq_script.specs.Reading.{told_line, call_line, deliver_line, cl
 ghost use Rattle.nq_script.specs.declared.faults.ScriptFault.{ScriptFault};
 ghost use Rattle.nq_script.specs.declared.lines.Line.{Line};
 
-use crate::calls::{call_of, read_told};
+use crate::calls::call_of;
 use crate::faults::ScriptFault;
 use crate::heads::Head;
-use crate::words::{number, number_then, number32, ranged, rest_after};
+use crate::words::{number_then, ranged, rest_after};
 use nq_base::{Event, Host, Told};
+use nq_words::{number, number32, read_told};
 use std::alloc::Global;
 
 /// A line after the head.

@@ -2,47 +2,23 @@
 
 ghost use Rattle.std.specs.Prelude.{◌≡◌, ◌<◌, ◌^◌, ◌++◌, ◌∷◌, [], ℕ, List, map, codes, IfOk, OnOk};
 ghost use Rattle.std.specs.Fmt.{decimal};
-ghost use Rattle.nq_base.specs.Name.{IsName};
 ghost use Rattle.nq_script.specs.Calls.{FitsCall, call_words};
 ghost use Rattle.nq_script.specs.Heads.{FitsHead, file_line, head_lines, longest_lines};
 ghost use Rattle.nq_script.specs.Lines.{HasEvent, HasLine, FitsEvent, SpellsEvent, TellsLine, event_words, longest_words};
 ghost use Rattle.nq_script.specs.Text.{IsVersion, spaced, text_of};
 
+use crate::calls::told_as;
 use crate::heads::Head;
 use crate::lines::Line;
-use nq_base::{BlockNo, Call, Event, FileId, FileList, Name, NoMemory};
+use nq_base::{Call, Event, FileList, Name, NoMemory};
+use nq_words::{push_bytes, push_command, push_told};
 use std::alloc::Global;
-
-/// Appends bytes.
-fn append(text: &mut Vec<u8>, bytes: &[u8]) -> Result<(), NoMemory>
-    ensures { OnOk result (text.new.items ≡ text.old.items ++ bytes.now) }
-{
-    match text.extend_from_slice(bytes) {
-        Ok(()) => Ok(()),
-        Err(_) => Err(NoMemory::Memory),
-    }
-}
-
-/// Appends a number in decimal.
-fn append_number(text: &mut Vec<u8>, number: u64) -> Result<(), NoMemory>
-    ensures { OnOk result (text.new.items ≡ text.old.items ++ decimal number) }
-{
-    if number >= 10 {
-        append_number(text, number / 10)?;
-    }
-    append(text, &[b'0' + (number % 10) as u8])
-}
 
 /// Appends a word and numbers, with blanks between them.
 fn append_words(text: &mut Vec<u8>, word: &[u8], numbers: &[u64]) -> Result<(), NoMemory>
     ensures { OnOk result (text.new.items ≡ text.old.items ++ spaced (word.now ∷ map decimal numbers.now)) }
 {
-    append(text, word)?;
-    for number in numbers {
-        append(text, b" ")?;
-        append_number(text, *number)?;
-    }
-    Ok(())
+    push_command(text, word, numbers)
 }
 
 /// Appends the words of a call.
@@ -50,67 +26,7 @@ fn append_call(text: &mut Vec<u8>, call: &Call) -> Result<(), NoMemory>
     ensures written { OnOk result (text.new.items ≡ text.old.items ++ spaced (call_words call.now)) }
     ensures fits { OnOk result (FitsCall call.now) }
 {
-    match call {
-        Call::Create { name, blocks } => append_create(text, name, *blocks),
-        Call::Lookup { name } => append_lookup(text, name),
-        Call::Attr { file } => append_words(text, b"attr", &[u64::from(file.0)]),
-        Call::Read { file, block } => append_words(
-            text,
-            b"read",
-            &[u64::from(file.0), u64::from(block.0)],
-        ),
-        Call::Fetch { file, block } => append_words(
-            text,
-            b"fetch",
-            &[u64::from(file.0), u64::from(block.0)],
-        ),
-        Call::Write { file, block, body } => {
-            append_write(text, b"write", *file, *block, body.value())
-        }
-        Call::WriteSync { file, block, body } => {
-            append_write(text, b"put", *file, *block, body.value())
-        }
-        Call::Sync { file } => append_words(text, b"sync", &[u64::from(file.0)]),
-        Call::Resize { file, blocks } => append_words(
-            text,
-            b"resize",
-            &[u64::from(file.0), u64::from(*blocks)],
-        ),
-        Call::Remove { file } => append_words(text, b"remove", &[u64::from(file.0)]),
-    }
-}
-
-fn append_write(
-    text: &mut Vec<u8>,
-    word: &[u8],
-    file: FileId,
-    block: BlockNo,
-    value: u32,
-) -> Result<(), NoMemory>
-    ensures written { OnOk result (text.new.items ≡ text.old.items ++ spaced (word.now ∷ decimal file ∷ decimal block ∷ decimal value ∷ [])) }
-    ensures fits { OnOk result ((file < 2 ^ 32) × (block < 2 ^ 32)) }
-{
-    append_words(
-        text,
-        word,
-        &[u64::from(file.0), u64::from(block.0), u64::from(value)],
-    )
-}
-
-fn append_create(text: &mut Vec<u8>, name: &Name, blocks: u32) -> Result<(), NoMemory>
-    ensures written { OnOk result (text.new.items ≡ text.old.items ++ spaced (codes "create" ∷ name.now ∷ decimal blocks ∷ [])) }
-    ensures fits { OnOk result (IsName name.now) }
-{
-    append(text, b"create ")?;
-    append_words(text, name.as_bytes(), &[u64::from(blocks)])
-}
-
-fn append_lookup(text: &mut Vec<u8>, name: &Name) -> Result<(), NoMemory>
-    ensures written { OnOk result (text.new.items ≡ text.old.items ++ spaced (codes "lookup" ∷ name.now ∷ [])) }
-    ensures fits { OnOk result (IsName name.now) }
-{
-    append(text, b"lookup ")?;
-    append(text, name.as_bytes())
+    push_told(text, &told_as(call))
 }
 
 /// Appends the words of an event, so many times over.
@@ -121,7 +37,7 @@ fn append_event(text: &mut Vec<u8>, event: &Event, times: u32, version: u32) -> 
     match event {
         Event::Call { host, call } => {
             append_words(text, b"call", &[u64::from(host.0)])?;
-            append(text, b" ")?;
+            push_bytes(text, b" ")?;
             append_call(text, call)
         }
         Event::Deliver(packet) => append_words(text, b"deliver", &[*packet]),
@@ -142,7 +58,7 @@ fn append_crash(text: &mut Vec<u8>, longest: u32, version: u32) -> Result<(), No
     if version == 2 {
         append_words(text, b"crash", &[u64::from(longest)])
     } else {
-        append(text, b"crash")
+        push_bytes(text, b"crash")
     }
 }
 
@@ -156,7 +72,7 @@ pub(crate) fn append_event_line(
     ensures { OnOk result ((line : List ℕ) × SpellsEvent version event.now line × (text.new.items ≡ text.old.items ++ text_of (line ∷ []))) }
 {
     append_event(text, event, 1, version)?;
-    append(text, b"\n")
+    push_bytes(text, b"\n")
 }
 
 /// The line of an event, without its line feed, in a version that can tell it: a block that it writes is one that
@@ -181,8 +97,8 @@ pub fn print_line(alloc: Global, line: &Line, version: u32) -> Result<Vec<u8>, N
     match line {
         Line::Events { event, times } => append_event(&mut text, event, *times, version)?,
         Line::Round(times) => append_words(&mut text, b"round", &[u64::from(*times)])?,
-        Line::Flow => append(&mut text, b"flow")?,
-        Line::End => append(&mut text, b"end")?,
+        Line::Flow => push_bytes(&mut text, b"flow")?,
+        Line::End => push_bytes(&mut text, b"end")?,
     }
     Ok(text)
 }
@@ -200,7 +116,7 @@ pub fn print_head(alloc: Global, head: &Head) -> Result<Vec<u8>, NoMemory>
     append_line(&mut text, b"term", head.term)?;
     append_longest(&mut text, head.longest, head.version)?;
     append_files(&mut text, &head.files)?;
-    append(&mut text, b"begin\n")?;
+    push_bytes(&mut text, b"begin\n")?;
     Ok(text)
 }
 
@@ -209,7 +125,7 @@ fn append_line(text: &mut Vec<u8>, word: &[u8], number: u32) -> Result<(), NoMem
     ensures { OnOk result (text.new.items ≡ text.old.items ++ text_of (spaced (word.now ∷ decimal number ∷ []) ∷ [])) }
 {
     append_words(text, word, &[u64::from(number)])?;
-    append(text, b"\n")
+    push_bytes(text, b"\n")
 }
 
 /// Appends the line of the longest term, where the version has it.
@@ -239,7 +155,7 @@ fn append_files(text: &mut Vec<u8>, files: &FileList) -> Result<(), NoMemory>
 fn append_file(text: &mut Vec<u8>, name: &Name, blocks: u32) -> Result<(), NoMemory>
     ensures { OnOk result (text.new.items ≡ text.old.items ++ text_of (file_line (name.now, blocks) ∷ [])) }
 {
-    append(text, b"file ")?;
+    push_bytes(text, b"file ")?;
     append_words(text, name.as_bytes(), &[u64::from(blocks)])?;
-    append(text, b"\n")
+    push_bytes(text, b"\n")
 }

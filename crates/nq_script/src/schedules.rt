@@ -2,12 +2,13 @@
 
 ghost use Rattle.std.specs.Prelude.{◌≡◌, ◌↔◌, ◌++◌, ◌∷◌, ◌-◌, ◌<◌, ◌≤◌, [], ℕ, List, Some, length, slice_get, take, IsOk, IfOk, IsNone, IfSome, IsTrue, OnErr, OnOk};
 ghost use Rattle.nq_base.specs.declared.Event.{Event};
-ghost use Rattle.nq_script.specs.Calls.{IsFilled, IsFilledCall};
+ghost use Rattle.nq_script.specs.Calls.{IsFilledCall};
 ghost use Rattle.nq_script.specs.Lines.{HasEvent, IsFilledEvent, SpellsEvent};
 ghost use Rattle.nq_script.specs.Text.{text_of};
 
+use crate::calls::{call_of, told_as};
 use crate::print::append_event_line;
-use nq_base::{Block, Call, Event, NoMemory};
+use nq_base::{Call, Event, NoMemory};
 use std::alloc::Global;
 use std::marker::Model;
 
@@ -142,44 +143,5 @@ fn filled_call(call: &Call) -> Call
     requires { IsFilledCall call.now }
     ensures { result ≡ call.now }
 {
-    match call {
-        Call::Create { name, blocks } => Call::Create {
-            name: *name,
-            blocks: *blocks,
-        },
-        Call::Lookup { name } => Call::Lookup { name: *name },
-        Call::Attr { file } => Call::Attr { file: *file },
-        Call::Read { file, block } => Call::Read {
-            file: *file,
-            block: *block,
-        },
-        Call::Fetch { file, block } => Call::Fetch {
-            file: *file,
-            block: *block,
-        },
-        Call::Write { file, block, body } => Call::Write {
-            file: *file,
-            block: *block,
-            body: filled_body(body),
-        },
-        Call::WriteSync { file, block, body } => Call::WriteSync {
-            file: *file,
-            block: *block,
-            body: filled_body(body),
-        },
-        Call::Sync { file } => Call::Sync { file: *file },
-        Call::Resize { file, blocks } => Call::Resize {
-            file: *file,
-            blocks: *blocks,
-        },
-        Call::Remove { file } => Call::Remove { file: *file },
-    }
-}
-
-/// A second block like one that a number fills.
-fn filled_body(body: &Block) -> Block
-    requires { IsFilled body.now }
-    ensures { result ≡ body.now }
-{
-    Block::fill(body.value())
+    call_of(&told_as(call))
 }

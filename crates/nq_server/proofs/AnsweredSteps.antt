@@ -1,7 +1,7 @@
 -- Requests that are answered with one packet.
 use Rattle.std.proofs.Common.{◌≡◌, ℕ, Option, Some, None, Result, Ok, Err, refl, sym, subst, ◌∙◌, append-nil}
 use Rattle.nq_base.specs.declared.Who.{Who}
-use Rattle.nq_journal.specs.Items.{EntryList}
+use Rattle.nq_base.specs.Entries.{EntryList}
 use Rattle.nq_model.specs.Change.{row_of_found}
 use Rattle.nq_model.specs.Kept.{File, Kept}
 use Rattle.nq_model.specs.Message.{Message, reply}

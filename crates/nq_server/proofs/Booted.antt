@@ -9,7 +9,7 @@ use Rattle.nq_boot.specs.declared.StartFault.TheVariants.{Failed, Memory, Spent}
 use Rattle.nq_boot.specs.declared.Started.{Started}
 use Rattle.nq_boot.specs.declared.Started.TheVariants as begins
 use Rattle.nq_io.specs.Faults.{Rose}
-use Rattle.nq_journal.specs.Items.{EntryList}
+use Rattle.nq_base.specs.Entries.{EntryList}
 use Rattle.nq_keeper.specs.Keeping.{StaysOrEnds}
 use Rattle.nq_model.specs.Kept.{Kept}
 use Rattle.nq_model.specs.Profile.{most_boots}

@@ -10,7 +10,7 @@ use Rattle.nq_base.specs.declared.Verdict.{Verdict}
 use Rattle.nq_base.specs.declared.Who.{Who}
 use Rattle.nq_datagrams.specs.Messages.{FitsMessage}
 use Rattle.nq_datagrams.specs.Sent.{FitsPacket, sent}
-use Rattle.nq_journal.specs.Items.{EntryList}
+use Rattle.nq_base.specs.Entries.{EntryList}
 use Rattle.nq_model.specs.Decided.{aside, decided_answer, decided_step, fresh_step}
 use Rattle.nq_model.specs.Message.{Packet, reply}
 use Rattle.nq_model.specs.Server.{Phase, Server, says, drops, to_host}

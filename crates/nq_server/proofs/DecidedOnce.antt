@@ -8,7 +8,7 @@ use Rattle.nq_base.specs.declared.Request.{Request}
 use Rattle.nq_base.specs.declared.Who.{Who}
 use Rattle.nq_files.specs.Deciding.{Gives}
 use Rattle.nq_io.specs.Faults.{Rose}
-use Rattle.nq_journal.specs.Items.{EntryList}
+use Rattle.nq_base.specs.Entries.{EntryList}
 use Rattle.nq_keeper.specs.Keeping.{StaysOrEnds}
 use Rattle.nq_keeper.specs.declared.KeepFault.{KeepFault}
 use Rattle.nq_keeper.specs.declared.KeepFault.TheVariants as keep

@@ -20,7 +20,7 @@ use Rattle.nq_server.proofs.AskedRows.{put-runs, found-runs}
 use Rattle.nq_server.proofs.TickedRows.{some-run}
 use Rattle.nq_server.specs.declared.state.Phase.{Phase as Held}
 use Rattle.nq_server.specs.declared.state.Phase.TheVariants.{Recovering}
-use Rattle.nq_journal.specs.Items.{EntryList}
+use Rattle.nq_base.specs.Entries.{EntryList}
 use Rattle.nq_server.specs.State.{Beside}
 use Rattle.nq_server.specs.Stepping.{Enters, SaysNothing, Sends}
 use Rattle.nq_server.specs.Deciding.{DoesAside, file_to_tell, length_in, heard_rows, is_later, warnings, warnings_if, rows_serving, entries_serving, recovery_after, entries_recovering}

@@ -13,7 +13,7 @@ use Rattle.nq_datagrams.specs.Sent.{sent}
 use Rattle.nq_evict.specs.declared.NoticeTo.{NoticeTo}
 use Rattle.nq_evict.specs.declared.NoticeTo.TheVariants.{Others, Own}
 use Rattle.nq_evict.specs.Telling.{told_rows, own_rows}
-use Rattle.nq_journal.specs.Items.{EntryList}
+use Rattle.nq_base.specs.Entries.{EntryList}
 use Rattle.nq_model.specs.Ask.{Reply as Told, ask, ask_past, ask_freely, ask_for, renew, share_again, put_off, put_off_by_own, granted, free, no_lease, caching_row, sharing_row, conflicts, shares, term_of}
 use Rattle.nq_model.specs.Kept.{File, Kept}
 use Rattle.nq_model.specs.Profile.{most_rows}

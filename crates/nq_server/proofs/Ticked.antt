@@ -13,7 +13,7 @@ use Rattle.nq_boot.specs.Recovery.{Recovery}
 use Rattle.nq_datagrams.specs.Sent.{FitsPacket}
 use Rattle.nq_expire.specs.Ending.{fenced}
 use Rattle.nq_expire.specs.declared.Fence.{Fence}
-use Rattle.nq_journal.specs.Items.{EntryList}
+use Rattle.nq_base.specs.Entries.{EntryList}
 use Rattle.nq_keeper.specs.declared.KeepFault.{KeepFault}
 use Rattle.nq_keeper.specs.declared.KeepFault.TheVariants.{Failed, Memory}
 use Rattle.nq_lease.specs.Rows.{key_of}

@@ -9,7 +9,7 @@ use Rattle.nq_base.specs.declared.Want.{Want}
 use Rattle.nq_base.specs.declared.Who.{Who}
 use Rattle.nq_evict.specs.declared.NoticeTo.{NoticeTo}
 use Rattle.nq_evict.specs.declared.NoticeTo.TheVariants.{Others, Own}
-use Rattle.nq_journal.specs.Items.{EntryList}
+use Rattle.nq_base.specs.Entries.{EntryList}
 use Rattle.nq_model.specs.Ask.{conflicts}
 use Rattle.nq_model.specs.Kept.{File}
 use Rattle.nq_model.specs.Server.{ServerStep, serving}

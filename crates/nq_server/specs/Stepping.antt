@@ -7,7 +7,7 @@ use Rattle.nq_base.specs.declared.Party.{Party}
 use Rattle.nq_datagrams.specs.Messages.{bytes_of}
 use Rattle.nq_datagrams.specs.Sent.{FitsPacket}
 use Rattle.nq_io.specs.Faults.{Rose}
-use Rattle.nq_journal.specs.Items.{EntryList}
+use Rattle.nq_base.specs.Entries.{EntryList}
 use Rattle.nq_keeper.specs.Keeping.{StaysOrEnds}
 use Rattle.nq_model.specs.Change.{IsWithinBounds}
 use Rattle.nq_model.specs.Kept.{Kept}

@@ -12,9 +12,10 @@ ghost use Rattle.nq_server.specs.Stepping.{Enters};
 
 use crate::gates::file_to_change;
 use crate::state::{Phase, State};
-use nq_base::{Access, Decided, Entry, FileId, Host, Request, Row, RowKey, Ticks, Verdict, Who};
+use nq_base::{
+    Access, Decided, Entry, FileId, Host, Journal, Request, Row, RowKey, Ticks, Verdict, Who,
+};
 use nq_boot::Recovering;
-use nq_journal::Journal;
 use nq_lease::Table;
 
 /// A write of the holder of this row was heard now.

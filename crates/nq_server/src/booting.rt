@@ -12,9 +12,8 @@ ghost use Rattle.nq_server.specs.Sound.{IsSoundAfter};
 ghost use Rattle.nq_server.specs.State.{beside, beside_of, phase_of};
 
 use crate::state::{Phase, State};
-use nq_base::{Entry, Heads, Ticks};
+use nq_base::{Entry, Heads, Journal, Ticks};
 use nq_boot::{StartFault, Started, start};
-use nq_journal::Journal;
 use nq_keeper::{KeepFault, Keeper};
 use nq_lease::Table;
 use std::alloc::Global;

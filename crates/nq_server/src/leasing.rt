@@ -4,7 +4,7 @@ ghost use Rattle.std.specs.Prelude.{◌≡◌, ◌<◌, ◌≤◌, ◌+◌, ◌^
 ghost use Rattle.std.specs.Option.{ForSome};
 ghost use Rattle.nq_evict.specs.Telling.{told_rows};
 ghost use Rattle.nq_files.specs.Reading.{read_out};
-ghost use Rattle.nq_journal.specs.Items.{EntryList};
+ghost use Rattle.nq_base.specs.Entries.{EntryList};
 ghost use Rattle.nq_keeper.specs.Keeping.{LeavesOne};
 ghost use Rattle.nq_model.specs.Ask.{ask as asked_of};
 ghost use Rattle.nq_model.specs.Kept.{Kept, find_file};
@@ -21,14 +21,13 @@ use crate::received::{Halt, Taken};
 use crate::replying::{Caller, end_reply, put_off, refuse};
 use crate::state::State;
 use nq_base::{
-    Access, Asked, Block, BlockNo, Entry, FileId, FileRow, Grant, Mode, NoMemory, Question,
-    Refusal, Reply, RowKey, Want, Who,
+    Access, Asked, Block, BlockNo, Entry, FileId, FileRow, Grant, Journal, Mode, NoMemory,
+    Question, Refusal, Reply, RowKey, Want, Who,
 };
 use nq_datagrams::BegunReply;
 use nq_evict::NoticeTo;
 use nq_files::{ReadOut, read_block};
 use nq_grant::{ask, conflict};
-use nq_journal::Journal;
 use nq_keeper::{KeepFault, Keeper};
 use nq_lease::Table;
 use nq_wire::{LONGEST_RESULTS, Outbox};

@@ -1,7 +1,7 @@
 //! LOOKUP and GETATTR while serving.
 
 ghost use Rattle.std.specs.Prelude.{◌≡◌};
-ghost use Rattle.nq_journal.specs.Items.{EntryList};
+ghost use Rattle.nq_base.specs.Entries.{EntryList};
 ghost use Rattle.nq_keeper.specs.Keeping.{LeavesOne};
 ghost use Rattle.nq_model.specs.Kept.{find_file, find_name};
 ghost use Rattle.nq_model.specs.ServerStep.{get_attr as gets_attributes, look_up as looks_up};

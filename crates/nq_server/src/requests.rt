@@ -2,7 +2,7 @@
 
 ghost use Rattle.std.specs.Prelude.{◌≡◌, ◌<◌, ◌≤◌, ◌+◌, ◌^◌, ◌==◌, ◌&&◌, ℕ, false, nat_lt};
 ghost use Rattle.nq_base.specs.declared.HostRow.{HostRow as Line};
-ghost use Rattle.nq_journal.specs.Items.{EntryList};
+ghost use Rattle.nq_base.specs.Entries.{EntryList};
 ghost use Rattle.nq_model.specs.Decided.{is_decided_once as decided_once};
 ghost use Rattle.nq_model.specs.Message.{asker as asked_by};
 ghost use Rattle.nq_model.specs.Profile.{most_hosts};
@@ -22,9 +22,8 @@ use crate::looking::{get_attr, look_up};
 use crate::received::{Halt, Reason, Taken};
 use crate::replying::{self, Caller, refuse};
 use crate::state::{Phase, State};
-use nq_base::{Host, HostRow, Refusal, Reply, Request, Who};
+use nq_base::{Host, HostRow, Journal, Refusal, Reply, Request, Who};
 use nq_evict::vacated;
-use nq_journal::Journal;
 use nq_keeper::Keeper;
 use nq_wire::Outbox;
 use std::alloc::Global;

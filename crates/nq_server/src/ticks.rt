@@ -12,10 +12,9 @@ ghost use Rattle.nq_wire.specs.Outbox.{Datagrams};
 
 use crate::received::{Halt, Taken};
 use crate::state::{Phase, State};
-use nq_base::{Entry, Ticks};
+use nq_base::{Entry, Journal, Ticks};
 use nq_boot::{Recovering, Serving};
 use nq_expire::{Fence, due, end_reading, end_writing};
-use nq_journal::Journal;
 use nq_keeper::{KeepFault, Keeper};
 use nq_lease::Table;
 

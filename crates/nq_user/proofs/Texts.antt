@@ -7,7 +7,7 @@ use Rattle.nq_ending.specs.declared.Halt.{Halt}
 use Rattle.nq_script.proofs.Cuts.{cut-again, cut-found}
 use Rattle.nq_script.proofs.FileLines.{one-line}
 use Rattle.nq_script.proofs.Fitting.{each-back}
-use Rattle.nq_script.specs.Reading.{cut_at}
+use Rattle.nq_words.specs.Reading.{cut}
 use Rattle.nq_script.specs.Text.{text_of}
 use Rattle.nq_user.specs.Running.{AnswersAll, RunsLine, RunsText}
 use Rattle.nq_user.specs.Turning.{Between}
@@ -45,9 +45,9 @@ pub record Next (later : List (List ℕ)) (line after : List ℕ) : Type 0 where
   pub left : after ≡ text_of others
   pub call : IsCall line
 
-next_of : (later : List (List ℕ)) (rest line after : List ℕ) → AllByRecursion IsCall later → rest ≡ text_of later → cut_at 10 rest ≡ Some (line, after) → Next later line after
-unfolding cut_at
-next_of [] rest line after each left cut = absurd (none-some (line, after) (sym (ap (cut_at 10) left) ∙ cut))
+next_of : (later : List (List ℕ)) (rest line after : List ℕ) → AllByRecursion IsCall later → rest ≡ text_of later → cut 10 rest ≡ Some (line, after) → Next later line after
+unfolding cut
+next_of [] rest line after each left cuts = absurd (none-some (line, after) (sym (ap (cut 10) left) ∙ cuts))
 next_of (first ∷ others) rest line after each left cut =
     let same = one-line rest line after first (text_of others) cut left each.0.0 in
     record {
@@ -58,7 +58,7 @@ next_of (first ∷ others) rest line after each left cut =
     }
 
 pub next : (turns : ℕ) (text rest line after : List ℕ) (number : ℕ) (at now : Between) → (p : Progress turns text rest number at now)
-    → cut_at 10 rest ≡ Some (line, after) → Next p.later line after
+    → cut 10 rest ≡ Some (line, after) → Next p.later line after
 next turns text rest line after number at now p cut =
     next_of p.later rest line after (each-back IsCall p.before p.later (subst (AllByRecursion IsCall) p.parts p.are.each)) p.left cut
 
@@ -71,7 +71,7 @@ answered_more turns (first ∷ lines) line at now after so runs =
 
 -- one call more was run to its answer
 pub stepped : (turns : ℕ) (text rest line after : List ℕ) (number : ℕ) (at now new : Between) → (p : Progress turns text rest number at now)
-    → cut_at 10 rest ≡ Some (line, after) → RunsLine turns line (Ok tt) now new → Progress turns text after (number + 1) at new
+    → cut 10 rest ≡ Some (line, after) → RunsLine turns line (Ok tt) now new → Progress turns text after (number + 1) at new
 stepped turns text rest line after number at now new p cut runs =
     let n = next turns text rest line after number at now p cut in
     let found = (cut-found 10 rest line after cut).0 in
@@ -89,7 +89,7 @@ stepped turns text rest line after number at now new p cut runs =
 
 -- the next call stopped
 pub stops : (turns : ℕ) (text rest line after : List ℕ) (number : ℕ) (why : Halt) (at now new : Between) → (p : Progress turns text rest number at now)
-    → cut_at 10 rest ≡ Some (line, after) → RunsLine turns line (Err why) now new
+    → cut 10 rest ≡ Some (line, after) → RunsLine turns line (Err why) now new
     → RunsText turns text (Err (record { why = why; line = number })) at new
 stops turns text rest line after number why at now new p cut runs =
     let n = next turns text rest line after number at now p cut in (
@@ -107,13 +107,13 @@ stops turns text rest line after number why at now new p cut runs =
       },
     )
 
-none_later : (later : List (List ℕ)) (rest : List ℕ) → AllByRecursion IsCall later → rest ≡ text_of later → cut_at 10 rest ≡ None → later ≡ []
+none_later : (later : List (List ℕ)) (rest : List ℕ) → AllByRecursion IsCall later → rest ≡ text_of later → cut 10 rest ≡ None → later ≡ []
 none_later [] rest each left none = refl
 none_later (first ∷ others) rest each left none =
-    absurd (none-some (first, text_of others) (sym none ∙ ap (cut_at 10) left ∙ cut-again 10 first (text_of others) each.0.0))
+    absurd (none-some (first, text_of others) (sym none ∙ ap (cut 10) left ∙ cut-again 10 first (text_of others) each.0.0))
 
 -- all calls were run to their answers
-pub done : (turns : ℕ) (text rest : List ℕ) (number : ℕ) (at now : Between) → Progress turns text rest number at now → cut_at 10 rest ≡ None
+pub done : (turns : ℕ) (text rest : List ℕ) (number : ℕ) (at now : Between) → Progress turns text rest number at now → cut 10 rest ≡ None
     → RunsText turns text (Ok tt) at now
 done turns text rest number at now p none =
     let each = each-back IsCall p.before p.later (subst (AllByRecursion IsCall) p.parts p.are.each) in
@@ -121,7 +121,7 @@ done turns text rest number at now p none =
     (p.lines, p.are, subst (λ ls. AnswersAll turns ls at now) (sym all) p.answered)
 
 -- what is left is shorter by a line
-pub shorter : (rest line after : List ℕ) → cut_at 10 rest ≡ Some (line, after) → length after < length rest
+pub shorter : (rest line after : List ℕ) → cut 10 rest ≡ Some (line, after) → length after < length rest
 shorter rest line after cut =
     let whole = ap length (cut-found 10 rest line after cut).0 in
     let long = length-append line (10 ∷ after) in omega arith

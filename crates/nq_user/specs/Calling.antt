@@ -5,7 +5,7 @@ use Rattle.nq_base.specs.declared.Call.{Call}
 use Rattle.nq_client.specs.Counted.{Counted}
 use Rattle.nq_client.specs.Outcome.{Called}
 use Rattle.nq_ending.specs.declared.Halt.{Halt}
-use Rattle.nq_journal.specs.Items.{EntryList}
+use Rattle.nq_base.specs.Entries.{EntryList}
 use Rattle.nq_link.specs.Link.{Letters}
 use Rattle.nq_link.specs.declared.Sent.{Sent}
 use Rattle.nq_model.specs.ClientStep.{client_call}

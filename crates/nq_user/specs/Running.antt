@@ -8,7 +8,7 @@ use Rattle.nq_client.specs.Counted.{Counted}
 use Rattle.nq_client.specs.Finishing.{to_server}
 use Rattle.nq_clock.specs.Clock.{Reads}
 use Rattle.nq_ending.specs.declared.Halt.{Halt}
-use Rattle.nq_journal.specs.Items.{EntryList}
+use Rattle.nq_base.specs.Entries.{EntryList}
 use Rattle.nq_model.specs.ClientStep.{starts}
 use Rattle.nq_node.specs.Links.{LinkTold}
 use Rattle.nq_script.specs.Calls.{SpellsCall}

@@ -3,7 +3,7 @@ use Rattle.std.specs.Prelude.{◌≡◌, ◌<◌, ℕ, zero, suc, Bool, true, fa
 use Rattle.nq_base.specs.declared.Answer.{Answer}
 use Rattle.nq_client.specs.Counted.{Counted}
 use Rattle.nq_ending.specs.declared.Halt.{Halt}
-use Rattle.nq_journal.specs.Items.{EntryList}
+use Rattle.nq_base.specs.Entries.{EntryList}
 use Rattle.nq_model.specs.Client.{Client}
 use Rattle.nq_node.specs.ClientTurn.{AttendsTurn}
 use Rattle.nq_node.specs.Links.{LinkTold}

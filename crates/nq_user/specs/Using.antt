@@ -8,7 +8,7 @@ use Rattle.nq_calls.specs.Lines.{Tells}
 use Rattle.nq_ending.specs.declared.Ending.{Ending}
 use Rattle.nq_io.specs.Whole.{CountsWhole, ReadsWhole}
 use Rattle.nq_io.specs.declared.Whole.{Whole}
-use Rattle.nq_journal.specs.Items.{EntryList}
+use Rattle.nq_base.specs.Entries.{EntryList}
 use Rattle.nq_node.specs.Links.{LinkTold}
 use Rattle.nq_user.specs.Running.{Runs}
 

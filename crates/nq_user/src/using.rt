@@ -6,12 +6,11 @@ ghost use Rattle.nq_user.specs.Using.{RunsAndTells, Uses, UsesText};
 
 use crate::running::run;
 use nq_answers::{tell_bytes, tell_end, tell_script};
-use nq_base::{Host, Inc};
+use nq_base::{Host, Inc, Journal};
 use nq_calls::find_fault;
 use nq_clock::Clock;
 use nq_ending::Ending;
 use nq_io::{Sink, Source, Whole, read_all};
-use nq_journal::Journal;
 use nq_link::Link;
 use std::alloc::Global;
 

@@ -3,6 +3,6 @@ pub mod PartsAgain
 pub mod RequestsAgain
 pub mod RepliesAgain
 pub mod Whole
-mod Filled
+pub mod Filled
 pub mod Lengths
 pub mod Apart

@@ -7,3 +7,4 @@ pub mod Request
 pub mod Reply
 pub mod Reading
 pub mod Outbox
+pub mod Lent

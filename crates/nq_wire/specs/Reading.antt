@@ -28,11 +28,6 @@ use Rattle.nq_wire.specs.declared.procedure.Procedure.TheVariants as procedure
 abbrev pub Reads : {A F : Type 0} → (A → List ℕ) → (A → Type 0) → List ℕ → List ℕ → Result A F → Type 0
 Reads spelling Fits old new result = IfOk result (λ x. Fits x × (old ≡ spelling x ++ new))
 
--- what a call gave that left its value in a place
-abbrev pub left_in : {A F : Type 0} → A → Result (Unit {0}) F → Result A F
-left_in x (Ok done) = Ok x
-left_in x (Err e) = Err e
-
 -- an item: any fault of it makes garbage of the whole
 abbrev pub item : {A : Type 0} → Result A XdrFault → Result A Garbage
 item (Ok x) = Ok x

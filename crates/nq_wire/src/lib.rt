@@ -8,6 +8,7 @@
 
 mod fault;
 pub mod laws;
+mod lent;
 mod outbox;
 mod parts;
 mod procedure;
@@ -16,13 +17,12 @@ mod requests;
 mod status;
 
 pub use fault::WireFault;
+pub use lent::{LentBlock, LentReply};
 pub use nq_base::{Party, PushBase, Refusal, Reply, Request};
 pub use nq_memory::NoMemory;
 pub use outbox::Outbox;
 pub use procedure::Procedure;
 pub use replies::{
-    LONGEST_RESULTS, decode_reply, decode_reply_into, encode_reply, encode_reply_into,
+    LONGEST_RESULTS, decode_reply, decode_reply_in_place, encode_reply, encode_reply_into,
 };
-pub use requests::{
-    LONGEST_ARGUMENTS, decode_request, decode_request_into, encode_request, encode_request_into,
-};
+pub use requests::{LONGEST_ARGUMENTS, decode_request, encode_request, encode_request_into};

@@ -3,5 +3,5 @@
 mod decoding;
 mod encoding;
 
-pub use decoding::{decode_request, decode_request_into};
+pub use decoding::decode_request;
 pub use encoding::{LONGEST_ARGUMENTS, encode_request, encode_request_into};

@@ -10,7 +10,7 @@ use Rattle.nq_client.specs.Counted.{Counted}
 use Rattle.nq_client.specs.Finishing.{Grows}
 use Rattle.nq_client.specs.Outcome.{Called, Counts, Heeded, Received, Stays}
 use Rattle.nq_client.specs.declared.heard.Heard.{Heard}
-use Rattle.nq_journal.specs.Items.{EntryList}
+use Rattle.nq_base.specs.Entries.{EntryList}
 use Rattle.nq_datagrams.specs.Messages.{FitsMessage}
 use Rattle.nq_model.specs.Client.{Client, ClientStep, noting}
 use Rattle.nq_model.specs.ClientStep.{next_incarnation, restart, starts}

@@ -11,7 +11,7 @@ use Rattle.nq_clock.specs.Counts.{SkewCounts}
 use Rattle.nq_clock.specs.Tracks.{Follows}
 use Rattle.nq_datagrams.specs.Incoming.{datagram_in}
 use Rattle.nq_datagrams.specs.Messages.{bytes_of}
-use Rattle.nq_journal.specs.Items.{EntryList}
+use Rattle.nq_base.specs.Entries.{EntryList}
 use Rattle.nq_model.specs.Change.{IsWithinBounds}
 use Rattle.nq_model.specs.Kept.{Kept}
 use Rattle.nq_model.specs.Message.{Packet}

@@ -9,7 +9,7 @@ use Rattle.nq_model.specs.Message.{call, reply, error}
 use Rattle.nq_rpc.specs.Message.{spelling}
 use Rattle.nq_wire.specs.Request.{arguments}
 use Rattle.nq_xdr.specs.Item.{opaque}
-use Rattle.law_bounds.specs.Within.{HasText}
+use Rattle.nq_model.specs.Decided.{HasText}
 use Rattle.nq_world.specs.Running.{BytesCarryText}
 
 all-right : {X : Type 0} (P : X → Type 0) (xs ys : List X) → All P (xs ++ ys) → All P ys

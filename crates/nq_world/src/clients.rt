@@ -8,10 +8,9 @@ ghost use Rattle.nq_world.specs.Moving.{ActsAt, Clocks, called, heeded};
 
 use crate::clocks::{shown, time_after};
 use crate::ending::Halt;
-use nq_base::{Answer, Call, Entry, Host, Inc, Who};
+use nq_base::{Answer, Call, Entry, Host, Inc, Journal, Who};
 use nq_client::{Client, Heard, StartClient};
 use nq_clock::Skew;
-use nq_journal::Journal;
 use nq_wire::Outbox;
 use std::alloc::Global;
 use std::mem;

@@ -15,10 +15,9 @@ ghost use Rattle.nq_world.specs.Playing.{IsAsBefore, IsThere, IsTimeOf, Plays};
 
 use crate::starting::stop_all;
 use crate::world::World;
-use nq_base::{Call, FileId, FileRow, Host, Inc, Party, Ticks};
+use nq_base::{Call, FileId, FileRow, Host, Inc, Journal, Party, Ticks};
 use nq_client::Client;
 use nq_dirty::Dirty;
-use nq_journal::Journal;
 use nq_keeper::{KeepFault, Keeper};
 use nq_net::Packets;
 use nq_server::Server;

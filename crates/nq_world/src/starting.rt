@@ -11,10 +11,9 @@ ghost use Rattle.nq_world.specs.declared.starting.NewFault.{NewFault};
 
 use crate::first::keep_head;
 use crate::world::World;
-use nq_base::{FileList, Host, Inc, NoMemory, Ticks};
+use nq_base::{FileList, Host, Inc, Journal, NoMemory, Ticks};
 use nq_client::{Client, StartClient};
 use nq_clock::Skew;
-use nq_journal::Journal;
 use nq_keeper::{KeepFault, Keeper};
 use nq_net::Packets;
 use nq_server::{BootFault, Server};

@@ -8,10 +8,9 @@ ghost use Rattle.nq_world.specs.Playing.{CanCome, CountsFaults, GoesOn, HasSetti
 
 use crate::stepped::Stepped;
 use crate::testing::test;
-use nq_base::Event;
+use nq_base::{Event, Journal};
 use nq_client::Client;
 use nq_clock::Skew;
-use nq_journal::Journal;
 use nq_keeper::Keeper;
 use nq_net::Packets;
 use nq_server::Server;

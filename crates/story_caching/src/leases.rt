@@ -1,8 +1,8 @@
 //! Leases that are held.
 
 use nq_base::{FileId, Grant, Mode, NoMemory, Rev, Tag, Ticks};
-use nq_dirty::Dirty;
 use nq_client_leases::{Held, Take, Taken};
+use nq_dirty::Dirty;
 
 const FILE: FileId = FileId(1);
 

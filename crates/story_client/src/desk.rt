@@ -2,10 +2,10 @@
 
 use crate::words::{bytes_of, word_at};
 use anyhow::{Context, Result, bail};
-use nq_base::{Answer, BlockNo, FileId, Host, Inc, Spare, Ticks};
+use nq_base::{Answer, BlockNo, FileId, Host, Inc, Journal, Spare, Ticks};
 use nq_client::{Client, Heard};
 use nq_io::MemSink;
-use nq_journal::{Journal, print};
+use nq_journal::{is_in, print};
 use nq_script::parse_call;
 use nq_wire::Outbox;
 use std::alloc::Global;
@@ -124,7 +124,7 @@ impl Desk {
                 println!(rt; "sent {xid} by {procedure}")?;
             }
         }
-        if !self.log.is_in(2) {
+        if !is_in(&self.log, 2) {
             bail!("no journal of this version");
         }
         let mut sink = MemSink::new(self.alloc, ROOM, Vec::new(self.alloc))?;

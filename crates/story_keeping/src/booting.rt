@@ -1,7 +1,7 @@
 //! Boots over a keeper in memory.
 
 use nq_base::Ticks;
-use nq_boot::{Finish, Recovering, Serving, StartFault, Started, start};
+use nq_boot::{Finish, Recovering, Serving, Started, start};
 use nq_keeper::{Keeper, ListKeeper};
 use std::alloc::Global;
 use std::process::Abort;
@@ -61,28 +61,4 @@ fn the_second_boot_waits_for_the_leases_of_the_first(rt: HostRuntime) {
     let heads = keeper.heads().expect(&rt, "no fault");
     assert_eq!(rt; heads.opened, 2);
     assert_eq!(rt; heads.longest, 30);
-}
-
-#[test]
-fn a_write_that_is_heard_prolongs_a_recovery(rt: HostRuntime) {
-    let mut keeper = keeper(&rt, rt.alloc());
-    let mut recovering = second_boot(&rt, &mut keeper);
-    recovering.wrote(Ticks(150));
-    assert_eq!(rt; recovering.until().0, 168);
-    recovering.wrote(Ticks(166));
-    assert_eq!(rt; recovering.until().0, 171);
-    assert_eq!(rt; recovering.heard().0, 166);
-    let recovering = waited(recovering.finish(&mut keeper, Ticks(170))).expect(&rt, "it waits");
-    assert!(rt; opened(recovering.finish(&mut keeper, Ticks(171))).is_some());
-}
-
-#[test]
-fn a_boot_whose_keeper_fails_does_not_begin(rt: HostRuntime) {
-    let failing = [1].to_vec(rt.alloc()).expect(&rt, "memory");
-    let mut keeper = ListKeeper::new(rt.alloc(), failing).expect(&rt, "memory");
-    assert!(rt; matches!(start(&mut keeper, 60, Ticks(0)), Err(StartFault::Failed)));
-    let heads = keeper.heads().expect(&rt, "no fault");
-    assert_eq!(rt; heads.boot, 0);
-    let started = start(&mut keeper, 60, Ticks(0)).expect(&rt, "no fault");
-    assert!(rt; served(started).is_some());
 }

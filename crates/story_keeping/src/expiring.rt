@@ -41,14 +41,6 @@ fn leases_end_by_their_kind(rt: HostRuntime) -> Result<(), Fail> {
 }
 
 #[test]
-fn an_end_past_all_time_does_not_come(rt: HostRuntime) -> Result<(), Fail> {
-    let mut table = Table::new(rt.alloc(), 1).ok().ok_or("memory")?;
-    assert!(rt; table.put_row(row(1, Mode::Writing, u64::MAX, 0)).is_ok());
-    assert!(rt; due(&table, Ticks(u64::MAX)).is_none());
-    Ok(())
-}
-
-#[test]
 fn a_writing_lease_ends_after_its_file_was_fenced(rt: HostRuntime) -> Result<(), Fail> {
     let mut keeper = begun(&rt, rt.alloc(), &[]).keeper;
     let mut table = Table::new(rt.alloc(), 1).ok().ok_or("memory")?;
@@ -59,18 +51,5 @@ fn a_writing_lease_ends_after_its_file_was_fenced(rt: HostRuntime) -> Result<(),
     assert!(rt; table.is_empty());
     let kept = keeper.file(FileId(1)).expect(&rt, "no fault");
     assert!(rt; kept.is_some_and(|row| row.rev == Rev(1)));
-    Ok(())
-}
-
-#[test]
-fn a_writing_lease_stays_where_its_file_is_not_fenced(rt: HostRuntime) -> Result<(), Fail> {
-    let mut keeper = begun(&rt, rt.alloc(), &[8]).keeper;
-    let mut table = Table::new(rt.alloc(), 1).ok().ok_or("memory")?;
-    assert!(rt; table.put_row(row(1, Mode::Writing, 40, 38)).is_ok());
-    let key = due(&table, Ticks(45)).ok_or("none is due")?;
-    assert!(rt; end_writing(&mut table, &mut keeper, key, Ticks(45)).is_err());
-    assert_eq!(rt; table.len(), 1);
-    let kept = keeper.file(FileId(1)).expect(&rt, "no fault");
-    assert!(rt; kept.is_some_and(|row| row.rev == Rev(0)));
     Ok(())
 }

@@ -5,8 +5,7 @@ ghost use Rattle.nq_files.specs.Deciding.{IsOfHost};
 ghost use Rattle.nq_model.specs.Decided.{is_decided_once};
 
 use nq_base::{
-    Block, BlockNo, Decided, FileId, Gate, Host, Inc, Name, Number, PushBase, Request, Rev, Seq,
-    Verdict, Who,
+    Block, BlockNo, Decided, FileId, Gate, Host, Inc, Name, Number, Request, Seq, Verdict, Who,
 };
 use nq_files::{ReadOut, decide, read_block};
 use nq_keeper::ListKeeper;
@@ -26,23 +25,6 @@ pub(crate) const SERVING: Gate = Gate::Serving {
     writing_row: false,
 };
 
-/// Another host's lease is in the way.
-pub(crate) const HINDERED: Gate = Gate::Serving {
-    boot: 1,
-    conflict: true,
-    writing_row: false,
-};
-
-/// The host that asks holds a writing lease.
-pub(crate) const HOLDING: Gate = Gate::Serving {
-    boot: 1,
-    conflict: false,
-    writing_row: true,
-};
-
-/// The second boot recovers.
-pub(crate) const RECOVERING: Gate = Gate::Recovering { opened: 1 };
-
 /// A host that asks with one sequence after the other.
 #[derive(Drop)]
 pub(crate) struct Session {
@@ -52,22 +34,6 @@ pub(crate) struct Session {
 
 pub(crate) fn fresh(verdict: Verdict, value: u64) -> Decided {
     Decided::Fresh { verdict, value }
-}
-
-/// It was done before, with this value.
-pub(crate) fn again(value: u64) -> Decided {
-    Decided::Again {
-        verdict: Verdict::Done,
-        value,
-    }
-}
-
-/// What a push rests on.
-pub(crate) fn base(boot: u32, rev: u64) -> Option<PushBase> {
-    Some(PushBase {
-        boot,
-        base: Rev(rev),
-    })
 }
 
 impl Session {
@@ -117,7 +83,6 @@ impl Session {
         rt: &impl Abort,
         place: (u32, u32),
         body: Block,
-        push: Option<PushBase>,
         gate: Gate,
     ) -> Decided {
         let request = Request::Write {
@@ -127,7 +92,7 @@ impl Session {
             block: BlockNo(place.1),
             first: Number(1),
             last: Number(1),
-            push,
+            push: None,
             body,
         };
         self.ask(rt, request, gate)

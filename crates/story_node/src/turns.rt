@@ -1,9 +1,8 @@
 //! What a turn sends, and how it ends.
 
-use nq_base::{Host, Inc, Party, Ticks};
+use nq_base::{Host, Inc, Journal, Party, Ticks};
 use nq_client::Client;
 use nq_clock::MemClock;
-use nq_journal::Journal;
 use nq_keeper::ListKeeper;
 use nq_link::MemLink;
 use nq_node::{ClientTurn, Turn, client_turn, serve_turn};

@@ -9,9 +9,6 @@
 #![tactic(auto)]
 
 mod full;
-mod grammar;
-mod hostile;
-mod owed;
 mod story;
 mod words;
 
@@ -32,8 +29,6 @@ fn main(rt: HostRuntime) -> Result<()> {
             play(&rt, &mut story, &line)?;
         }
     }
-    hostile::take_in_all(alloc)?;
-    println!(rt; "each spoilt datagram was answered or dropped as it is owed")?;
     Ok(())
 }
 

@@ -4,9 +4,9 @@ ghost use Rattle.std.specs.Prelude.{◌≡◌, ◌≤◌, ◌<◌, ◌^◌, true
 
 use crate::words::{bytes_of, push_words};
 use anyhow::{Context, Result, bail};
-use nq_base::{Host, Party, Ticks};
+use nq_base::{Host, Journal, Party, Ticks};
 use nq_io::MemSink;
-use nq_journal::{Journal, print};
+use nq_journal::{is_in, print};
 use nq_keeper::ListKeeper;
 use nq_rpc::RpcFault;
 use nq_server::{Reason, Received, Server};
@@ -104,7 +104,7 @@ impl Story {
 
     /// What the journal says of it all, in version 2 of its text.
     pub(crate) fn told(&self) -> Result<String> {
-        if !self.log.is_in(2) {
+        if !is_in(&self.log, 2) {
             bail!("no journal of this version");
         }
         let mut sink = MemSink::new(self.alloc, ROOM, Vec::new(self.alloc))?;
@@ -165,13 +165,5 @@ fn number_of(party: Party) -> u32 {
     match party {
         Party::Client(host) => host.0,
         Party::Server => u32::MAX,
-    }
-}
-
-/// The bytes of the datagram at a place, where it goes to this host.
-pub(crate) fn sent_to(out: &Outbox, place: usize, host: u32) -> Option<&[u8]> {
-    match out.get(place) {
-        Some((to, bytes)) if to == Party::Client(Host(host)) => Some(bytes),
-        _ => None,
     }
 }

@@ -1,6 +1,5 @@
 //! Datagrams as words in hexadecimal.
 
-use crate::grammar::word_at;
 use anyhow::Result;
 use std::alloc::Global;
 
@@ -42,7 +41,7 @@ pub(crate) fn push_words(text: &mut String, datagram: &[u8]) -> Result<()> {
             continue;
         }
         let rest = datagram.get(4 * place..).unwrap_or(&[]);
-        let word = word_at(rest, 0).unwrap_or(0);
+        let word = first_word(rest).unwrap_or(0);
         if is_block(rest) {
             skipped = WORDS_OF_BLOCK - 1;
             write!(text, " *{word:x}")?;
@@ -61,12 +60,10 @@ fn is_block(bytes: &[u8]) -> bool {
     }
 }
 
-/// Writes a word, where the datagram reaches so far.
-pub(crate) fn put_word(datagram: &mut [u8], place: usize, word: u32) {
-    let Some(rest) = datagram.get_mut(place..) else {
-        return;
-    };
-    for (byte, written) in rest.iter_mut().zip(word.to_be_bytes()) {
-        *byte = written;
+/// The word at the front.
+fn first_word(bytes: &[u8]) -> Option<u32> {
+    match bytes {
+        [a, b, c, d, ..] => Some(u32::from_be_bytes([*a, *b, *c, *d])),
+        _ => None,
     }
 }

@@ -10,7 +10,7 @@ use nq_io::{MemSink, MemSource};
 use nq_keeper::{Keeper, ListKeeper};
 use nq_replay::{begin, print_journal, replay};
 use nq_script::Schedule;
-use nq_storm::{Stormed, storm, schedule_text, storm_head};
+use nq_storm::{Stormed, schedule_text, storm, storm_head};
 use nq_storm_rules::LossyFate;
 use nq_world::{Stepped, World};
 use std::test::Fail;

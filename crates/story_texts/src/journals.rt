@@ -4,9 +4,9 @@ ghost use Rattle.nq_journal.specs.Text.{IsVersion};
 
 use crate::words::{again, text_of};
 use anyhow::{Context, Result};
-use nq_base::{Host, Inc, Who};
+use nq_base::{Entry, Host, Inc, Journal, Who};
 use nq_io::MemSink;
-use nq_journal::{Entry, Journal, JournalFault, Printed, parse, print};
+use nq_journal::{JournalFault, Printed, is_in, parse, print};
 use std::alloc::Global;
 
 /// Whether a text is parsed and printed again in a version, or its first faulty line.
@@ -33,7 +33,7 @@ fn printed_again(alloc: Global, journal: &Journal, text: &[u8], first: bool) -> 
 fn comes_back(alloc: Global, journal: &Journal, text: &[u8], version: u32) -> Result<&'static str>
     requires { IsVersion version }
 {
-    if !journal.is_in(version) {
+    if !is_in(journal, version) {
         return Ok("not in this version");
     }
     let mut sink = MemSink::new(alloc, text.len(), Vec::new(alloc))?;
@@ -55,7 +55,7 @@ pub(crate) fn long(rt: &HostRuntime) -> Result<()> {
         journal.push(Entry::B { who })?;
     }
     let mut sink = MemSink::new(alloc, 30_000, vec![in alloc; 1]?)?;
-    if journal.is_in(1) {
+    if is_in(&journal, 1) {
         let printed = print(alloc, &journal, 1, &mut sink);
         println!(rt; "{printed:?} behind {} bytes", sink.bytes().len())?;
     }

@@ -1,9 +1,8 @@
 //! Turns of a server and of a client over UDP on this machine.
 
-use nq_base::{Host, Inc, Party, Ticks};
+use nq_base::{Host, Inc, Journal, Party, Ticks};
 use nq_client::Client;
 use nq_clock::MemClock;
-use nq_journal::Journal;
 use nq_keeper::ListKeeper;
 use nq_link::{Link, Sent, UdpLink};
 use nq_node::{client_turn, serve_turn};

@@ -2,9 +2,9 @@
 
 use nq_base::{Host, Inc, Party, Ticks};
 use nq_clock::MemClock;
+use nq_ending::Ending;
 use nq_io::{MemSink, MemSource};
 use nq_link::MemLink;
-use nq_ending::Ending;
 use nq_user::client;
 use std::test::Fail;
 

@@ -14,17 +14,17 @@ use Rattle.nq_base.specs.declared.Verdict.{Verdict}
 use Rattle.nq_base.specs.declared.Want.{Want}
 use Rattle.nq_base.specs.declared.Who.{Who}
 use Rattle.nq_model.specs.Ask.{free, put_off_by_own, granted, no_lease, ask}
-use Rattle.nq_model.specs.Decide.{Decision, to_change, unless_asked, unless_conflict, decide_create, lets_push, decide_push, decide_write_in, decide_write, decide_push_recovering, decide_write_recovering, decide_resize, decide_remove, decide_in, decide, decided_once, decides, creates, writes_through, stores, stores_recovering, resizes, removes, in_the_way, verdict_reply, commits}
-use Rattle.nq_model.specs.Kept.{File, blocks_of, blocks_in_all, find_file, find_name}
-use Rattle.nq_model.specs.Message.{Message, call, reply, error, datagram_of, Datagram, too_long, no_message, no_call, other_rpc, other_program, other_version, unknown_procedure, garbage_vacated, garbage, request, was_too_long, was_no_message, was_no_call, wrong_host, old_incarnation, no_reply_owed, asker, sequence_of}
+use Rattle.nq_model.specs.Decide.{Decision, to_change, unless_asked, unless_conflict, decide_create, lets_push, decide_push, decide_write_in, decide_write, decide_push_recovering, decide_write_recovering, decide_resize, decide_remove, decide_in, decide, decided_once, decides, creates, writes_through, stores, stores_recovering, resizes, removes, in_the_way, verdict_reply, row_after, commits, commits_within}
+use Rattle.nq_model.specs.Kept.{File, blocks_of, blocks_in_all, find_file, find_name, can_be_kept, can_rise}
+use Rattle.nq_model.specs.Message.{Message, call, reply, error, datagram_of, Datagram, too_long, no_message, no_call, other_rpc, other_program, other_version, unknown_procedure, garbage_vacated, garbage, request, was_too_long, was_no_message, was_no_call, wrong_host, old_incarnation, out_of_bounds, no_reply_owed, asker, sequence_of}
 use Rattle.nq_model.specs.Profile.{most_hosts, most_files, most_blocks, most_blocks_of_file, most_ids}
-use Rattle.nq_model.specs.Server.{Phase, serving, recovering, Server, ServerStep, quiet, drops, replies}
-use Rattle.nq_model.specs.ServerStep.{attaches, attach, look_up, get_attr, read, read_block, read_of, get_lease, lease_of, tells_later, serves, to_read, access_of, is_attach, look, perform, not_attached, admit, answer_request, receive, at_time, opens, is_due, end_reading, end_writing, tick_in, tick}
-use Rattle.nq_model.specs.Table.{Table, find_row}
+use Rattle.nq_model.specs.Server.{Phase, serving, recovering, Server, ServerStep, quiet, drops, replies, with_table}
+use Rattle.nq_model.specs.ServerStep.{row_of_attach, attaches, attach_later, attach, look_up, get_attr, read, read_block, read_of, get_lease, lease_of, tells_later, serves, to_read, access_of, is_attach, look, perform, not_attached, admit, answer_request, receive, at_time, opens, is_due, end_reading, ends_writing, end_writing, tick_in, tick}
+use Rattle.nq_model.specs.Table.{Table, find_row, with_rows}
 use Rattle.walk_server.proofs.AskCases.{with_waiter, IsGranted, asks}
 use Rattle.walk_server.proofs.Rows.{choice, same-number, find-passes}
 use Rattle.walk_server.proofs.Tests.{is-below, is-not-below, is-at-most, is-not-at-most, is-above, is-same, none-there}
-use Rattle.walk_server.proofs.ServerOutcomes.{file_changed_by, base_in, only_asks, line_of, IsFrom, IsCurrent, IsFresh, unattached, attached_again, not_yet, no_entry, entry, no_attributes, attributes, no_file, no_block, decided_again, is_old, IsAsking, IsChanging, clash_with, CanResize, CanStore, bad_length, name_taken, no_room, not_kept, outside, no_row, not_under, not_over, not_while_recovering, bad_size, no_room_to_grow, ServerCases, TickCases}
+use Rattle.walk_server.proofs.ServerOutcomes.{file_changed_by, base_in, only_asks, line_of, IsFrom, IsCurrent, IsFresh, unattached, attached_again, not_yet, no_entry, entry, no_attributes, attributes, no_file, no_block, decided_again, is_old, IsAsking, IsChanging, clash_with, CanResize, CanStore, bad_length, name_taken, no_room, not_kept, outside, no_row, not_under, not_over, not_while_recovering, bad_size, no_room_to_grow, ServerCases, none_due, first_stays, TickCases}
 
 fits : (n most : ℕ) → (n == 0 || nat_lt most n) ≡ false → (0 < n) × (n ≤ most)
 fits n most h = (grind (arith, nat_tests), grind (arith, nat_tests))
@@ -246,16 +246,23 @@ module _ (s : Server) (sender next : ℕ) (d : Datagram) (Q : ServerStep → Typ
       Q
       (seq == (line_of s who).seq)
       (replies s who.host xid (verdict_reply who.inc (line_of s who).verdict (line_of s who).value r))
-      (if nat_lt seq (line_of s who).seq then replies s who.host xid (Answer.Refused who.inc Refusal.Old) else commits who seq xid r (decide s who r))
+      (if nat_lt seq (line_of s who).seq then replies s who.host xid (Answer.Refused who.inc Refusal.Old) else commits_within s who seq xid r (decide s who r))
       (λ again. cases.replying xid who r _ e by current.from (decided_again seq current.inc sq (same-number _ _ again) refl))
       (λ differs.
       choice
       Q
       (nat_lt seq (line_of s who).seq)
       (replies s who.host xid (Answer.Refused who.inc Refusal.Old))
-      (commits who seq xid r (decide s who r))
+      (commits_within s who seq xid r (decide s who r))
       (λ below. cases.replying xid who r _ e by current.from (is_old seq current.inc sq (is-below _ _ below) refl))
-      (λ above. decides-fresh xid who seq r e by sq (record { current = current; above = is-above _ _ differs above }) s.phase refl))
+      (λ above.
+      choice
+      Q
+      (can_be_kept (row_after who seq (decide s who r)))
+      (commits who seq xid r (decide s who r))
+      (drops s out_of_bounds)
+      (λ within. decides-fresh xid who seq r e by sq (record { current = current; above = is-above _ _ differs above }) s.phase refl)
+      (λ past. cases.dropping out_of_bounds)))
 
   -- what the lease table tells a reader
   reads-without : (xid : ℕ) (who : Who) (q block : ℕ) (f : File) (body : List ℕ) → d ≡ request xid (Request.Read who q f.id block None) → IsAsking s sender who f → slice_get f.bodies block ≡ Some body → Q (read_of s who xid next q f block body None (ask s.table (to_read s who f None)))
@@ -396,9 +403,16 @@ module _ (s : Server) (sender next : ℕ) (d : Datagram) (Q : ServerStep → Typ
       choice
       Q
       (nat_lt (line_of s who).inc who.inc)
-      (attaches s who xid)
+      (attach_later s who xid)
       (if nat_lt who.inc (line_of s who).inc then drops s old_incarnation else replies s who.host xid (Answer.Attach who.inc))
-      (λ later. cases.attaching xid who e from (is-below _ _ later))
+      (λ later.
+      choice
+      Q
+      (can_be_kept (row_of_attach who))
+      (attaches s who xid)
+      (drops s out_of_bounds)
+      (λ within. cases.attaching xid who e from (is-below _ _ later))
+      (λ past. cases.dropping out_of_bounds))
       (λ no_later.
       choice
       Q
@@ -476,8 +490,15 @@ unfolding at_time
 ticks-in s now Q cases serving p = ends (find (is_due now) (end_reading now s.table.rows)) refl
   where
     ends : (row : Option Row) → find (is_due now) (end_reading now s.table.rows) ≡ row → Q (end_writing (at_time s now) (end_reading now s.table.rows) row)
-    ends None e = cases.ends_reading p e
-    ends (Some row) e = cases.ending_writing row p e
+    ends None e = cases.ends_reading p (none_due e)
+    ends (Some row) e =
+        choice
+        Q
+        (can_rise (find_file row.file s.kept.files))
+        (ends_writing (at_time s now) (end_reading now s.table.rows) row)
+        (quiet (with_table (at_time s now) (with_rows s.table (end_reading now s.table.rows))))
+        (λ can. cases.ending_writing row p e)
+        (λ last. cases.ends_reading p (first_stays row e last))
 ticks-in s now Q cases (recovering until heard last) p =
     choice
     Q

@@ -15,7 +15,7 @@ use Rattle.nq_base.specs.declared.Want.{Want}
 use Rattle.nq_base.specs.declared.Who.{Who}
 use Rattle.nq_model.specs.Ask.{conflicts, marked, grant_of}
 use Rattle.nq_model.specs.Decide.{decides, creates, writes_through, stores, stores_recovering, resizes, removes, puts_off, in_the_way, verdict_reply, commits}
-use Rattle.nq_model.specs.Kept.{File, blocks_of, blocks_in_all, find_file, find_name, host_row}
+use Rattle.nq_model.specs.Kept.{File, blocks_of, blocks_in_all, find_file, find_name, can_rise, host_row}
 use Rattle.nq_model.specs.LeaseInterval.{requested_file}
 use Rattle.nq_model.specs.Message.{Message, error, Datagram, too_long, no_message, no_call, other_rpc, other_program, other_version, unknown_procedure, garbage_vacated, garbage, request, rpc_mismatch, program_unavailable, program_mismatch, procedure_unavailable, garbage_arguments, Reason, asker, sequence_of, reply}
 use Rattle.nq_model.specs.Profile.{most_hosts, most_files, most_blocks, most_blocks_of_file, most_ids}
@@ -228,6 +228,11 @@ pub record ServerCases (s : Server) (sender next : ℕ) (d : Datagram) (Q : Serv
   -- a file is taken away
   pub removing : (xid : ℕ) (who : Who) (seq q : ℕ) (f : File) → d ≡ request xid (Request.Remove who seq q f.id) → IsChanging s sender who seq f → clash_with s f.id who.host ≡ None → Q (commits who seq xid (Request.Remove who seq q f.id) (removes s who q f))
 
+-- no writing row ends at this time: none is due, or the first that is stays, since the revision of its file can not rise
+pub data NoneEnds (s : Server) (now : ℕ) (rows : List Row) : Type 0 where
+  none_due : find (is_due now) rows ≡ None → NoneEnds s now rows
+  first_stays : (row : Row) → find (is_due now) rows ≡ Some row → can_rise (find_file row.file s.kept.files) ≡ false → NoneEnds s now rows
+
 -- the outcomes of a tick of the server's clock
 pub record TickCases (s : Server) (now : ℕ) (Q : ServerStep → Type 0) : Type 0 where
   -- the recovery goes on
@@ -235,6 +240,6 @@ pub record TickCases (s : Server) (now : ℕ) (Q : ServerStep → Type 0) : Type
   -- the recovery ends
   pub opening : (until heard : ℕ) (last : Option Table) → s.phase ≡ recovering until heard last → until ≤ now → Q (opens (at_time s now) until heard)
   -- no writing row ends
-  pub ends_reading : s.phase ≡ serving → find (is_due now) (end_reading now s.table.rows) ≡ None → Q (quiet (with_table (at_time s now) (with_rows s.table (end_reading now s.table.rows))))
+  pub ends_reading : s.phase ≡ serving → NoneEnds s now (end_reading now s.table.rows) → Q (quiet (with_table (at_time s now) (with_rows s.table (end_reading now s.table.rows))))
   -- a writing row ends in silence
   pub ending_writing : (row : Row) → s.phase ≡ serving → find (is_due now) (end_reading now s.table.rows) ≡ Some row → Q (ends_writing (at_time s now) (end_reading now s.table.rows) row)

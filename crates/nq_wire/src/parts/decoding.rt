@@ -9,6 +9,7 @@ ghost use Rattle.nq_wire.specs.Reading.{Reads, head_at, tag_at, wanted_mode, wan
 
 use crate::PushBase;
 use crate::fault::Garbage;
+use crate::lent::LentBlock;
 use nq_base::{Block, Grant, Host, Inc, Mode, Name, Rev, Spare, Tag, Want, Who};
 use nq_xdr::Reader;
 
@@ -167,18 +168,27 @@ pub(crate) fn name(reader: &mut Reader) -> Result<Name, Garbage>
     Ok(name)
 }
 
-/// The body of a block, in room that was taken ahead.
+/// The body of a block, which is lent.
 #[tactic(auto, unfolding(crate::specs::Reading::body_at))]
+pub(crate) fn lent_body<'a>(reader: &mut Reader<'a>) -> Result<LentBlock<'a>, Garbage>
+    ensures found { Reads opaque (λ b. length b ≡ 4096) reader.old reader.new result }
+    ensures step { Gives (λ b. (b, reader.new)) result (body_at reader.old) }
+{
+    let bytes = reader.opaque(4096)?;
+    let Some(block) = LentBlock::new(bytes) else {
+        return Err(Garbage);
+    };
+    Ok(block)
+}
+
+/// The body of a block, in room that was taken ahead.
 pub(crate) fn body(reader: &mut Reader, room: &mut Spare) -> Result<Block, Garbage>
     requires { room.old ≡ true }
     ensures found { Reads opaque (λ b. length b ≡ 4096) reader.old reader.new result }
     ensures step { Gives (λ b. (b, reader.new)) result (body_at reader.old) }
 {
-    let bytes = reader.opaque(4096)?;
-    let Some(block) = Block::from_bytes_in(bytes, room) else {
-        return Err(Garbage);
-    };
-    Ok(block)
+    let body = lent_body(reader)?;
+    Ok(body.kept(room))
 }
 
 /// Ends the reading.

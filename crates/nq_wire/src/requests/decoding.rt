@@ -6,7 +6,7 @@ ghost use Rattle.nq_xdr.specs.Reading.{Gives};
 ghost use Rattle.nq_xdr.specs.Item.{hyper};
 ghost use Rattle.nq_wire.specs.Parts.{optional, base_bytes, IsPushBase};
 ghost use Rattle.nq_wire.specs.Request.{arguments, IsOneWrite, IsArguments, ReadsRequest};
-ghost use Rattle.nq_wire.specs.Reading.{attach_at, lookup_at, create_at, get_attr_at, read_at, span_at, write_at, get_lease_at, vacated_at, evicted_at, resize_at, remove_at, request_at, request_in, left_in};
+ghost use Rattle.nq_wire.specs.Reading.{attach_at, lookup_at, create_at, get_attr_at, read_at, span_at, write_at, get_lease_at, vacated_at, evicted_at, resize_at, remove_at, request_at, request_in};
 
 use crate::fault::Garbage;
 use crate::parts::decoding::{body, end, name, optional_push, optional_want, tag, want, who};
@@ -15,76 +15,71 @@ use nq_base::{BlockNo, FileId, Number, Seq, Spare};
 use nq_xdr::Reader;
 
 #[tactic(auto, unfolding(crate::specs::Reading::attach_at, crate::specs::Request::arguments))]
-fn attach(reader: &mut Reader, into: &mut Request) -> Result<(), Garbage>
-    ensures found { ReadsRequest Procedure.Attach reader.old reader.new (left_in into.new result) }
-    ensures step { Gives (λ r. (r, reader.new)) (left_in into.new result) (attach_at reader.old) }
+fn attach(reader: &mut Reader) -> Result<Request, Garbage>
+    ensures found { ReadsRequest Procedure.Attach reader.old reader.new result }
+    ensures step { Gives (λ r. (r, reader.new)) result (attach_at reader.old) }
 {
     let who = who(reader)?;
-    *into = Request::Attach { who };
-    Ok(())
+    Ok(Request::Attach { who })
 }
 
 #[tactic(auto, unfolding(crate::specs::Reading::lookup_at, crate::specs::Request::arguments))]
-fn lookup(reader: &mut Reader, into: &mut Request) -> Result<(), Garbage>
-    ensures found { ReadsRequest Procedure.Lookup reader.old reader.new (left_in into.new result) }
-    ensures step { Gives (λ r. (r, reader.new)) (left_in into.new result) (lookup_at reader.old) }
+fn lookup(reader: &mut Reader) -> Result<Request, Garbage>
+    ensures found { ReadsRequest Procedure.Lookup reader.old reader.new result }
+    ensures step { Gives (λ r. (r, reader.new)) result (lookup_at reader.old) }
 {
     let who = who(reader)?;
     let name = name(reader)?;
-    *into = Request::Lookup { who, name };
-    Ok(())
+    Ok(Request::Lookup { who, name })
 }
 
 #[tactic(auto, unfolding(crate::specs::Reading::create_at, crate::specs::Request::arguments))]
-fn create(reader: &mut Reader, into: &mut Request) -> Result<(), Garbage>
-    ensures found { ReadsRequest Procedure.Create reader.old reader.new (left_in into.new result) }
-    ensures step { Gives (λ r. (r, reader.new)) (left_in into.new result) (create_at reader.old) }
+fn create(reader: &mut Reader) -> Result<Request, Garbage>
+    ensures found { ReadsRequest Procedure.Create reader.old reader.new result }
+    ensures step { Gives (λ r. (r, reader.new)) result (create_at reader.old) }
 {
     let who = who(reader)?;
     let seq = reader.u64()?;
     let name = name(reader)?;
     let blocks = reader.u32()?;
-    *into = Request::Create {
+    Ok(Request::Create {
         who,
         seq: Seq(seq),
         name,
         blocks,
-    };
-    Ok(())
+    })
 }
 
 #[tactic(auto, unfolding(crate::specs::Reading::get_attr_at, crate::specs::Request::arguments))]
-fn get_attr(reader: &mut Reader, into: &mut Request) -> Result<(), Garbage>
-    ensures found { ReadsRequest Procedure.GetAttr reader.old reader.new (left_in into.new result) }
-    ensures step { Gives (λ r. (r, reader.new)) (left_in into.new result) (get_attr_at reader.old) }
+fn get_attr(reader: &mut Reader) -> Result<Request, Garbage>
+    ensures found { ReadsRequest Procedure.GetAttr reader.old reader.new result }
+    ensures step { Gives (λ r. (r, reader.new)) result (get_attr_at reader.old) }
 {
     let who = who(reader)?;
     let file = reader.u32()?;
-    *into = Request::GetAttr {
+    Ok(Request::GetAttr {
         who,
         file: FileId(file),
-    };
-    Ok(())
+    })
 }
 
 #[tactic(auto, unfolding(crate::specs::Reading::read_at, crate::specs::Request::arguments))]
-fn read(reader: &mut Reader, into: &mut Request) -> Result<(), Garbage>
-    ensures found { ReadsRequest Procedure.Read reader.old reader.new (left_in into.new result) }
-    ensures step { Gives (λ r. (r, reader.new)) (left_in into.new result) (read_at reader.old) }
+fn read(reader: &mut Reader) -> Result<Request, Garbage>
+    ensures found { ReadsRequest Procedure.Read reader.old reader.new result }
+    ensures step { Gives (λ r. (r, reader.new)) result (read_at reader.old) }
 {
     let who = who(reader)?;
     let call = reader.u64()?;
     let file = reader.u32()?;
     let block = reader.u32()?;
     let want = optional_want(reader)?;
-    *into = Request::Read {
+    Ok(Request::Read {
         who,
         call,
         file: FileId(file),
         block: BlockNo(block),
         want,
-    };
-    Ok(())
+    })
 }
 
 /// The numbers of the first and the last write, which are equal where the WRITE is no push.
@@ -104,10 +99,10 @@ fn span(reader: &mut Reader) -> Result<(u64, u64, Option<PushBase>), Garbage>
 }
 
 #[tactic(auto, unfolding(crate::specs::Reading::write_at, crate::specs::Request::arguments))]
-fn write(reader: &mut Reader, room: &mut Spare, into: &mut Request) -> Result<(), Garbage>
+fn write(reader: &mut Reader, room: &mut Spare) -> Result<Request, Garbage>
     requires { room.old ≡ true }
-    ensures found { ReadsRequest Procedure.Write reader.old reader.new (left_in into.new result) }
-    ensures step { Gives (λ r. (r, reader.new)) (left_in into.new result) (write_at reader.old) }
+    ensures found { ReadsRequest Procedure.Write reader.old reader.new result }
+    ensures step { Gives (λ r. (r, reader.new)) result (write_at reader.old) }
 {
     let who = who(reader)?;
     let seq = reader.u64()?;
@@ -115,7 +110,7 @@ fn write(reader: &mut Reader, room: &mut Spare, into: &mut Request) -> Result<()
     let block = reader.u32()?;
     let (first, last, push) = span(reader)?;
     let body = body(reader, room)?;
-    *into = Request::Write {
+    Ok(Request::Write {
         who,
         seq: Seq(seq),
         file: FileId(file),
@@ -124,172 +119,122 @@ fn write(reader: &mut Reader, room: &mut Spare, into: &mut Request) -> Result<()
         last: Number(last),
         push,
         body,
-    };
-    Ok(())
+    })
 }
 
 #[tactic(auto, unfolding(crate::specs::Reading::get_lease_at, crate::specs::Request::arguments))]
-fn get_lease(reader: &mut Reader, into: &mut Request) -> Result<(), Garbage>
-    ensures found { ReadsRequest Procedure.GetLease reader.old reader.new (left_in into.new result) }
-    ensures step { Gives (λ r. (r, reader.new)) (left_in into.new result) (get_lease_at reader.old) }
+fn get_lease(reader: &mut Reader) -> Result<Request, Garbage>
+    ensures found { ReadsRequest Procedure.GetLease reader.old reader.new result }
+    ensures step { Gives (λ r. (r, reader.new)) result (get_lease_at reader.old) }
 {
     let who = who(reader)?;
     let file = reader.u32()?;
     let want = want(reader)?;
-    *into = Request::GetLease {
+    Ok(Request::GetLease {
         who,
         file: FileId(file),
         want,
-    };
-    Ok(())
+    })
 }
 
 #[tactic(auto, unfolding(crate::specs::Reading::vacated_at, crate::specs::Request::arguments))]
-fn vacated(reader: &mut Reader, into: &mut Request) -> Result<(), Garbage>
-    ensures found { ReadsRequest Procedure.Vacated reader.old reader.new (left_in into.new result) }
-    ensures step { Gives (λ r. (r, reader.new)) (left_in into.new result) (vacated_at reader.old) }
+fn vacated(reader: &mut Reader) -> Result<Request, Garbage>
+    ensures found { ReadsRequest Procedure.Vacated reader.old reader.new result }
+    ensures step { Gives (λ r. (r, reader.new)) result (vacated_at reader.old) }
 {
     let who = who(reader)?;
     let file = reader.u32()?;
     let tag = tag(reader)?;
-    *into = Request::Vacated {
+    Ok(Request::Vacated {
         who,
         file: FileId(file),
         tag,
-    };
-    Ok(())
+    })
 }
 
 #[tactic(auto, unfolding(crate::specs::Reading::evicted_at, crate::specs::Request::arguments))]
-fn evicted(reader: &mut Reader, into: &mut Request) -> Result<(), Garbage>
-    ensures found { ReadsRequest Procedure.Evicted reader.old reader.new (left_in into.new result) }
-    ensures step { Gives (λ r. (r, reader.new)) (left_in into.new result) (evicted_at reader.old) }
+fn evicted(reader: &mut Reader) -> Result<Request, Garbage>
+    ensures found { ReadsRequest Procedure.Evicted reader.old reader.new result }
+    ensures step { Gives (λ r. (r, reader.new)) result (evicted_at reader.old) }
 {
     let who = who(reader)?;
     let file = reader.u32()?;
     let tag = tag(reader)?;
-    *into = Request::Evicted {
+    Ok(Request::Evicted {
         who,
         file: FileId(file),
         tag,
-    };
-    Ok(())
+    })
 }
 
 #[tactic(auto, unfolding(crate::specs::Reading::resize_at, crate::specs::Request::arguments))]
-fn resize(reader: &mut Reader, into: &mut Request) -> Result<(), Garbage>
-    ensures found { ReadsRequest Procedure.Resize reader.old reader.new (left_in into.new result) }
-    ensures step { Gives (λ r. (r, reader.new)) (left_in into.new result) (resize_at reader.old) }
+fn resize(reader: &mut Reader) -> Result<Request, Garbage>
+    ensures found { ReadsRequest Procedure.Resize reader.old reader.new result }
+    ensures step { Gives (λ r. (r, reader.new)) result (resize_at reader.old) }
 {
     let who = who(reader)?;
     let seq = reader.u64()?;
     let call = reader.u64()?;
     let file = reader.u32()?;
     let blocks = reader.u32()?;
-    *into = Request::Resize {
+    Ok(Request::Resize {
         who,
         seq: Seq(seq),
         call,
         file: FileId(file),
         blocks,
-    };
-    Ok(())
+    })
 }
 
 #[tactic(auto, unfolding(crate::specs::Reading::remove_at, crate::specs::Request::arguments))]
-fn remove(reader: &mut Reader, into: &mut Request) -> Result<(), Garbage>
-    ensures found { ReadsRequest Procedure.Remove reader.old reader.new (left_in into.new result) }
-    ensures step { Gives (λ r. (r, reader.new)) (left_in into.new result) (remove_at reader.old) }
+fn remove(reader: &mut Reader) -> Result<Request, Garbage>
+    ensures found { ReadsRequest Procedure.Remove reader.old reader.new result }
+    ensures step { Gives (λ r. (r, reader.new)) result (remove_at reader.old) }
 {
     let who = who(reader)?;
     let seq = reader.u64()?;
     let call = reader.u64()?;
     let file = reader.u32()?;
-    *into = Request::Remove {
+    Ok(Request::Remove {
         who,
         seq: Seq(seq),
         call,
         file: FileId(file),
-    };
-    Ok(())
+    })
 }
 
+/// The arguments of a procedure. A WRITE alone brings a body.
 #[tactic(auto, unfolding(crate::specs::Request::arguments))]
-fn request(
-    procedure: Procedure,
-    reader: &mut Reader,
-    room: &mut Spare,
-    into: &mut Request,
-) -> Result<(), Garbage>
-    requires { room.old ≡ true }
-    ensures found { ReadsRequest procedure reader.old reader.new (left_in into.new result) }
-    ensures step { Gives (λ r. (r, reader.new)) (left_in into.new result) (request_at procedure reader.old) }
+fn request(procedure: Procedure, reader: &mut Reader, room: &mut Spare) -> Result<Request, Garbage>
+    requires { procedure ≡ Procedure.Write → room.old ≡ true }
+    ensures found { ReadsRequest procedure reader.old reader.new result }
+    ensures step { Gives (λ r. (r, reader.new)) result (request_at procedure reader.old) }
 {
     match procedure {
-        Procedure::Null => {
-            *into = Request::Null;
-            Ok(())
-        }
-        Procedure::Attach => attach(reader, into),
-        Procedure::Lookup => lookup(reader, into),
-        Procedure::Create => create(reader, into),
-        Procedure::GetAttr => get_attr(reader, into),
-        Procedure::Read => read(reader, into),
-        Procedure::Write => write(reader, room, into),
-        Procedure::GetLease => get_lease(reader, into),
-        Procedure::Vacated => vacated(reader, into),
-        Procedure::Evicted => evicted(reader, into),
-        Procedure::Resize => resize(reader, into),
-        Procedure::Remove => remove(reader, into),
+        Procedure::Null => Ok(Request::Null),
+        Procedure::Attach => attach(reader),
+        Procedure::Lookup => lookup(reader),
+        Procedure::Create => create(reader),
+        Procedure::GetAttr => get_attr(reader),
+        Procedure::Read => read(reader),
+        Procedure::Write => write(reader, room),
+        Procedure::GetLease => get_lease(reader),
+        Procedure::Vacated => vacated(reader),
+        Procedure::Evicted => evicted(reader),
+        Procedure::Resize => resize(reader),
+        Procedure::Remove => remove(reader),
     }
 }
 
-/// Reads the request whose arguments are all of the bytes into `into`, which after a fault may hold anything. The number is that
-/// of the procedure that is called. The body of a block goes into `room`, so no memory is wanted.
-///
-/// # Errors
-///
-/// `NoSuchProc` exactly where the number is above 11, else `Garbage` exactly where the bytes are not the
-/// procedure's arguments.
-pub fn decode_request_into(
-    procedure: u32,
-    bytes: &[u8],
-    room: &mut Spare,
-    into: &mut Request,
-) -> Result<(), WireFault>
-    requires { room.old ≡ true }
-
-    // What is read is spelled so, and what is spelled so is read.
-    ensures found { IfOk (left_in into.new result) (λ r. IsArguments procedure r bytes.now) }
-    ensures only { (r : Request) → IsArguments procedure r bytes.now → left_in into.new result ≡ Ok r }
-
-    // When each error comes.
-    ensures no_procedure { (result ≡ Err WireFault.NoSuchProc) ↔ (11 < procedure) }
-    ensures garbage { (result ≡ Err WireFault.Garbage)
-        ↔ ((procedure ≤ 11) × ((r : Request) → IsArguments procedure r bytes.now → ⊥)) }
-    ensures memory { result ≢ Err WireFault.Memory }
-
-    // All of it, as reading from the left.
-    ensures step { left_in into.new result ≡ request_in procedure bytes.now }
-{
-    let Some(called) = Procedure::from_number(procedure) else {
-        return Err(WireFault::NoSuchProc);
-    };
-    let mut reader = Reader::new(bytes);
-    request(called, &mut reader, room, into)?;
-    end(reader)?;
-    Ok(())
-}
-
-/// The request whose arguments are all of the bytes, by the number of the procedure that is called. The
-/// body of a block goes into `room`, so no memory is wanted.
+/// The request whose arguments are all of the bytes, by the number of the procedure that is called. The body
+/// of a block, which a WRITE alone brings, goes into `room`, so no memory is wanted.
 ///
 /// # Errors
 ///
 /// `NoSuchProc` exactly where the number is above 11, else `Garbage` exactly where the bytes are not the
 /// procedure's arguments.
 pub fn decode_request(procedure: u32, bytes: &[u8], room: &mut Spare) -> Result<Request, WireFault>
-    requires { room.old ≡ true }
+    requires { procedure ≡ 6 → room.old ≡ true }
 
     // What is read is spelled so, and what is spelled so is read.
     ensures found { IfOk result (λ r. IsArguments procedure r bytes.now) }
@@ -304,9 +249,11 @@ pub fn decode_request(procedure: u32, bytes: &[u8], room: &mut Spare) -> Result<
     // All of it, as reading from the left.
     ensures step { result ≡ request_in procedure bytes.now }
 {
-    let mut request = Request::Null;
-    match decode_request_into(procedure, bytes, room, &mut request) {
-        Ok(()) => Ok(request),
-        Err(fault) => Err(fault),
-    }
+    let Some(called) = Procedure::from_number(procedure) else {
+        return Err(WireFault::NoSuchProc);
+    };
+    let mut reader = Reader::new(bytes);
+    let request = request(called, &mut reader, room)?;
+    end(reader)?;
+    Ok(request)
 }

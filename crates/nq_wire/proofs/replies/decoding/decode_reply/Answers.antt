@@ -1,6 +1,10 @@
-use Rattle.std.proofs.Common.{◌≡◌, Err, ap}
+use Rattle.std.proofs.Common.{◌≡◌, ◌∙◌, Ok, Err, ap}
 use Rattle.nq_wire.specs.declared.fault.WireFault.TheVariants as fault
 use Rattle.nq_wire.proofs.replies.decoding.decode_reply.Goals as goal
+
+-- what was read is kept as it is
+pub returns-in-Ok-clause-only : goal.returns-in-Ok-clause-only
+returns-in-Ok-clause-only c = λ r is. ap (λ reply. Ok reply) c.kept.ensures ∙ c.in-Ok.ensures.only r is
 
 -- a reading that failed gave no reply
 pub returns-in-Err-clause-only : goal.returns-in-Err-clause-only

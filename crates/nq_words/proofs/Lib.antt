@@ -1,0 +1,11 @@
+pub mod Again
+pub mod Blanks
+pub mod Clean
+pub mod Cuts
+pub mod Digits
+pub mod Found
+pub mod LineWords
+pub mod Names
+pub mod Numerals
+pub mod Options
+pub mod SpanWords

@@ -1,0 +1,5 @@
+pub mod Forms
+pub mod Reading
+pub mod ReadingAnswers
+pub mod ReadingCalls
+pub mod Words
