@@ -1,5 +1,5 @@
 -- How a loop ends.
-use Rattle.std.proofs.Common.{◌≡◌, ℕ, List, [], map, Option, inl, inr, refl, subst, sym}
+use Rattle.std.proofs.Common.{◌≡◌, ◌⊎◌, ℕ, List, [], map, Option, inl, inr, refl, subst, sym}
 use Rattle.std.proofs.lemmas.List.{reverse-reverse}
 use Rattle.std.specs.List.{AllByRecursion}
 use Rattle.std.specs.Prelude.{reverse}
@@ -10,7 +10,7 @@ use Rattle.nq_loop.proofs.Takings.{now_at}
 use Rattle.nq_loop.specs.Counting.{Counts}
 use Rattle.nq_loop.specs.Holding.{IsLooped, IsLooping, Loop, StandsBehind}
 use Rattle.nq_loop.specs.Looped.{HasEnded, LoopEnds, MayLack, PrintsLoop, StopsSilently, TellsEnd, between}
-use Rattle.nq_loop.specs.Printed.{PrintsSpelled}
+use Rattle.nq_loop.specs.Printed.{PrintsSpelled, loop_text}
 use Rattle.nq_loop.specs.Turning.{Between, Ran, Stops, TakesTurns}
 use Rattle.nq_loop.specs.Whole.{loop_head}
 use Rattle.nq_loop.specs.declared.turns.LoopTurn.{LoopTurn}
@@ -35,17 +35,7 @@ pub limited-tells : {K : Type 0} (end : Ending) (limit : Limit) (head : Head) (w
     → TellsEnd end (LoopTurn.Limit limit) head world kept ran held now w w'
 limited-tells Ending.Limit limit head world kept ran held now w w' tells = inr (inr (inl (refl, record { limit = limit; reached = refl; printed = tells })))
 limited-tells Ending.Memory limit head world kept ran held now w w' tells = inr (inr (inr (refl, tt, tells)))
-limited-tells Ending.Usage limit head world kept ran held now w w' tells = absurd tells
-limited-tells Ending.Script limit head world kept ran held now w w' tells = absurd tells
-limited-tells Ending.Skew limit head world kept ran held now w w' tells = absurd tells
-limited-tells Ending.ReadFault limit head world kept ran held now w w' tells = absurd tells
-limited-tells Ending.WriteFault limit head world kept ran held now w w' tells = absurd tells
-limited-tells Ending.KeepFault limit head world kept ran held now w w' tells = absurd tells
-limited-tells Ending.LinkFault limit head world kept ran held now w w' tells = absurd tells
-limited-tells Ending.Spent limit head world kept ran held now w w' tells = absurd tells
-limited-tells Ending.NoAnswer limit head world kept ran held now w w' tells = absurd tells
-limited-tells Ending.NotSound limit head world kept ran held now w w' tells = absurd tells
-limited-tells Ending.Done limit head world kept ran held now w w' tells = absurd tells
+limited-tells other limit head world kept ran held now w w' tells = absurd tells
 
 -- ---- the loop as a whole
 
@@ -90,16 +80,18 @@ prints-loop end hosts turns clock clock' links l held now w w' turned looping pr
       printed = prints.printed;
     }
 
-prints-by : (end : Ending) (hosts turns : ℕ) (clock clock' : Option (List ℕ)) (links links' : List LinkTold) (held now : Option (List ℕ)) (w w' : ℕ) → PrintsLoop end hosts turns clock clock' links links' held now w w'
+by-end : (end : Ending) (hosts turns : ℕ) (clock clock' : Option (List ℕ)) (links links' : List LinkTold) (held now : Option (List ℕ)) (w w' : ℕ) → PrintsLoop end hosts turns clock clock' links links' held now w w' → (end ≡ Ending.Done) ⊎ ((end ≡ Ending.WriteFault) ⊎ (end ≡ Ending.Memory))
     → LoopEnds end hosts turns clock clock' links links' held now w w'
+by-end end hosts turns clock clock' links links' held now w w' printed (inl done) =
+    subst (λ e. LoopEnds e hosts turns clock clock' links links' held now w w') (sym done) (subst (λ e. PrintsLoop e hosts turns clock clock' links links' held now w w') done printed)
+by-end end hosts turns clock clock' links links' held now w w' printed (inr (inl failed)) =
+    subst (λ e. LoopEnds e hosts turns clock clock' links links' held now w w') (sym failed) (subst (λ e. PrintsLoop e hosts turns clock clock' links links' held now w w') failed printed)
+by-end end hosts turns clock clock' links links' held now w w' printed (inr (inr wanting)) =
+    subst (λ e. LoopEnds e hosts turns clock clock' links links' held now w w') (sym wanting) (inr (inr (subst (λ e. PrintsLoop e hosts turns clock clock' links links' held now w w') wanting printed)))
+
+prints-by : (end : Ending) (hosts turns : ℕ) (clock clock' : Option (List ℕ)) (links links' : List LinkTold) (held now : Option (List ℕ)) (w w' : ℕ) → PrintsLoop end hosts turns clock clock' links links' held now w w' → LoopEnds end hosts turns clock clock' links links' held now w w'
 prints-by end hosts turns clock clock' links links' held now w w' printed =
-    let E : Ending → Type 0 = λ e. LoopEnds e hosts turns clock clock' links links' held now w w' in
-    let P : Ending → Type 0 = λ e. PrintsLoop e hosts turns clock clock' links links' held now w w' in
-    elim (bytes_end end _ held now w w' printed.printed) [
-      | inl done ↦ subst E (sym done) (subst P done printed)
-      | inr (inl failed) ↦ subst E (sym failed) (subst P failed printed)
-      | inr (inr wanting) ↦ subst E (sym wanting) (inr (inr (subst P wanting printed)))
-    ]
+    by-end end hosts turns clock clock' links links' held now w w' printed (bytes_end end (loop_text (loop_head hosts) printed.text printed.events) held now w w' printed.printed)
 
 lacks : {K : Type 0} (end : Ending) (last : LoopTurn) (hosts turns : ℕ) (clock clock' : Option (List ℕ)) (links : List LinkTold) (l : Loop K) (held now : Option (List ℕ)) (w w' : ℕ) → TakesTurns (beginning (loop_head hosts)) turns last (between [] links clock) (now_at l clock')
     → end ≡ Ending.Memory → MayLack last → now ≡ held → LoopEnds end hosts turns clock clock' links l.links held now w w'

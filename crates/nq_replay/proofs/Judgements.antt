@@ -114,15 +114,7 @@ judged_text Ending.NotSound (Judged.No p r) entries text held now w w' v t h =
     record { fault = record { place = p; rule = r }; judged = record { version = t.version; entries = entries; spelled = t.text; judged = v }; printed = h }
 judged_text Ending.NotSound Judged.Memory entries text held now w w' v t h = absurd h
 judged_text Ending.Memory judged entries text held now w w' v t h = h
-judged_text Ending.Usage judged entries text held now w w' v t h = absurd h
-judged_text Ending.KeepFault judged entries text held now w w' v t h = absurd h
-judged_text Ending.LinkFault judged entries text held now w w' v t h = absurd h
-judged_text Ending.Spent judged entries text held now w w' v t h = absurd h
-judged_text Ending.NoAnswer judged entries text held now w w' v t h = absurd h
-judged_text Ending.Script judged entries text held now w w' v t h = absurd h
-judged_text Ending.Skew judged entries text held now w w' v t h = absurd h
-judged_text Ending.ReadFault judged entries text held now w w' v t h = absurd h
-judged_text Ending.Limit judged entries text held now w w' v t h = absurd h
+judged_text other judged entries text held now w w' v t h = absurd h
 
 -- a faulty line that was printed is the text's first one
 pub wrong_text : (number : ℕ) (text bytes : List ℕ) (held now : Option (List ℕ)) (w w' : ℕ) → IsFault number text → length text < 2 ^ 31 → bytes ≡ script_line number → PrintsLine bytes held now w w' → PrintsWrong text held now w w'
@@ -146,33 +138,16 @@ tells_front judged held now w w' e h r = subst (λ (j : Judged). TellsVerdict En
 -- what was said of a text that was read is what was said of the input
 pub judges_text : (end : Ending) (text : List ℕ) (limit : ℕ) (left rest held now : Option (List ℕ)) (r r' w w' : ℕ) → IsAll text limit left rest → JudgesText end text held now w w' → Judges end limit left rest held now r r' w w'
 judges_text Ending.Done text limit left rest held now r r' w w' read judges = record { text = text; read = read; so = judges }
-judges_text Ending.Usage text limit left rest held now r r' w w' read judges = absurd judges
 judges_text Ending.Script text limit left rest held now r r' w w' read judges = record { text = text; read = read; so = judges }
-judges_text Ending.Skew text limit left rest held now r r' w w' read judges = absurd judges
-judges_text Ending.ReadFault text limit left rest held now r r' w w' read judges = absurd judges
 judges_text Ending.WriteFault text limit left rest held now r r' w w' read judges = record { text = text; read = read; so = judges }
-judges_text Ending.KeepFault text limit left rest held now r r' w w' read judges = absurd judges
 judges_text Ending.Memory text limit left rest held now r r' w w' read judges = (judges, inr (inl (text, read)))
-judges_text Ending.LinkFault text limit left rest held now r r' w w' read judges = absurd judges
-judges_text Ending.Limit text limit left rest held now r r' w w' read judges = absurd judges
-judges_text Ending.Spent text limit left rest held now r r' w w' read judges = absurd judges
-judges_text Ending.NoAnswer text limit left rest held now r r' w w' read judges = absurd judges
 judges_text Ending.NotSound text limit left rest held now r r' w w' read judges = record { text = text; read = read; so = judges }
+judges_text other text limit left rest held now r r' w w' read judges = absurd judges
 
 pub judges_over : (end : Ending) (front : List ℕ) (limit : ℕ) (left rest held now : Option (List ℕ)) (r r' w w' : ℕ) → IsOver front limit left rest → TellsOver end front held now w w' → Judges end limit left rest held now r r' w w'
-judges_over Ending.Done front limit left rest held now r r' w w' over tells = absurd tells
-judges_over Ending.Usage front limit left rest held now r r' w w' over tells = absurd tells
-judges_over Ending.Script front limit left rest held now r r' w w' over tells = absurd tells
-judges_over Ending.Skew front limit left rest held now r r' w w' over tells = absurd tells
-judges_over Ending.ReadFault front limit left rest held now r r' w w' over tells = absurd tells
-judges_over Ending.WriteFault front limit left rest held now r r' w w' over tells = absurd tells
-judges_over Ending.KeepFault front limit left rest held now r r' w w' over tells = absurd tells
 judges_over Ending.Memory front limit left rest held now r r' w w' over tells = (tells, inr (inr (front, over)))
-judges_over Ending.LinkFault front limit left rest held now r r' w w' over tells = absurd tells
 judges_over Ending.Limit front limit left rest held now r r' w w' over tells = record { front = front; passes = over; printed = tells }
-judges_over Ending.Spent front limit left rest held now r r' w w' over tells = absurd tells
-judges_over Ending.NoAnswer front limit left rest held now r r' w w' over tells = absurd tells
-judges_over Ending.NotSound front limit left rest held now r r' w w' over tells = absurd tells
+judges_over other front limit left rest held now r r' w w' over tells = absurd tells
 
 is_journal : (text : List ℕ) (found : Option Fault) → IsJudged text found → IsJournal text
 is_journal text found judged = record { version = judged.version; entries = judged.entries; text = judged.spelled }
@@ -180,31 +155,17 @@ is_journal text found judged = record { version = judged.version; entries = judg
 -- of a text that is no journal's the faulty line is told
 pub script_said : (end : Ending) (text : List ℕ) (number : ℕ) (held now : Option (List ℕ)) (r r' w w' : ℕ) → IsFaultyAt number text → JudgesText end text held now w w' → IsUnlessFault end Ending.Script r r' w w'
 script_said Ending.Done text number held now r r' w w' faulty judges = absurd (faulty.no_journal (is_journal text None judges.0))
-script_said Ending.Usage text number held now r r' w w' faulty judges = absurd judges
 script_said Ending.Script text number held now r r' w w' faulty judges = inl refl
-script_said Ending.Skew text number held now r r' w w' faulty judges = absurd judges
-script_said Ending.ReadFault text number held now r r' w w' faulty judges = absurd judges
 script_said Ending.WriteFault text number held now r r' w w' faulty judges = inr judges.2
-script_said Ending.KeepFault text number held now r r' w w' faulty judges = absurd judges
 script_said Ending.Memory text number held now r r' w w' faulty judges = inr tt
-script_said Ending.LinkFault text number held now r r' w w' faulty judges = absurd judges
-script_said Ending.Limit text number held now r r' w w' faulty judges = absurd judges
-script_said Ending.Spent text number held now r r' w w' faulty judges = absurd judges
-script_said Ending.NoAnswer text number held now r r' w w' faulty judges = absurd judges
 script_said Ending.NotSound text number held now r r' w w' faulty judges = absurd (faulty.no_journal (is_journal text (Some judges.fault) judges.judged))
+script_said other text number held now r r' w w' faulty judges = absurd judges
 
 -- of a text that is a journal's the verdict is said
 pub verdict_said : (end : Ending) (text : List ℕ) (held now : Option (List ℕ)) (r r' w w' : ℕ) → IsJournal text → JudgesText end text held now w w' → IsSaidUnlessFault end r r' w w'
 verdict_said Ending.Done text held now r r' w w' journal judges = inl refl
-verdict_said Ending.Usage text held now r r' w w' journal judges = absurd judges
 verdict_said Ending.Script text held now r r' w w' journal judges = absurd (judges.faulty.no_journal journal)
-verdict_said Ending.Skew text held now r r' w w' journal judges = absurd judges
-verdict_said Ending.ReadFault text held now r r' w w' journal judges = absurd judges
 verdict_said Ending.WriteFault text held now r r' w w' journal judges = inr (inr judges.2)
-verdict_said Ending.KeepFault text held now r r' w w' journal judges = absurd judges
 verdict_said Ending.Memory text held now r r' w w' journal judges = inr (inr tt)
-verdict_said Ending.LinkFault text held now r r' w w' journal judges = absurd judges
-verdict_said Ending.Limit text held now r r' w w' journal judges = absurd judges
-verdict_said Ending.Spent text held now r r' w w' journal judges = absurd judges
-verdict_said Ending.NoAnswer text held now r r' w w' journal judges = absurd judges
 verdict_said Ending.NotSound text held now r r' w w' journal judges = inr (inl refl)
+verdict_said other text held now r r' w w' journal judges = absurd judges

@@ -9,13 +9,4 @@ pub bytes_end : (end : Ending) (bytes : List ℕ) (held now : Option (List ℕ))
 bytes_end Ending.Done bytes held now w w' printed = inl refl
 bytes_end Ending.WriteFault bytes held now w w' printed = inr (inl refl)
 bytes_end Ending.Memory bytes held now w w' printed = inr (inr refl)
-bytes_end Ending.Usage bytes held now w w' printed = absurd printed
-bytes_end Ending.Script bytes held now w w' printed = absurd printed
-bytes_end Ending.Skew bytes held now w w' printed = absurd printed
-bytes_end Ending.ReadFault bytes held now w w' printed = absurd printed
-bytes_end Ending.KeepFault bytes held now w w' printed = absurd printed
-bytes_end Ending.LinkFault bytes held now w w' printed = absurd printed
-bytes_end Ending.Limit bytes held now w w' printed = absurd printed
-bytes_end Ending.Spent bytes held now w w' printed = absurd printed
-bytes_end Ending.NoAnswer bytes held now w w' printed = absurd printed
-bytes_end Ending.NotSound bytes held now w w' printed = absurd printed
+bytes_end other bytes held now w w' printed = absurd printed

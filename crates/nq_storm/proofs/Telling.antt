@@ -1,5 +1,5 @@
 -- A storm as a whole.
-use Rattle.std.proofs.Common.{◌≡◌, ℕ, List, ◌++◌, length, map, Option, sym, ap, subst, ◌∙◌, inl, inr}
+use Rattle.std.proofs.Common.{◌≡◌, ◌⊎◌, ℕ, List, ◌++◌, length, map, Option, sym, ap, subst, ◌∙◌, inl, inr}
 use Rattle.std.proofs.lemmas.List.{length-reverse, reverse-reverse}
 use Rattle.std.specs.List.{count_by}
 use Rattle.std.specs.Prelude.{reverse}
@@ -67,15 +67,18 @@ prints_whole : {K : Type 0} (end : Ending) (start count : ℕ) (first : Option R
 prints_whole end start count first ran new tells held now w w' storms printed =
     record { text = printed.text; events = reverse ran; whole = is_whole start count first ran printed.text new tells printed.spelled storms; printed = printed.printed }
 
+by_end : (end : Ending) (start count : ℕ) (first : Option Rule) (held now : Option (List ℕ)) (w w' : ℕ) → PrintsStorm end start count first held now w w' → (end ≡ Ending.Done) ⊎ ((end ≡ Ending.WriteFault) ⊎ (end ≡ Ending.Memory))
+    → StormEnds end start count first held now w w'
+by_end end start count first held now w w' printed (inl done) =
+    subst (λ e. StormEnds e start count first held now w w') (sym done) (subst (λ e. PrintsStorm e start count first held now w w') done printed)
+by_end end start count first held now w w' printed (inr (inl failed)) =
+    subst (λ e. StormEnds e start count first held now w w') (sym failed) (subst (λ e. PrintsStorm e start count first held now w w') failed printed)
+by_end end start count first held now w w' printed (inr (inr wanting)) =
+    subst (λ e. StormEnds e start count first held now w w') (sym wanting) (inr (subst (λ e. PrintsStorm e start count first held now w w') wanting printed))
+
 prints_by : (end : Ending) (start count : ℕ) (first : Option Rule) (held now : Option (List ℕ)) (w w' : ℕ) → PrintsStorm end start count first held now w w' → StormEnds end start count first held now w w'
-prints_by end start count first held now w w' printed = elim (bytes_end end _ held now w w' printed.printed) [
-  | inl done ↦
-      subst (λ e. StormEnds e start count first held now w w') (sym done) (subst (λ e. PrintsStorm e start count first held now w w') done printed)
-  | inr (inl failed) ↦
-      subst (λ e. StormEnds e start count first held now w w') (sym failed) (subst (λ e. PrintsStorm e start count first held now w w') failed printed)
-  | inr (inr wanting) ↦
-      subst (λ e. StormEnds e start count first held now w w') (sym wanting) (inr (subst (λ e. PrintsStorm e start count first held now w w') wanting printed))
-]
+prints_by end start count first held now w w' printed =
+    by_end end start count first held now w w' printed (bytes_end end (storm_text printed.text printed.events) held now w w' printed.printed)
 
 -- what was printed of it
 pub prints_storm : {K : Type 0} (end : Ending) (start count : ℕ) (first : Option Rule) (ran : List Event) (new : WorldOver K) (tells : Option Kept) (held now : Option (List ℕ)) (w w' : ℕ) → Storms Stormed.Done (beginning storm_head) start count first (reverse ran) new tells
