@@ -1,5 +1,5 @@
 -- What the command of storms promises.
-use Rattle.std.proofs.Common.{◌≡◌, ℕ, ◌<◌, List, ◌∷◌, ◌++◌, length, Option, Some, None, ap, sym, subst, ◌∙◌, inl, inr, arith, length-append}
+use Rattle.std.proofs.Common.{◌≡◌, ℕ, ◌<◌, List, ◌∷◌, ◌++◌, length, Option, Some, None, ap, refl, sym, subst, ◌∙◌, inl, inr, arith, length-append}
 use Rattle.std.proofs.Math.Seq.{get_or-append_seam}
 use Rattle.std.specs.Prelude.{All, IfSome, IsSomeAnd, ◌≢◌}
 use Rattle.nq_command.specs.declared.Command.{Command}
@@ -8,7 +8,7 @@ use Rattle.nq_ending.specs.Status.{WithStatus, status_of}
 use Rattle.nq_ending.specs.declared.Ending.{Ending}
 use Rattle.nq_replay.specs.Lines.{PrintsLine, usage_line}
 use Rattle.nq_run.proofs.Promises.{faultless, holds_throughout}
-use Rattle.nq_run.specs.Storming.{DoesStorm, NeverRuns, RunsNothing, RunsStorm, StormsLawfully}
+use Rattle.nq_run.specs.Storming.{DoesStorm, NeverRuns, RunsNothing, RunsStorm, StormsLawfully, StormsUnlessFault}
 use Rattle.nq_storm.specs.Heads.{storm_head}
 use Rattle.nq_storm.specs.Kinds.{IsFirstOf, LackKind, TellOthers}
 use Rattle.nq_storm.specs.Printed.{StormEnds}
@@ -91,3 +91,17 @@ storm_does said status kind start count kind' start' count' told held now w w' i
 pub storm_lawful : (status kind start count : ℕ) (told : List (Option Rule)) (held now : Option (List ℕ)) (w w' : ℕ) → WithStatus status (λ end. DoesStorm end kind start count told held now w w') → status ≡ status_of Ending.Done
     → StormsLawfully kind start count told held now
 storm_lawful status kind start count told held now w w' does done = storms_lawfully does.0 kind start count told held now w w' (one_end does.0 Ending.Done status does.1 done) does.2
+
+ends_unless : (end : Ending) (start count : ℕ) (first : Option Rule) (held now : Option (List ℕ)) (w w' : ℕ) → StormEnds end start count first held now w w' → StormsUnlessFault end w w'
+ends_unless Ending.Done start count first held now w w' ends = inr (inl refl)
+ends_unless Ending.WriteFault start count first held now w w' ends = inr (inr (inr ends.printed.1))
+ends_unless Ending.Memory start count first held now w w' ends = inr (inr (inr tt))
+ends_unless Ending.Limit start count first held now w w' ends = inr (inr (inl refl))
+ends_unless other start count first held now w w' ends = absurd ends
+
+does_unless : (end : Ending) (kind start count : ℕ) (told : List (Option Rule)) (held now : Option (List ℕ)) (w w' : ℕ) → DoesStorm end kind start count told held now w w' → StormsUnlessFault end w w'
+does_unless end kind start count told held now w w' (inl ran) = ends_unless end start count ran.first held now w w' ran.ends
+does_unless end kind start count told held now w w' (inr usage) = inl usage.0
+
+pub storm_unless : (status kind start count : ℕ) (told : List (Option Rule)) (held now : Option (List ℕ)) (w w' : ℕ) → WithStatus status (λ end. DoesStorm end kind start count told held now w w') → WithStatus status (λ end. StormsUnlessFault end w w')
+storm_unless status kind start count told held now w w' does = (does.0, does.1, does_unless does.0 kind start count told held now w w' does.2)

@@ -9,6 +9,7 @@ use Rattle.nq_ending.specs.declared.Ending.{Ending}
 use Rattle.nq_io.specs.Told.{with_end}
 use Rattle.nq_model.specs.World.{run}
 use Rattle.nq_play.specs.Playing.{beginning}
+use Rattle.nq_replay.specs.Ending.{IsFault}
 use Rattle.nq_replay.specs.Lines.{PrintsLine, usage_line}
 use Rattle.nq_run.specs.Promised.{HoldsThroughout}
 use Rattle.nq_storm.specs.Heads.{storm_head}
@@ -43,6 +44,10 @@ abbrev pub DoesStorm : Ending → (kind start count : ℕ) → (told : List (Opt
 DoesStorm end kind start count told held now w w' =
     RunsStorm end kind start count told held now w w'
     ⊎ ((end ≡ Ending.Usage) × LackKind kind told × PrintsLine usage_line held now w w')
+
+-- a storm had all its events or came to a limit, if no fault came in the place of that
+abbrev pub StormsUnlessFault : (end : Ending) → (w w' : ℕ) → Type 0
+StormsUnlessFault end w w' = (end ≡ Ending.Usage) ⊎ ((end ≡ Ending.Done) ⊎ ((end ≡ Ending.Limit) ⊎ IsFault end 0 0 w w'))
 
 -- a storm of the first fate of the kind printed the text of its schedule, the text of that schedule's journal, and its counts. The
 -- headline holds at each moment of its run, and nothing in its journal is at fault

@@ -18,7 +18,7 @@ ghost use Rattle.nq_run.specs.Frames.{reads_clock, reads_input, uses_link, uses_
 ghost use Rattle.nq_run.specs.Hosting.{Attends, ServesFor};
 ghost use Rattle.nq_run.specs.Looping.{LoopsFor, LoopsLawfully};
 ghost use Rattle.nq_run.specs.Promised.{PrintsLawfully, PrintsSound, most_bytes};
-ghost use Rattle.nq_run.specs.Storming.{DoesStorm, NeverRuns, RunsNothing, StormsLawfully};
+ghost use Rattle.nq_run.specs.Storming.{DoesStorm, NeverRuns, RunsNothing, StormsLawfully, StormsUnlessFault};
 ghost use Rattle.nq_script.specs.declared.heads.Head.{Head};
 
 use nq_base::{Host, Inc};
@@ -117,6 +117,8 @@ pub fn run<S: Source, K: Sink, P: Keeper + Drop, L: Link, C: Clock>(
     ensures storms { (kind start events : ℕ) → command_of words.now ≡ Some (Command.Storm kind start events)
         → WithStatus result (λ end. DoesStorm end kind start events (map (λ fate. told fate) fates.items)
         (K.held out.old) (K.held out.new) (K.faults out.old) (K.faults out.new)) }
+    ensures stormed { (kind start events : ℕ) → command_of words.now ≡ Some (Command.Storm kind start events)
+        → WithStatus result (λ end. StormsUnlessFault end (K.faults out.old) (K.faults out.new)) }
     ensures lawful { (kind start events : ℕ) → command_of words.now ≡ Some (Command.Storm kind start events) → result ≡ status_of Ending.Done
         → StormsLawfully kind start events (map (λ fate. told fate) fates.items) (K.held out.old) (K.held out.new) }
     ensures loops { (hosts turns : ℕ) → command_of words.now ≡ Some (Command.Loop hosts turns)

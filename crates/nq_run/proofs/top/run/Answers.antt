@@ -4,7 +4,7 @@ use Rattle.nq_ending.proofs.Ends.{one_end}
 use Rattle.nq_ending.specs.declared.Ending.{Ending}
 use Rattle.nq_run.proofs.LoopPromises.{loop_does, loop_lawful, loop_usage}
 use Rattle.nq_run.proofs.Promises.{input_lawful, input_sound}
-use Rattle.nq_run.proofs.StormPromises.{storm_does, storm_lawful, storm_never, storm_prints, storm_usage}
+use Rattle.nq_run.proofs.StormPromises.{storm_does, storm_lawful, storm_never, storm_prints, storm_unless, storm_usage}
 use Rattle.nq_run.specs.Promised.{most_bytes}
 use Rattle.nq_run.proofs.top.run.Goals as goal
 
@@ -55,6 +55,10 @@ returns-in-Some-Storm-clause-nothing g c = λ none.
 pub returns-in-Some-Storm-clause-storms : goal.returns-in-Some-Storm-clause-storms
 returns-in-Some-Storm-clause-storms g c = λ kind start events is.
     storm_does (command_of c.args.words.now) c.storm.result c.in-Some-Storm.kind c.in-Some-Storm.start c.in-Some-Storm.events kind start events _ _ _ _ _ (sym c.command.ensures.says ∙ c.in-Some-Storm.is ∙ ap Some c.in-Some-Storm.field-0-is) is c.storm.ensures
+
+pub returns-in-Some-Storm-clause-stormed : goal.returns-in-Some-Storm-clause-stormed
+returns-in-Some-Storm-clause-stormed g c = λ kind start events is.
+    storm_unless c.storm.result c.in-Some-Storm.kind c.in-Some-Storm.start c.in-Some-Storm.events _ _ _ _ _ c.storm.ensures
 
 pub returns-in-Some-Storm-clause-lawful : goal.returns-in-Some-Storm-clause-lawful
 returns-in-Some-Storm-clause-lawful g c = λ kind start events is done.
