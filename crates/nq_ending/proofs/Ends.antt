@@ -22,6 +22,7 @@ end_of status =
     Ending.NotSound))))))))))))
 
 of-its-status : (end : Ending) → end_of (status_of end) ≡ end
+unfolding end_of
 of-its-status Ending.Done = refl
 of-its-status Ending.Usage = refl
 of-its-status Ending.Script = refl

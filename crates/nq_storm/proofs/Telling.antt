@@ -14,6 +14,7 @@ use Rattle.nq_play.specs.Playing.{beginning}
 use Rattle.nq_replay.proofs.Journals.{plain_text}
 use Rattle.nq_replay.proofs.Printings.{bytes_end}
 use Rattle.nq_replay.specs.Replay.{journal_of}
+use Rattle.nq_replay.specs.Schedules.{PrintsBytes}
 use Rattle.nq_script.specs.Lines.{once}
 use Rattle.nq_script.specs.Schedule.{SpellsSchedule}
 use Rattle.nq_storm.proofs.Counting.{same_losses}
@@ -21,7 +22,7 @@ use Rattle.nq_storm.proofs.Playing.{storms-are-lawful}
 use Rattle.nq_storm.specs.Counts.{is_loss, storm_line}
 use Rattle.nq_storm.specs.Ending.{Storms}
 use Rattle.nq_storm.specs.Heads.{storm_head}
-use Rattle.nq_storm.specs.Printed.{PrintsBytes, PrintsRan, PrintsSpelled, PrintsStorm, StormEnds, counts_of, storm_text}
+use Rattle.nq_storm.specs.Printed.{PrintsRan, PrintsSpelled, PrintsStorm, StormEnds, counts_of, storm_text}
 use Rattle.nq_storm.specs.Whole.{IsWholeStorm}
 use Rattle.nq_storm.specs.declared.stormed.Stormed.{Stormed}
 use Rattle.nq_storm_rules.specs.Rules.{Rule}

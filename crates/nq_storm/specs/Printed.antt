@@ -12,7 +12,7 @@ use Rattle.nq_play.specs.Playing.{beginning}
 use Rattle.nq_play.specs.Reaching.{IsReached}
 use Rattle.nq_replay.specs.Lines.{PrintsLine, limit_line}
 use Rattle.nq_replay.specs.Replay.{journal_of, journal_printed}
-use Rattle.nq_replay.specs.Schedules.{bound_of}
+use Rattle.nq_replay.specs.Schedules.{PrintsBytes, bound_of}
 use Rattle.nq_script.specs.Lines.{once}
 use Rattle.nq_script.specs.Schedule.{SpellsSchedule}
 use Rattle.nq_storm.specs.Counts.{is_loss, storm_line}
