@@ -7,5 +7,6 @@ mod serving;
 mod turns;
 
 pub use attending::client_turn;
+pub use sending::send_all;
 pub use serving::serve_turn;
 pub use turns::{ClientTurn, Turn};

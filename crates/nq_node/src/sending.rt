@@ -8,7 +8,7 @@ use nq_link::{Link, Sent};
 use nq_wire::Outbox;
 
 /// Sends the datagrams of an outbox in their order, up to the first that the link refuses.
-pub(crate) fn send_all<L: Link>(link: &mut L, out: &Outbox) -> Sent
+pub fn send_all<L: Link>(link: &mut L, out: &Outbox) -> Sent
     ensures sends { SendsAll result out.now.datagrams (L.sent link.old) (L.sent link.new) (L.faults link.old) (L.faults link.new) }
     ensures waiting { L.waiting link.new ≡ L.waiting link.old }
 {

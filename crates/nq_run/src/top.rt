@@ -19,7 +19,7 @@ ghost use Rattle.nq_run.specs.Promised.{PrintsLawfully, PrintsSound, most_bytes}
 ghost use Rattle.nq_run.specs.Storming.{DoesStorm, NeverRuns, RunsNothing, StormsLawfully};
 ghost use Rattle.nq_script.specs.declared.heads.Head.{Head};
 
-use nq_base::{Host, Inc};
+use nq_base::{Host, Inc, Who};
 use nq_clock::Clock;
 use nq_command::{Command, Words};
 use nq_fate::Fate;
@@ -31,7 +31,7 @@ use nq_looping::run_loop;
 use nq_replay::{Ending, judge, put_line, replay};
 use nq_storm_text::first_of;
 use nq_storming::run_storm;
-use nq_user::client;
+use nq_user::{Plan, client};
 use std::alloc::Global;
 
 // The most bytes of a schedule, a journal or a list of calls that are read.
@@ -141,18 +141,9 @@ pub fn run<S: Source, K: Sink, P: Keeper + Drop, L: Link, C: Clock>(
         Some(Command::Serve { turns, longest }) => {
             serve(alloc, keeper, turns, longest, link, clock, out).status()
         }
-        Some(Command::Client { host, inc, turns }) => client(
-            alloc,
-            Host(host),
-            Inc(inc),
-            turns,
-            MOST_BYTES,
-            input,
-            out,
-            link,
-            clock,
-        )
-        .status(),
+        Some(Command::Client { host, inc, turns }) => {
+            client(alloc, plan_of(host, inc, turns), input, out, link, clock).status()
+        }
         Some(
             Command::Storm {
                 kind,
@@ -210,4 +201,18 @@ fn usage<K: Sink>(out: &mut K) -> u8
 {
     put_line(out, b"usage\n");
     Ending::Usage.status()
+}
+
+/// How `client` uses the service.
+fn plan_of(host: u32, inc: u32, turns: u32) -> Plan
+    ensures { result ≡ record { who = record { host = host; inc = inc }; turns = turns; limit = MOST_BYTES } }
+{
+    Plan {
+        who: Who {
+            host: Host(host),
+            inc: Inc(inc),
+        },
+        turns,
+        limit: MOST_BYTES,
+    }
 }

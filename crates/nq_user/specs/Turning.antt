@@ -8,6 +8,7 @@ use Rattle.nq_node.specs.ClientTurn.{AttendsTurn}
 use Rattle.nq_node.specs.Links.{LinkTold}
 use Rattle.nq_node.specs.declared.ClientTurn.{ClientTurn}
 use Rattle.nq_user.specs.declared.aims.Aim.{Aim}
+use Rattle.nq_user.specs.declared.session.Session.{Session}
 use Rattle.nq_answers.specs.declared.Halt.{Halt}
 
 -- a client between two turns, with its journal, the number that it is told of the next datagram that it is given, the readings of
@@ -18,6 +19,10 @@ pub record Between : Type 0 where
   pub next : ℕ
   pub clock : Option (List ℕ)
   pub link : LinkTold
+
+-- a client in use, between two turns
+abbrev pub between : Session → (clock : Option (List ℕ)) → LinkTold → Between
+between session clock link = record { client = session.client; log = session.log; next = session.next; clock = clock; link = link }
 
 -- one turn, with this answer
 abbrev pub Attends : ClientTurn → (at after : Between) → Type 0

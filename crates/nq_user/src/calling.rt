@@ -2,10 +2,10 @@
 
 ghost use Rattle.std.specs.Prelude.{◌≡◌};
 ghost use Rattle.nq_user.specs.Calling.{Makes, RunsCall, SendsOut, refusal_of};
-ghost use Rattle.nq_user.specs.Turning.{Between};
+ghost use Rattle.nq_user.specs.Turning.{between};
 
 use crate::aims::Aim;
-use crate::sending::send_all;
+use crate::session::Session;
 use crate::turning::{is_reached, take_turns};
 use nq_answers::Halt;
 use nq_base::{Answer, Call};
@@ -13,31 +13,30 @@ use nq_client::Client;
 use nq_clock::Clock;
 use nq_journal::Journal;
 use nq_link::{Link, Sent};
+use nq_node::send_all;
 use nq_wire::Outbox;
 use std::alloc::Global;
 
 /// Runs a call to its answer, in at most so many turns.
 pub(crate) fn run_call<L: Link, C: Clock>(
     alloc: Global,
-    client: &mut Client,
+    session: &mut Session,
     link: &mut L,
     clock: &mut C,
-    next: &mut u64,
-    log: &mut Journal,
     call: &Call,
     turns: u32,
 ) -> Result<(), Halt>
     ensures { RunsCall turns call.now result
-        (record { client = client.old; log = log.old; next = next.old; clock = C.readings clock.old; link = record { sent = L.sent link.old; waiting = L.waiting link.old; faults = L.faults link.old } })
-        (record { client = client.new; log = log.new; next = next.new; clock = C.readings clock.new; link = record { sent = L.sent link.new; waiting = L.waiting link.new; faults = L.faults link.new } }) }
+        (between session.old (C.readings clock.old) (record { sent = L.sent link.old; waiting = L.waiting link.old; faults = L.faults link.old }))
+        (between session.new (C.readings clock.new) (record { sent = L.sent link.new; waiting = L.waiting link.new; faults = L.faults link.new })) }
 {
-    match make_call(alloc, client, link, log, call) {
+    match make_call(alloc, &mut session.client, link, &mut session.log, call) {
         Err(why) => Err(why),
         Ok(()) => {
-            if is_reached(client, Aim::Answered) {
+            if is_reached(&session.client, Aim::Answered) {
                 Ok(())
             } else {
-                take_turns(alloc, client, link, clock, next, log, Aim::Answered, turns)
+                take_turns(alloc, session, link, clock, Aim::Answered, turns)
             }
         }
     }

@@ -4,10 +4,12 @@
 
 mod aims;
 mod calling;
+mod plan;
 mod running;
-mod sending;
+mod session;
 mod turning;
 mod using;
 
 pub use nq_answers::Used;
+pub use plan::Plan;
 pub use using::client;

@@ -22,7 +22,7 @@ returns-then-is_reached g c = record {
   made = Ok tt;
   makes = c.in-Ok.ensures;
   rest = at_once c.args.turns (reached Aim.Answered c.make_call.new.client.client)
-      (record { client = c.make_call.new.client; log = c.make_call.new.log; next = c.args.next.now; clock = g.C.Clock.readings c.args.clock.now; link = record { sent = g.L.Link.sent c.make_call.new.link; waiting = g.L.Link.waiting c.make_call.new.link; faults = g.L.Link.faults c.make_call.new.link } })
+      (record { client = c.make_call.new.client; log = c.make_call.new.log; next = c.args.session.now.next; clock = g.C.Clock.readings c.args.clock.now; link = record { sent = g.L.Link.sent c.make_call.new.link; waiting = g.L.Link.waiting c.make_call.new.link; faults = g.L.Link.faults c.make_call.new.link } })
       (sym c.is_reached.ensures ∙ c.if-is_reached.true);
 }
 
@@ -34,7 +34,7 @@ returns-else-is_reached g c = record {
   made = Ok tt;
   makes = c.in-Ok.ensures;
   rest = later c.args.turns (reached Aim.Answered c.make_call.new.client.client) c.take_turns.result
-      (record { client = c.make_call.new.client; log = c.make_call.new.log; next = c.args.next.now; clock = g.C.Clock.readings c.args.clock.now; link = record { sent = g.L.Link.sent c.make_call.new.link; waiting = g.L.Link.waiting c.make_call.new.link; faults = g.L.Link.faults c.make_call.new.link } })
-      (record { client = c.take_turns.new.client; log = c.take_turns.new.log; next = c.take_turns.new.next; clock = g.C.Clock.readings c.take_turns.new.clock; link = record { sent = g.L.Link.sent c.take_turns.new.link; waiting = g.L.Link.waiting c.take_turns.new.link; faults = g.L.Link.faults c.take_turns.new.link } })
+      (record { client = c.make_call.new.client; log = c.make_call.new.log; next = c.args.session.now.next; clock = g.C.Clock.readings c.args.clock.now; link = record { sent = g.L.Link.sent c.make_call.new.link; waiting = g.L.Link.waiting c.make_call.new.link; faults = g.L.Link.faults c.make_call.new.link } })
+      (record { client = c.take_turns.new.session.client; log = c.take_turns.new.session.log; next = c.take_turns.new.session.next; clock = g.C.Clock.readings c.take_turns.new.clock; link = record { sent = g.L.Link.sent c.take_turns.new.link; waiting = g.L.Link.waiting c.take_turns.new.link; faults = g.L.Link.faults c.take_turns.new.link } })
       (sym c.is_reached.ensures ∙ c.if-is_reached.false) c.take_turns.ensures;
 }

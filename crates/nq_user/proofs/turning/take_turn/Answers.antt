@@ -6,7 +6,7 @@ use Rattle.nq_user.proofs.turning.take_turn.Goals as goal
 
 pub returns : goal.returns
 returns g c =
-    let at : Between = record { client = c.args.client.now; log = c.args.log.now; next = c.args.next.now; clock = g.C.Clock.readings c.args.clock.now; link = record { sent = g.L.Link.sent c.args.link.now; waiting = g.L.Link.waiting c.args.link.now; faults = g.L.Link.faults c.args.link.now } } in
+    let at : Between = record { client = c.args.session.now.client; log = c.args.session.now.log; next = c.args.session.now.next; clock = g.C.Clock.readings c.args.clock.now; link = record { sent = g.L.Link.sent c.args.link.now; waiting = g.L.Link.waiting c.args.link.now; faults = g.L.Link.faults c.args.link.now } } in
     let after : Between = record { client = c.client_turn.new.client; log = c.client_turn.new.log; next = c.client_turn.new.next; clock = g.C.Clock.readings c.client_turn.new.clock; link = record { sent = g.L.Link.sent c.client_turn.new.link; waiting = g.L.Link.waiting c.client_turn.new.link; faults = g.L.Link.faults c.client_turn.new.link } } in
     let took : Attends c.client_turn.result at after = c.client_turn.ensures.turn in
     elim c.match-client_turn.branch [
