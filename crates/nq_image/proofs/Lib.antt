@@ -3,3 +3,7 @@ pub mod KeptWalks
 pub mod Names
 pub mod Places
 pub mod Walks
+mod Holding
+mod Filing
+mod Giving
+mod Within

@@ -1,3 +1,4 @@
+pub mod Bounds
 pub mod Check
 pub mod Heads
 pub mod Hosts

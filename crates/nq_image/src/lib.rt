@@ -2,6 +2,7 @@
 //! for what they stand. No disk is in it: each function reads one part of an image from bytes that it is given.
 #![tactic(auto)]
 
+mod bounds;
 mod fault;
 mod fields;
 mod heads;
@@ -14,6 +15,7 @@ mod rows;
 mod tables;
 mod whole;
 
+pub use bounds::what_opens_is_within_bounds;
 pub use fault::{ImageFault, WrongField};
 pub use heads::{Boots, Front, read_boots, read_front, version_of};
 pub use hosts::{read_host, read_hosts};
