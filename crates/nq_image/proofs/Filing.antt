@@ -29,7 +29,9 @@ chosen false n len is le = grind (arith, nat_tests)
 
 put-step : (b : Bool) (n : ℕ) (f x : FoundFile) (files more : List FoundFile) → insert files n x ≡ more → insert (f ∷ files) (if not b then 1 + n else 0) x ≡ (if b then x ∷ f ∷ files else f ∷ more)
 put-step true n f x files more same = refl
-put-step false n f x files more same = ap (λ (l : List FoundFile). f ∷ l) same
+put-step false n f x files more same =
+    let next : 1 + n ≡ suc n = omega arith in
+    ap (λ (k : ℕ). insert (f ∷ files) k x) next ∙ ap (λ (l : List FoundFile). f ∷ l) same
 
 put-at : (id : ℕ) (x : FoundFile) (files : List FoundFile) → insert files (prefix_len (λ f. not (is_later id f)) files) x ≡ put id x files
 put-at id x [] = refl

@@ -7,3 +7,9 @@ mod Holding
 mod Filing
 mod Giving
 mod Within
+mod Spelling
+mod FileRows
+mod Tabling
+mod Bodying
+mod Imaging
+pub mod Emptying

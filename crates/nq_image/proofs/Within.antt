@@ -89,7 +89,7 @@ pub record AreFilesHeld (bytes : List ℕ) (next : ℕ) (blocks : List ℕ) (fil
 
 length-bodies : (bytes blocks : List ℕ) (f : FoundFile) → f.start + f.row.blocks ≤ length blocks → length_of (file_in bytes blocks f) ≡ f.row.blocks
 length-bodies bytes blocks f within =
-    length-map (body_in bytes) (take f.row.blocks (drop f.start blocks)) ∙ length-take-le f.row.blocks (drop f.start blocks) (omega (arith, length-drop f.start blocks))
+    length-map (take f.row.blocks (drop f.start blocks)) (body_in bytes) ∙ length-take-le f.row.blocks (drop f.start blocks) (omega (arith, length-drop f.start blocks))
 
 file-within : (bytes blocks : List ℕ) (next : ℕ) (f : FoundFile) → AreBytes bytes → All (IsHeld (length bytes)) blocks → IsFileRight next (length blocks) f → IsFileWithin next (file_in bytes blocks f)
 file-within bytes blocks next f all whole right =
@@ -129,7 +129,7 @@ kept-within bytes found all heads hosts every files = record {
   files = All-map (IsFileWithin found.heads.next) (file_in bytes found.blocks) found.files
       (All-weaker (IsFileRight found.heads.next (length found.blocks)) (λ f. IsFileWithin found.heads.next (file_in bytes found.blocks f)) (λ f right. file-within bytes found.blocks found.heads.next f all files.whole right) found.files files.right);
   apart = apart-files bytes found.blocks found.files files.row;
-  few_files = let a = files.few in omega (arith, length-map (file_in bytes found.blocks) found.files);
+  few_files = let a = files.few in omega (arith, length-map found.files (file_in bytes found.blocks));
   few_blocks = let a = files.sum in omega (arith, sum-files bytes found.blocks found.heads.next found.files files.right);
   hosts = hosts;
   all_hosts = every;

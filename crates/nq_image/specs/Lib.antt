@@ -5,8 +5,10 @@ pub mod Hosts
 pub mod Image
 pub mod Kept
 pub mod Layout
+pub mod Nothing
 pub mod Reading
 pub mod Rows
 pub mod Seen
 pub mod Tables
 pub mod Whole
+pub mod Writing

@@ -14,6 +14,7 @@ mod order;
 mod rows;
 mod tables;
 mod whole;
+mod writing;
 
 pub use bounds::what_opens_is_within_bounds;
 pub use fault::{ImageFault, WrongField};
@@ -26,3 +27,4 @@ pub use order::{first_wrong_is_least, heads_are_in_order, rows_are_in_order, tab
 pub use rows::{Slot, Version, read_row, read_rows};
 pub use tables::{PHYSICAL_BLOCKS, TABLE_BLOCKS, read_table, read_tables};
 pub use whole::{Image, read_image};
+pub use writing::{each_kept_state_has_an_image, nothing_is_kept_in_zeros};
