@@ -20,35 +20,27 @@ joined : (m n total : ℕ) (front behind : List ℕ) → front ≡ zeros_of m �
 joined m n total front behind e f sum =
     ap (λ (b : List ℕ). b ++ behind) e ∙ ap (λ (b : List ℕ). zeros_of m ++ b) f ∙ zeros-join m n ∙ ap zeros_of sum
 
+no-zeros : [] ≡ zeros_of 0
+unfolding zeros_of
+no-zeros = refl
+
 fresh-host : host_bytes fresh_row ≡ zeros_of 32
 unfolding host_bytes zeros_of
 fresh-host = refl
 
 fresh-hosts : (count : ℕ) → hosts_bytes (replicate count fresh_row) ≡ zeros_of (32 * count)
 unfolding hosts_bytes
-fresh-hosts zero = none
-  where
-    none : [] ≡ zeros_of 0
-    unfolding zeros_of
-    none = refl
+fresh-hosts zero = no-zeros
 fresh-hosts (suc count) = joined 32 (32 * count) (32 * suc count) (host_bytes fresh_row) (hosts_bytes (replicate count fresh_row)) fresh-host (fresh-hosts count) (omega arith)
 
 no-rows : (count : ℕ) → rows_bytes count [] ≡ zeros_of (96 * count)
 unfolding rows_bytes
-no-rows zero = none
-  where
-    none : [] ≡ zeros_of 0
-    unfolding zeros_of
-    none = refl
+no-rows zero = no-zeros
 no-rows (suc count) = joined 96 (96 * count) (96 * suc count) (zeros_of 96) (rows_bytes count []) refl (no-rows count) (omega arith)
 
 no-tables : (count block : ℕ) → tables_bytes count block [] ≡ zeros_of (4096 * count)
 unfolding tables_bytes
-no-tables zero block = none
-  where
-    none : [] ≡ zeros_of 0
-    unfolding zeros_of
-    none = refl
+no-tables zero block = no-zeros
 no-tables (suc count) block = joined 4096 (4096 * count) (4096 * suc count) (zeros_of 4096) (tables_bytes count block []) refl (no-tables count block) (omega arith)
 
 four : replicate 4 0 ≡ zeros_of 4
@@ -57,11 +49,7 @@ four = refl
 
 no-ids : (count : ℕ) → ids_bytes count [] ≡ zeros_of (4 * count)
 unfolding ids_bytes
-no-ids zero = none
-  where
-    none : [] ≡ zeros_of 0
-    unfolding zeros_of
-    none = refl
+no-ids zero = no-zeros
 no-ids (suc count) = joined 4 (4 * count) (4 * suc count) (replicate 4 0) (ids_bytes count []) four (no-ids count) (omega arith)
 
 first-bytes : front_bytes 0 nothing_kept ≡ first_of_nothing ++ zeros_of 40

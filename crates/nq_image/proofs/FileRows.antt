@@ -220,13 +220,17 @@ first-is count row rows slot slots long is more =
     subst-two P (take 96 bytes) row (drop 96 bytes) rows (take_at row rows 96 long) (drop_at row rows 96 long)
     (ap (λ (s : Option Slot). s ∷ slots_of count rows) is ∙ ap (λ (l : List (Option Slot)). slot ∷ l) more)
 
+none-hold : (place : ℕ) (before : List (Option Slot)) → Hold (rows_checks Version.Two zero place before [])
+unfolding rows_checks
+none-hold place before = tt
+
+no-slots : slots_of zero [] ≡ []
+unfolding slots_of
+no-slots = refl
+
 pub rows-hold : (count place next : ℕ) (before : List (Option Slot)) (files : List File) → All (IsFileWithin next) files → AreApart files → All (IsNew before) files → sum_by blocks_of before + blocks_in_all files ≤ 16384 → Hold (rows_checks Version.Two count place before (rows_bytes count files))
 unfolding rows_bytes
-rows-hold zero place next before files within apart new few = none
-  where
-    none : Hold (rows_checks Version.Two zero place before [])
-    unfolding rows_checks
-    none = tt
+rows-hold zero place next before files within apart new few = none-hold place before
 rows-hold (suc count) place next before [] within apart new few =
     first-holds count place before (zeros_of 96) (rows_bytes count []) None (length-zeros 96) unused-is (unused-holds place before)
     (rows-hold count (place + 96) next (before ++ None ∷ []) [] within apart (All-nil (IsNew (before ++ None ∷ []))) (omega (arith, few, sum_by-append blocks_of before (None ∷ []))))
@@ -244,11 +248,7 @@ rows-hold (suc count) place next before (file ∷ files) within apart new few =
 
 pub slots-are : (count next : ℕ) (files : List File) → All (IsFileWithin next) files → slots_of count (rows_bytes count files) ≡ slots_for count files
 unfolding rows_bytes slots_for
-slots-are zero next files within = none
-  where
-    none : slots_of zero [] ≡ []
-    unfolding slots_of
-    none = refl
+slots-are zero next files within = no-slots
 slots-are (suc count) next [] within =
     first-is count (zeros_of 96) (rows_bytes count []) None (slots_for count []) (length-zeros 96) unused-is (slots-are count next [] within)
 slots-are (suc count) next (file ∷ files) within =

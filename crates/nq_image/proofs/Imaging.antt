@@ -39,7 +39,7 @@ goes-if true x y e = refl
 goes-if false x y e = cc
 
 tested-as : {A : Type 0} (checks : List Check) (x y : A) → Hold checks → x ≡ y → tested checks x ≡ Ok y
-tested-as checks x y hold same = hold-tested checks x hold ∙ ap (λ (v : _). Ok v) same
+tested-as checks x y hold same = hold-tested checks x hold ∙ ap Ok same
 
 -- ---- the front
 

@@ -85,18 +85,24 @@ numbers-append first (suc m) n =
 
 -- ---- one table
 
+-- what is known of a table with so many entries and zeros behind them
+pub record IsTableBack (tables count place block : ℕ) (marks : List Bool) (rest : List ℕ) : Type 0 where
+  pub holds : Hold (table_checks count tables place marks rest)
+  pub blocks : table_of count rest ≡ numbers_from block count
+  pub free : AreFree (block + count) (marks_behind count marks rest)
+
+-- what is known of the tables of these files
+pub record AreTablesBack (tables count place block : ℕ) (files : List File) (marks : List Bool) (bytes : List ℕ) : Type 0 where
+  pub holds : Hold (tables_checks tables place (slots_for count files) marks bytes)
+  pub blocks : tables_blocks place (slots_for count files) bytes ≡ numbers_from block (blocks_in_all files)
+  pub free : AreFree (block + blocks_in_all files) (tables_marks place (slots_for count files) marks bytes)
+
 module _ (tables : ℕ) (near : tables ≤ 16384) where
   word-of-block : (block : ℕ) (rest : List ℕ) → block < tables → word_in 0 (to_be_bytes w32 (block + 1) ++ rest) ≡ block + 1
   unfolding word_in
   word-of-block block rest lt = from_be_bytes-to_be_bytes_4 (block + 1) (omega arith)
 
-  -- what is known of a table with so many entries and zeros behind them
-  pub record IsTableBack (count place block : ℕ) (marks : List Bool) (rest : List ℕ) : Type 0 where
-    pub holds : Hold (table_checks count tables place marks rest)
-    pub blocks : table_of count rest ≡ numbers_from block count
-    pub free : AreFree (block + count) (marks_behind count marks rest)
-
-  last-entry : (place block zeros : ℕ) (marks : List Bool) → AreFree block marks → IsTableBack zero place block marks (zeros_of zeros)
+  last-entry : (place block zeros : ℕ) (marks : List Bool) → AreFree block marks → IsTableBack tables zero place block marks (zeros_of zeros)
   unfolding table_checks table_of marks_behind numbers_from
   last-entry place block zeros marks free = record {
     holds = (zeros-are zeros, tt);
@@ -104,7 +110,7 @@ module _ (tables : ℕ) (near : tables ≤ 16384) where
     free = λ k le. free k (omega arith);
   }
 
-  one-entry : (count place block : ℕ) (marks : List Bool) (bytes rest : List ℕ) → block < tables → AreFree block marks → word_in 0 bytes ≡ block + 1 → drop 4 bytes ≡ rest → IsTableBack count (place + 4) (block + 1) (marked marks (block + 1)) rest → IsTableBack (suc count) place block marks bytes
+  one-entry : (count place block : ℕ) (marks : List Bool) (bytes rest : List ℕ) → block < tables → AreFree block marks → word_in 0 bytes ≡ block + 1 → drop 4 bytes ≡ rest → IsTableBack tables count (place + 4) (block + 1) (marked marks (block + 1)) rest → IsTableBack tables (suc count) place block marks bytes
   unfolding table_checks table_of marks_behind numbers_from
   one-entry count place block marks bytes rest lt free is behind more =
       let P : ℕ → List ℕ → Type 0 = λ w d. Hold (check place (is_entry tables marks w) ∷ table_checks count tables (place + 4) (marked marks w) d) in
@@ -117,7 +123,7 @@ module _ (tables : ℕ) (near : tables ≤ 16384) where
         free = subst (λ (w : ℕ). AreFree (block + suc count) (marks_behind count (marked marks w) (drop 4 bytes))) (sym is) (subst (λ (d : List ℕ). AreFree (block + suc count) (marks_behind count (marked marks (block + 1)) d)) (sym behind) (subst F next more.free));
       }
 
-  entries-back : (count place block zeros : ℕ) (marks : List Bool) → block + count ≤ tables → AreFree block marks → IsTableBack count place block marks (entries_bytes count block ++ zeros_of zeros)
+  entries-back : (count place block zeros : ℕ) (marks : List Bool) → block + count ≤ tables → AreFree block marks → IsTableBack tables count place block marks (entries_bytes count block ++ zeros_of zeros)
   unfolding entries_bytes
   entries-back zero place block zeros marks few free = last-entry place block zeros marks free
   entries-back (suc count) place block zeros marks few free =
@@ -125,17 +131,11 @@ module _ (tables : ℕ) (near : tables ≤ 16384) where
       one-entry count place block marks (to_be_bytes w32 (block + 1) ++ rest) rest (omega arith) free (word-of-block block rest (omega arith)) refl
       (entries-back count (place + 4) (block + 1) zeros (marked marks (block + 1)) (omega arith) (free-behind block marks free))
 
-  pub table-back : (count place block : ℕ) (marks : List Bool) → block + count ≤ tables → AreFree block marks → IsTableBack count place block marks (table_bytes count block)
+  pub table-back : (count place block : ℕ) (marks : List Bool) → block + count ≤ tables → AreFree block marks → IsTableBack tables count place block marks (table_bytes count block)
   unfolding table_bytes
   table-back count place block marks few free = entries-back count place block (4096 - 4 * count) marks few free
 
   -- ---- all tables
-
-  -- what is known of the tables of these files
-  pub record AreTablesBack (count place block : ℕ) (files : List File) (marks : List Bool) (bytes : List ℕ) : Type 0 where
-    pub holds : Hold (tables_checks tables place (slots_for count files) marks bytes)
-    pub blocks : tables_blocks place (slots_for count files) bytes ≡ numbers_from block (blocks_in_all files)
-    pub free : AreFree (block + blocks_in_all files) (tables_marks place (slots_for count files) marks bytes)
 
   table-whole : (place : ℕ) (pre table suf bytes : List ℕ) → bytes ≡ pre ++ (table ++ suf) → length pre ≡ place → length table ≡ 4096 → nat_le (place + 4096) (length bytes) ≡ true
   table-whole place pre table suf bytes is at long =
@@ -143,7 +143,7 @@ module _ (tables : ℕ) (near : tables ≤ 16384) where
       ge-true (length bytes) (place + 4096 + length suf) (place + 4096) e (omega arith)
 
   -- a table in front of others
-  used-table : (count place block : ℕ) (file : File) (files : List File) (marks : List Bool) (table bytes : List ℕ) → nat_le (place + 4096) (length bytes) ≡ true → piece place 4096 bytes ≡ table → IsTableBack (length_of file) place block marks table → AreTablesBack count (place + 4096) (block + length_of file) files (marks_behind (length_of file) marks table) bytes → AreTablesBack (suc count) place block (file ∷ files) marks bytes
+  used-table : (count place block : ℕ) (file : File) (files : List File) (marks : List Bool) (table bytes : List ℕ) → nat_le (place + 4096) (length bytes) ≡ true → piece place 4096 bytes ≡ table → IsTableBack tables (length_of file) place block marks table → AreTablesBack tables count (place + 4096) (block + length_of file) files (marks_behind (length_of file) marks table) bytes → AreTablesBack tables (suc count) place block (file ∷ files) marks bytes
   unfolding slots_for tables_checks tables_blocks tables_marks slot_checks slot_table slot_marks
   used-table count place block file files marks table bytes whole is own more =
       let n = length_of file in
@@ -163,7 +163,7 @@ module _ (tables : ℕ) (near : tables ≤ 16384) where
         free = subst Free (sym is) (subst F next more.free);
       }
 
-  unused-table : (count place block : ℕ) (marks : List Bool) (bytes : List ℕ) → nat_le (place + 4096) (length bytes) ≡ true → AreTablesBack count (place + 4096) block [] marks bytes → AreTablesBack (suc count) place block [] marks bytes
+  unused-table : (count place block : ℕ) (marks : List Bool) (bytes : List ℕ) → nat_le (place + 4096) (length bytes) ≡ true → AreTablesBack tables count (place + 4096) block [] marks bytes → AreTablesBack tables (suc count) place block [] marks bytes
   unfolding slots_for tables_checks tables_blocks tables_marks slot_checks slot_table slot_marks
   unused-table count place block marks bytes whole more = record {
     holds = (whole, more.holds);
@@ -171,7 +171,7 @@ module _ (tables : ℕ) (near : tables ≤ 16384) where
     free = more.free;
   }
 
-  no-tables : (place block : ℕ) (marks : List Bool) (bytes : List ℕ) → AreFree block marks → AreTablesBack zero place block [] marks bytes
+  no-tables : (place block : ℕ) (marks : List Bool) (bytes : List ℕ) → AreFree block marks → AreTablesBack tables zero place block [] marks bytes
   unfolding slots_for tables_checks tables_blocks tables_marks numbers_from
   no-tables place block marks bytes free = record {
     holds = tt;
@@ -182,7 +182,7 @@ module _ (tables : ℕ) (near : tables ≤ 16384) where
   shifted : (pre table more suf bytes : List ℕ) → bytes ≡ pre ++ ((table ++ more) ++ suf) → bytes ≡ pre ++ (table ++ (more ++ suf))
   shifted pre table more suf bytes is = is ∙ ap (λ (b : List ℕ). pre ++ b) (append_assoc table more suf)
 
-  pub tables-back : (count place block next : ℕ) (files : List File) (marks : List Bool) (pre suf bytes : List ℕ) → bytes ≡ pre ++ (tables_bytes count block files ++ suf) → length pre ≡ place → length files ≤ count → All (IsFileWithin next) files → block + blocks_in_all files ≤ tables → AreFree block marks → AreTablesBack count place block files marks bytes
+  pub tables-back : (count place block next : ℕ) (files : List File) (marks : List Bool) (pre suf bytes : List ℕ) → bytes ≡ pre ++ (tables_bytes count block files ++ suf) → length pre ≡ place → length files ≤ count → All (IsFileWithin next) files → block + blocks_in_all files ≤ tables → AreFree block marks → AreTablesBack tables count place block files marks bytes
   unfolding tables_bytes
   tables-back zero place block next [] marks pre suf bytes is at all within few free = no-tables place block marks bytes free
   tables-back zero place block next (file ∷ files) marks pre suf bytes is at all within few free = absurd (omega arith)
@@ -244,21 +244,25 @@ id-word : (id : ℕ) (rest : List ℕ) → id < 2 ^ 32 → word_in 0 (to_be_byte
 unfolding word_in
 id-word id rest lt = from_be_bytes-to_be_bytes_4 id lt
 
+last-holds : (next place zeros : ℕ) (known : List ℕ) → Hold (ids_checks next place known [] (zeros_of zeros))
+unfolding ids_checks
+last-holds next place zeros known = (zeros-are zeros, tt)
+
+last-is : (zeros : ℕ) → ids_of [] (zeros_of zeros) ≡ []
+unfolding ids_of
+last-is zeros = refl
+
+unused-id : (next : ℕ) (known : List ℕ) → is_id next known None 0 ≡ true
+unfolding is_id
+unused-id next known = refl
+
 pub ids-hold : (count next place zeros : ℕ) (known : List ℕ) (files : List File) → next ≤ 2147483648 → All (IsFileWithin next) files → AreApart files → All (λ f. All (λ k. k < f.id) known) files → Hold (ids_checks next place known (slots_for count files) (ids_bytes count files ++ zeros_of zeros))
 unfolding slots_for ids_bytes
-ids-hold zero next place zeros known files few within apart all = last
-  where
-    last : Hold (ids_checks next place known [] (zeros_of zeros))
-    unfolding ids_checks
-    last = (zeros-are zeros, tt)
+ids-hold zero next place zeros known files few within apart all = last-holds next place zeros known
 ids-hold (suc count) next place zeros known [] few within apart all =
     let rest = ids_bytes count [] ++ zeros_of zeros in
-    one-id next place count 0 known None (slots_for count []) (0 ∷ 0 ∷ 0 ∷ 0 ∷ rest) rest (zero-word rest) refl unused
+    one-id next place count 0 known None (slots_for count []) (0 ∷ 0 ∷ 0 ∷ 0 ∷ rest) rest (zero-word rest) refl (unused-id next known)
     (ids-hold count next (place + 4) zeros (known ++ 0 ∷ []) [] few within apart (All-nil (λ f. All (λ k. k < f.id) (known ++ 0 ∷ []))))
-  where
-    unused : is_id next known None 0 ≡ true
-    unfolding is_id
-    unused = refl
 ids-hold (suc count) next place zeros known (file ∷ files) few within apart all =
     let own = All-head (IsFileWithin next) file files within in
     let rest = ids_bytes count files ++ zeros_of zeros in
@@ -277,11 +281,7 @@ ids-hold (suc count) next place zeros known (file ∷ files) few within apart al
 
 pub ids-are : (count next zeros : ℕ) (files : List File) → next ≤ 2147483648 → All (IsFileWithin next) files → ids_of (slots_for count files) (ids_bytes count files ++ zeros_of zeros) ≡ ids_for count files
 unfolding slots_for ids_bytes ids_for
-ids-are zero next zeros files few within = last
-  where
-    last : ids_of [] (zeros_of zeros) ≡ []
-    unfolding ids_of
-    last = refl
+ids-are zero next zeros files few within = last-is zeros
 ids-are (suc count) next zeros [] few within =
     let rest = ids_bytes count [] ++ zeros_of zeros in
     one-id-is 0 None (slots_for count []) (0 ∷ 0 ∷ 0 ∷ 0 ∷ rest) rest (ids_for count []) (zero-word rest) refl (ids-are count next zeros [] few within)
