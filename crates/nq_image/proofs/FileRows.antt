@@ -119,14 +119,22 @@ module _ (name : List ℕ) (blocks rev : ℕ) (named : IsName name) (short : blo
     unfolding used_checks
     used-hold = (
       and-two (nat_le 1 (word_in 0 row)) (nat_le (word_in 0 row) 64) (ge-true (word_in 0 row) (length name) 1 length-of-name named.0) (le-true (word_in 0 row) (length name) 64 length-of-name named.1),
-      (name-held,
-      (and-three (nat_le 1 (word_in 68 row)) (nat_le (word_in 68 row) 1024) (nat_le (sum_by blocks_of before + word_in 68 row) 16384)
-      (ge-true (word_in 68 row) blocks 1 blocks-are not_empty)
-      (le-true (word_in 68 row) blocks 1024 blocks-are short)
-      (le-true (sum_by blocks_of before + word_in 68 row) (sum_by blocks_of before + blocks) 16384 (ap (λ (b : ℕ). sum_by blocks_of before + b) blocks-are) few),
-      (refl,
-      (lt-true (hyper_in 76 row) rev 2305843009213693952 rev-is rev_fits,
-      (rest-is, tt))))),
+      (
+        name-held,
+        (
+          and-three (nat_le 1 (word_in 68 row)) (nat_le (word_in 68 row) 1024) (nat_le (sum_by blocks_of before + word_in 68 row) 16384)
+              (ge-true (word_in 68 row) blocks 1 blocks-are not_empty)
+              (le-true (word_in 68 row) blocks 1024 blocks-are short)
+              (le-true (sum_by blocks_of before + word_in 68 row) (sum_by blocks_of before + blocks) 16384 (ap (λ (b : ℕ). sum_by blocks_of before + b) blocks-are) few),
+          (
+            refl,
+            (
+              lt-true (hyper_in 76 row) rev 2305843009213693952 rev-is rev_fits,
+              (rest-is, tt),
+            ),
+          ),
+        ),
+      ),
     )
 
     pub row-holds : Hold (row_checks Version.Two place before row)

@@ -77,11 +77,19 @@ module _ (tables : ℕ) (kept : Kept) (near : tables ≤ 16384) (w : IsWithinBou
   pub front-holds : Hold (front_checks front)
   front-holds = (
     lt-true (word_in 8 front) kept.boot 2147483648 boot-is w.boot,
-    (le-both (word_in 12 front) (word_in 8 front) kept.opened kept.boot opened-is boot-is w.opened,
-    (and-two (nat_le 5 (word_in 16 front)) (nat_le (word_in 16 front) 600) (ge-true (word_in 16 front) kept.longest 5 longest-is w.long) (le-true (word_in 16 front) kept.longest 600 longest-is w.short),
-    (and-two (nat_le 1 (word_in 20 front)) (nat_le (word_in 20 front) 2147483648) (ge-true (word_in 20 front) kept.next 1 next-is w.ids) (le-true (word_in 20 front) kept.next 2147483648 next-is w.few_ids),
-    (le-true (word_in 24 front) tables 16384 tables-is near,
-    (zeros-is, tt))))),
+    (
+      le-both (word_in 12 front) (word_in 8 front) kept.opened kept.boot opened-is boot-is w.opened,
+      (
+        and-two (nat_le 5 (word_in 16 front)) (nat_le (word_in 16 front) 600) (ge-true (word_in 16 front) kept.longest 5 longest-is w.long) (le-true (word_in 16 front) kept.longest 600 longest-is w.short),
+        (
+          and-two (nat_le 1 (word_in 20 front)) (nat_le (word_in 20 front) 2147483648) (ge-true (word_in 20 front) kept.next 1 next-is w.ids) (le-true (word_in 20 front) kept.next 2147483648 next-is w.few_ids),
+          (
+            le-true (word_in 24 front) tables 16384 tables-is near,
+            (zeros-is, tt),
+          ),
+        ),
+      ),
+    ),
   )
 
   abbrev numbers-with : (boot opened longest next tables : ℕ) → Front

@@ -166,9 +166,13 @@ host-holds : (place : ℕ) (row : HostRow) → IsHostWithin row → Hold (host_c
 host-holds place row within =
     let back = host-back row within in (
       lt-true (word_in 0 (host_bytes row)) row.inc 2147483648 back.inc within.inc,
-      (ap (λ (v : Option Verdict). is_some v) back.verdict,
-      (lt-true (hyper_in 8 (host_bytes row)) row.seq 2305843009213693952 back.seq within.seq,
-      (back.zeros, tt))),
+      (
+        ap (λ (v : Option Verdict). is_some v) back.verdict,
+        (
+          lt-true (hyper_in 8 (host_bytes row)) row.seq 2305843009213693952 back.seq within.seq,
+          (back.zeros, tt),
+        ),
+      ),
     )
 
 abbrev host-with : (inc seq value : ℕ) → Option Verdict → HostRow

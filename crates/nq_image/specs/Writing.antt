@@ -3,6 +3,7 @@
 use Rattle.std.specs.Prelude.{ℕ, zero, suc, ◌+◌, ◌-◌, ◌*◌, List, [], ◌∷◌, ◌++◌, length, replicate}
 use Rattle.std.specs.List.{concat}
 use Rattle.std.specs.Int.{w32, w64, to_be_bytes}
+use Rattle.nq_base.specs.declared.Heads.{Heads}
 use Rattle.nq_base.specs.declared.HostRow.{HostRow}
 use Rattle.nq_base.specs.declared.Verdict.{Verdict}
 use Rattle.nq_model.specs.Kept.{File, Kept, blocks_in_all, blocks_of}
@@ -55,6 +56,15 @@ entries_bytes (suc count) block = to_be_bytes w32 (block + 1) ++ entries_bytes c
 unfoldable pub table_bytes : (count block : ℕ) → List ℕ
 table_bytes count block = entries_bytes count block ++ zeros_of (4096 - 4 * count)
 
+-- the entries of these blocks
+unfoldable pub entries_of : (blocks : List ℕ) → List ℕ
+entries_of [] = []
+entries_of (block ∷ blocks) = to_be_bytes w32 (block + 1) ++ entries_of blocks
+
+-- the table of a file with these blocks, wherever they are
+unfoldable pub table_of_blocks : (blocks : List ℕ) → List ℕ
+table_of_blocks blocks = entries_of blocks ++ zeros_of (4096 - 4 * length blocks)
+
 -- so many tables, of which the first are those of these files, whose blocks begin at this one
 unfoldable pub tables_bytes : (count block : ℕ) → List File → List ℕ
 tables_bytes zero block files = []
@@ -66,6 +76,10 @@ unfoldable pub ids_bytes : (count : ℕ) → List File → List ℕ
 ids_bytes zero files = []
 ids_bytes (suc count) [] = replicate 4 0 ++ ids_bytes count []
 ids_bytes (suc count) (file ∷ files) = to_be_bytes w32 file.id ++ ids_bytes count files
+
+-- the 16 bytes of the numbers of the server
+unfoldable pub heads_bytes : Heads → List ℕ
+heads_bytes heads = to_be_bytes w32 heads.boot ++ (to_be_bytes w32 heads.opened ++ (to_be_bytes w32 heads.longest ++ to_be_bytes w32 heads.next))
 
 -- the first 64 bytes; the tables begin at this block
 unfoldable pub front_bytes : (tables : ℕ) → Kept → List ℕ
