@@ -1,0 +1,4 @@
+pub mod Outer
+pub mod Outside
+pub mod Line
+pub mod Theorem
