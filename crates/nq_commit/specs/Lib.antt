@@ -1,4 +1,1 @@
-pub mod Outer
-pub mod Outside
 pub mod Line
-pub mod Theorem

@@ -5,11 +5,9 @@
 //! A step (`specs/Outside.antt`) runs at most one event of the inner world.
 #![tactic(auto)]
 
-mod event;
 mod line;
 mod world;
 
-pub use event::{StagedCounts, StagedEvent};
 pub use line::parse_stage;
 pub use world::StagedWorld;
 

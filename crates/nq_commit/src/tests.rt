@@ -1,10 +1,11 @@
 //! Two worked staged schedules.
 
-use crate::{StagedCounts, StagedEvent, StagedWorld};
+use crate::StagedWorld;
 use nq_base::{Block, BlockNo, Call, Event, FileId, FileList, Host, Name};
 use nq_io::MemSink;
 use nq_journal::print;
 use nq_keeper::ListKeeper;
+use nq_staged_run::{StagedCounts, StagedEvent};
 use nq_world::{Stepped, World};
 use std::alloc::Global;
 use std::test::Fail;
@@ -51,23 +52,31 @@ fn world_of(alloc: Global) -> Result<StagedWorld<ListKeeper>, Fail> {
     }
 }
 
-/// Whether all events are taken in, with this journal and these counts at the end.
+/// Whether a world takes all these events in, with this journal and these counts at the end.
 fn runs_as(
     alloc: Global,
     events: &[StagedEvent],
     journal: &[u8],
     counts: StagedCounts,
 ) -> Result<bool, Fail> {
+    let mut out = MemSink::new(alloc, 2000, Vec::new(alloc))?;
     let mut world = world_of(alloc)?;
+    let took = takes_all(&mut world, events);
+    print(alloc, world.journal(), 2, &mut out);
+    let counted = world.counts();
+    let _keeper = world.into_keeper();
+    Ok(took && counted == counts && out.bytes() == journal)
+}
+
+/// Whether a world takes all these events in.
+fn takes_all(world: &mut StagedWorld<ListKeeper>, events: &[StagedEvent]) -> bool {
     for event in events {
         match world.step(event) {
             Stepped::Done => {}
-            _ => return Ok(false),
+            _ => return false,
         }
     }
-    let mut out = MemSink::new(alloc, 2000, Vec::new(alloc))?;
-    print(alloc, world.journal(), 2, &mut out);
-    Ok(out.bytes() == journal && world.counts() == counts)
+    true
 }
 
 #[test]
@@ -82,7 +91,7 @@ fn a_commit_stands_for_the_push(rt: HostRuntime) -> Result<(), Fail> {
         commits: 1,
         unstaged: 0,
     };
-    assert!(runs_as(
+    assert!(rt; runs_as(
         alloc,
         &events,
         b"nqnfs-journal 2\nC 0 1 1 write 1 0 5\nG 0 1 1 writing 1 1 30 0\nW 0 1 1 0 1 5 delayed\nA 0 1 1 ok\nC 0 1 2 sync 1\nS 0 1 1 0 1 1 0\nA 0 1 2 ok\nend\n",
@@ -106,7 +115,7 @@ fn a_crash_loses_the_staged_body_and_no_write(rt: HostRuntime) -> Result<(), Fai
         commits: 0,
         unstaged: 1,
     };
-    assert!(runs_as(
+    assert!(rt; runs_as(
         alloc,
         &events,
         b"nqnfs-journal 2\nC 0 1 1 write 1 0 5\nG 0 1 1 writing 1 1 30 0\nW 0 1 1 0 1 5 delayed\nA 0 1 1 ok\nX 2 0 60\nC 0 1 2 sync 1\nS 0 1 1 0 1 1 0\nA 0 1 2 ok\nend\n",

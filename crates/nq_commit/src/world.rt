@@ -1,12 +1,12 @@
 //! The staged world.
 
-use crate::event::{StagedCounts, StagedEvent};
 use nq_base::{Block, Call, Event, Host, NoMemory, Party, Who};
 use nq_journal::Journal;
 use nq_keeper::Keeper;
 use nq_net::Packets;
 use nq_pool::{Pool, Rebuilt, Staging};
 use nq_script::Schedule;
+use nq_staged_run::{StagedCounts, StagedEvent};
 use nq_stager::{HeardStage, Stager};
 use nq_world::{Limit, MOST_EVENTS, MOST_SENT, NewFault, Stepped, World};
 use std::alloc::Global;
@@ -18,6 +18,7 @@ const MOST_SENDS: usize = 65;
 const LONGEST: usize = 4204;
 
 /// What a host's side keeps.
+#[derive(Drop)]
 struct Side {
     stager: Stager,
     /// The number of the inner packet that it shortened last.
@@ -53,6 +54,7 @@ fn sides_of<K: Keeper>(alloc: Global, world: &World<K>, hosts: u32) -> Result<Ve
 }
 
 /// All that a staged world begins with beside the inner one.
+#[derive(Drop)]
 struct Around {
     pool: Pool,
     sides: Vec<Side>,

@@ -148,7 +148,9 @@ impl Stager {
         ensures { result ≡ first_unknown self.now.who self.now.acknowledged dirty.now.dirty }
     {
         for place in 0..dirty.pending() {
-            let loss = dirty.nth(place)?;
+            let Some(loss) = dirty.nth(place) else {
+                return None;
+            };
             let written = self.written(&loss);
             if find(&self.acknowledged, &written).is_none() {
                 return Some(written);

@@ -6,9 +6,9 @@ use Rattle.nq_model.specs.Message.{Packet}
 use Rattle.nq_model.specs.World.{Head, run}
 use Rattle.nq_pool.specs.Answering.{write, own_commit, answered}
 use Rattle.nq_stage.specs.declared.Commit.{Commit}
-use Rattle.nq_commit.specs.declared.event.StagedEvent.{StagedEvent}
-use Rattle.nq_commit.specs.Outer.{Outer, Outside}
-use Rattle.nq_commit.specs.Outside.{outside_run, outside_step}
+use Rattle.nq_staged_run.specs.declared.event.StagedEvent.{StagedEvent}
+use Rattle.nq_staged_run.specs.Outer.{Outer, Outside}
+use Rattle.nq_staged_run.specs.Outside.{outside_run, outside_step}
 
 -- The inner world is the run of the inner events: so its journal is that run's, and all that is promised of runs holds of it.
 abbrev pub RunsInside : Type 0

@@ -16,8 +16,8 @@ use Rattle.nq_stager.specs.Hearing.{Told, again, told_by, kept_by}
 use Rattle.nq_stager.specs.Offering.{offer_of, offered}
 use Rattle.nq_stager.specs.Shortening.{shortening, shortened}
 use Rattle.nq_stager.specs.Staged.{Staged, new_stager}
-use Rattle.nq_commit.specs.declared.event.StagedEvent.{StagedEvent}
-use Rattle.nq_commit.specs.Outer.{Outer, Side, Outside, new_pool, outside_start}
+use Rattle.nq_staged_run.specs.declared.event.StagedEvent.{StagedEvent}
+use Rattle.nq_staged_run.specs.Outer.{Outer, Side, Outside, new_pool, outside_start}
 
 -- ---- sending
 

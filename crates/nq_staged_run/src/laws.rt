@@ -1,0 +1,13 @@
+//! What a run with staged writes makes of the inner world.
+
+ghost use Rattle.nq_staged_run.specs.Theorem.{OffersStoreNothing, RunsInside};
+
+/// The inner world is the run of the inner events, so all that is promised of runs holds of its journal.
+pub fn runs_are_inner()
+    ensures { RunsInside }
+{}
+
+/// What is staged does not count as stored: each block stays delayed until its push is stored.
+pub fn offers_store_nothing()
+    ensures { OffersStoreNothing }
+{}
