@@ -1,0 +1,2 @@
+pub mod KnownClient
+pub mod KnownRuns
