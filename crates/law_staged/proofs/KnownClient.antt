@@ -13,6 +13,7 @@ use Rattle.nq_base.specs.declared.Tag.{Tag}
 use Rattle.nq_base.specs.declared.Value.{Value}
 use Rattle.nq_base.specs.declared.Who.{Who}
 use Rattle.law_filled.proofs.EachOf.{each-find, each-filter}
+use Rattle.law_staged.proofs.Apart.{AreApart, apart-filter, write-apart}
 use Rattle.nq_model.proofs.Lists.{each-append, each-map}
 use Rattle.nq_model.specs.Client.{Client, ClientStep, Job, Notice, Ticket, UnderWay, begun, dirty_at, is_push_at, is_push_of, first_dirty, notice_on, for_call}
 use Rattle.nq_model.specs.ClientStep.{begins_call, is_called, sends_unless_cached, says_busy, client_call, at_time, sends_again, client_tick, fresh_client, starts, next_incarnation, restart}
@@ -88,30 +89,33 @@ more-says g g' more (error xid e) h = tt
 
 -- ---- what is known in the middle of a step
 
--- `g` were known before the step, and only this host's writes may have come to them
-pub record Knows (g : Bodies) (who : Who) (number : ℕ) (ticket : Option Ticket) (dirty : List Push) (push : Option Push) (sends : List Message) : Type 0 where
+-- `g` were known before the step, and only this host's writes may have come to them. The step is of this incarnation
+pub record Knows (g : Bodies) (old who : Who) (number : ℕ) (ticket : Option Ticket) (dirty : List Push) (push : Option Push) (sends : List Message) : Type 0 where
+  pub kept : who ≡ old
   pub now : Bodies
   pub more : More g now
   pub others : (v : Written) (b : List ℕ) → In now (v, b) → (v.host ≡ who.host → ⊥) → In g (v, b)
   pub one : HasOne now
   pub fresh : IsFresh now who number
   pub listed : Each (Carries now who) dirty
+  pub apart : AreApart dirty
   pub pushes : (p : Push) → push ≡ Some p → Carries now who p
   pub asked : (t : Ticket) → ticket ≡ Some t → Asks now t.request
   pub sent : Each (Says now) sends
 
-abbrev pub KnowsIn : Bodies → ClientStep → Type 0
-KnowsIn g t = Knows g t.client.who t.client.number t.client.ticket t.client.dirty t.client.push t.sends
+abbrev pub KnowsIn : Bodies → Who → ClientStep → Type 0
+KnowsIn g old t = Knows g old t.client.who t.client.number t.client.ticket t.client.dirty t.client.push t.sends
 
 -- what is known of a client before a step
 pub record IsKnown (g : Bodies) (c : Client) : Type 0 where
   pub fresh : IsFresh g c.who c.number
   pub listed : Each (Carries g c.who) c.dirty
+  pub apart : AreApart c.dirty
   pub pushes : (p : Push) → c.push ≡ Some p → Carries g c.who p
   pub asked : (t : Ticket) → c.ticket ≡ Some t → Asks g t.request
 
-pub begun-knows : (g : Bodies) (c : Client) → HasOne g → IsKnown g c → KnowsIn g (begun c)
-begun-knows g c one h = record { now = g; more = λ v b i. i; others = λ v b i other. i; one = one; fresh = h.fresh; listed = h.listed; pushes = h.pushes; asked = h.asked; sent = tt }
+pub begun-knows : (g : Bodies) (c : Client) → HasOne g → IsKnown g c → KnowsIn g c.who (begun c)
+begun-knows g c one h = record { kept = refl; now = g; more = λ v b i. i; others = λ v b i other. i; one = one; fresh = h.fresh; listed = h.listed; apart = h.apart; pushes = h.pushes; asked = h.asked; sent = tt }
 
 -- ---- a write is delayed
 
@@ -171,43 +175,45 @@ others-known g now who file block number body others v b (inr i) other = others 
 
 -- ---- parts of a step
 
-module _ (g : Bodies) where
-  answered : (t : ClientStep) (q : ℕ) (a : Answer) (by : Option ℕ) → KnowsIn g t → KnowsIn g (answers t q a by)
+module _ (g : Bodies) (old : Who) where
+  answered : (t : ClientStep) (q : ℕ) (a : Answer) (by : Option ℕ) → KnowsIn g old t → KnowsIn g old (answers t q a by)
   unfolding answers
   answered t q a by m = m
 
-  named : (t : ClientStep) (q file : ℕ) → KnowsIn g t → KnowsIn g (names_losses t q file)
+  named : (t : ClientStep) (q file : ℕ) → KnowsIn g old t → KnowsIn g old (names_losses t q file)
   unfolding answers
   named t q file m = m
 
-  read-knows : (t : ClientStep) (u : UnderWay) (file block : ℕ) (body : List ℕ) → KnowsIn g t → KnowsIn g (reads_cached t u file block body)
+  read-knows : (t : ClientStep) (u : UnderWay) (file block : ℕ) (body : List ℕ) → KnowsIn g old t → KnowsIn g old (reads_cached t u file block body)
   unfolding reads_cached answers after_read
   read-knows t u file block body m = m
 
-  delayed : (t : ClientStep) (file block : ℕ) (body : List ℕ) → KnowsIn g t → KnowsIn g (delays t file block body)
+  delayed : (t : ClientStep) (file block : ℕ) (body : List ℕ) → KnowsIn g old t → KnowsIn g old (delays t file block body)
   unfolding after_write
   delayed t file block body m =
       let who = t.client.who in
       let number = t.client.number in
       let more = λ (v : Written) (b : List ℕ) (i : In m.now (v, b)). (inr i : In (grown m.now who file block number body) (v, b)) in
       record {
+        kept = m.kept;
         now = grown m.now who file block number body;
         more = λ v b i. inr (m.more v b i);
         others = others-known g m.now who file block number body m.others;
         one = grown-one m.now who file block number body m.fresh m.one;
         fresh = grown-fresh m.now who file block number body m.fresh;
         listed = write-carries m.now who file block number body t.client.dirty (dirty_at file block t.client.dirty) m.listed;
+        apart = write-apart file block number body t.client.dirty (dirty_at file block t.client.dirty) refl m.apart;
         pushes = λ p e. inr (m.pushes p e);
         asked = λ k e. more-asks m.now (grown m.now who file block number body) (λ v b i. inr i) k.request (m.asked k e);
         sent = each-map (Says m.now) (Says (grown m.now who file block number body)) t.sends (more-says m.now (grown m.now who file block number body) (λ v b i. inr i)) m.sent;
       }
 
-  marked : (t : ClientStep) (u : UnderWay) → KnowsIn g t → KnowsIn g (marks_written t u)
+  marked : (t : ClientStep) (u : UnderWay) → KnowsIn g old t → KnowsIn g old (marks_written t u)
   unfolding marks_written
   marked t u m = m
 
-  pub settled : (t : ClientStep) → KnowsIn g t → KnowsIn g (settle t)
-  settled t m = settle-cases t (KnowsIn g) (record {
+  pub settled : (t : ClientStep) → KnowsIn g old t → KnowsIn g old (settle t)
+  settled t m = settle-cases t (KnowsIn g old) (record {
     idle = λ none. m;
     asking = λ u is own. m;
     read_out = λ u file block lease is read can out. answered t u.q Answer.Range None m;
@@ -225,68 +231,71 @@ module _ (g : Bodies) where
 
   -- ---- the next request
 
-  sends-know : (t : ClientStep) (job : Job) (r : Request) (m : KnowsIn g t) → Asks m.now r → KnowsIn g (sends_request t job r)
+  sends-know : (t : ClientStep) (job : Job) (r : Request) (m : KnowsIn g old t) → Asks m.now r → KnowsIn g old (sends_request t job r)
   unfolding sends_request
   sends-know t job r m asks = record {
+    kept = m.kept;
     now = m.now;
     more = m.more;
     others = m.others;
     one = m.one;
     fresh = m.fresh;
-    listed = m.listed;
+    listed = m.listed; apart = m.apart;
     pushes = m.pushes;
     asked = λ k e. subst (λ z. Asks m.now z.request) (some-same _ k e) asks;
     sent = each-append (Says m.now) t.sends _ m.sent (asks, tt);
   }
 
-  seq-knows : (t : ClientStep) → KnowsIn g t → KnowsIn g (after_seq t)
+  seq-knows : (t : ClientStep) → KnowsIn g old t → KnowsIn g old (after_seq t)
   unfolding after_seq
   seq-knows t m = m
 
-  number-knows : (t : ClientStep) → KnowsIn g t → KnowsIn g (after_number t)
+  number-knows : (t : ClientStep) → KnowsIn g old t → KnowsIn g old (after_number t)
   unfolding after_number
-  number-knows t m = record { now = m.now; more = m.more; others = m.others; one = m.one; fresh = later-fresh m.now t.client.who t.client.number m.fresh; listed = m.listed; pushes = m.pushes; asked = m.asked; sent = m.sent }
+  number-knows t m = record { kept = m.kept; now = m.now; more = m.more; others = m.others; one = m.one; fresh = later-fresh m.now t.client.who t.client.number m.fresh; listed = m.listed; apart = m.apart; pushes = m.pushes; asked = m.asked; sent = m.sent }
 
-  gives-knows : (t : ClientStep) (file : ℕ) → KnowsIn g t → KnowsIn g (gives_up t file)
+  gives-knows : (t : ClientStep) (file : ℕ) → KnowsIn g old t → KnowsIn g old (gives_up t file)
   unfolding gives_up
   gives-knows t file m = m
 
-  taken : (t : ClientStep) (p : Push) (m : KnowsIn g t) → Carries m.now t.client.who p → KnowsIn g (takes_push t p)
+  taken : (t : ClientStep) (p : Push) (m : KnowsIn g old t) → Carries m.now t.client.who p → KnowsIn g old (takes_push t p)
   unfolding takes_push
-  taken t p m carries = record { now = m.now; more = m.more; others = m.others; one = m.one; fresh = m.fresh; listed = each-filter (Carries m.now t.client.who) _ t.client.dirty m.listed; pushes = λ x e. subst (Carries m.now t.client.who) (some-same p x e) carries; asked = m.asked; sent = m.sent }
+  taken t p m carries = record { kept = m.kept; now = m.now; more = m.more; others = m.others; one = m.one; fresh = m.fresh; listed = each-filter (Carries m.now t.client.who) _ t.client.dirty m.listed; apart = apart-filter _ t.client.dirty m.apart; pushes = λ x e. subst (Carries m.now t.client.who) (some-same p x e) carries; asked = m.asked; sent = m.sent }
 
-  push-knows : (t : ClientStep) (file : ℕ) (p : Push) → first_dirty file t.client.dirty ≡ Some p → KnowsIn g t → KnowsIn g (pushed t p)
+  push-knows : (t : ClientStep) (file : ℕ) (p : Push) → first_dirty file t.client.dirty ≡ Some p → KnowsIn g old t → KnowsIn g old (pushed t p)
   unfolding takes_push after_seq sends_request
   push-knows t file p first m =
       let carries = each-find (Carries m.now t.client.who) (is_push_of file) t.client.dirty p first m.listed in
       record {
+        kept = m.kept;
         now = m.now;
         more = m.more;
         others = m.others;
         one = m.one;
         fresh = m.fresh;
-        listed = each-filter (Carries m.now t.client.who) _ t.client.dirty m.listed;
+        listed = each-filter (Carries m.now t.client.who) _ t.client.dirty m.listed; apart = apart-filter _ t.client.dirty m.apart;
         pushes = λ x e. subst (Carries m.now t.client.who) (some-same p x e) carries;
         asked = λ k e. subst (λ z. Asks m.now z.request) (some-same _ k e) carries;
         sent = each-append (Says m.now) t.sends _ m.sent (carries, tt);
       }
 
-  through-knows : (t : ClientStep) (file block : ℕ) (body : List ℕ) → KnowsIn g t → KnowsIn g (sends_write t file block body)
+  through-knows : (t : ClientStep) (file block : ℕ) (body : List ℕ) → KnowsIn g old t → KnowsIn g old (sends_write t file block body)
   unfolding after_number sends_request
   through-knows t file block body m = record {
+    kept = m.kept;
     now = m.now;
     more = m.more;
     others = m.others;
     one = m.one;
     fresh = later-fresh m.now t.client.who t.client.number m.fresh;
-    listed = m.listed;
+    listed = m.listed; apart = m.apart;
     pushes = m.pushes;
     asked = λ k e. subst (λ z. Asks m.now z.request) (some-same _ k e) tt;
     sent = each-append (Says m.now) t.sends _ m.sent (tt, tt);
   }
 
-  pub sends : (in_tick : Bool) (t : ClientStep) → KnowsIn g t → KnowsIn g (send_next in_tick t)
-  sends in_tick t m = send-cases in_tick t (KnowsIn g) (record {
+  pub sends : (in_tick : Bool) (t : ClientStep) → KnowsIn g old t → KnowsIn g old (send_next in_tick t)
+  sends in_tick t m = send-cases in_tick t (KnowsIn g old) (record {
     stays_asking = λ ticket is. m;
     stays = λ free nothing. m;
     pushing = λ file p free first of. push-knows t file p first m;
@@ -305,20 +314,20 @@ module _ (g : Bodies) where
 
   -- ---- a reply
 
-  spent : (t : ClientStep) → KnowsIn g t → KnowsIn g (spends t)
+  spent : (t : ClientStep) → KnowsIn g old t → KnowsIn g old (spends t)
   unfolding spends
-  spent t m = record { now = m.now; more = m.more; others = m.others; one = m.one; fresh = m.fresh; listed = m.listed; pushes = m.pushes; asked = λ k e. none-some k e; sent = m.sent }
+  spent t m = record { kept = m.kept; now = m.now; more = m.more; others = m.others; one = m.one; fresh = m.fresh; listed = m.listed; apart = m.apart; pushes = m.pushes; asked = λ k e. none-some k e; sent = m.sent }
 
-  attached-knows : (t : ClientStep) → KnowsIn g t → KnowsIn g (attached t)
+  attached-knows : (t : ClientStep) → KnowsIn g old t → KnowsIn g old (attached t)
   unfolding attached
   attached-knows t m = m
 
-  vacated : (t : ClientStep) (file : ℕ) (tag : Tag) → KnowsIn g t → KnowsIn g (vacates_lease t file tag)
+  vacated : (t : ClientStep) (file : ℕ) (tag : Tag) → KnowsIn g old t → KnowsIn g old (vacates_lease t file tag)
   unfolding vacates_lease
-  vacated t file tag m = record { now = m.now; more = m.more; others = m.others; one = m.one; fresh = m.fresh; listed = m.listed; pushes = m.pushes; asked = m.asked; sent = each-append (Says m.now) t.sends _ m.sent (tt, tt) }
+  vacated t file tag m = record { kept = m.kept; now = m.now; more = m.more; others = m.others; one = m.one; fresh = m.fresh; listed = m.listed; apart = m.apart; pushes = m.pushes; asked = m.asked; sent = each-append (Says m.now) t.sends _ m.sent (tt, tt) }
 
-  vacated-noticed : (t : ClientStep) (file : ℕ) (o : Option Notice) → KnowsIn g t → KnowsIn g (vacates_noticed t file o)
-  vacated-noticed t file o m = vacates-noticed-cases t file o (KnowsIn g) (λ e. m) (λ n e. vacated t file n.tag m)
+  vacated-noticed : (t : ClientStep) (file : ℕ) (o : Option Notice) → KnowsIn g old t → KnowsIn g old (vacates_noticed t file o)
+  vacated-noticed t file o m = vacates-noticed-cases t file o (KnowsIn g old) (λ e. m) (λ n e. vacated t file n.tag m)
 
   other-pushes : (now : Bodies) (who : Who) (file : ℕ) (o : Option Push) → ((p : Push) → o ≡ Some p → Carries now who p) → (p : Push) → other_push file o ≡ Some p → Carries now who p
   other-pushes now who file None h p e = none-some p e
@@ -328,83 +337,83 @@ module _ (g : Bodies) where
       step true e = none-some p e
       step false e = h p e
 
-  lost : (t : ClientStep) (file : ℕ) → KnowsIn g t → KnowsIn g (loses t file)
+  lost : (t : ClientStep) (file : ℕ) → KnowsIn g old t → KnowsIn g old (loses t file)
   unfolding loses
-  lost t file m = record { now = m.now; more = m.more; others = m.others; one = m.one; fresh = m.fresh; listed = each-filter (Carries m.now t.client.who) _ t.client.dirty m.listed; pushes = other-pushes m.now t.client.who file t.client.push m.pushes; asked = m.asked; sent = m.sent }
+  lost t file m = record { kept = m.kept; now = m.now; more = m.more; others = m.others; one = m.one; fresh = m.fresh; listed = each-filter (Carries m.now t.client.who) _ t.client.dirty m.listed; apart = apart-filter _ t.client.dirty m.apart; pushes = other-pushes m.now t.client.who file t.client.push m.pushes; asked = m.asked; sent = m.sent }
 
-  reported : (t : ClientStep) (file : ℕ) → KnowsIn g t → KnowsIn g (reports t file)
-  reported t file m = reports-cases t file (KnowsIn g) (λ none. m) (λ u is waits. m) (λ u is waits. named t u.q file m)
+  reported : (t : ClientStep) (file : ℕ) → KnowsIn g old t → KnowsIn g old (reports t file)
+  reported t file m = reports-cases t file (KnowsIn g old) (λ none. m) (λ u is waits. m) (λ u is waits. named t u.q file m)
 
-  held : (t : ClientStep) (file : ℕ) (grant : Grant) (at : ℕ) → KnowsIn g t → KnowsIn g (holds t file grant at)
+  held : (t : ClientStep) (file : ℕ) (grant : Grant) (at : ℕ) → KnowsIn g old t → KnowsIn g old (holds t file grant at)
   unfolding holds
   held t file grant at m = m
 
-  broken : (t : ClientStep) (file : ℕ) → KnowsIn g t → KnowsIn g (breaks_chain t file)
+  broken : (t : ClientStep) (file : ℕ) → KnowsIn g old t → KnowsIn g old (breaks_chain t file)
   broken t file m = reported (vacates_noticed (loses t file) file (notice_on file t.client.notices)) file (vacated-noticed (loses t file) file (notice_on file t.client.notices) (lost t file m))
 
-  granted : (t : ClientStep) (file : ℕ) (grant : Grant) (at : ℕ) → KnowsIn g t → KnowsIn g (takes_grant t file grant at)
-  granted t file grant at m = held (if_broken t file grant) file grant at (if-broken-cases t file grant (KnowsIn g) (λ e. m) (λ lease has breaks dirty. broken t file m))
+  granted : (t : ClientStep) (file : ℕ) (grant : Grant) (at : ℕ) → KnowsIn g old t → KnowsIn g old (takes_grant t file grant at)
+  granted t file grant at m = held (if_broken t file grant) file grant at (if-broken-cases t file grant (KnowsIn g old) (λ e. m) (λ lease has breaks dirty. broken t file m))
 
-  takes : (t : ClientStep) (file : ℕ) (o : Option Grant) (at : ℕ) → KnowsIn g t → KnowsIn g (takes_optional t file o at)
-  takes t file o at m = takes-optional-cases t file o at (KnowsIn g) (λ e. m) (λ grant e. granted t file grant at m)
+  takes : (t : ClientStep) (file : ℕ) (o : Option Grant) (at : ℕ) → KnowsIn g old t → KnowsIn g old (takes_optional t file o at)
+  takes t file o at m = takes-optional-cases t file o at (KnowsIn g old) (λ e. m) (λ grant e. granted t file grant at m)
 
-  caches : (t : ClientStep) (file block : ℕ) (body : List ℕ) → KnowsIn g t → KnowsIn g (caches_block t file block body)
+  caches : (t : ClientStep) (file block : ℕ) (body : List ℕ) → KnowsIn g old t → KnowsIn g old (caches_block t file block body)
   unfolding caches_block
   caches t file block body m = m
 
-  purged : (t : ClientStep) (file : ℕ) → KnowsIn g t → KnowsIn g (purges t file)
+  purged : (t : ClientStep) (file : ℕ) → KnowsIn g old t → KnowsIn g old (purges t file)
   unfolding purges
   purged t file m = m
 
-  known : (t : ClientStep) (file rev : ℕ) → KnowsIn g t → KnowsIn g (knows_revision t file rev)
+  known : (t : ClientStep) (file rev : ℕ) → KnowsIn g old t → KnowsIn g old (knows_revision t file rev)
   unfolding knows_revision
   known t file rev m = m
 
-  unleased : (t : ClientStep) (file : ℕ) → KnowsIn g t → KnowsIn g (without_lease t file)
+  unleased : (t : ClientStep) (file : ℕ) → KnowsIn g old t → KnowsIn g old (without_lease t file)
   unfolding without_lease
   unleased t file m = m
 
-  ended : (t : ClientStep) → KnowsIn g t → KnowsIn g (ends_push t)
+  ended : (t : ClientStep) → KnowsIn g old t → KnowsIn g old (ends_push t)
   unfolding ends_push
-  ended t m = record { now = m.now; more = m.more; others = m.others; one = m.one; fresh = m.fresh; listed = m.listed; pushes = λ p e. none-some p e; asked = m.asked; sent = m.sent }
+  ended t m = record { kept = m.kept; now = m.now; more = m.more; others = m.others; one = m.one; fresh = m.fresh; listed = m.listed; apart = m.apart; pushes = λ p e. none-some p e; asked = m.asked; sent = m.sent }
 
-  marks : (on : Bool) (t : ClientStep) → KnowsIn g t → KnowsIn g (marks_through on t)
+  marks : (on : Bool) (t : ClientStep) → KnowsIn g old t → KnowsIn g old (marks_through on t)
   unfolding marks_through
   marks on t m = m
 
-  paused : (t : ClientStep) → KnowsIn g t → KnowsIn g (pauses t)
+  paused : (t : ClientStep) → KnowsIn g old t → KnowsIn g old (pauses t)
   unfolding pauses marks_through
   paused t m = m
 
-  answers-know : (t : ClientStep) (a : Answer) (by : Option ℕ) → KnowsIn g t → KnowsIn g (answers_call t a by)
-  answers-know t a by m = answers-call-cases t a by (KnowsIn g) (λ e. m) (λ u e. answered t u.q a by m)
+  answers-know : (t : ClientStep) (a : Answer) (by : Option ℕ) → KnowsIn g old t → KnowsIn g old (answers_call t a by)
+  answers-know t a by m = answers-call-cases t a by (KnowsIn g old) (λ e. m) (λ u e. answered t u.q a by m)
 
-  read-done : (t : ClientStep) (file block : ℕ) (body : List ℕ) (o : Option Grant) (at number : ℕ) → KnowsIn g t → KnowsIn g (read_done t file block body o at number)
+  read-done : (t : ClientStep) (file block : ℕ) (body : List ℕ) (o : Option Grant) (at number : ℕ) → KnowsIn g old t → KnowsIn g old (read_done t file block body o at number)
   read-done t file block body o at number m =
       let k = takes t file o at m in
-      answers-know (then_caches (takes_optional t file o at) file block body o) _ _ (then-caches-cases (takes_optional t file o at) file block body o (KnowsIn g) (λ e. caches _ file block body k) (λ e. k))
+      answers-know (then_caches (takes_optional t file o at) file block body o) _ _ (then-caches-cases (takes_optional t file o at) file block body o (KnowsIn g old) (λ e. caches _ file block body k) (λ e. k))
 
-  write-done : (t : ClientStep) (file block : ℕ) (body : List ℕ) (rev : ℕ) → KnowsIn g t → KnowsIn g (write_done t file block body rev)
+  write-done : (t : ClientStep) (file block : ℕ) (body : List ℕ) (rev : ℕ) → KnowsIn g old t → KnowsIn g old (write_done t file block body rev)
   write-done t file block body rev m =
-      answers-know (knows_revision (caches_write t file block body rev) file rev) _ None (known (caches_write t file block body rev) file rev (caches-write-cases t file block body rev (KnowsIn g) (λ a b. caches t file block body m) (purged t file m)))
+      answers-know (knows_revision (caches_write t file block body rev) file rev) _ None (known (caches_write t file block body rev) file rev (caches-write-cases t file block body rev (KnowsIn g old) (λ a b. caches t file block body m) (purged t file m)))
 
-  push-done : (t : ClientStep) (file block : ℕ) (body : List ℕ) (rev : ℕ) → KnowsIn g t → KnowsIn g (push_done t file block body rev)
+  push-done : (t : ClientStep) (file block : ℕ) (body : List ℕ) (rev : ℕ) → KnowsIn g old t → KnowsIn g old (push_done t file block body rev)
   push-done t file block body rev m =
       let k = known (ends_push t) file rev (ended t m) in
-      let c = caches-push-cases (knows_revision (ends_push t) file rev) file block body (KnowsIn g) (λ e. k) (λ e. caches _ file block body k) in
-      vacates-if-clean-cases (caches_push (knows_revision (ends_push t) file rev) file block body) file (KnowsIn g) c (λ n clean e. vacated _ file n.tag c)
+      let c = caches-push-cases (knows_revision (ends_push t) file rev) file block body (KnowsIn g old) (λ e. k) (λ e. caches _ file block body k) in
+      vacates-if-clean-cases (caches_push (knows_revision (ends_push t) file rev) file block body) file (KnowsIn g old) c (λ n clean e. vacated _ file n.tag c)
 
-  refused-knows : (t : ClientStep) (file : ℕ) → KnowsIn g t → KnowsIn g (push_refused t file)
+  refused-knows : (t : ClientStep) (file : ℕ) → KnowsIn g old t → KnowsIn g old (push_refused t file)
   refused-knows t file m = reported _ file (vacated-noticed _ file _ (unleased _ file (lost t file m)))
 
-  replied-knows : (c : Client) (number : ℕ) (ticket : Ticket) (r : Reply) → fits_job ticket.job ticket.request ≡ true → reply_counts r ticket ≡ true → KnowsIn g (begun c) → KnowsIn g (replied (begun c) number ticket r)
+  replied-knows : (c : Client) (number : ℕ) (ticket : Ticket) (r : Reply) → fits_job ticket.job ticket.request ≡ true → reply_counts r ticket ≡ true → KnowsIn g old (begun c) → KnowsIn g old (replied (begun c) number ticket r)
   replied-knows c number ticket r fits counts m =
       let k = spent (begun c) m in
-      replied-cases c number ticket r (KnowsIn g) fits counts (record {
+      replied-cases c number ticket r (KnowsIn g old) fits counts (record {
         attaching = λ who inc job asks told. attached-knows _ k;
         named = λ answer job n. answers-know _ answer None k;
         reading = λ who q file block want inc rev body grant of told. read-done _ file block body grant ticket.first number k;
-        leasing = λ who file want inc grant of told. lease-done-cases _ file grant ticket.first (KnowsIn g) (λ e. takes _ file grant ticket.first k) (λ e. marks true _ (takes _ file grant ticket.first k));
+        leasing = λ who file want inc grant of told. lease-done-cases _ file grant ticket.first (KnowsIn g old) (λ e. takes _ file grant ticket.first k) (λ e. marks true _ (takes _ file grant ticket.first k));
         writing = λ who seq file block first last body inc rev of told. write-done _ file block body rev k;
         resizing = λ who seq q file blocks inc rev of told. answers-know _ _ None (known _ file rev k);
         removing = λ who seq q file inc of told. answers-know _ _ None k;
@@ -418,80 +427,81 @@ module _ (g : Bodies) where
 
   -- ---- a notice
 
-  cancelled-knows : (t : ClientStep) (file : ℕ) → KnowsIn g t → KnowsIn g (cancels t file)
+  cancelled-knows : (t : ClientStep) (file : ℕ) → KnowsIn g old t → KnowsIn g old (cancels t file)
   unfolding cancels
-  cancelled-knows t file m = record { now = m.now; more = m.more; others = m.others; one = m.one; fresh = m.fresh; listed = m.listed; pushes = m.pushes; asked = λ k e. m.asked k (keeps-or-cancels file t.client.ticket k e).0; sent = m.sent }
+  cancelled-knows t file m = record { kept = m.kept; now = m.now; more = m.more; others = m.others; one = m.one; fresh = m.fresh; listed = m.listed; apart = m.apart; pushes = m.pushes; asked = λ k e. m.asked k (keeps-or-cancels file t.client.ticket k e).0; sent = m.sent }
 
-  notes : (t : ClientStep) (file : ℕ) (tag : Tag) → KnowsIn g t → KnowsIn g (notes_notice t file tag)
+  notes : (t : ClientStep) (file : ℕ) (tag : Tag) → KnowsIn g old t → KnowsIn g old (notes_notice t file tag)
   unfolding notes_notice
   notes t file tag m = m
 
-  evicted-knows : (t : ClientStep) (file : ℕ) (tag : Tag) → KnowsIn g t → KnowsIn g (evicted (cancels t file) file tag)
-  evicted-knows t file tag m = evicted-cases (cancels t file) file tag (KnowsIn g) (record {
+  evicted-knows : (t : ClientStep) (file : ℕ) (tag : Tag) → KnowsIn g old t → KnowsIn g old (evicted (cancels t file) file tag)
+  evicted-knows t file tag m = evicted-cases (cancels t file) file tag (KnowsIn g old) (record {
     clean = λ e. vacated (cancels t file) file tag (cancelled-knows t file m);
     waiting = λ e. notes (cancels t file) file tag (cancelled-knows t file m);
   })
 
   -- ---- whole steps
 
-  goes-on : (in_tick : Bool) (t : ClientStep) → KnowsIn g t → KnowsIn g (send_next in_tick (settle t))
+  goes-on : (in_tick : Bool) (t : ClientStep) → KnowsIn g old t → KnowsIn g old (send_next in_tick (settle t))
   goes-on in_tick t m = sends in_tick (settle t) (settled t m)
 
-  begins : (c : Client) (op : Call) → KnowsIn g (begun c) → KnowsIn g (begins_call c op)
+  begins : (c : Client) (op : Call) → KnowsIn g old (begun c) → KnowsIn g old (begins_call c op)
   unfolding begins_call
   begins c op m = m
 
-  busy : (c : Client) (op : Call) → KnowsIn g (begun c) → KnowsIn g (says_busy (begins_call c op))
+  busy : (c : Client) (op : Call) → KnowsIn g old (begun c) → KnowsIn g old (says_busy (begins_call c op))
   unfolding says_busy begins_call
   busy c op m = m
 
-  calls : (c : Client) (op : Call) → KnowsIn g (begun c) → KnowsIn g (is_called (begins_call c op) op)
+  calls : (c : Client) (op : Call) → KnowsIn g old (begun c) → KnowsIn g old (is_called (begins_call c op) op)
   unfolding is_called begins_call
   calls c op m = m
 
-  unless-cached : (t : ClientStep) → KnowsIn g t → KnowsIn g (sends_unless_cached (settle t))
-  unless-cached t m = unless-cached-cases (settle t) (KnowsIn g) (λ e. settled t m) (λ e. goes-on false t m)
+  unless-cached : (t : ClientStep) → KnowsIn g old t → KnowsIn g old (sends_unless_cached (settle t))
+  unless-cached t m = unless-cached-cases (settle t) (KnowsIn g old) (λ e. settled t m) (λ e. goes-on false t m)
 
-  pub call-knows : (c : Client) (op : Call) → KnowsIn g (begun c) → KnowsIn g (client_call c op)
-  call-knows c op m = call-cases c op (KnowsIn g) (record {
+  pub call-knows : (c : Client) (op : Call) → KnowsIn g old (begun c) → KnowsIn g old (client_call c op)
+  call-knows c op m = call-cases c op (KnowsIn g old) (record {
     busy = λ why. busy c op m;
     telling = λ file loss losses none on of some. named (begins_call c op) _ file (begins c op m);
     going = λ none on unlost. unless-cached (is_called (begins_call c op) op) (calls c op m);
   })
 
-  timed : (c : Client) (now : ℕ) → KnowsIn g (begun c) → KnowsIn g (begun (at_time c now))
+  timed : (c : Client) (now : ℕ) → KnowsIn g old (begun c) → KnowsIn g old (begun (at_time c now))
   unfolding at_time
   timed c now m = m
 
-  again : (c : Client) (now : ℕ) (ticket : Ticket) → c.ticket ≡ Some ticket → KnowsIn g (begun c) → KnowsIn g (sends_again (begun (at_time c now)) ticket)
+  again : (c : Client) (now : ℕ) (ticket : Ticket) → c.ticket ≡ Some ticket → KnowsIn g old (begun c) → KnowsIn g old (sends_again (begun (at_time c now)) ticket)
   unfolding sends_again at_time
   again c now ticket is m =
       let asks = m.asked ticket is in
-      record { now = m.now; more = m.more; others = m.others; one = m.one; fresh = m.fresh; listed = m.listed; pushes = m.pushes; asked = λ k e. subst (Asks m.now) (ap (λ z. z.request) (some-same _ k e)) asks; sent = (asks, tt) }
+      record { kept = m.kept; now = m.now; more = m.more; others = m.others; one = m.one; fresh = m.fresh; listed = m.listed; apart = m.apart; pushes = m.pushes; asked = λ k e. subst (Asks m.now) (ap (λ z. z.request) (some-same _ k e)) asks; sent = (asks, tt) }
 
-  pub tick-knows : (c : Client) (now : ℕ) → KnowsIn g (begun c) → KnowsIn g (client_tick c now)
-  tick-knows c now m = tick-cases c now (KnowsIn g) (record {
+  pub tick-knows : (c : Client) (now : ℕ) → KnowsIn g old (begun c) → KnowsIn g old (client_tick c now)
+  tick-knows c now m = tick-cases c now (KnowsIn g old) (record {
     again = λ ticket is due. again c now ticket is m;
     quiet = λ ticket is early. timed c now m;
     free = λ free. goes-on true (begun (at_time c now)) (timed c now m);
   })
 
-  pub hear-knows : (c : Client) (k : ℕ) (m : Message) (t : ClientStep) → Alone c → hear c k m ≡ Some t → KnowsIn g (begun c) → KnowsIn g t
-  hear-knows c k m t alone hears h = heard-cases c k m t (KnowsIn g) hears (record {
+  pub hear-knows : (c : Client) (k : ℕ) (m : Message) (t : ClientStep) → Alone c → hear c k m ≡ Some t → KnowsIn g old (begun c) → KnowsIn g old t
+  hear-knows c k m t alone hears h = heard-cases c k m t (KnowsIn g old) hears (record {
     answered = λ xid r ticket is has same inc counts. goes-on false (replied (begun c) k ticket r) (replied-knows c k ticket r (alone.asking.ticketed ticket has).fits counts h);
     noticed = λ xid file tag is early. goes-on false (evicted (cancels (begun c) file) file tag) (evicted-knows (begun c) file tag h);
   })
 
   -- a new incarnation has written nothing
-  pub restart-knows : (c : Client) → KnowsIn g (begun c) → KnowsIn g (restart c)
+  pub restart-knows : (c : Client) → KnowsIn g old (begun c) → KnowsIn g (next_incarnation c.who) (restart c)
   unfolding starts fresh_client
   restart-knows c m = record {
+    kept = refl;
     now = m.now;
     more = m.more;
     others = m.others;
     one = m.one;
     fresh = λ v b i own. let f = m.fresh v b i own in (let least = f.0 in omega arith, λ e. let least = f.0 in absurd (omega arith));
-    listed = tt;
+    listed = tt; apart = tt;
     pushes = λ p e. none-some p e;
     asked = λ t e. subst (Asks m.now) (ap (λ z. z.request) (some-same _ t e)) tt;
     sent = (tt, tt);

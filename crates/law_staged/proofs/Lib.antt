@@ -1,2 +1,5 @@
-pub mod KnownClient
-pub mod KnownRuns
+mod Apart
+mod KnownClient
+mod KnownRuns
+mod Datagrams
+mod Meant

@@ -20,7 +20,7 @@ use Rattle.nq_stage.specs.Reading.{call_by, call_as, call_in, results_by, result
 
 -- ---- calls and replies
 
-call-again : (xid procedure : ℕ) (args : List ℕ) → xid < 2 ^ 32 → procedure < 2 ^ 32 → call_in procedure (spelling (call_with (head_of xid procedure) args) null null) ≡ Some (xid, args)
+pub call-again : (xid procedure : ℕ) (args : List ℕ) → xid < 2 ^ 32 → procedure < 2 ^ 32 → call_in procedure (spelling (call_with (head_of xid procedure) args) null null) ≡ Some (xid, args)
 unfolding call_in call_as
 call-again xid procedure args fits small =
     ap (call_by procedure) (message_again (call_with (head_of xid procedure) args) null null (record { xid = fits; rpcvers = omega arith; prog = omega arith; vers = omega arith; procedure = small }) null_fits null_fits)
@@ -33,7 +33,7 @@ results-again xid results fits =
 
 -- ---- the parts
 
-end-again : end_at [] ≡ Ok tt
+pub end-again : end_at [] ≡ Ok tt
 unfolding end_at
 end-again = refl
 
@@ -51,23 +51,23 @@ written-again w rest fits =
     ap written_at parts
     ∙ rw (word_again w.host b fits.host, word_again w.inc c fits.inc, word_again w.file d fits.file, word_again w.block e fits.block, hyper_again w.last rest fits.last) refl
 
-body-again : (body : List ℕ) → length body ≡ 4096 → body_at (opaque body) ≡ Ok (body, [])
+pub body-again : (body : List ℕ) → length body ≡ 4096 → body_at (opaque body) ≡ Ok (body, [])
 unfolding body_at
 body-again body size =
     ap body_at (sym (append-nil (opaque body)))
     ∙ rw (opaque_again 4096 body [] (omega arith) (omega arith), eq-eqb (length body) 4096 size) refl
 
-base-again : (base : PushBase) (rest : List ℕ) → IsPushBase base → base_at (base_bytes base ++ rest) ≡ Ok (base, rest)
+pub base-again : (base : PushBase) (rest : List ℕ) → IsPushBase base → base_at (base_bytes base ++ rest) ≡ Ok (base, rest)
 unfolding base_bytes base_at
 base-again base rest fits =
     ap base_at (append_assoc (word base.boot) (hyper base.base) rest)
     ∙ rw (word_again base.boot (hyper base.base ++ rest) fits.boot, hyper_again base.base rest fits.base) refl
 
 -- what a push begins with
-front-of : Pushed → Front
+pub front-of : Pushed → Front
 front-of p = record { who = p.who; seq = p.seq; file = p.file; block = p.block; first = p.first; last = p.last }
 
-front-again : (p : Pushed) (rest : List ℕ) → IsFront p → front_at (pushed_bytes p ++ rest) ≡ Ok (front-of p, rest)
+pub front-again : (p : Pushed) (rest : List ℕ) → IsFront p → front_at (pushed_bytes p ++ rest) ≡ Ok (front-of p, rest)
 unfolding pushed_bytes head front_at front-of
 front-again p rest fits =
     let g = hyper p.last ++ rest in

@@ -24,7 +24,7 @@ use Rattle.nq_stager.specs.Shortening.{shortening}
 -- ---- what is sent changes nothing inside
 
 -- the inner world, and the inner events that were run
-abbrev Inner : Outside → World × List Event
+abbrev pub Inner : Outside → World × List Event
 Inner o = (o.world, o.ran)
 
 sent : (o : Outside) (p : Outer) → Inner (sends o p) ≡ Inner o
@@ -41,18 +41,18 @@ unfolding sends
 sent-by o number host p None = refl
 sent-by o number host p (Some side) = sent-as o number host p side (shortening side.stager (bytes_of p.message))
 
-sent-from : (o : Outside) (number : ℕ) (p : Packet) (from : Party) → Inner (sends_from o number p from) ≡ Inner o
+pub sent-from : (o : Outside) (number : ℕ) (p : Packet) (from : Party) → Inner (sends_from o number p from) ≡ Inner o
 unfolding sends
 sent-from o number p Party.Server = refl
 sent-from o number p (Party.Client host) = sent-by o number host p (slice_get o.sides host)
 
-sent-all : (o : Outside) (number : ℕ) (ps : List Packet) → Inner (sends_all o number ps) ≡ Inner o
+pub sent-all : (o : Outside) (number : ℕ) (ps : List Packet) → Inner (sends_all o number ps) ≡ Inner o
 sent-all o number [] = refl
 sent-all o number (p ∷ ps) = sent-all (sends_from o number p p.sender) (number + 1) ps ∙ sent-from o number p p.sender
 
 -- ---- an event is run
 
-ran : (o : Outside) (event : Event) (w : World) → Inner (renewed o event w) ≡ (w, event ∷ o.ran)
+pub ran : (o : Outside) (event : Event) (w : World) → Inner (renewed o event w) ≡ (w, event ∷ o.ran)
 ran o (Event.Call host op) w = refl
 ran o (Event.Deliver k) w = refl
 ran o Event.ServerTick w = refl
