@@ -1,12 +1,11 @@
 -- The first delayed write that is not acknowledged, looked for place by place.
-use Rattle.std.proofs.Common.{◌≡◌, ◌≤◌, ℕ, List, [], ◌∷◌, length, drop, Option, Some, None, is_some, zero, suc, refl, sym, arith, add-one, if◌then◌else◌}
+use Rattle.std.proofs.Common.{◌≡◌, ℕ, List, [], ◌∷◌, drop, Option, Some, None, is_some, zero, suc, ◌+◌, Bool, true, false, refl, sym, subst, ap, ◌∙◌, add-one, if◌then◌else◌}
 use Rattle.std.specs.List.{slice_get}
 use Rattle.std.specs.Option.{option_map}
 use Rattle.nq_base.specs.declared.Loss.{Loss}
 use Rattle.nq_base.specs.declared.Push.{Push}
 use Rattle.nq_base.specs.declared.Who.{Who}
 use Rattle.nq_model.specs.Hear.{loss_of}
-use Rattle.nq_model.specs.Settle.{pending_in}
 use Rattle.nq_stage.specs.declared.Written.{Written}
 use Rattle.nq_stager.specs.Acknowledged.{verifier_of}
 use Rattle.nq_stager.specs.Offering.{written_by, first_unknown}
@@ -43,13 +42,18 @@ module _ (who : Who) (acked : List (Written × ℕ)) where
   unknown-past (q ∷ ps) zero h = absurd cc
   unknown-past (q ∷ ps) (suc i) h = unknown-past ps i h
 
-  pub unknown-end : (ps : List Push) (i : ℕ) → length ps ≤ i → first_unknown who acked (drop i ps) ≡ None
-  unknown-end [] zero h = refl
-  unknown-end [] (suc i) h = refl
-  unknown-end (q ∷ ps) zero h = absurd (omega (arith, add-one (length ps)))
-  unknown-end (q ∷ ps) (suc i) h = unknown-end ps i (omega arith)
+  -- the last of the delayed writes at a place, as an incarnation's, and whether its body is acknowledged
+  at-place : (ps : List Push) (i : ℕ) (l : Loss) (w : Written) (v : Option ℕ) (b : Bool) → Some l ≡ option_map loss_of (slice_get ps i) → w ≡ record { host = who.host; inc = who.inc; file = l.file; block = l.block; last = l.last } → v ≡ verifier_of w acked → is_some v ≡ b → first_unknown who acked (drop i ps) ≡ (if b then first_unknown who acked (drop (suc i) ps) else Some w)
+  at-place ps i l w v b there is found known =
+      let o = of-loss (slice_get ps i) l there in
+      let same : w ≡ written_by who o.push = is ∙ written-by who o.push l o.tells in
+      let on : is_some (verifier_of (written_by who o.push) acked) ≡ b = subst (λ z. is_some (verifier_of z acked) ≡ b) same (sym (ap is_some found) ∙ known) in
+      unknown-here ps i o.push o.is ∙ rw (on, sym same) refl
 
--- the list is no longer than all that is pending
-pub listed-few : (dirty : List Push) (push : Option Push) → length dirty ≤ pending_in dirty push
-listed-few dirty None = omega arith
-listed-few dirty (Some p) = omega arith
+  -- one that is not acknowledged is the first from its place on
+  pub unknown-at : (ps : List Push) (i : ℕ) (l : Loss) (w : Written) (v : Option ℕ) → Some l ≡ option_map loss_of (slice_get ps i) → w ≡ record { host = who.host; inc = who.inc; file = l.file; block = l.block; last = l.last } → v ≡ verifier_of w acked → is_some v ≡ false → first_unknown who acked (drop i ps) ≡ Some w
+  unknown-at ps i l w v there is found known = at-place ps i l w v false there is found known
+
+  -- of one that is acknowledged the first stands behind it
+  pub unknown-behind : (ps : List Push) (i : ℕ) (l : Loss) (w : Written) (v : Option ℕ) → Some l ≡ option_map loss_of (slice_get ps i) → w ≡ record { host = who.host; inc = who.inc; file = l.file; block = l.block; last = l.last } → v ≡ verifier_of w acked → is_some v ≡ true → first_unknown who acked (drop (i + 1) ps) ≡ first_unknown who acked (drop i ps)
+  unknown-behind ps i l w v there is found known = ap (λ n. first_unknown who acked (drop n ps)) (add-one i) ∙ sym (at-place ps i l w v true there is found known)
