@@ -14,10 +14,12 @@ local MOST_HOSTS = 64
 local procedures = {
     [0] = "NULL", [1] = "ATTACH", [2] = "LOOKUP", [3] = "CREATE", [4] = "GETATTR", [5] = "READ", [6] = "WRITE",
     [7] = "GETLEASE", [8] = "VACATED", [9] = "EVICTED", [10] = "RESIZE", [11] = "REMOVE",
+    [12] = "COMMIT", [14] = "STAGE",
 }
 local statuses = {
     [0] = "OK", [2] = "NOENT", [17] = "EXIST", [22] = "INVAL", [28] = "NOSPC", [70] = "STALE", [501] = "TRYLATER",
     [502] = "FENCED", [503] = "NOTATTACHED", [504] = "OLD",
+    [505] = "UNSTAGED",
 }
 local modes = { [0] = "non-caching", [1] = "reading", [2] = "writing" }
 local directions = { [0] = "call", [1] = "reply" }
@@ -58,6 +60,7 @@ local f = {
     term = ProtoField.uint32("nqnfs.term", "Term in seconds"),
     boot = ProtoField.uint32("nqnfs.boot", "Boot"),
     number = ProtoField.uint64("nqnfs.number", "Number"),
+    verifier = ProtoField.uint32("nqnfs.verifier", "Boot that took the body"),
     base = ProtoField.uint64("nqnfs.base", "Revision that the push rests on"),
     present = ProtoField.uint32("nqnfs.present", "Present"),
     value = ProtoField.uint32("nqnfs.value", "Number in the first four bytes"),
@@ -221,6 +224,19 @@ local arguments = {
         r:hyper(f.call)
         return "file " .. r:uint(f.file)
     end,
+    [12] = function(r)
+        r:hyper(f.seq)
+        local file, block = r:uint(f.file), r:uint(f.block)
+        r:hyper(f.first)
+        r:hyper(f.last)
+        r:within("Push", push)
+        return "push of file " .. file .. " block " .. block .. " staged in boot " .. r:uint(f.verifier)
+    end,
+    [14] = function(r)
+        local file, block = r:uint(f.file), r:uint(f.block)
+        r:hyper(f.last)
+        return "file " .. file .. " block " .. block .. " value " .. body(r)
+    end,
 }
 arguments[8] = function(r)
     local file = r:uint(f.file)
@@ -245,6 +261,8 @@ local results = {
     [7] = function(r) return r:optional("Grant", grant) and "with a lease" or "without a lease" end,
     [10] = function(r) return "revision " .. tostring(r:hyper(f.rev)) end,
     [11] = function() return "" end,
+    [12] = function(r) return "revision " .. tostring(r:hyper(f.rev)) end,
+    [14] = function(r) return "boot " .. r:uint(f.verifier) end,
 }
 
 local function authentication(r, title)

@@ -18,7 +18,10 @@ fn staged(alloc: Global) -> Result<Vec<StagedEvent>, Fail> {
         body: Block::fill(5),
     };
     Ok(vec![in alloc;
-        StagedEvent::Plain(Event::Call { host: Host(0), call: write }),
+        StagedEvent::Plain(Event::Call {
+            host: Host(0),
+            call: write
+        }),
         StagedEvent::Plain(Event::Deliver(0)),
         StagedEvent::Plain(Event::Deliver(1)),
         StagedEvent::Stage(Host(0)),
@@ -91,12 +94,14 @@ fn a_commit_stands_for_the_push(rt: HostRuntime) -> Result<(), Fail> {
         commits: 1,
         unstaged: 0,
     };
-    assert!(rt; runs_as(
-        alloc,
-        &events,
-        b"nqnfs-journal 2\nC 0 1 1 write 1 0 5\nG 0 1 1 writing 1 1 30 0\nW 0 1 1 0 1 5 delayed\nA 0 1 1 ok\nC 0 1 2 sync 1\nS 0 1 1 0 1 1 0\nA 0 1 2 ok\nend\n",
-        counts,
-    )?);
+    assert!(rt;
+        runs_as(
+            alloc,
+            &events,
+            b"nqnfs-journal 2\nC 0 1 1 write 1 0 5\nG 0 1 1 writing 1 1 30 0\nW 0 1 1 0 1 5 delayed\nA 0 1 1 ok\nC 0 1 2 sync 1\nS 0 1 1 0 1 1 0\nA 0 1 2 ok\nend\n",
+            counts,
+        )?
+    );
     Ok(())
 }
 
@@ -115,11 +120,13 @@ fn a_crash_loses_the_staged_body_and_no_write(rt: HostRuntime) -> Result<(), Fai
         commits: 0,
         unstaged: 1,
     };
-    assert!(rt; runs_as(
-        alloc,
-        &events,
-        b"nqnfs-journal 2\nC 0 1 1 write 1 0 5\nG 0 1 1 writing 1 1 30 0\nW 0 1 1 0 1 5 delayed\nA 0 1 1 ok\nX 2 0 60\nC 0 1 2 sync 1\nS 0 1 1 0 1 1 0\nA 0 1 2 ok\nend\n",
-        counts,
-    )?);
+    assert!(rt;
+        runs_as(
+            alloc,
+            &events,
+            b"nqnfs-journal 2\nC 0 1 1 write 1 0 5\nG 0 1 1 writing 1 1 30 0\nW 0 1 1 0 1 5 delayed\nA 0 1 1 ok\nX 2 0 60\nC 0 1 2 sync 1\nS 0 1 1 0 1 1 0\nA 0 1 2 ok\nend\n",
+            counts,
+        )?
+    );
     Ok(())
 }

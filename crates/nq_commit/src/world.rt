@@ -1,6 +1,14 @@
 //! The staged world.
 
-use nq_base::{Block, Call, Event, Host, NoMemory, Party, Who};
+ghost use Rattle.std.specs.Prelude.{◌≡◌, true, IfOk, [], length, List};
+ghost use Rattle.nq_commit.specs.Playing.{CanComeOutside, PlaysOutside, StepsOutside, counts_of};
+ghost use Rattle.nq_model.specs.World.{Head};
+ghost use Rattle.nq_staged_run.specs.declared.StagedEvent.{StagedEvent};
+ghost use Rattle.nq_world.specs.Playing.{CountsFaults, Plays};
+ghost use Rattle.nq_world.specs.declared.Stepped.TheVariants.{Memory};
+
+use crate::copying::copied;
+use nq_base::{Event, Host, NoMemory, Party, Who};
 use nq_journal::Journal;
 use nq_keeper::Keeper;
 use nq_net::Packets;
@@ -10,6 +18,7 @@ use nq_staged_run::{StagedCounts, StagedEvent};
 use nq_stager::{HeardStage, Stager};
 use nq_world::{Limit, MOST_EVENTS, MOST_SENT, NewFault, Stepped, World};
 use std::alloc::Global;
+use std::marker::Model;
 
 /// The most packets that an event sends: those of the inner world, and one that stands for none.
 const MOST_SENDS: usize = 65;
@@ -37,6 +46,26 @@ pub struct StagedWorld<K> {
     ran: Schedule,
     counts: StagedCounts,
     events: u32,
+    /// Memory was wanting for what the inner world sent in an event that it took in.
+    torn: bool,
+}
+
+impl<K> Model for StagedWorld<K> {
+    ghost use Rattle.std.specs.Prelude.{map};
+    ghost use Rattle.nq_commit.specs.Playing.{StagedOver, counts_of, travelling};
+
+    ghost Value = { StagedOver K };
+
+    ghost view = { λ w. record {
+      inner = w.world;
+      pool = w.pool;
+      sides = map (λ s. record { stager = s.stager; last = s.last }) w.sides.items;
+      sent = travelling w.packets.datagrams w.stands.items;
+      ran = w.ran;
+      counts = counts_of w.counts;
+      events = w.events;
+      torn = w.torn;
+    } };
 }
 
 /// The sides of so many hosts of a world.
@@ -71,67 +100,21 @@ fn around<K: Keeper>(alloc: Global, world: &World<K>, hosts: u32) -> Result<Arou
     })
 }
 
-/// The event as the inner world takes it in. A body that a number fills takes no memory.
-fn copied(alloc: Global, event: &Event) -> Result<Event, NoMemory> {
-    Ok(match event {
-        Event::Call { host, call } => Event::Call {
-            host: *host,
-            call: copied_call(alloc, call)?,
-        },
-        Event::Deliver(number) => Event::Deliver(*number),
-        Event::ServerTick => Event::ServerTick,
-        Event::ClientTick(host) => Event::ClientTick(*host),
-        Event::Restart(host) => Event::Restart(*host),
-        Event::Crash { longest } => Event::Crash { longest: *longest },
-    })
-}
-
-/// The call, with a body of its own.
-fn copied_call(alloc: Global, call: &Call) -> Result<Call, NoMemory> {
-    Ok(match call {
-        Call::Create { name, blocks } => Call::Create {
-            name: *name,
-            blocks: *blocks,
-        },
-        Call::Lookup { name } => Call::Lookup { name: *name },
-        Call::Attr { file } => Call::Attr { file: *file },
-        Call::Read { file, block } => Call::Read {
-            file: *file,
-            block: *block,
-        },
-        Call::Fetch { file, block } => Call::Fetch {
-            file: *file,
-            block: *block,
-        },
-        Call::Write { file, block, body } => Call::Write {
-            file: *file,
-            block: *block,
-            body: body.copied(alloc)?,
-        },
-        Call::WriteSync { file, block, body } => Call::WriteSync {
-            file: *file,
-            block: *block,
-            body: body.copied(alloc)?,
-        },
-        Call::Sync { file } => Call::Sync { file: *file },
-        Call::Resize { file, blocks } => Call::Resize {
-            file: *file,
-            blocks: *blocks,
-        },
-        Call::Remove { file } => Call::Remove { file: *file },
-    })
-}
-
 impl<K: Keeper> StagedWorld<K> {
     /// A world with staged writes around a world of so many hosts in which no step was made.
-    pub fn new(alloc: Global, world: World<K>, hosts: u32) -> Result<StagedWorld<K>, NewFault<K>> {
+    pub fn new(alloc: Global, world: World<K>, hosts: u32) -> Result<StagedWorld<K>, NewFault<K>>
+        requires { length world.clients ≡ hosts }
+        ensures { IfOk result (λ w. (head : Head) → Plays head [] world (K.content world.server.keeper) → PlaysOutside head [] w (K.content w.inner.server.keeper)) }
+    {
         match around(alloc, &world, hosts) {
-            Ok(Around {
-                pool,
-                sides,
-                packets,
-                ran,
-            }) => Ok(StagedWorld {
+            Ok(
+                Around {
+                    pool,
+                    sides,
+                    packets,
+                    ran,
+                },
+            ) => Ok(StagedWorld {
                 alloc,
                 world,
                 pool,
@@ -145,14 +128,26 @@ impl<K: Keeper> StagedWorld<K> {
                     unstaged: 0,
                 },
                 events: 0,
+                torn: false,
             }),
             Err(_) => Err(NewFault::Memory(world.into_keeper())),
         }
     }
 
     /// Takes an event in. The answers and their order are those of [`World::step`], over the packets that travel here and the
-    /// events of the staged schedule.
-    pub fn step(&mut self, event: &StagedEvent) -> Stepped {
+    /// events of the staged schedule. After every answer but `Done` the world is as before, but for one: where memory was wanting
+    /// for a COMMIT after the inner world took the event in, `Memory` is the answer from then on.
+    pub fn step(&mut self, event: &StagedEvent) -> Stepped
+        requires { CanComeOutside (length self.old.inner.clients) self.old.inner.skew.window event.now }
+        ensures steps { (head : Head) (events : List StagedEvent) → PlaysOutside head events self.old (K.content self.old.inner.server.keeper)
+            → StepsOutside head events event.now result self.old self.new (K.content self.old.inner.server.keeper) (K.content self.new.inner.server.keeper) }
+        ensures torn { self.old.torn ≡ true → (result ≡ Memory) × (self.new ≡ self.old) }
+        ensures faults { CountsFaults result (K.faults self.old.inner.server.keeper) (K.faults self.new.inner.server.keeper) }
+        ensures follows { K.follows self.old.inner.server.keeper self.new.inner.server.keeper }
+    {
+        if self.torn {
+            return Stepped::Memory;
+        }
         match self.test(event) {
             Stepped::Done => {}
             refused => return refused,
@@ -172,27 +167,37 @@ impl<K: Keeper> StagedWorld<K> {
     }
 
     /// The packets that travel here, in their order.
-    pub fn packets(&self) -> &Packets {
+    pub fn packets(&self) -> &Packets
+        ensures { length result.now.datagrams ≡ length self.now.sent }
+    {
         &self.packets
     }
 
     /// What was counted.
-    pub fn counts(&self) -> StagedCounts {
+    pub fn counts(&self) -> StagedCounts
+        ensures { counts_of result ≡ self.now.counts }
+    {
         self.counts
     }
 
     /// The events of the inner world that were run.
-    pub fn ran(&self) -> &Schedule {
+    pub fn ran(&self) -> &Schedule
+        ensures { result.now ≡ self.now.ran }
+    {
         &self.ran
     }
 
     /// The journal of the inner world.
-    pub fn journal(&self) -> &Journal {
+    pub fn journal(&self) -> &Journal
+        ensures { result.now.entries ≡ self.now.inner.entries }
+    {
         self.world.journal()
     }
 
     /// Ends the world.
-    pub fn into_keeper(self) -> K {
+    pub fn into_keeper(self) -> K
+        ensures { result ≡ self.inner.server.keeper }
+    {
         let StagedWorld {
             alloc: _,
             world,
@@ -203,6 +208,7 @@ impl<K: Keeper> StagedWorld<K> {
             ran: _ran,
             counts: _,
             events: _,
+            torn: _,
         } = self;
         world.into_keeper()
     }
@@ -255,9 +261,7 @@ impl<K: Keeper> StagedWorld<K> {
     fn offer(&mut self, host: Host) -> Stepped {
         let side = &mut self.sides[host.0 as usize];
         match side.stager.offer(self.alloc, self.world.dirty(host)) {
-            Ok(Some(stage)) => {
-                done(self.send(Party::Client(host), Party::Server, &stage, None))
-            }
+            Ok(Some(stage)) => { done(self.send(Party::Client(host), Party::Server, &stage, None)) }
             Ok(None) => Stepped::Done,
             Err(_) => Stepped::Memory,
         }
@@ -349,10 +353,11 @@ impl<K: Keeper> StagedWorld<K> {
                 return refused;
             }
         }
-        if self.renew(event).is_err() {
+        if self.renew(event).is_err() || self.send_from(first).is_err() {
+            self.torn = true;
             return Stepped::Memory;
         }
-        done(self.send_from(first))
+        Stepped::Done
     }
 
     /// A crash makes a new pool, and a restart a new stager.
