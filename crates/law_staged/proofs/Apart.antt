@@ -29,11 +29,11 @@ alike a b = grind (arith, nat_tests)
 
 pub apart-filter : (test : Push → Bool) (ps : List Push) → AreApart ps → AreApart (filter test ps)
 apart-filter test [] h = tt
-apart-filter test (p ∷ ps) h = step (test p)
+apart-filter test (p ∷ ps) h = step (test p) (apart-filter test ps h.1)
   where
-    step : (b : Bool) → AreApart (if b then p ∷ filter test ps else filter test ps)
-    step true = (each-filter (IsOther p) test ps h.0, apart-filter test ps h.1)
-    step false = apart-filter test ps h.1
+    step : (b : Bool) → AreApart (filter test ps) → AreApart (if b then p ∷ filter test ps else filter test ps)
+    step true rest = (each-filter (IsOther p) test ps h.0, rest)
+    step false rest = rest
 
 module _ (file block number : ℕ) (body : List ℕ) where
   -- a write keeps the block of what it overwrites

@@ -104,7 +104,7 @@ pub record IsPushOf (m : Message) (p : Pushed) : Type 0 where
 
 -- a WRITE that goes through is no push
 through-unread : (xid : ℕ) (p : Pushed) (body : List ℕ) → IsFront p → push_at xid (arguments (Request.Write p.who p.seq p.file p.block p.first p.last None body)) ≡ Err NoBoolean
-unfolding arguments optional pushed_bytes push_at front-of
+unfolding arguments optional pushed_bytes push_at
 through-unread xid p body fits =
     let there = boolean false ++ opaque body in
     let parts : arguments (Request.Write p.who p.seq p.file p.block p.first p.last None body) ≡ pushed_bytes p ++ there = simp append_assoc in
@@ -120,18 +120,18 @@ unfolding call_as
 through-none xid q p body front e = let unread = through-unread xid q body front in let none : None ≡ Some p = sym (ap read unread) ∙ e in absurd cc
 
 fits-front : (xid : ℕ) (who : Who) (seq file block first last : ℕ) (push : Option PushBase) (base : PushBase) (body : List ℕ) → IsRequest (Request.Write who seq file block first last push body) → IsFront (push-of xid who seq file block first last base)
-fits-front xid who seq file block first last push base body f = record { host = f.0.host; inc = f.0.inc; seq = f.1.0; file = f.1.1.0; block = f.1.1.1.0; first = f.1.1.1.1.0; last = f.1.1.1.1.1.0 }
+fits-front xid who seq file block first last push base body f = record { host = f.0.host; inc = f.0.inc; seq = f.1; file = f.2; block = f.3; first = f.4; last = f.5 }
 
 of-write : (xid : ℕ) (who : Who) (seq file block first last : ℕ) (push : Option PushBase) (body : List ℕ) (p : Pushed) → FitsMessage (call xid (Request.Write who seq file block first last push body)) → push_in (bytes_of (call xid (Request.Write who seq file block first last push body))) ≡ Some p → IsPushOf (call xid (Request.Write who seq file block first last push body)) p
 of-write xid who seq file block first last None body p fits e =
     let base : PushBase = record { boot = 0; base = 0 } in
     let q = push-of xid who seq file block first last base in
-    absurd (through-none xid q p body (fits-front xid who seq file block first last None base body fits.1.0) (by-call (call xid (Request.Write who seq file block first last None body)) fits p e))
+    absurd (through-none xid q p body (fits-front xid who seq file block first last None base body fits.1) (by-call (call xid (Request.Write who seq file block first last None body)) fits p e))
 of-write xid who seq file block first last (Some base) body p fits e =
     let q = push-of xid who seq file block first last base in
-    let f = fits.1.0 in
-    let pushed : IsPushed q = record { xid = fits.0; front = fits-front xid who seq file block first last (Some base) base body f; base = f.1.1.1.1.1.1.0 } in
-    let size : length body ≡ 4096 = f.1.1.1.1.1.1.1 in
+    let f = fits.1 in
+    let pushed : IsPushed q = record { xid = fits.0; front = fits-front xid who seq file block first last (Some base) base body f; base = f.6 } in
+    let size : length body ≡ 4096 = f.7 in
     let one : q ≡ p = some-same q p (sym (pushes-are-read q body pushed size) ∙ e) in
     subst (IsPushOf (call xid (write_of q body))) one (record { body = body; is = refl; fits = pushed; size = size })
 

@@ -193,7 +193,6 @@ module _ (g : Bodies) (old : Who) where
   delayed t file block body m =
       let who = t.client.who in
       let number = t.client.number in
-      let more = λ (v : Written) (b : List ℕ) (i : In m.now (v, b)). (inr i : In (grown m.now who file block number body) (v, b)) in
       record {
         kept = m.kept;
         now = grown m.now who file block number body;
@@ -240,7 +239,8 @@ module _ (g : Bodies) (old : Who) where
     others = m.others;
     one = m.one;
     fresh = m.fresh;
-    listed = m.listed; apart = m.apart;
+    listed = m.listed;
+    apart = m.apart;
     pushes = m.pushes;
     asked = λ k e. subst (λ z. Asks m.now z.request) (some-same _ k e) asks;
     sent = each-append (Says m.now) t.sends _ m.sent (asks, tt);
@@ -273,7 +273,8 @@ module _ (g : Bodies) (old : Who) where
         others = m.others;
         one = m.one;
         fresh = m.fresh;
-        listed = each-filter (Carries m.now t.client.who) _ t.client.dirty m.listed; apart = apart-filter _ t.client.dirty m.apart;
+        listed = each-filter (Carries m.now t.client.who) _ t.client.dirty m.listed;
+        apart = apart-filter _ t.client.dirty m.apart;
         pushes = λ x e. subst (Carries m.now t.client.who) (some-same p x e) carries;
         asked = λ k e. subst (λ z. Asks m.now z.request) (some-same _ k e) carries;
         sent = each-append (Says m.now) t.sends _ m.sent (carries, tt);
@@ -288,7 +289,8 @@ module _ (g : Bodies) (old : Who) where
     others = m.others;
     one = m.one;
     fresh = later-fresh m.now t.client.who t.client.number m.fresh;
-    listed = m.listed; apart = m.apart;
+    listed = m.listed;
+    apart = m.apart;
     pushes = m.pushes;
     asked = λ k e. subst (λ z. Asks m.now z.request) (some-same _ k e) tt;
     sent = each-append (Says m.now) t.sends _ m.sent (tt, tt);
@@ -501,7 +503,8 @@ module _ (g : Bodies) (old : Who) where
     others = m.others;
     one = m.one;
     fresh = λ v b i own. let f = m.fresh v b i own in (let least = f.0 in omega arith, λ e. let least = f.0 in absurd (omega arith));
-    listed = tt; apart = tt;
+    listed = tt;
+    apart = tt;
     pushes = λ p e. none-some p e;
     asked = λ t e. subst (Asks m.now) (ap (λ z. z.request) (some-same _ t e)) tt;
     sent = (tt, tt);

@@ -87,8 +87,8 @@ client-knows g old w host t held here m h =
     let own : IsKnown m.now t.client = step-known g old t m in
     let F = λ (n : ℕ) (c : Client) (v : World). IsKnown m.now c in
     let others = λ (other : ℕ) (c : Client) (apart : other ≢ host) (is : slice_get w.clients other ≡ Some c).
-      (let at : c.who.host ≡ other = (held.clients other c is).here in
-      other-known g m.now c m.more (λ v b i by. m.others v b i (λ mine. apart (sym at ∙ sym by ∙ mine ∙ here))) (h.clients other c is))
+    (let at : c.who.host ≡ other = (held.clients other c is).here in
+    other-known g m.now c m.more (λ v b i by. m.others v b i (λ mine. apart (sym at ∙ sym by ∙ mine ∙ here))) (h.clients other c is))
     in
     record {
       now = m.now;

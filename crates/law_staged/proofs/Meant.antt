@@ -155,14 +155,14 @@ set-own sides clients host old new is same own n side c at there = case (n == ho
 
 -- clients that are the ones that they were
 moved-own : (sides : List Side) (w v : World) → SameWho w v → AreOwn sides w.clients → AreOwn sides v.clients
-moved-own sides w v same own host side c at there = let k = same host c there in own host side k.0 at k.1.0 ∙ sym k.1.1
+moved-own sides w v same own host side c at there = let k = same host c there in own host side k.0 at k.1 ∙ sym k.2
 
 -- a client that is restarted, with its new side
 restarted-own : (sides : List Side) (w : World) (host : ℕ) → AreOwn sides w.clients → AreOwn (new_side (slice_get (step w (Event.Restart host)).clients host) sides host) (step w (Event.Restart host)).clients
+unfolding after_client
 restarted-own sides w host own = case (slice_get w.clients host) refl
   where
     after : (t : ClientStep) (c : Client) → slice_get w.clients host ≡ Some c → (o : Option Client) → slice_get (after_client w host t).clients host ≡ o → AreOwn (new_side o sides host) (after_client w host t).clients
-    unfolding after_client
     after t c is None none n side d at there = none-some t.client (sym none ∙ set-there w.clients host t.client c is)
     after t c is (Some b) some n side d at there = split (n == host) refl
       where
@@ -371,10 +371,10 @@ module _ (g : Bodies) where
   telling : (o : Outside) (host : ℕ) (side : Side) (bytes : List ℕ) (t : Told) → told_by side.stager bytes ≡ t → slice_get o.sides host ≡ Some side → KeepsWrite side → MeantIn g o → MeantIn g (told_side o host side t)
   telling o host side bytes (again w) is at keeps m =
       let k = told-again side.stager bytes w is in
-      let kept = keeps k.0 k.1.0 in
+      let kept = keeps k.0 k.1 in
       let o' = record o { sides = slice_set o.sides host (record side { stager = kept_by side.stager (again w) }) } in
       let m' = side-meant o host side (record side { stager = kept_by side.stager (again w) }) at refl (kept-write side (again w) keeps) m in
-      sends-meant g o' (record { sender = Party.Client host; to = Party.Server; bytes = w; stands = side.last }) (λ h by. whole kept.0 kept.1.0 (k.1.1 ∙ kept.1.1)) m'
+      sends-meant g o' (record { sender = Party.Client host; to = Party.Server; bytes = w; stands = side.last }) (λ h by. whole kept.0 kept.1 (k.2 ∙ kept.2)) m'
   telling o host side bytes (acknowledged w verifier) is at keeps m = side-meant o host side (record side { stager = kept_by side.stager (acknowledged w verifier) }) at refl (kept-write side (acknowledged w verifier) keeps) m
   telling o host side bytes other is at keeps m = side-meant o host side (record side { stager = kept_by side.stager other }) at refl (kept-write side other keeps) m
 
@@ -399,11 +399,11 @@ module _ (g : Bodies) where
   -- the write that is offered is the last one of delayed writes in the list
   unknown-in : (who : Who) (acked : List (Written × ℕ)) (dirty : List Push) (w : Written) → first_unknown who acked dirty ≡ Some w → (p : Push) × In dirty p × (written_by who p ≡ w)
   unknown-in who acked [] w e = none-some w e
-  unknown-in who acked (p ∷ dirty) w e = step (is_some (verifier_of (written_by who p) acked)) e
+  unknown-in who acked (p ∷ dirty) w e = step (is_some (verifier_of (written_by who p) acked)) (unknown-in who acked dirty w) e
     where
-      step : (b : Bool) → (if b then first_unknown who acked dirty else Some (written_by who p)) ≡ Some w → (q : Push) × In (p ∷ dirty) q × (written_by who q ≡ w)
-      step true e = let k = unknown-in who acked dirty w e in (k.0, (inr k.1.0, k.1.1))
-      step false e = (p, (inl refl, some-same (written_by who p) w e))
+      step : (b : Bool) → (first_unknown who acked dirty ≡ Some w → (q : Push) × In dirty q × (written_by who q ≡ w)) → (if b then first_unknown who acked dirty else Some (written_by who p)) ≡ Some w → (q : Push) × In (p ∷ dirty) q × (written_by who q ≡ w)
+      step true rest e = let k = rest e in (k.0, (inr k.1, k.2))
+      step false rest e = (p, (inl refl, some-same (written_by who p) w e))
 
   -- its body is the one of those delayed writes
   body-there : (dirty : List Push) (push : Option Push) (p : Push) → AreApart dirty → In dirty p → dirty_body p.file p.block dirty push ≡ Some p.body
@@ -417,9 +417,9 @@ module _ (g : Bodies) where
       case (Some w) is e =
           let k = unknown-in s.who s.acknowledged dirty w is in
           let p = k.0 in
-          let known : In g (written_by s.who p, p.body) = each-at (Carries g s.who) dirty p k.1.0 carry in
-          let there : body_among dirty push (Some (written_by s.who p)) ≡ Some (written_by s.who p, p.body) = ap (with_body_there (written_by s.who p)) (body-there dirty push p apart k.1.0) in
-          let one : (written_by s.who p, p.body) ≡ b = some-same _ b (sym there ∙ subst (λ z. body_among dirty push (Some z) ≡ Some b) (sym k.1.1) e) in
+          let known : In g (written_by s.who p, p.body) = each-at (Carries g s.who) dirty p k.1 carry in
+          let there : body_among dirty push (Some (written_by s.who p)) ≡ Some (written_by s.who p, p.body) = ap (with_body_there (written_by s.who p)) (body-there dirty push p apart k.1) in
+          let one : (written_by s.who p, p.body) ≡ b = some-same _ b (sym there ∙ subst (λ z. body_among dirty push (Some z) ≡ Some b) (sym k.2) e) in
           subst (λ z. In g (z.0, z.1)) one known
 
   offering-body : (o : Outside) (host : ℕ) (side : Side) (b : Option (Written × List ℕ)) → FitsOffer side.stager b → ((v : Written × List ℕ) → b ≡ Some v → In g (v.0, v.1)) → slice_get o.sides host ≡ Some side → KeepsWrite side → MeantIn g o → MeantIn g (offers_body o host side b)
@@ -428,7 +428,7 @@ module _ (g : Bodies) where
   offering-body o host side (Some b) fits known at keeps m =
       let side' = record side { stager = (offered side.stager b.0 b.1).1 } in
       let m' = side-meant o host side side' at refl keeps m in
-      sends-meant g (record o { sides = slice_set o.sides host side' }) (beside (Party.Client host) Party.Server (offered side.stager b.0 b.1).0) (λ h by. ahead side.stager.next b.0 b.1 refl fits.0 fits.1.0 fits.1.1 (known b refl)) m'
+      sends-meant g (record o { sides = slice_set o.sides host side' }) (beside (Party.Client host) Party.Server (offered side.stager b.0 b.1).0) (λ h by. ahead side.stager.next b.0 b.1 refl fits.0 fits.1 fits.2 (known b refl)) m'
 
   offering : (o : Outside) (host : ℕ) (side : Option Side) (c : Option Client) → slice_get o.sides host ≡ side → slice_get o.world.clients host ≡ c → FitsEvent o (StagedEvent.Stage host) → MeantIn g o → MeantIn g (offers o host side c)
   offering o host None c is at fits m = m
@@ -473,22 +473,22 @@ start-meant head = record {
 run-meant : (head : Head) (events : List StagedEvent) → AreFit head events → SomeMeant (outside_run head events)
 run-meant head [] fits = some [] _ (start-meant head)
 run-meant head (event ∷ earlier) fits =
-    let before = run-meant head earlier fits.1.1 in
-    stepping before.bodies (outside_run head earlier) event fits.0 fits.1.0 before.meant
+    let before = run-meant head earlier fits.2 in
+    stepping before.bodies (outside_run head earlier) event fits.0 fits.1 before.meant
 
 -- ---- what is rebuilt
 
 -- the body that a pool has of a write is the one of that write
 pooled-body : (g : Bodies) (w : Written) (bodies : List (Written × List ℕ)) (body : List ℕ) → Each (λ b. In g (b.0, b.1)) bodies → body_of w bodies ≡ Some body → In g (w, body)
 pooled-body g w [] body h e = none-some body e
-pooled-body g w (b ∷ bodies) body h e = step (is_same w b.0) refl e
+pooled-body g w (b ∷ bodies) body h e = step (is_same w b.0) refl (pooled-body g w bodies body h.1) e
   where
-    step : (on : Bool) → is_same w b.0 ≡ on → (if on then Some b.1 else body_of w bodies) ≡ Some body → In g (w, body)
-    step true same e =
+    step : (on : Bool) → is_same w b.0 ≡ on → (body_of w bodies ≡ Some body → In g (w, body)) → (if on then Some b.1 else body_of w bodies) ≡ Some body → In g (w, body)
+    step true same rest e =
         let one : w ≡ b.0 = same_write w b.0 same in
         let it : b.1 ≡ body = some-same b.1 body e in
         subst (λ z. In g (w, z)) it (subst (λ z. In g (z, b.1)) (sym one) h.0)
-    step false same e = pooled-body g w bodies body h.1 e
+    step false same rest e = rest e
 
 record Rebuilt (g : Bodies) (c : Commit) (bytes : List ℕ) : Type 0 where
   body : List ℕ

@@ -115,11 +115,7 @@ fn rounds<L: Keeper>(
 }
 
 /// The clock of each host ticks, then the server's.
-fn round<L: Keeper>(
-    world: &mut StagedWorld<L>,
-    delivered: &mut Delivered,
-    hosts: u32,
-) -> Stepped {
+fn round<L: Keeper>(world: &mut StagedWorld<L>, delivered: &mut Delivered, hosts: u32) -> Stepped {
     for host in 0..hosts {
         let tick = StagedEvent::Plain(Event::ClientTick(Host(host)));
         match take(world, delivered, &tick) {
