@@ -58,9 +58,12 @@ module _ (n : ℕ) (s : Server) (sender next : ℕ) (d : Datagram) (g : GrewTo n
   })
 
 -- a datagram
-pub receive-after : (n : ℕ) (s : Server) (sender next : ℕ) (d : Datagram) → HasItsText d → IsServerAfter n s → IsServerAfter (n + 1) (receive s sender next d).server
+pub receive-after :
+    (n : ℕ) (s : Server) (sender next : ℕ) (d : Datagram) → HasItsText d → IsServerAfter n s → IsServerAfter (n + 1) (receive s sender next d).server
 receive-after n s sender next d text a =
-    after-so-many (n + 1) (receive s sender next d).server (bounds-are-kept.receives s sender next d (within-now n s a) text) (receive-grows n s sender next d a.grew)
+    after-so-many (n + 1) (receive s sender next d).server
+    (bounds-are-kept.receives s sender next d (within-now n s a) text)
+    (receive-grows n s sender next d a.grew)
 
 -- ---- ticks
 

@@ -79,7 +79,8 @@ module _ (n : ℕ) (s : Server) (few : n ≤ most_events) (g : GrewTo n s.kept) 
     unfolding stores
     stored row block first last body = record { low = raised id f found }
 
-    stored-recovering : (until : ℕ) (last : Option Table) (block first final : ℕ) (body : List ℕ) → IsLow (stores_recovering s until last who f block first final body)
+    stored-recovering :
+        (until : ℕ) (last : Option Table) (block first final : ℕ) (body : List ℕ) → IsLow (stores_recovering s until last who f block first final body)
     unfolding stores_recovering
     stored-recovering until last block first final body = record { low = raised id f found }
 
@@ -99,20 +100,27 @@ module _ (n : ℕ) (s : Server) (few : n ≤ most_events) (g : GrewTo n s.kept) 
     written-in block first last None body = unless-conflict who f (writes_through s who f block first body) (through block first body)
     written-in block first last (Some base) body = pushed block first last base body (find_row f.id who.host s.table.rows)
 
-  written : (who : Who) (id block first last : ℕ) (push : Option PushBase) (body : List ℕ) (o : Option File) → find_file id s.kept.files ≡ o → IsLow (decide_write s who o block first last push body)
+  written :
+      (who : Who) (id block first last : ℕ) (push : Option PushBase) (body : List ℕ) (o : Option File) → find_file id s.kept.files ≡ o
+      → IsLow (decide_write s who o block first last push body)
   written who id block first last push body None found = declined Verdict.Stale
   written who id block first last push body (Some f) found =
       either-low _ _ _ (declined Verdict.Invalid) (written-in who id f found block first last push body)
 
-  pushed-recovering : (until : ℕ) (last : Option Table) (who : Who) (id block first final : ℕ) (base : PushBase) (body : List ℕ) (o : Option File) → find_file id s.kept.files ≡ o → IsLow (decide_push_recovering s until last who o block first final base body)
+  pushed-recovering :
+      (until : ℕ) (last : Option Table) (who : Who) (id block first final : ℕ) (base : PushBase) (body : List ℕ) (o : Option File)
+      → find_file id s.kept.files ≡ o → IsLow (decide_push_recovering s until last who o block first final base body)
   pushed-recovering until last who id block first final base body None found = declined Verdict.Stale
   pushed-recovering until last who id block first final base body (Some f) found =
       either-low _ _ _ (declined Verdict.Invalid) (
       either-low _ _ _ (stored-recovering who id f found until last block first final body) (declined Verdict.Fenced))
 
-  written-recovering : (until : ℕ) (last : Option Table) (who : Who) (file block first final : ℕ) (push : Option PushBase) (body : List ℕ) → IsLow (decide_write_recovering s until last who file block first final push body)
+  written-recovering :
+      (until : ℕ) (last : Option Table) (who : Who) (file block first final : ℕ) (push : Option PushBase) (body : List ℕ)
+      → IsLow (decide_write_recovering s until last who file block first final push body)
   written-recovering until last who file block first final None body = declined Verdict.TryLater
-  written-recovering until last who file block first final (Some base) body = pushed-recovering until last who file block first final base body (find_file file s.kept.files) refl
+  written-recovering until last who file block first final (Some base) body =
+      pushed-recovering until last who file block first final base body (find_file file s.kept.files) refl
 
   resized-if : (who : Who) (q id blocks : ℕ) (o : Option File) → find_file id s.kept.files ≡ o → IsLow (decide_resize s who q o blocks)
   resized-if who q id blocks None found = declined Verdict.Stale
@@ -130,7 +138,8 @@ module _ (n : ℕ) (s : Server) (few : n ≤ most_events) (g : GrewTo n s.kept) 
   decided-low serving who (Request.Resize w seq q file blocks) = resized-if who q file blocks (find_file file s.kept.files) refl
   decided-low serving who (Request.Remove w seq q file) = removed-if who q file (find_file file s.kept.files) refl
   decided-low serving who other = declined Verdict.TryLater
-  decided-low (recovering until heard last) who (Request.Write w seq file block first final push body) = written-recovering until last who file block first final push body
+  decided-low (recovering until heard last) who (Request.Write w seq file block first final push body) =
+      written-recovering until last who file block first final push body
   decided-low (recovering until heard last) who other = declined Verdict.TryLater
 
 -- ---- the row that is left
@@ -174,5 +183,7 @@ none-goes-out head events first given few room k p xid r who there to is by =
     let i = in-get w.packets k p there in
     let asked = (to-server w.packets p (h.sent p i) to i xid r is).0 in
     let drawn : DrawnUpTo (length events) w = drawn-up-to head events in
-    stays-within (length events) w.server few (numbers-stay-within head events first given few).grew who (drawn.asked (sending_host p.sender) xid r who asked by) (host_row w.server.kept who.host) r
+    let grew : GrewTo (length events) w.server.kept = (numbers-stay-within head events first given few).grew in
+    let low = drawn.asked (sending_host p.sender) xid r who asked by in
+    stays-within (length events) w.server few grew who low (host_row w.server.kept who.host) r
     (λ seq sequence. let low = drawn.sent (sending_host p.sender) xid r seq asked sequence in omega arith)

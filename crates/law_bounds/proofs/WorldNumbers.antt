@@ -23,7 +23,7 @@ use Rattle.walk_run.proofs.Worlds.{Holds, get-set-same, get-set-other, to-server
 use Rattle.walk_server.proofs.Rows.{same-number, number-same}
 use Rattle.walk_server.proofs.ServerCases.{request-sent}
 use Rattle.law_bounds.specs.Within.{CarriesText, IsGiven, IsServerAfter, NumbersStayWithin}
-use Rattle.law_bounds.proofs.ClientNumbers.{DrewUpTo, DrewIf, call-draws, tick-draws, restart-draws, hear-draws}
+use Rattle.law_bounds.proofs.ClientNumbers.{HasDrawn, DrewUpTo, DrewIf, call-draws, tick-draws, restart-draws, hear-draws}
 use Rattle.law_bounds.proofs.FirstNumbers.{first-within}
 use Rattle.law_bounds.proofs.KeptNumbers.{grew-on}
 use Rattle.law_bounds.proofs.KeptSteps.{receive-after, tick-after, crash-after}
@@ -34,6 +34,16 @@ pub record DrawnUpTo (events : ℕ) (w : World) : Type 0 where
   pub seq : (host : ℕ) (c : Client) → slice_get w.clients host ≡ Some c → c.seq ≤ length w.packets + 1
   pub sent : (host xid : ℕ) (r : Request) (q : ℕ) → Asked w.packets host xid r → sequence_of r ≡ Some q → q ≤ length w.packets
   pub asked : (host xid : ℕ) (r : Request) (v : Who) → Asked w.packets host xid r → asker r ≡ Some v → v.inc ≤ events + 1
+  pub first : (host : ℕ) (c : Client) → slice_get w.clients host ≡ Some c → 1 ≤ c.seq
+  pub sent_first : (host xid : ℕ) (r : Request) (q : ℕ) → Asked w.packets host xid r → sequence_of r ≡ Some q → 1 ≤ q
+
+-- so is what a client has drawn
+has-drawn : (n : ℕ) (w : World) → Holds w → DrawnUpTo n w → (host : ℕ) (c : Client) → slice_get w.clients host ≡ Some c → HasDrawn (length w.packets) c
+has-drawn n w h d host c is = record {
+  few = d.seq host c is;
+  first = d.first host c is;
+  ticket = λ t q e sq. d.sent_first c.who.host t.xid t.request q ((h.clients host c is).mail.own t e).sent sq;
+}
 
 -- ---- a step of the server
 
@@ -44,6 +54,8 @@ of-server n w t said d = record {
   seq = λ host c e. let s = d.seq host c e in omega (arith, length-append w.packets t.sends);
   sent = λ host xid r q asked sq. let low = d.sent host xid r q (asked-before-server w.packets t.sends said host xid r asked) sq in omega (arith, length-append w.packets t.sends);
   asked = λ host xid r v sent by. let low = d.asked host xid r v (asked-before-server w.packets t.sends said host xid r sent) by in omega arith;
+  first = d.first;
+  sent_first = λ host xid r q asked sq. d.sent_first host xid r q (asked-before-server w.packets t.sends said host xid r asked) sq;
 }
 
 -- ---- a step of a client
@@ -72,7 +84,15 @@ module _ (n : ℕ) (w : World) (host : ℕ) (t : ClientStep) (drew : DrewUpTo (l
     seq = client-of (λ c. c.seq ≤ length (w.packets ++ map (from_host host) t.sends) + 1) (let s = drew.seq in omega (arith, packets-more w.packets host t.sends)) (λ c other e. let s = d.seq other c e in omega (arith, packets-more w.packets host t.sends));
     sent = λ other xid r q asked sq. by other xid r q sq (in-append w.packets (map (from_host host) t.sends) (from_host other (call xid r)) asked);
     asked = λ other xid r v sent of. own other xid r v of (in-append w.packets (map (from_host host) t.sends) (from_host other (call xid r)) sent);
+    first = client-of (λ c. 1 ≤ c.seq) drew.first (λ c other e. d.first other c e);
+    sent_first = λ other xid r q asked sq. low other xid r q sq (in-append w.packets (map (from_host host) t.sends) (from_host other (call xid r)) asked);
   } where
+    low :
+        (other xid : ℕ) (r : Request) (q : ℕ) → sequence_of r ≡ Some q
+        → In w.packets (from_host other (call xid r)) ⊎ In (map (from_host host) t.sends) (from_host other (call xid r)) → 1 ≤ q
+    low other xid r q sq (inl there) = d.sent_first other xid r q there sq
+    low other xid r q sq (inr new) = drew.sent_first xid r q (sent-calls host other t.sends xid r new) sq
+
     own : (other xid : ℕ) (r : Request) (v : Who) → asker r ≡ Some v → In w.packets (from_host other (call xid r)) ⊎ In (map (from_host host) t.sends) (from_host other (call xid r)) → v.inc ≤ n + 1 + 1
     own other xid r v of (inl there) = let low = d.asked other xid r v there of in omega arith
     own other xid r v of (inr new) = let low = drew.own xid r v (sent-calls host other t.sends xid r new) of in omega arith
@@ -82,10 +102,10 @@ module _ (n : ℕ) (w : World) (host : ℕ) (t : ClientStep) (drew : DrewUpTo (l
     by other xid r q sq (inr new) = let low = drew.sent xid r q (sent-calls host other t.sends xid r new) sq in omega (arith, packets-more w.packets host t.sends)
 
 later-drawn : (n : ℕ) (w : World) → DrawnUpTo n w → DrawnUpTo (n + 1) w
-later-drawn n w d = record { inc = λ host c e. let i = d.inc host c e in omega arith; seq = d.seq; sent = d.sent; asked = λ host xid r v i of. let low = d.asked host xid r v i of in omega arith }
+later-drawn n w d = record { inc = λ host c e. let i = d.inc host c e in omega arith; seq = d.seq; sent = d.sent; asked = λ host xid r v i of. let low = d.asked host xid r v i of in omega arith; first = d.first; sent_first = d.sent_first }
 
 more-inc : (packets n most : ℕ) (t : ClientStep) → n ≤ most → DrewUpTo packets n t → DrewUpTo packets most t
-more-inc packets n most t more k = record { inc = let i = k.inc in omega arith; seq = k.seq; sent = k.sent; own = λ xid r v i of. let low = k.own xid r v i of in omega arith }
+more-inc packets n most t more k = record { inc = let i = k.inc in omega arith; seq = k.seq; sent = k.sent; own = λ xid r v i of. let low = k.own xid r v i of in omega arith; first = k.first; sent_first = k.sent_first }
 
 of-at : (n : ℕ) (w : World) (host : ℕ) (f : Client → ClientStep) (o : Option Client) → slice_get w.clients host ≡ o → ((c : Client) → slice_get w.clients host ≡ Some c → DrewUpTo (length w.packets) (n + 2) (f c)) → DrawnUpTo n w → DrawnUpTo (n + 1) (at_client w host f o)
 of-at n w host f None is goes d = later-drawn n w d
@@ -104,7 +124,7 @@ of-message n w k host m None is h told d = later-drawn n w d
 of-message n w k host m (Some c) is h told d =
     let i = d.inc host c is in
     of-hearing n w host (hear c k m)
-    (more-if (length w.packets) c.who.inc (n + 2) (hear c k m) (omega arith) (hear-draws (length w.packets) host c w.packets k m told (h.clients host c is) (d.seq host c is)))
+    (more-if (length w.packets) c.who.inc (n + 2) (hear c k m) (omega arith) (hear-draws (length w.packets) host c w.packets k m told (h.clients host c is) (has-drawn n w h d host c is)))
     d
 
 of-packet : (n : ℕ) (w : World) (k : ℕ) (p : Packet) (to : Party) → Holds w → p.to ≡ to → In w.packets p → DrawnUpTo n w → DrawnUpTo (n + 1) (deliver_to w k p to)
@@ -116,10 +136,10 @@ of-deliver n w k None is h d = later-drawn n w d
 of-deliver n w k (Some p) is h d = of-packet n w k p p.to h refl (in-get w.packets k p is) d
 
 drawn-on : (n : ℕ) (w : World) (event : Event) → Holds w → DrawnUpTo n w → DrawnUpTo (n + 1) (step w event)
-drawn-on n w (Event.Call host op) h d = of-at n w host (λ c. client_call c op) (slice_get w.clients host) refl (λ c is. let i = d.inc host c is in more-inc (length w.packets) c.who.inc (n + 2) _ (omega arith) (call-draws (length w.packets) host c w.packets op (h.clients host c is) (d.seq host c is))) d
+drawn-on n w (Event.Call host op) h d = of-at n w host (λ c. client_call c op) (slice_get w.clients host) refl (λ c is. let i = d.inc host c is in more-inc (length w.packets) c.who.inc (n + 2) _ (omega arith) (call-draws (length w.packets) host c w.packets op (h.clients host c is) (has-drawn n w h d host c is))) d
 drawn-on n w (Event.Deliver k) h d = of-deliver n w k (slice_get w.packets k) refl h d
 drawn-on n w Event.ServerTick h d = of-server n w _ (tick-said w.packets w.server (w.server.now + 1)) d
-drawn-on n w (Event.ClientTick host) h d = of-at n w host (λ c. client_tick c (c.now + 1)) (slice_get w.clients host) refl (λ c is. let i = d.inc host c is in more-inc (length w.packets) c.who.inc (n + 2) _ (omega arith) (tick-draws (length w.packets) host c w.packets (h.clients host c is) (d.seq host c is))) d
+drawn-on n w (Event.ClientTick host) h d = of-at n w host (λ c. client_tick c (c.now + 1)) (slice_get w.clients host) refl (λ c is. let i = d.inc host c is in more-inc (length w.packets) c.who.inc (n + 2) _ (omega arith) (tick-draws (length w.packets) host c w.packets (h.clients host c is) (has-drawn n w h d host c is))) d
 drawn-on n w (Event.Restart host) h d = of-at n w host restart (slice_get w.clients host) refl (λ c is. let i = d.inc host c is in more-inc (length w.packets) (c.who.inc + 1) (n + 2) _ (omega arith) (restart-draws (length w.packets) c)) d
 drawn-on n w (Event.Crash longest) h d = of-server n w _ (crash-said w.packets w.server longest) d
 
@@ -130,6 +150,8 @@ drawn-first head = record {
   seq = λ host c e. let is : c.seq ≡ 1 = ap (λ k. k.seq) (first-client head.term 0 head.hosts host c e) in omega arith;
   sent = λ host xid r q asked sq. absurd asked;
   asked = λ host xid r v sent of. absurd sent;
+  first = λ host c e. let is : c.seq ≡ 1 = ap (λ k. k.seq) (first-client head.term 0 head.hosts host c e) in omega arith;
+  sent_first = λ host xid r q asked sq. absurd asked;
 }
 
 -- ---- the server
@@ -164,23 +186,32 @@ packet-text p text = has-its-text (datagram_of p.message) (λ xid r is. subst Ca
 
 -- the server hears a packet
 module _ (n : ℕ) (w : World) (few : n < most_events) where
-  server-hears-packet : (k : ℕ) (p : Packet) (to : Party) → CarriesText p.message → IsServerAfter n w.server → IsServerAfter (n + 1) (deliver_to w k p to).server
+  server-hears-packet :
+      (k : ℕ) (p : Packet) (to : Party) → CarriesText p.message → IsServerAfter n w.server → IsServerAfter (n + 1) (deliver_to w k p to).server
   unfolding after_server
   server-hears-packet k p Party.Server text a =
       receive-after n w.server (sending_host p.sender) (length w.packets) (datagram_of p.message) (packet-text p text) a
-  server-hears-packet k p (Party.Client host) text a = later-server n w (deliver_to_client w k host p.message (slice_get w.clients host)) (hearing-server w k host p.message (slice_get w.clients host)) a
+  server-hears-packet k p (Party.Client host) text a =
+      later-server n w (deliver_to_client w k host p.message (slice_get w.clients host)) (hearing-server w k host p.message (slice_get w.clients host)) a
 
-  server-hears-any : (k : ℕ) (o : Option Packet) → ((p : Packet) → o ≡ Some p → CarriesText p.message) → IsServerAfter n w.server → IsServerAfter (n + 1) (deliver w k o).server
+  server-hears-any :
+      (k : ℕ) (o : Option Packet) → ((p : Packet) → o ≡ Some p → CarriesText p.message) → IsServerAfter n w.server
+      → IsServerAfter (n + 1) (deliver w k o).server
   server-hears-any k None text a = later-server n w w refl a
   server-hears-any k (Some p) text a = server-hears-packet k p p.to (text p refl) a
 
   server-on : (event : Event) → IsGiven w event → IsServerAfter n w.server → IsServerAfter (n + 1) (step w event).server
   unfolding after_server
-  server-on (Event.Call host op) given a = later-server n w (at_client w host (λ c. client_call c op) (slice_get w.clients host)) (at-server w host (λ c. client_call c op) (slice_get w.clients host)) a
+  server-on (Event.Call host op) given a =
+      later-server n w (at_client w host (λ c. client_call c op) (slice_get w.clients host))
+      (at-server w host (λ c. client_call c op) (slice_get w.clients host)) a
   server-on (Event.Deliver k) given a = server-hears-any k (slice_get w.packets k) given a
   server-on Event.ServerTick given a = tick-after n w.server (w.server.now + 1) a
-  server-on (Event.ClientTick host) given a = later-server n w (at_client w host (λ c. client_tick c (c.now + 1)) (slice_get w.clients host)) (at-server w host (λ c. client_tick c (c.now + 1)) (slice_get w.clients host)) a
-  server-on (Event.Restart host) given a = later-server n w (at_client w host restart (slice_get w.clients host)) (at-server w host restart (slice_get w.clients host)) a
+  server-on (Event.ClientTick host) given a =
+      later-server n w (at_client w host (λ c. client_tick c (c.now + 1)) (slice_get w.clients host))
+      (at-server w host (λ c. client_tick c (c.now + 1)) (slice_get w.clients host)) a
+  server-on (Event.Restart host) given a =
+      later-server n w (at_client w host restart (slice_get w.clients host)) (at-server w host restart (slice_get w.clients host)) a
   server-on (Event.Crash longest) given a = crash-after n w.server longest few given.0 given.1 a
 
 -- ---- runs

@@ -162,7 +162,9 @@ unowed-parts true false h = absurd (cc)
 unowed-parts false out h = inl refl
 
 -- a later sequence of the kept incarnation, which does not go out of bounds, leaves a row that can be kept
-stays-within : (inc kept seq last : ℕ) (can : Bool) → nat_lt inc kept ≡ false → nat_lt kept inc ≡ false → (seq == last) ≡ false → nat_lt seq last ≡ false → (inc == kept && nat_lt last seq && not can) ≡ false → can ≡ true
+stays-within :
+    (inc kept seq last : ℕ) (can : Bool) → nat_lt inc kept ≡ false → nat_lt kept inc ≡ false → (seq == last) ≡ false → nat_lt seq last ≡ false
+    → (inc == kept && nat_lt last seq && not can) ≡ false → can ≡ true
 stays-within inc kept seq last true young old differs above h = refl
 stays-within inc kept seq last false young old differs above h = grind (arith, nat_tests)
 
@@ -189,7 +191,8 @@ record GoesOut (inc kept seq last : ℕ) (can : Bool) : Type 0 where
 
 goes-parts : (inc kept seq last : ℕ) (can : Bool) → (inc == kept && nat_lt last seq && not can) ≡ true → GoesOut inc kept seq last can
 goes-parts inc kept seq last true h = absurd (bools-cancel (inc == kept) (nat_lt last seq) h)
-goes-parts inc kept seq last false h = record { now = grind (arith, nat_tests); differs = grind (arith, nat_tests); above = grind (arith, nat_tests); past = refl }
+goes-parts inc kept seq last false h =
+    record { now = grind (arith, nat_tests); differs = grind (arith, nat_tests); above = grind (arith, nat_tests); past = refl }
 
 older : (a b : ℕ) → nat_lt a b ≡ true → nat_lt b a ≡ false
 older a b h = grind (arith, nat_tests)
@@ -255,14 +258,18 @@ module _ (s : Server) where
   gets-attr who xid None = said who.host _
   gets-attr who xid (Some f) = said who.host _
 
-  decided-sends : (who : Who) (seq xid : ℕ) (r : Request) (line : HostRow) → nat_lt who.inc line.inc ≡ false → nat_lt line.inc who.inc ≡ false → goes_out s who r line (Some seq) ≡ false → Sends (decided_once s who seq xid r line)
+  decided-sends :
+      (who : Who) (seq xid : ℕ) (r : Request) (line : HostRow) → nat_lt who.inc line.inc ≡ false → nat_lt line.inc who.inc ≡ false
+      → goes_out s who r line (Some seq) ≡ false → Sends (decided_once s who seq xid r line)
   decided-sends who seq xid r line young old stays =
       choice Sends (seq == line.seq) _ _ (λ e. said who.host _) (λ e.
       choice Sends (nat_lt seq line.seq) _ _ (λ f. said who.host _) (λ f.
       choice Sends (can_be_kept (row_after who seq (decide s who r))) _ _ (λ can. committed who seq xid r (decide s who r)) (λ past.
       absurd (true-false _ (stays-within who.inc line.inc seq line.seq _ young old e f stays) past))))
 
-  attach-sends : (who : Who) (xid : ℕ) (line : HostRow) → nat_lt who.inc line.inc ≡ false → (nat_lt line.inc who.inc && not (can_be_kept (row_of_attach who))) ≡ false → Sends (attach s who xid line)
+  attach-sends :
+      (who : Who) (xid : ℕ) (line : HostRow) → nat_lt who.inc line.inc ≡ false → (nat_lt line.inc who.inc && not (can_be_kept (row_of_attach who))) ≡ false
+      → Sends (attach s who xid line)
   attach-sends who xid line young stays =
       choice Sends (nat_lt line.inc who.inc) _ _
       (λ e. choice Sends (can_be_kept (row_of_attach who)) _ _ (λ can. attached who xid) (λ past. absurd (both-hold _ _ e past stays)))
@@ -272,16 +279,22 @@ module _ (s : Server) where
   look-sends serving who xid next r when = when refl
   look-sends (recovering until heard last) who xid next r when = said who.host _
 
-  performs : (who : Who) (xid next : ℕ) (line : HostRow) (r : Request) → nat_lt who.inc line.inc ≡ false → nat_lt line.inc who.inc ≡ false → asker r ≡ Some who → has_reply r ≡ true → is_out_of_bounds s who r line ≡ false → Sends (perform s who xid next line r)
+  performs :
+      (who : Who) (xid next : ℕ) (line : HostRow) (r : Request) → nat_lt who.inc line.inc ≡ false → nat_lt line.inc who.inc ≡ false → asker r ≡ Some who
+      → has_reply r ≡ true → is_out_of_bounds s who r line ≡ false → Sends (perform s who xid next line r)
   performs who xid next line (Request.Create w seq name blocks) young old by has stays = decided-sends who seq xid _ line young old stays
   performs who xid next line (Request.Write w seq file block first last push body) young old by has stays = decided-sends who seq xid _ line young old stays
   performs who xid next line (Request.Resize w seq q file blocks) young old by has stays = decided-sends who seq xid _ line young old stays
   performs who xid next line (Request.Remove w seq q file) young old by has stays = decided-sends who seq xid _ line young old stays
   performs who xid next line (Request.Vacated w file tag) young old by has stays = absurd (cc)
-  performs who xid next line (Request.Lookup w name) young old by has stays = look-sends s.phase who xid next _ (λ p. looks-up who xid (find_name name s.kept.files))
-  performs who xid next line (Request.GetAttr w file) young old by has stays = look-sends s.phase who xid next _ (λ p. gets-attr who xid (find_file file s.kept.files))
-  performs who xid next line (Request.Read w q file block want) young old by has stays = look-sends s.phase who xid next _ (λ p. reads who xid next q block want (find_file file s.kept.files))
-  performs who xid next line (Request.GetLease w file want) young old by has stays = look-sends s.phase who xid next _ (λ p. gets who xid want (find_file file s.kept.files))
+  performs who xid next line (Request.Lookup w name) young old by has stays =
+      look-sends s.phase who xid next _ (λ p. looks-up who xid (find_name name s.kept.files))
+  performs who xid next line (Request.GetAttr w file) young old by has stays =
+      look-sends s.phase who xid next _ (λ p. gets-attr who xid (find_file file s.kept.files))
+  performs who xid next line (Request.Read w q file block want) young old by has stays =
+      look-sends s.phase who xid next _ (λ p. reads who xid next q block want (find_file file s.kept.files))
+  performs who xid next line (Request.GetLease w file want) young old by has stays =
+      look-sends s.phase who xid next _ (λ p. gets who xid want (find_file file s.kept.files))
   performs who xid next line (Request.Attach w) young old by has stays = attach-sends who xid line young stays
   performs who xid next line (Request.Evicted w file tag) young old by has stays = absurd (cc)
   performs who xid next line Request.Null young old by has stays = none-some who by
@@ -290,14 +303,20 @@ module _ (s : Server) where
   unattached who xid (Request.Vacated w file tag) has = absurd (cc)
   unattached who xid other has = said who.host _
 
-  admits : (who : Who) (xid next : ℕ) (r : Request) (line : HostRow) → asker r ≡ Some who → owes_incarnation s who r line ≡ true → Sends (admit s who xid next r line)
+  admits :
+      (who : Who) (xid next : ℕ) (r : Request) (line : HostRow) → asker r ≡ Some who → owes_incarnation s who r line ≡ true
+      → Sends (admit s who xid next r line)
   admits who xid next r line by owed = by-age (nat_lt who.inc line.inc) refl owed
     where
-      attaching : (q : Request) → is_attach q ≡ true → is_out_of_bounds s who q line ≡ false → (nat_lt line.inc who.inc && not (can_be_kept (row_of_attach who))) ≡ false
+      attaching :
+          (q : Request) → is_attach q ≡ true → is_out_of_bounds s who q line ≡ false
+          → (nat_lt line.inc who.inc && not (can_be_kept (row_of_attach who))) ≡ false
       attaching (Request.Attach w) is stays = stays
       attaching other is stays = absurd (cc)
 
-      by-age : (b : Bool) → nat_lt who.inc line.inc ≡ b → (if b then false else has_reply r && not (is_out_of_bounds s who r line)) ≡ true → Sends (admit s who xid next r line)
+      by-age :
+          (b : Bool) → nat_lt who.inc line.inc ≡ b → (if b then false else has_reply r && not (is_out_of_bounds s who r line)) ≡ true
+          → Sends (admit s who xid next r line)
       by-age true old bad = absurd (cc)
       by-age false young has =
           let parts = owed-parts (has_reply r) (is_out_of_bounds s who r line) has in
@@ -309,7 +328,9 @@ module _ (s : Server) where
   requests sender xid next r None by owed = said sender _
   requests sender xid next r (Some who) by owed = step (who.host == sender && nat_lt who.host most_hosts) owed
     where
-      step : (b : Bool) → (if b then owes_incarnation s who r (host_row s.kept who.host) else false) ≡ true → Sends (if b then admit s who xid next r (host_row s.kept who.host) else drops s wrong_host)
+      step :
+          (b : Bool) → (if b then owes_incarnation s who r (host_row s.kept who.host) else false) ≡ true
+          → Sends (if b then admit s who xid next r (host_row s.kept who.host) else drops s wrong_host)
       step true e = admits who xid next r (host_row s.kept who.host) by e
       step false e = absurd (cc)
 
@@ -367,7 +388,9 @@ module _ (s : Server) where
       choice Silent (nat_lt seq line.seq) _ _ (λ f. absurd (true-false _ f parts.above)) (λ f.
       choice Silent (can_be_kept (row_after who seq (decide s who r))) _ _ (λ can. absurd (true-false _ can parts.past)) (λ past. dropped _)))
 
-  admits-past : (who : Who) (xid next seq : ℕ) (r : Request) (line : HostRow) → is_attach r ≡ false → goes_out s who r line (Some seq) ≡ true → perform s who xid next line r ≡ decided_once s who seq xid r line → Silent (admit s who xid next r line)
+  admits-past :
+      (who : Who) (xid next seq : ℕ) (r : Request) (line : HostRow) → is_attach r ≡ false → goes_out s who r line (Some seq) ≡ true
+      → perform s who xid next line r ≡ decided_once s who seq xid r line → Silent (admit s who xid next r line)
   admits-past who xid next seq r line other out is =
       let parts = goes-parts who.inc line.inc seq line.seq (can_be_kept (row_after who seq (decide s who r))) out in
       choice Silent (is_attach r) _ _ (λ e. absurd (true-false _ e other)) (λ e.
@@ -380,19 +403,24 @@ module _ (s : Server) where
       (λ e. choice Silent (can_be_kept (row_of_attach who)) _ _ (λ can. absurd (both-fail _ _ can out)) (λ past. dropped _))
       (λ e. absurd (first-fails _ _ e out))
   out-silent who xid next (Request.Create w seq name blocks) line out = admits-past who xid next seq (Request.Create w seq name blocks) line refl out refl
-  out-silent who xid next (Request.Write w seq file block first last push body) line out = admits-past who xid next seq (Request.Write w seq file block first last push body) line refl out refl
+  out-silent who xid next (Request.Write w seq file block first last push body) line out =
+      admits-past who xid next seq (Request.Write w seq file block first last push body) line refl out refl
   out-silent who xid next (Request.Resize w seq q file blocks) line out = admits-past who xid next seq (Request.Resize w seq q file blocks) line refl out refl
   out-silent who xid next (Request.Remove w seq q file) line out = admits-past who xid next seq (Request.Remove w seq q file) line refl out refl
   out-silent who xid next other line out = absurd (cc)
 
-  admitted-silent : (who : Who) (xid next : ℕ) (r : Request) (line : HostRow) → CanBe (request xid r) → owes_incarnation s who r line ≡ false → Silent (admit s who xid next r line)
+  admitted-silent :
+      (who : Who) (xid next : ℕ) (r : Request) (line : HostRow) → CanBe (request xid r) → owes_incarnation s who r line ≡ false
+      → Silent (admit s who xid next r line)
   admitted-silent who xid next r line can unowed = by-age (nat_lt who.inc line.inc) refl unowed
     where
       by-cause : nat_lt who.inc line.inc ≡ false → (has_reply r ≡ false) ⊎ (is_out_of_bounds s who r line ≡ true) → Silent (admit s who xid next r line)
       by-cause young (inl has) = mute who xid next r line can young has
       by-cause young (inr out) = out-silent who xid next r line out
 
-      by-age : (b : Bool) → nat_lt who.inc line.inc ≡ b → (if b then false else has_reply r && not (is_out_of_bounds s who r line)) ≡ false → Silent (admit s who xid next r line)
+      by-age :
+          (b : Bool) → nat_lt who.inc line.inc ≡ b → (if b then false else has_reply r && not (is_out_of_bounds s who r line)) ≡ false
+          → Silent (admit s who xid next r line)
       by-age true old e = old-silent who xid next r line old (older who.inc line.inc old)
       by-age false young has = by-cause young (unowed-parts (has_reply r) (is_out_of_bounds s who r line) has)
 
@@ -400,7 +428,9 @@ module _ (s : Server) where
   requests-silent sender xid next r None can unowed = absurd (cc)
   requests-silent sender xid next r (Some who) can unowed = step (who.host == sender && nat_lt who.host most_hosts) unowed
     where
-      step : (b : Bool) → (if b then owes_incarnation s who r (host_row s.kept who.host) else false) ≡ false → Silent (if b then admit s who xid next r (host_row s.kept who.host) else drops s wrong_host)
+      step :
+          (b : Bool) → (if b then owes_incarnation s who r (host_row s.kept who.host) else false) ≡ false
+          → Silent (if b then admit s who xid next r (host_row s.kept who.host) else drops s wrong_host)
       step true e = admitted-silent who xid next r (host_row s.kept who.host) can e
       step false e = dropped wrong_host
 

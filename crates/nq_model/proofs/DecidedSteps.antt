@@ -58,7 +58,10 @@ module _ (s : Server) (phase : Phase) (who : Who) (seq xid : ℕ) (r : Request) 
   either false x y e f this that = that
 
   -- whatever is done aside, once the kept state and the rest are as said
-  does : (d : Decision) (e : Effect) (kept : Kept) (beside : Aside) → applied s.kept (change_with who seq e) ≡ kept → aside_in s phase who r e.verdict ≡ beside → commits who seq xid r d ≡ step_of s who xid kept beside (verdict_reply who.inc e.verdict e.value r) → row_after who seq d ≡ row_with who seq e → Does d e
+  does :
+      (d : Decision) (e : Effect) (kept : Kept) (beside : Aside) → applied s.kept (change_with who seq e) ≡ kept → aside_in s phase who r e.verdict ≡ beside
+      → commits who seq xid r d ≡ step_of s who xid kept beside (verdict_reply who.inc e.verdict e.value r) → row_after who seq d ≡ row_with who seq e
+      → Does d e
   does d e kept beside k a c row = (
     c
         ∙ ap (λ answer. step_of s who xid kept beside answer) (sym (plain e.verdict e.value))
@@ -70,12 +73,16 @@ module _ (s : Server) (phase : Phase) (who : Who) (seq xid : ℕ) (r : Request) 
   -- a decision without effect, and with nothing done aside
   declines : (verdict : Verdict) → aside_in s phase who r verdict ≡ nothing_aside s → Does (decides s verdict) (no_effect verdict)
   unfolding decides no_effect commits keeping nothing_aside
-  declines verdict a = does (decides s verdict) (no_effect verdict) (with_row s.kept who.host (row_with who seq (no_effect verdict))) (nothing_aside s) (applied-none s.kept who seq verdict) a refl refl
+  declines verdict a =
+      does (decides s verdict) (no_effect verdict) (with_row s.kept who.host (row_with who seq (no_effect verdict))) (nothing_aside s)
+      (applied-none s.kept who seq verdict) a refl refl
 
   -- the change is put off, where a row conflicts
   puts-off : (file : ℕ) → aside_in s phase who r Verdict.TryLater ≡ put_off_aside s who file → Does (puts_off s who file (with_rows s.table (marked file who.host Access.Write s.table.rows))) (no_effect Verdict.TryLater)
   unfolding puts_off no_effect commits keeping put_off_aside after_notices
-  puts-off file a = does _ (no_effect Verdict.TryLater) (with_row s.kept who.host (row_with who seq (no_effect Verdict.TryLater))) (put_off_aside s who file) (applied-none s.kept who seq Verdict.TryLater) a refl refl
+  puts-off file a =
+      does _ (no_effect Verdict.TryLater) (with_row s.kept who.host (row_with who seq (no_effect Verdict.TryLater))) (put_off_aside s who file)
+      (applied-none s.kept who seq Verdict.TryLater) a refl refl
 
   unless-conflict-by : (f : File) (change : Decision) (e : Effect) (o own : Option Row) → aside_in s phase who r Verdict.TryLater ≡ put_off_aside s who f.id → Does change e → Does (unless_asked s who f.id (ask_past s.table (to_change s who f) o own) change) (if is_some o then no_effect Verdict.TryLater else e)
   unfolding put_off free
@@ -225,7 +232,10 @@ remove-by s (recovering until heard known) who w seq n xid q file = declines s (
 -- ---- by the kept row of the host
 
 -- the four tests of incarnation and sequence choose alike
-tests-alike : (s : Server) (who : Who) (seq xid : ℕ) (r : Request) (line : HostRow) (step : ServerStep) (fresh : Decided) (late early same below : Bool) → decided_answer who.inc line.verdict line.value r ≡ verdict_reply who.inc line.verdict line.value r → step ≡ decided_step s who xid r fresh → (if late then drops s old_incarnation else (if early then refuses s who xid Refusal.NotAttached else (if same then replies s who.host xid (verdict_reply who.inc line.verdict line.value r) else (if below then refuses s who xid Refusal.Old else step)))) ≡ decided_step s who xid r (or_fresh (if late then Some OldIncarnation else (if early then Some NotAttached else (if same then Some (Again line.verdict line.value) else (if below then Some Old else None)))) fresh)
+tests-alike :
+    (s : Server) (who : Who) (seq xid : ℕ) (r : Request) (line : HostRow) (step : ServerStep) (fresh : Decided) (late early same below : Bool)
+    → decided_answer who.inc line.verdict line.value r ≡ verdict_reply who.inc line.verdict line.value r → step ≡ decided_step s who xid r fresh
+    → (if late then drops s old_incarnation else (if early then refuses s who xid Refusal.NotAttached else (if same then replies s who.host xid (verdict_reply who.inc line.verdict line.value r) else (if below then refuses s who xid Refusal.Old else step)))) ≡ decided_step s who xid r (or_fresh (if late then Some OldIncarnation else (if early then Some NotAttached else (if same then Some (Again line.verdict line.value) else (if below then Some Old else None)))) fresh)
 tests-alike s who seq xid r line step fresh true early same below plain f = refl
 tests-alike s who seq xid r line step fresh false true same below plain f = refl
 tests-alike s who seq xid r line step fresh false false true below plain f = ap (replies s who.host xid) (sym plain)
@@ -233,11 +243,16 @@ tests-alike s who seq xid r line step fresh false false false true plain f = ref
 tests-alike s who seq xid r line step fresh false false false false plain f = f
 
 -- and so does the test of the row that is left
-within-alike : (s : Server) (who : Who) (seq xid : ℕ) (r : Request) (d : Decision) (e : Effect) → commits who seq xid r d ≡ decided_step s who xid r (Fresh e.verdict e.value) → row_after who seq d ≡ row_with who seq e → commits_within s who seq xid r d ≡ decided_step s who xid r (fresh_decided who seq e)
+within-alike :
+    (s : Server) (who : Who) (seq xid : ℕ) (r : Request) (d : Decision) (e : Effect)
+    → commits who seq xid r d ≡ decided_step s who xid r (Fresh e.verdict e.value) → row_after who seq d ≡ row_with who seq e
+    → commits_within s who seq xid r d ≡ decided_step s who xid r (fresh_decided who seq e)
 within-alike s who seq xid r d e step row =
     ap (λ line. if can_be_kept line then commits who seq xid r d else drops s out_of_bounds) row ∙ by (can_be_kept (row_with who seq e))
   where
-    by : (b : Bool) → (if b then commits who seq xid r d else drops s out_of_bounds) ≡ decided_step s who xid r (if b then Fresh e.verdict e.value else OutOfBounds)
+    by :
+        (b : Bool)
+        → (if b then commits who seq xid r d else drops s out_of_bounds) ≡ decided_step s who xid r (if b then Fresh e.verdict e.value else OutOfBounds)
     by true = step
     by false = refl
 
@@ -245,7 +260,9 @@ attaches-fresh : (s : Server) (who : Who) (xid : ℕ) → attaches s who xid ≡
 unfolding attaches keeping_with rows_aside no_effect fresh_step change_with kept_as with_row
 attaches-fresh s who xid = refl
 
-attach-alike : (s : Server) (who : Who) (xid : ℕ) (line : HostRow) (later within earlier : Bool) → (if later then (if within then attaches s who xid else drops s out_of_bounds) else (if earlier then drops s old_incarnation else replies s who.host xid (Answer.Attach who.inc))) ≡ decided_step s who xid (Attach who) (if later then (if within then Fresh Verdict.Done 0 else OutOfBounds) else (if earlier then OldIncarnation else Again line.verdict line.value))
+attach-alike :
+    (s : Server) (who : Who) (xid : ℕ) (line : HostRow) (later within earlier : Bool)
+    → (if later then (if within then attaches s who xid else drops s out_of_bounds) else (if earlier then drops s old_incarnation else replies s who.host xid (Answer.Attach who.inc))) ≡ decided_step s who xid (Attach who) (if later then (if within then Fresh Verdict.Done 0 else OutOfBounds) else (if earlier then OldIncarnation else Again line.verdict line.value))
 attach-alike s who xid line true true earlier = attaches-fresh s who xid
 attach-alike s who xid line true false earlier = refl
 attach-alike s who xid line false within true = refl
@@ -257,27 +274,31 @@ AdmitsDecided s who xid next r = admit s who xid next r (host_row s.kept who.hos
 
 admits-create : (s : Server) (who : Who) (xid next seq : ℕ) (name : List ℕ) (blocks : ℕ) → IsNextFree s.kept → AdmitsDecided s who xid next (Create who seq name blocks)
 admits-create s who xid next seq name blocks free =
+    let r : Request = Create who seq name blocks in
     let does = create-by s s.phase who who seq seq xid name blocks free in
-    tests-alike s who seq xid (Create who seq name blocks) (host_row s.kept who.host) (commits_within s who seq xid (Create who seq name blocks) (decide s who (Create who seq name blocks))) _ _ _ _ _ refl
-    (within-alike s who seq xid (Create who seq name blocks) (decide s who (Create who seq name blocks)) (effect_of s.kept (gate_of s who (Create who seq name blocks)) (Create who seq name blocks)) does.0 does.1)
+    tests-alike s who seq xid r (host_row s.kept who.host) (commits_within s who seq xid r (decide s who r)) _ _ _ _ _ refl
+    (within-alike s who seq xid r (decide s who r) (effect_of s.kept (gate_of s who r) r) does.0 does.1)
 
 admits-write : (s : Server) (who : Who) (xid next seq file block first last : ℕ) (push : Option PushBase) (body : List ℕ) → AdmitsDecided s who xid next (Write who seq file block first last push body)
 admits-write s who xid next seq file block first last push body =
+    let r : Request = Write who seq file block first last push body in
     let does = write-by s s.phase who who seq seq xid file block first last push body in
-    tests-alike s who seq xid (Write who seq file block first last push body) (host_row s.kept who.host) (commits_within s who seq xid (Write who seq file block first last push body) (decide s who (Write who seq file block first last push body))) _ _ _ _ _ refl
-    (within-alike s who seq xid (Write who seq file block first last push body) (decide s who (Write who seq file block first last push body)) (effect_of s.kept (gate_of s who (Write who seq file block first last push body)) (Write who seq file block first last push body)) does.0 does.1)
+    tests-alike s who seq xid r (host_row s.kept who.host) (commits_within s who seq xid r (decide s who r)) _ _ _ _ _ refl
+    (within-alike s who seq xid r (decide s who r) (effect_of s.kept (gate_of s who r) r) does.0 does.1)
 
 admits-resize : (s : Server) (who : Who) (xid next seq q file blocks : ℕ) → AdmitsDecided s who xid next (Resize who seq q file blocks)
 admits-resize s who xid next seq q file blocks =
+    let r : Request = Resize who seq q file blocks in
     let does = resize-by s s.phase who who seq seq xid q file blocks in
-    tests-alike s who seq xid (Resize who seq q file blocks) (host_row s.kept who.host) (commits_within s who seq xid (Resize who seq q file blocks) (decide s who (Resize who seq q file blocks))) _ _ _ _ _ refl
-    (within-alike s who seq xid (Resize who seq q file blocks) (decide s who (Resize who seq q file blocks)) (effect_of s.kept (gate_of s who (Resize who seq q file blocks)) (Resize who seq q file blocks)) does.0 does.1)
+    tests-alike s who seq xid r (host_row s.kept who.host) (commits_within s who seq xid r (decide s who r)) _ _ _ _ _ refl
+    (within-alike s who seq xid r (decide s who r) (effect_of s.kept (gate_of s who r) r) does.0 does.1)
 
 admits-remove : (s : Server) (who : Who) (xid next seq q file : ℕ) → AdmitsDecided s who xid next (Remove who seq q file)
 admits-remove s who xid next seq q file =
+    let r : Request = Remove who seq q file in
     let does = remove-by s s.phase who who seq seq xid q file in
-    tests-alike s who seq xid (Remove who seq q file) (host_row s.kept who.host) (commits_within s who seq xid (Remove who seq q file) (decide s who (Remove who seq q file))) _ _ _ _ _ refl
-    (within-alike s who seq xid (Remove who seq q file) (decide s who (Remove who seq q file)) (effect_of s.kept (gate_of s who (Remove who seq q file)) (Remove who seq q file)) does.0 does.1)
+    tests-alike s who seq xid r (host_row s.kept who.host) (commits_within s who seq xid r (decide s who r)) _ _ _ _ _ refl
+    (within-alike s who seq xid r (decide s who r) (effect_of s.kept (gate_of s who r) r) does.0 does.1)
 
 -- a request of a host that is decided once is answered as it is decided
 pub admits-decided : (s : Server) (who : Who) (xid next : ℕ) (r : Request) → asker r ≡ Some who → is_decided_once r ≡ true → IsNextFree s.kept → AdmitsDecided s who xid next r

@@ -49,7 +49,9 @@ unchanged Given before after same = record { change = None; is_applied = same; f
 once-of : (Given : Type 0) (before after : Kept) → IsChangedWithin Given before after → IsChangedOnce before after
 once-of Given before after c = record { change = c.change; is_applied = c.is_applied; fits = c.fits }
 
-within-by : (before after : Kept) (change : Option Change) → IsWithinBounds before → after ≡ applied_if before change → IfSome change (Fits before) → IfSome change (IsChangeWithin before) → IsWithinBounds after
+within-by :
+    (before after : Kept) (change : Option Change) → IsWithinBounds before → after ≡ applied_if before change → IfSome change (Fits before)
+    → IfSome change (IsChangeWithin before) → IsWithinBounds after
 within-by before after None within is fits own = subst IsWithinBounds (sym is) within
 within-by before after (Some change) within is fits own = subst IsWithinBounds (sym is) (within-applied before change within fits own)
 
@@ -63,7 +65,9 @@ module _ (s : Server) (within : IsWithinBounds s.kept) (Given : Type 0) where
   Once t = IsChangedWithin Given s.kept t.server.kept × (t.server.longest ≡ s.longest)
 
   -- a request that is decided once
-  decided-once : (who : Who) (xid : ℕ) (r : Request) → (Given → HasText r) → asker r ≡ Some who → who.host < most_hosts → (d : Decided) → decided s.kept (gate_of s who r) r ≡ d → Once (decided_step s who xid r d)
+  decided-once :
+      (who : Who) (xid : ℕ) (r : Request) → (Given → HasText r) → asker r ≡ Some who → who.host < most_hosts → (d : Decided)
+      → decided s.kept (gate_of s who r) r ≡ d → Once (decided_step s who xid r d)
   unfolding fresh_step drops says
   decided-once who xid r text by few (Fresh verdict value) is = (
     record {
@@ -80,7 +84,9 @@ module _ (s : Server) (within : IsWithinBounds s.kept) (Given : Type 0) where
   decided-once who xid r text by few NotAttached is = (unchanged Given s.kept s.kept refl, refl)
   decided-once who xid r text by few OutOfBounds is = (unchanged Given s.kept s.kept refl, refl)
 
-  admits-once : (who : Who) (xid next : ℕ) (r : Request) → (Given → HasText r) → asker r ≡ Some who → is_decided_once r ≡ true → who.host < most_hosts → Once (admit s who xid next r (host_row s.kept who.host))
+  admits-once :
+      (who : Who) (xid next : ℕ) (r : Request) → (Given → HasText r) → asker r ≡ Some who → is_decided_once r ≡ true → who.host < most_hosts
+      → Once (admit s who xid next r (host_row s.kept who.host))
   admits-once who xid next r text by once few =
       subst Once (sym (admits-decided s who xid next r by once (next-free s.kept (orderly-within s.kept within)))) (decided-once who xid r text by few (decided s.kept (gate_of s who r) r) refl)
 
@@ -167,16 +173,24 @@ module _ (s : Server) (within : IsWithinBounds s.kept) (Given : Type 0) where
       choice Once (nat_lt kept_inc who.inc) _ _ (λ later. not-attached-once who xid r) (λ current. performed))
 
   -- a request of a host
-  requests-once : (who : Who) (xid next : ℕ) (r : Request) → (Given → HasText r) → asker r ≡ Some who → who.host < most_hosts → Once (admit s who xid next r (host_row s.kept who.host))
+  requests-once :
+      (who : Who) (xid next : ℕ) (r : Request) → (Given → HasText r) → asker r ≡ Some who → who.host < most_hosts
+      → Once (admit s who xid next r (host_row s.kept who.host))
   requests-once who xid next Null text by few = absurd (cc)
   requests-once who xid next (Attach w) text by few = admits-once who xid next (Attach w) text by refl few
-  requests-once who xid next (Lookup w name) text by few = asked-once who xid next (Lookup w name) (host_row s.kept who.host).inc _ (looks s.phase who xid next (Lookup w name))
+  requests-once who xid next (Lookup w name) text by few =
+      asked-once who xid next (Lookup w name) (host_row s.kept who.host).inc _ (looks s.phase who xid next (Lookup w name))
   requests-once who xid next (Create w seq name blocks) text by few = admits-once who xid next (Create w seq name blocks) text by refl few
-  requests-once who xid next (GetAttr w file) text by few = asked-once who xid next (GetAttr w file) (host_row s.kept who.host).inc _ (looks s.phase who xid next (GetAttr w file))
-  requests-once who xid next (Read w q file block want) text by few = asked-once who xid next (Read w q file block want) (host_row s.kept who.host).inc _ (looks s.phase who xid next (Read w q file block want))
-  requests-once who xid next (Write w seq file block first last push body) text by few = admits-once who xid next (Write w seq file block first last push body) text by refl few
-  requests-once who xid next (GetLease w file want) text by few = asked-once who xid next (GetLease w file want) (host_row s.kept who.host).inc _ (looks s.phase who xid next (GetLease w file want))
-  requests-once who xid next (Vacated w file tag) text by few = asked-once who xid next (Vacated w file tag) (host_row s.kept who.host).inc _ (vacated-once who file tag)
+  requests-once who xid next (GetAttr w file) text by few =
+      asked-once who xid next (GetAttr w file) (host_row s.kept who.host).inc _ (looks s.phase who xid next (GetAttr w file))
+  requests-once who xid next (Read w q file block want) text by few =
+      asked-once who xid next (Read w q file block want) (host_row s.kept who.host).inc _ (looks s.phase who xid next (Read w q file block want))
+  requests-once who xid next (Write w seq file block first last push body) text by few =
+      admits-once who xid next (Write w seq file block first last push body) text by refl few
+  requests-once who xid next (GetLease w file want) text by few =
+      asked-once who xid next (GetLease w file want) (host_row s.kept who.host).inc _ (looks s.phase who xid next (GetLease w file want))
+  requests-once who xid next (Vacated w file tag) text by few =
+      asked-once who xid next (Vacated w file tag) (host_row s.kept who.host).inc _ (vacated-once who file tag)
   requests-once who xid next (Evicted w file tag) text by few = asked-once who xid next (Evicted w file tag) (host_row s.kept who.host).inc _ quiet-once
   requests-once who xid next (Resize w seq q file blocks) text by few = admits-once who xid next (Resize w seq q file blocks) text by refl few
   requests-once who xid next (Remove w seq q file) text by few = admits-once who xid next (Remove w seq q file) text by refl few
@@ -247,7 +261,9 @@ module _ (s : Server) (within : IsWithinBounds s.kept) (Given : Type 0) where
   boots-next : (kept : Kept) (longest : ℕ) → kept.next ≤ (booted_heads kept longest).next
   boots-next kept longest = choice (λ (heads : Heads). kept.next ≤ heads.next) (kept.opened == 0) _ _ (λ first. omega arith) (λ later. omega arith)
 
-  crashes-once : (longest : ℕ) → (Given → (s.kept.boot + 1 < 2 ^ 31) × (shortest_term ≤ longest) × (longest ≤ longest_term)) → IsChangedWithin Given s.kept (crash s longest).server.kept
+  crashes-once :
+      (longest : ℕ) → (Given → (s.kept.boot + 1 < 2 ^ 31) × (shortest_term ≤ longest) × (longest ≤ longest_term))
+      → IsChangedWithin Given s.kept (crash s longest).server.kept
   unfolding crash boot
   crashes-once longest terms = record {
     change = Some (change_of_heads (booted_heads s.kept longest));

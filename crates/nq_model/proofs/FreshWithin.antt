@@ -31,7 +31,10 @@ below-ends : (row : HostRow) → can_be_kept row ≡ true → IsBelowEnds row
 below-ends row can = record { inc = grind (arith, nat_tests); seq = grind (arith, nat_tests); value = grind (arith, nat_tests) }
 
 -- only a request whose row can be kept is decided as fresh
-fresh-by : (verdict v : Verdict) (value n : ℕ) (older early same below can : Bool) (line : HostRow) → or_fresh (if older then Some OldIncarnation else (if early then Some NotAttached else (if same then Some (Again line.verdict line.value) else (if below then Some Old else None)))) (if can then Fresh v n else OutOfBounds) ≡ Fresh verdict value → can ≡ true
+fresh-by :
+    (verdict v : Verdict) (value n : ℕ) (older early same below can : Bool) (line : HostRow)
+    → or_fresh (if older then Some OldIncarnation else (if early then Some NotAttached else (if same then Some (Again line.verdict line.value) else (if below then Some Old else None)))) (if can then Fresh v n else OutOfBounds) ≡ Fresh verdict value
+    → can ≡ true
 fresh-by verdict v value n true early same below can line is = absurd (cc)
 fresh-by verdict v value n false true same below can line is = absurd (cc)
 fresh-by verdict v value n false false true below can line is = absurd (cc)
@@ -39,17 +42,24 @@ fresh-by verdict v value n false false false true can line is = absurd (cc)
 fresh-by verdict v value n false false false false true line is = refl
 fresh-by verdict v value n false false false false false line is = absurd (cc)
 
-sequence-can : (who : Who) (seq : ℕ) (line : HostRow) (effect : Effect) (verdict : Verdict) (value : ℕ) → sequence_decided who seq line effect ≡ Fresh verdict value → can_be_kept (row_with who seq effect) ≡ true
+sequence-can :
+    (who : Who) (seq : ℕ) (line : HostRow) (effect : Effect) (verdict : Verdict) (value : ℕ) → sequence_decided who seq line effect ≡ Fresh verdict value
+    → can_be_kept (row_with who seq effect) ≡ true
 sequence-can who seq line effect verdict value is =
     fresh-by verdict effect.verdict value effect.value (nat_lt who.inc line.inc) (nat_lt line.inc who.inc) (seq == line.seq) (nat_lt seq line.seq) (can_be_kept (row_with who seq effect)) line is
 
-attached-by : (verdict v : Verdict) (value n : ℕ) (later older can : Bool) (line : HostRow) → (if later then (if can then Fresh v n else OutOfBounds) else (if older then OldIncarnation else Again line.verdict line.value)) ≡ Fresh verdict value → can ≡ true
+attached-by :
+    (verdict v : Verdict) (value n : ℕ) (later older can : Bool) (line : HostRow)
+    → (if later then (if can then Fresh v n else OutOfBounds) else (if older then OldIncarnation else Again line.verdict line.value)) ≡ Fresh verdict value
+    → can ≡ true
 attached-by verdict v value n true older true line is = refl
 attached-by verdict v value n true older false line is = absurd (cc)
 attached-by verdict v value n false true can line is = absurd (cc)
 attached-by verdict v value n false false can line is = absurd (cc)
 
-attach-can : (who : Who) (line : HostRow) (verdict : Verdict) (value : ℕ) → attach_decided who line ≡ Fresh verdict value → can_be_kept (row_with who 0 (no_effect Verdict.Done)) ≡ true
+attach-can :
+    (who : Who) (line : HostRow) (verdict : Verdict) (value : ℕ) → attach_decided who line ≡ Fresh verdict value
+    → can_be_kept (row_with who 0 (no_effect Verdict.Done)) ≡ true
 unfolding no_effect
 attach-can who line verdict value is =
     attached-by verdict Verdict.Done value 0 (nat_lt line.inc who.inc) (nat_lt who.inc line.inc) (can_be_kept (row_with who 0 (no_effect Verdict.Done))) line is
@@ -93,25 +103,37 @@ module _ (kept : Kept) (within : IsWithinBounds kept) where
     unfolding removal
     removal-within below = record { file = tt; block = tt; heads = tt }
 
-    push-within : (boot : ℕ) (held : Bool) (block : ℕ) (base : PushBase) (body : List ℕ) → IsBody body → StaysWithin (effect_of_push boot held (row_of f) block base body)
+    push-within :
+        (boot : ℕ) (held : Bool) (block : ℕ) (base : PushBase) (body : List ℕ) → IsBody body
+        → StaysWithin (effect_of_push boot held (row_of f) block base body)
     push-within boot held block base body is_body = choice StaysWithin _ _ _ (λ lets. write-within block body is_body) (λ late. none-within Verdict.Fenced)
 
-    write-in-within : (boot : ℕ) (conflict held : Bool) (block : ℕ) (push : Option PushBase) (body : List ℕ) → IsBody body → StaysWithin (effect_of_write_in boot conflict held (row_of f) block push body)
-    write-in-within boot conflict held block None body is_body = choice StaysWithin conflict _ _ (λ c. none-within Verdict.TryLater) (λ c. write-within block body is_body)
+    write-in-within :
+        (boot : ℕ) (conflict held : Bool) (block : ℕ) (push : Option PushBase) (body : List ℕ) → IsBody body
+        → StaysWithin (effect_of_write_in boot conflict held (row_of f) block push body)
+    write-in-within boot conflict held block None body is_body =
+        choice StaysWithin conflict _ _ (λ c. none-within Verdict.TryLater) (λ c. write-within block body is_body)
     write-in-within boot conflict held block (Some base) body is_body = push-within boot held block base body is_body
 
-  writes-within : (boot : ℕ) (conflict held : Bool) (file block : ℕ) (push : Option PushBase) (body : List ℕ) → IsBody body → (o : Option File) → find_file file kept.files ≡ o → StaysWithin (effect_of_write boot conflict held (row_of_found o) block push body)
+  writes-within :
+      (boot : ℕ) (conflict held : Bool) (file block : ℕ) (push : Option PushBase) (body : List ℕ) → IsBody body → (o : Option File)
+      → find_file file kept.files ≡ o → StaysWithin (effect_of_write boot conflict held (row_of_found o) block push body)
   writes-within boot conflict held file block push body is_body None found = none-within Verdict.Stale
-  writes-within boot conflict held file block push body is_body (Some f) found = choice StaysWithin _ _ _ (λ past. none-within Verdict.Invalid) (λ below. write-in-within file f found boot conflict held block push body is_body)
+  writes-within boot conflict held file block push body is_body (Some f) found =
+      choice StaysWithin _ _ _ (λ past. none-within Verdict.Invalid) (λ below. write-in-within file f found boot conflict held block push body is_body)
 
-  create-within : (name : List ℕ) (blocks : ℕ) → IsName name → StaysWithin (effect_of_create (space_of kept) (heads_of kept) (is_some (find_name name kept.files)) name blocks)
+  create-within :
+      (name : List ℕ) (blocks : ℕ) → IsName name
+      → StaysWithin (effect_of_create (space_of kept) (heads_of kept) (is_some (find_name name kept.files)) name blocks)
   create-within name blocks named =
       choice StaysWithin (blocks == 0 || nat_lt most_blocks_of_file blocks) _ _ (λ bad. none-within Verdict.Invalid) (λ good.
       choice StaysWithin (is_some (find_name name kept.files)) _ _ (λ there. none-within Verdict.Exist) (λ free.
       choice StaysWithin (nat_le most_files (length kept.files) || nat_lt most_blocks (blocks_in_all kept.files + blocks) || nat_le most_ids kept.next) _ _ (λ full. none-within Verdict.NoSpace) (λ room.
       creation-within name blocks named (grind (arith, nat_tests)))))
 
-  resize-within : (conflict : Bool) (file blocks : ℕ) (o : Option File) → find_file file kept.files ≡ o → StaysWithin (effect_of_resize (blocks_in_all kept.files) conflict (row_of_found o) blocks)
+  resize-within :
+      (conflict : Bool) (file blocks : ℕ) (o : Option File) → find_file file kept.files ≡ o
+      → StaysWithin (effect_of_resize (blocks_in_all kept.files) conflict (row_of_found o) blocks)
   resize-within conflict file blocks None found = none-within Verdict.Stale
   resize-within conflict file blocks (Some f) found =
       choice StaysWithin (blocks == 0 || nat_lt most_blocks_of_file blocks) _ _ (λ bad. none-within Verdict.Invalid) (λ good.
@@ -122,21 +144,26 @@ module _ (kept : Kept) (within : IsWithinBounds kept) where
   remove-within conflict file None found = none-within Verdict.Stale
   remove-within conflict file (Some f) found = choice StaysWithin _ _ _ (λ c. none-within Verdict.TryLater) (λ c. removal-within file f found)
 
-  recovering-within : (opened file block : ℕ) (push : Option PushBase) (body : List ℕ) → IsBody body → StaysWithin (effect_of_write_recovering opened (row_of_found (find_file file kept.files)) block push body)
+  recovering-within :
+      (opened file block : ℕ) (push : Option PushBase) (body : List ℕ) → IsBody body
+      → StaysWithin (effect_of_write_recovering opened (row_of_found (find_file file kept.files)) block push body)
   recovering-within opened file block None body is_body = none-within Verdict.TryLater
   recovering-within opened file block (Some base) body is_body = writes-within opened false true file block (Some base) body is_body (find_file file kept.files) refl
 
   effect-within : (gate : Gate) (r : Request) → HasText r → StaysWithin (effect_of kept gate r)
   effect-within gate (Attach w) text = none-within Verdict.Done
   effect-within (Serving boot conflict held) (Create w n name blocks) text = create-within name blocks text
-  effect-within (Serving boot conflict held) (Write w n file block first last push body) text = writes-within boot conflict held file block push body text (find_file file kept.files) refl
+  effect-within (Serving boot conflict held) (Write w n file block first last push body) text =
+      writes-within boot conflict held file block push body text (find_file file kept.files) refl
   effect-within (Serving boot conflict held) (Resize w n q file blocks) text = resize-within conflict file blocks (find_file file kept.files) refl
   effect-within (Serving boot conflict held) (Remove w n q file) text = remove-within conflict file (find_file file kept.files) refl
   effect-within (Serving boot conflict held) other text = none-within Verdict.TryLater
   effect-within (Recovering opened) (Write w n file block first last push body) text = recovering-within opened file block push body text
   effect-within (Recovering opened) other text = none-within Verdict.TryLater
 
-  change-within : (who : Who) (seq : ℕ) (effect : Effect) → can_be_kept (row_with who seq effect) ≡ true → StaysWithin effect → IsChangeWithin kept (change_with who seq effect)
+  change-within :
+      (who : Who) (seq : ℕ) (effect : Effect) → can_be_kept (row_with who seq effect) ≡ true → StaysWithin effect
+      → IsChangeWithin kept (change_with who seq effect)
   unfolding change_with
   change-within who seq effect can stays =
       let ends = below-ends (row_with who seq effect) can in
@@ -149,8 +176,11 @@ module _ (kept : Kept) (within : IsWithinBounds kept) where
       }
 
   -- the numbers of the change of a fresh request
-  pub fresh-within : (gate : Gate) (r : Request) (verdict : Verdict) (value : ℕ) → decided kept gate r ≡ Fresh verdict value → HasText r → IsChangeWithin kept (fresh_change kept gate r)
-  fresh-within gate (Attach w) verdict value is text = change-within w 0 _ (attach-can w (host_row kept w.host) verdict value is) (effect-within gate (Attach w) text)
+  pub fresh-within :
+      (gate : Gate) (r : Request) (verdict : Verdict) (value : ℕ) → decided kept gate r ≡ Fresh verdict value → HasText r
+      → IsChangeWithin kept (fresh_change kept gate r)
+  fresh-within gate (Attach w) verdict value is text =
+      change-within w 0 _ (attach-can w (host_row kept w.host) verdict value is) (effect-within gate (Attach w) text)
   fresh-within gate (Create w n name blocks) verdict value is text =
       let effect : Effect = effect_of kept gate (Create w n name blocks) in
       change-within w n effect (sequence-can w n (host_row kept w.host) effect verdict value is) (effect-within gate (Create w n name blocks) text)

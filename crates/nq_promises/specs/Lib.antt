@@ -35,6 +35,7 @@ pub mod TagsAreInOrder
 pub mod OneRequestPerSequence
 pub mod RowsStandApart
 pub mod RepliesAreOwed
+pub mod RepliesTellWhatWas
 pub mod RecoveriesWait
 -- tests of entries, by which schedules are shown to lead to what the laws speak of
 pub mod Witnesses

@@ -1,0 +1,3 @@
+pub mod RunTells
+pub mod ServerTells
+pub mod SomeTold
