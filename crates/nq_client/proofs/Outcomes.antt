@@ -1,5 +1,5 @@
 -- What comes of a step.
-use Rattle.std.proofs.Common.{is_some, ◌≡◌, ◌≤◌, ◌<◌, ◌+◌, ◌*◌, ◌^◌, ◌++◌, ℕ, Bool, true, false, List, [], Option, Some, None, map, refl, sym, ap, subst, ◌∙◌, arith}
+use Rattle.std.proofs.Common.{◌≡◌, ◌≤◌, ◌<◌, ◌+◌, ◌*◌, ◌^◌, ◌++◌, ℕ, Bool, true, false, List, [], Option, Some, None, map, refl, sym, ap, subst, ◌∙◌, arith}
 use Rattle.std.specs.Option.{option_map}
 use Rattle.std.proofs.lemmas.Bool.{false≢true}
 use Rattle.nq_base.specs.Plain.{plain_answer}
@@ -14,12 +14,11 @@ use Rattle.nq_client.proofs.Settled.{is_given}
 use Rattle.nq_client.specs.Counted.{Counted, IsWithin}
 use Rattle.nq_client.specs.Entries.{Tells}
 use Rattle.nq_client.specs.Finishing.{Grows, to_server}
-use Rattle.nq_client.specs.Outcome.{Called, Gives, Received, Stays, or_pending}
+use Rattle.nq_client.specs.Outcome.{Called, Gives, or_pending}
 use Rattle.nq_client.specs.Receiving.{IsHeeded, most_entries, on_heard}
 use Rattle.nq_client.specs.State.{client_of}
 use Rattle.nq_client.specs.Step.{IsBegun, request_message, step_of, vacated_message}
 use Rattle.nq_client.specs.Tied.{Tied}
-use Rattle.nq_client.specs.declared.heard.Heard.TheVariants as told
 use Rattle.nq_client.specs.declared.state.State.{State}
 use Rattle.nq_client.specs.declared.step.Step.{Step}
 use Rattle.nq_client.specs.declared.step.Vacated.{Vacated}
@@ -151,8 +150,3 @@ not_all s taken w ne = let few = w.taken_few in below taken most_taken_by_client
 pub heard_within : (s0 s2 : State) (number : ℕ) (heard : Heard) (taken : ℕ) → client_of s2 ≡ (on_heard (client_of s0) number heard).client → IsHeeded s0.asked heard → IsWithin s0 taken → taken < most_taken_by_client → IsWithin s2 (taken + 1)
 heard_within s0 s2 number heard taken f h w lt =
     within_after (most_entries (client_of s0)) s2 (client_of s0) (on_heard (client_of s0) number heard) taken f (heard-within (client_of s0) number heard h) lt w.time w.calls w.seq w.number w.xid w.tied
-
--- memory was refused for a datagram that counts, and all is as before
-pub refused_as : (o : Option ClientStep) (old new : Counted) (out outs : Datagrams) (log logs : EntryList) → is_some o ≡ true → Stays old new out outs log logs → Received told.Memory o old new out outs log logs
-refused_as None old new out outs log logs counts stays = absurd (false≢true counts)
-refused_as (Some t) old new out outs log logs counts stays = stays

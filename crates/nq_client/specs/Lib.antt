@@ -13,7 +13,6 @@ pub mod Losing
 pub mod Lost
 pub mod Notices
 pub mod Outcome
-pub mod Outline
 pub mod Prepared
 pub mod Reading
 pub mod Receiving

@@ -18,7 +18,7 @@ use crate::calling::copied;
 use crate::finishing::Letters;
 use crate::heard::Heard;
 use crate::reading::read_cached;
-use crate::receiving::{heeds, read};
+use crate::receiving::read;
 use crate::starting::begin;
 use crate::state::State;
 use crate::step::Step;
@@ -176,7 +176,6 @@ impl Client {
     ///
     /// `Spent` exactly where the client has taken in 2^30 calls, datagrams and ticks. After `Spent` and `Memory` the
     /// client, the outbox and the journal are as before.
-    #[tactic(auto, using(crate::proofs::Outcomes::refused_as))]
     pub fn receive(
         &mut self,
         packet: u64,
@@ -190,18 +189,16 @@ impl Client {
         if self.taken == Client::MOST_TAKEN {
             return Heard::Spent;
         }
-        let Ok(heard) = read(&self.step.state, datagram, &mut self.letters.rooms.kept) else {
+        let Some(heard) = read(&self.step.state, datagram) else {
+            self.taken += 1;
+            return Heard::Ignored;
+        };
+        let room = &mut self.letters.rooms.kept;
+        let Ok(()) = room.reserve(self.step.state.alloc) else {
             return Heard::Memory;
         };
-        let Some(heard) = &heard else {
-            self.taken += 1;
-            return Heard::Ignored;
-        };
-        if !heeds(&self.step.state, heard) {
-            self.taken += 1;
-            return Heard::Ignored;
-        }
-        let Ok(()) = hear(&mut self.step, &mut self.letters, packet, heard, out, log) else {
+        let heard = heard.kept(room);
+        let Ok(()) = hear(&mut self.step, &mut self.letters, packet, &heard, out, log) else {
             return Heard::Memory;
         };
         self.taken += 1;

@@ -3,11 +3,13 @@
 ghost use Rattle.std.specs.Prelude.{◌≡◌, is_some};
 ghost use Rattle.nq_held.specs.Leases.{lease_of};
 ghost use Rattle.nq_model.specs.Hear.{counts_for_block, counts_for_call, counts_for_change, counts_for_lease, counts_for_name, holds_later, inc_of, is_of_procedure, is_put_off, refusal_counts, reply_counts, wants_of};
+ghost use Rattle.nq_wire.specs.Lent.{lent_reply};
 ghost use Rattle.nq_client.specs.Asked.{job_of};
 
 use crate::asked::{Asked, Job};
 use nq_base::{FileId, Inc, Refusal, Reply, Request, Tag};
 use nq_held::Held;
+use nq_wire::LentReply;
 
 /// Whether a refusal says that the request is put off.
 pub(crate) fn is_put_off(status: Refusal) -> bool
@@ -127,8 +129,8 @@ fn is_of_procedure(reply: &Reply, request: &Request) -> bool
     }
 }
 
-/// Whether a reply counts for the request under way: it is of its procedure, or a refusal that counts for it.
-pub(crate) fn reply_counts(reply: &Reply, asked: &Asked) -> bool
+/// Whether a reply without a body counts.
+fn plain_counts(reply: &Reply, asked: &Asked) -> bool
     ensures { result ≡ reply_counts reply.now asked.now }
 {
     match reply {
@@ -146,8 +148,18 @@ pub(crate) fn reply_counts(reply: &Reply, asked: &Asked) -> bool
     }
 }
 
-/// The incarnation that a reply repeats.
-pub(crate) fn inc_of(reply: &Reply) -> Inc
+/// Whether a reply counts for the request under way: it is of its procedure, or a refusal that counts for it.
+pub(crate) fn reply_counts(reply: &LentReply<'_>, asked: &Asked) -> bool
+    ensures { result ≡ reply_counts (lent_reply reply.now) asked.now }
+{
+    match reply {
+        LentReply::Read { .. } => matches!(asked.request(), Request::Read { .. }),
+        LentReply::Plain(reply) => plain_counts(reply, asked),
+    }
+}
+
+/// The incarnation that a reply without a body repeats.
+fn plain_inc(reply: &Reply) -> Inc
     ensures { result ≡ inc_of reply.now }
 {
     match reply {
@@ -162,6 +174,16 @@ pub(crate) fn inc_of(reply: &Reply) -> Inc
         | Reply::Resize { inc, .. }
         | Reply::Remove { inc }
         | Reply::Refused { inc, .. } => *inc,
+    }
+}
+
+/// The incarnation that a reply repeats.
+pub(crate) fn inc_of(reply: &LentReply<'_>) -> Inc
+    ensures { result ≡ inc_of (lent_reply reply.now) }
+{
+    match reply {
+        LentReply::Read { inc, .. } => *inc,
+        LentReply::Plain(reply) => plain_inc(reply),
     }
 }
 

@@ -21,7 +21,6 @@ mod losing;
 mod losses;
 mod next;
 mod notices;
-mod outline;
 mod reading;
 mod receiving;
 mod replying;
@@ -39,3 +38,4 @@ mod vacating;
 
 pub use client::{Client, StartClient};
 pub use heard::Heard;
+pub use nq_dirty::Dirty;

@@ -9,7 +9,7 @@ ghost use Rattle.nq_model.specs.Send.{noticed_in};
 ghost use Rattle.nq_client.specs.ByFile.{Ascends, IsPlace};
 
 use nq_base::{FileId, NoMemory};
-use nq_evict::Notice;
+use nq_held::Notice;
 use std::alloc::Global;
 use std::marker::Model;
 

@@ -6,7 +6,7 @@ ghost use Rattle.nq_client.specs.Step.{IsBegun};
 use crate::entries::Entries;
 use crate::state::State;
 use nq_base::Answer;
-use nq_evict::Vacancy;
+use nq_held::Vacancy;
 
 /// A vacated message with its number.
 #[derive(Drop)]

@@ -9,7 +9,7 @@ ghost use Rattle.nq_client.specs.Step.{step_of};
 use crate::step::{Step, Vacated};
 use nq_base::{FileId, Tag};
 use nq_dirty::Dirty;
-use nq_evict::{Notice, Vacancy};
+use nq_held::{Notice, Vacancy};
 
 /// The answer to a notice for a clean file.
 fn vacancy(dirty: &Dirty, notice: Notice) -> Vacancy

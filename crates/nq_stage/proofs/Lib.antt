@@ -1,3 +1,2 @@
 pub mod Again
-mod Filled
 pub mod Writes

@@ -1,6 +1,6 @@
 use Rattle.std.proofs.Common.{◌≡◌, ◌++◌, OnOk, arith, subst, List, ℕ}
 use Rattle.nq_xdr.specs.Item.{opaque}
-use Rattle.nq_stage.proofs.Filled.{filled-words}
+use Rattle.nq_wire.proofs.Filled.{filled-words}
 use Rattle.nq_stage.proofs.writing.put_filled.Goals as goal
 
 pub returns : goal.returns
