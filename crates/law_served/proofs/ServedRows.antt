@@ -1,6 +1,6 @@
 -- The rows of a server stand apart, by induction over all that came to it.
 use Rattle.std.proofs.Common.{◌≡◌, ◌≤◌, ◌⊎◌, ℕ, Bool, true, false, List, [], ◌∷◌, Option, Some, None, if◌then◌else◌, length, refl, sym, subst, ◌∙◌, arith, inl, inr}
-use Rattle.std.specs.Prelude.{IsSome, IsSomeAnd}
+use Rattle.std.specs.Prelude.{IsSome}
 use Rattle.std.specs.List.{find, filter}
 use Rattle.law_served.specs.Serving.{Coming, datagram, ticks, crashes, Does, HasBooted, HasCome, IsServed, RowsApart, ServedRowsStandApart}
 use Rattle.law_servers.proofs.KeptTags.{own-keys}
@@ -8,14 +8,13 @@ use Rattle.nq_base.specs.declared.Row.{Row}
 use Rattle.nq_datagrams.specs.Incoming.{datagram_in}
 use Rattle.nq_journal.specs.Items.{EntryList}
 use Rattle.nq_keeper.specs.Keeping.{StaysOrEnds}
-use Rattle.nq_model.specs.Change.{IsWithinBounds}
 use Rattle.nq_model.specs.Kept.{Kept}
 use Rattle.nq_model.specs.Server.{Phase, serving, recovering, Server, ServerStep}
 use Rattle.nq_model.specs.ServerStep.{at_time, boot, receive, tick, crash}
-use Rattle.nq_model.specs.Table.{Table, is_row_of, find_row}
-use Rattle.nq_promises.specs.RowsStandApart.{HasOneRowEach, WritesAlone}
-use Rattle.nq_server.specs.Holding.{Holding, IsServer, IsTaken, TakesIn, Reboots}
-use Rattle.nq_server.specs.State.{Beside, beside, server_of}
+use Rattle.nq_model.specs.Table.{is_row_of, find_row}
+use Rattle.nq_promises.specs.RowsStandApart.{WritesAlone}
+use Rattle.nq_server.specs.Holding.{Holding, IsTaken, Reboots}
+use Rattle.nq_server.specs.State.{beside, server_of}
 use Rattle.nq_server.specs.Stepping.{next_of}
 use Rattle.nq_model.specs.Table.{empty_table}
 use Rattle.nq_server.specs.declared.Received.{Received}
@@ -59,10 +58,6 @@ same-kept : (told : Option Kept) (kept other : Kept) → (told ≡ Some kept) �
 same-kept told kept other (inl e) f = cc
 same-kept told kept other (inr e) f = absurd (cc)
 
-some-kept : (told : Option Kept) (P : Kept → Type 0) → IsSomeAnd told P → (kept : Kept) × (told ≡ Some kept) × P kept
-some-kept None P is = absurd is
-some-kept (Some kept) P is = (kept, refl, is)
-
 some-told : (told : Option Kept) → IsSome told → (kept : Kept) × (told ≡ Some kept)
 some-told None is = absurd (cc)
 some-told (Some kept) is = (kept, refl)
@@ -89,17 +84,17 @@ refused content old new kept told stays same a = record {
 
 -- a step that was taken in, or refused
 taken-in : {K : Type 0} (content : K → Option Kept) (step : Kept → ServerStep) (answer : Received) (old new : Holding K) (before count : ℕ) (out out' : Datagrams) (log log' : EntryList) (kept : Kept)
-    → content old.keeper ≡ Some kept → IsWithinBounds kept → Apart (server_of old.beside kept) → Apart (step kept).server
+    → content old.keeper ≡ Some kept → Apart (server_of old.beside kept) → Apart (step kept).server
     → IsTaken step answer (content old.keeper) (content new.keeper) before count old new out out' log log' → Served content new
-taken-in content step received.Done old new before count out out' log log' kept told within a after is =
-    let t = is.0 kept told within in made content new (step kept).server t.makes.keeps t.makes.holds after
-taken-in content step (received.Dropped reason) old new before count out out' log log' kept told within a after is =
-    let t = is.0 kept told within in made content new (step kept).server t.makes.keeps t.makes.holds after
-taken-in content step received.Fault old new before count out out' log log' kept told within a after is =
+taken-in content step received.Done old new before count out out' log log' kept told a after is =
+    let t = is.0 kept told in made content new (step kept).server t.makes.keeps t.makes.holds after
+taken-in content step (received.Dropped reason) old new before count out out' log log' kept told a after is =
+    let t = is.0 kept told in made content new (step kept).server t.makes.keeps t.makes.holds after
+taken-in content step received.Fault old new before count out out' log log' kept told a after is =
     refused content old new kept told is.0 is.2.untouched.beside a
-taken-in content step received.Memory old new before count out out' log log' kept told within a after is =
+taken-in content step received.Memory old new before count out out' log log' kept told a after is =
     refused content old new kept told (inl is.0) is.2.untouched.beside a
-taken-in content step received.Spent old new before count out out' log log' kept told within a after is =
+taken-in content step received.Spent old new before count out out' log log' kept told a after is =
     refused content old new kept told (inl is.0) is.2.untouched.beside a
 
 -- a crash
@@ -118,15 +113,15 @@ crashed content longest now received.Spent old new before count log log' kept to
 
 -- whatever came
 does : {K : Type 0} (content : K → Option Kept) (faults : K → ℕ) (came : Coming) (answer : Received) (old new : Holding K) (out out' : Datagrams) (log log' : EntryList) (kept : Kept)
-    → content old.keeper ≡ Some kept → IsWithinBounds kept → Apart (server_of old.beside kept)
+    → content old.keeper ≡ Some kept → Apart (server_of old.beside kept)
     → Does content faults came answer out out' log log' old new → Served content new
-does content faults (datagram sender bytes) answer old new out out' log log' kept told within a is =
-    taken-in content (λ kept. receive (server_of old.beside kept) sender (next_of out) (datagram_in bytes)) answer old new _ _ out out' log log' kept told within a
+does content faults (datagram sender bytes) answer old new out out' log log' kept told a is =
+    taken-in content (λ kept. receive (server_of old.beside kept) sender (next_of out) (datagram_in bytes)) answer old new _ _ out out' log log' kept told a
     (apart-receive (server_of old.beside kept) sender (next_of out) (datagram_in bytes) a) is
-does content faults (ticks now) answer old new out out' log log' kept told within a is =
-    taken-in content (λ kept. tick (server_of old.beside kept) now) answer old new _ _ out out' log log' kept told within a
+does content faults (ticks now) answer old new out out' log log' kept told a is =
+    taken-in content (λ kept. tick (server_of old.beside kept) now) answer old new _ _ out out' log log' kept told a
     (apart-tick (server_of old.beside kept) now a) is
-does content faults (crashes longest now) answer old new out out' log log' kept told within a is =
+does content faults (crashes longest now) answer old new out out' log log' kept told a is =
     crashed content longest now answer old new _ _ log log' kept told a is
 
 -- a boot
@@ -138,9 +133,9 @@ booted content faults s b =
 
 after : {K : Type 0} (content : K → Option Kept) (faults : K → ℕ) (came : Coming) (old new : Holding K) → Served content old → HasCome content faults came old new → Served content new
 after content faults came old new served c =
-    let told = some-kept (content old.keeper) IsWithinBounds c.told in
+    let told = some-told (content old.keeper) c.told in
     let a = subst (λ kept. Apart (server_of old.beside kept)) (same-kept (content old.keeper) served.kept told.0 served.told told.1) served.apart in
-    does content faults came c.answer old new c.out c.out' c.log c.log' told.0 told.1 told.2 a c.does
+    does content faults came c.answer old new c.out c.out' c.log c.log' told.0 told.1 a c.does
 
 served-after : {K : Type 0} (content : K → Option Kept) (faults : K → ℕ) (came : List Coming) (s : Holding K) → IsServed content faults came s → Served content s
 served-after content faults [] s is = booted content faults s is

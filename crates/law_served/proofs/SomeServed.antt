@@ -1,29 +1,26 @@
 -- A host asks for a lease to write, and gets it.
-use Rattle.std.proofs.Common.{◌≡◌, ◌<◌, ℕ, true, List, [], ◌∷◌, Option, Some, None, refl, sym, subst, ap, arith}
+use Rattle.std.proofs.Common.{◌≡◌, ◌<◌, true, [], ◌∷◌, Some, None, refl, sym, subst, ap, arith}
 use Rattle.std.proofs.lemmas.List.Elements.{All-cons, All-nil}
 use Rattle.std.specs.Prelude.{All, IsSomeAnd, map, reverse}
-use Rattle.law_bounds.proofs.FirstNumbers.{first-within}
-use Rattle.law_served.specs.Serving.{Coming, datagram, HasBooted, HasCome}
+use Rattle.law_served.specs.Serving.{datagram, HasBooted, HasCome}
 use Rattle.law_served.specs.ServedRowsAreMet.{ServedRowsAreMet}
-use Rattle.nq_base.specs.Name.{IsName, IsNameByte}
 use Rattle.nq_base.specs.declared.Grant.{Grant}
 use Rattle.nq_base.specs.declared.Mode.{Mode}
 use Rattle.nq_base.specs.declared.Reply.{Reply}
 use Rattle.nq_base.specs.declared.Request.{Request}
 use Rattle.nq_base.specs.declared.Who.{Who}
+use Rattle.nq_boot.specs.Booting.{last_boot}
 use Rattle.nq_datagrams.proofs.Readers.{server-reads-messages}
 use Rattle.nq_datagrams.specs.Incoming.{datagram_in}
 use Rattle.nq_datagrams.specs.Messages.{FitsMessage, bytes_of}
 use Rattle.nq_journal.specs.Items.{EntryList}
 use Rattle.nq_model.specs.Ask.{grant_of, caching_row, granted}
-use Rattle.nq_model.specs.Change.{IsWithinBounds}
 use Rattle.nq_model.specs.Kept.{Kept, new_file}
 use Rattle.nq_model.specs.Message.{Message, Packet, call, reply, request}
 use Rattle.nq_model.specs.Server.{Server, ServerStep, taken, to_host, with_table}
 use Rattle.nq_model.specs.ServerStep.{boot, leases, receive}
 use Rattle.nq_model.specs.Table.{is_writing, find_row, empty_table, with_rows, after_draw}
-use Rattle.nq_model.specs.World.{Head, first_kept, start}
-use Rattle.nq_model.specs.Profile.{most_boots}
+use Rattle.nq_model.specs.World.{Head, first_kept}
 use Rattle.nq_server.specs.Holding.{Holding, IsServer, TakesIn}
 use Rattle.nq_server.specs.State.{beside, server_of}
 use Rattle.nq_server.specs.Stepping.{datagram_of_packet, next_of}
@@ -135,29 +132,13 @@ takes =
       };
     })
 
-named : IsName (97 ∷ [])
-named = (omega arith, omega arith, All-cons IsNameByte 97 [] (omega arith, omega arith, λ e. absurd (omega arith)) (All-nil IsNameByte))
-
-within : IsWithinBounds first.kept
-unfolding start
-within =
-    (first-within head (record {
-      hosts = omega arith;
-      long = omega arith;
-      short = omega arith;
-      files = ((named, omega arith, omega arith), tt);
-      few_files = omega arith;
-      few_blocks = omega arith;
-      distinct = (tt, tt);
-    })).within
-
 some-is : (kept other : Kept) → Some kept ≡ Some other → kept ≡ other
 some-is kept other e = cc
 
-boots-over : (other : Kept) → Some kept ≡ Some other → (other.boot < most_boots) × IsServer (boot other 60 0 None) booted (Some booted.keeper)
+boots-over : (other : Kept) → Some kept ≡ Some other → (other.boot < last_boot) × IsServer (boot other 60 0 None) booted (Some booted.keeper)
 boots-over other e =
     subst
-    (λ k. (k.boot < most_boots) × IsServer (boot k 60 0 None) booted (Some booted.keeper))
+    (λ k. (k.boot < last_boot) × IsServer (boot k 60 0 None) booted (Some booted.keeper))
     (some-is kept other e)
     (omega arith, record { keeps = refl; holds = refl; taken = refl })
 
@@ -171,9 +152,9 @@ has-come = record {
   out' = sent;
   log = none-told;
   log' = told;
-  told = within;
+  told = refl;
   does = (
-    λ other e bounds.
+    λ other e.
         subst
         (λ k. TakesIn (receive (server_of booted.beside k) 0 (next_of none-sent) (datagram_in (bytes_of asked))) taken (Some after.keeper) after none-sent sent none-told told)
         (some-is first.kept other e)

@@ -1,11 +1,10 @@
 -- A server over a keeper, to which anything may come, in any order. Below, `content` is what a keeper tells of what it keeps, and
 -- `faults` is its count of faults.
-use Rattle.std.specs.Prelude.{◌≡◌, ◌<◌, ◌≤◌, ◌^◌, ℕ, List, [], ◌∷◌, Option, IsSome, IsSomeAnd, Ok}
+use Rattle.std.specs.Prelude.{◌≡◌, ◌<◌, ◌≤◌, ◌^◌, ℕ, List, [], ◌∷◌, Option, IsSome, Ok}
 use Rattle.law_served.specs.declared.arriving.Arrival.{Arrival}
 use Rattle.law_served.specs.declared.arriving.Arrival.TheVariants as arrival
 use Rattle.nq_datagrams.specs.Incoming.{datagram_in}
 use Rattle.nq_journal.specs.Items.{EntryList}
-use Rattle.nq_model.specs.Change.{IsWithinBounds}
 use Rattle.nq_model.specs.Kept.{Kept}
 use Rattle.nq_model.specs.Profile.{shortest_term, longest_term}
 use Rattle.nq_model.specs.Server.{recovering}
@@ -55,14 +54,14 @@ pub record HasBooted {K : Type 0} (content : K → Option Kept) (faults : K → 
   pub told : IsSome (content keeper)
   pub boots : Boots longest now (Ok s) (content keeper) (content s.keeper) (faults keeper) (faults s.keeper)
 
--- this came to a server whose keeper told what it kept, and that was within its bounds
+-- this came to a server whose keeper told what it kept
 pub record HasCome {K : Type 0} (content : K → Option Kept) (faults : K → ℕ) (came : Coming) (old new : Holding K) : Type 0 where
   pub answer : Received
   pub out : Datagrams
   pub out' : Datagrams
   pub log : EntryList
   pub log' : EntryList
-  pub told : IsSomeAnd (content old.keeper) IsWithinBounds
+  pub told : IsSome (content old.keeper)
   pub does : Does content faults came answer out out' log log' old new
 
 -- a server booted, and then all this came to it. The latest comes first in the list

@@ -8,7 +8,7 @@ use nq_keeper::Keeper;
 /// A server that booted over a keeper, and to which anything came after that, as [`hand`](crate::hand) hands it on: beside a
 /// row that lets its holder write stands no other row of the file that lets its holder read or write. A file and a host have one
 /// row at most, and while the server recovers there are no rows (Gray and Cheriton 1989; Macklem 1994). This is so as long as the
-/// keeper tells what it keeps, and what it keeps is within its bounds; and after a call that failed too.
+/// keeper tells what it keeps, and after a call that failed too.
 pub fn rows_stand_apart<K: Keeper>()
     ensures { ServedRowsStandApart K.content K.faults }
 {}

@@ -1,5 +1,5 @@
 -- The change by which code fences a file is what the definitions say, and can be kept.
-use Rattle.std.proofs.Common.{◌≡◌, ◌⊎◌, ◌≤◌, ℕ, ◌+◌, Bool, true, false, if◌then◌else◌, List, Option, Some, None, Result, Ok, Err, sym, ap, ◌∙◌, subst, inl, inr, arith}
+use Rattle.std.proofs.Common.{◌≡◌, ◌⊎◌, ◌≤◌, ℕ, ◌+◌, Bool, true, if◌then◌else◌, List, Option, Some, None, Ok, sym, ap, ◌∙◌, subst, inl, inr, arith}
 use Rattle.std.specs.List.{find}
 use Rattle.std.specs.Prelude.{nat_lt}
 use Rattle.std.specs.Option.{ForSome, IfSome, option_map}
