@@ -3,6 +3,7 @@
 use Rattle.std.specs.Prelude.{◌≡◌, ◌⊎◌, ⊤, ◌<◌, ℕ, zero, suc, List, [], ◌++◌, Option, None, Result, Ok, Err, codes}
 use Rattle.std.specs.Fmt.{decimal}
 use Rattle.std.specs.Option.{ForSome}
+use Rattle.nq_boot.specs.Booting.{last_boot}
 use Rattle.nq_clock.specs.Clock.{Reads}
 use Rattle.nq_hosts.specs.declared.ending.Halt.{Halt}
 use Rattle.nq_hosts.specs.declared.ending.Served.{Served}
@@ -11,7 +12,6 @@ use Rattle.nq_io.specs.Sink.{AppendsFront}
 use Rattle.nq_io.specs.Told.{with_end}
 use Rattle.nq_journal.specs.Items.{EntryList}
 use Rattle.nq_model.specs.Kept.{Kept}
-use Rattle.nq_model.specs.Profile.{most_boots}
 use Rattle.nq_model.specs.ServerStep.{boot}
 use Rattle.nq_node.specs.Links.{LinkTold}
 use Rattle.nq_node.specs.ServerTurn.{ServesTurn}
@@ -95,7 +95,7 @@ pub record Ran {K : Type 0} (content : K → Option Kept) (faults : K → ℕ) (
 -- a server that booted over this keeper at this time: it is the protocol's, and knows no last table
 abbrev pub Booted : {K : Type 0} → (content : K → Option Kept) → (longest time : ℕ) → (keeper : K) → Holding K → Type 0
 Booted content longest time keeper server =
-    ForSome (content keeper) (λ kept. (kept.boot < most_boots) × IsServer (boot kept longest time None) server (content server.keeper))
+    ForSome (content keeper) (λ kept. (kept.boot < last_boot) × IsServer (boot kept longest time None) server (content server.keeper))
 
 -- the keeper failed, and counted that
 pub record HasFailed {K : Type 0} (faults : K → ℕ) (keeper : K) : Type 0 where
@@ -107,7 +107,7 @@ abbrev pub NoBoot : {K : Type 0} → (content : K → Option Kept) → (faults :
 NoBoot content faults keeper Halt.Link = ⊥
 NoBoot content faults keeper Halt.Keep = HasFailed faults keeper
 NoBoot content faults keeper Halt.Memory = ⊤
-NoBoot content faults keeper Halt.Spent = ForSome (content keeper) (λ kept. kept.boot ≡ most_boots)
+NoBoot content faults keeper Halt.Spent = ForSome (content keeper) (λ kept. kept.boot ≡ last_boot)
 
 -- what a boot over this keeper at this time gives: a server, or why none booted
 abbrev pub EndsBoot : {K : Type 0} → (content : K → Option Kept) → (faults : K → ℕ) → (longest time : ℕ) → (keeper : K) → Result (Holding K) Halt → Type 0
