@@ -1,9 +1,11 @@
 //! The lines that tell faults.
 
 ghost use Rattle.std.specs.Prelude.{◌≡◌, ◌<◌, IfOk, length, string_bytes, Ok};
+ghost use Rattle.nq_replay.specs.Ending.{TellsOver};
 ghost use Rattle.nq_replay.specs.Lines.{PrintsLine, script_line, skew_line, limit_line, last_line};
 
 use nq_base::{NoMemory, SkewBroken};
+use nq_ending::Ending;
 use nq_io::{Put, Sink};
 use std::alloc::{AllocError, Global};
 
@@ -64,6 +66,20 @@ pub(crate) fn limit_text(alloc: Global, number: usize, bound: Bound) -> Result<S
     }
 }
 
+/// Tells in which line the input passes the limit on bytes. The front has one byte more than the limit.
+pub(crate) fn tell_over<K: Sink>(alloc: Global, front: &[u8], out: &mut K) -> Ending
+    requires { 0 < length front.now }
+    ensures { TellsOver result front.now (K.held out.old) (K.held out.new) (K.faults out.old) (K.faults out.new) }
+{
+    match limit_text(alloc, line_of_last(front), Bound::Bytes) {
+        Ok(line) => {
+            put_line(out, line.as_bytes());
+            Ending::Limit
+        }
+        Err(_) => Ending::Memory,
+    }
+}
+
 /// A line that was made.
 fn made(line: Result<String, AllocError>) -> Result<String, NoMemory>
     ensures { IfOk result (λ same. line ≡ Ok same) }
@@ -76,7 +92,7 @@ fn made(line: Result<String, AllocError>) -> Result<String, NoMemory>
 
 /// The number of the line in which the last of these bytes stands.
 #[tactic(auto, unfolding(crate::specs::Lines::last_line))]
-pub(crate) fn line_of_last(bytes: &[u8]) -> usize
+fn line_of_last(bytes: &[u8]) -> usize
     requires { 0 < length bytes.now }
     ensures { result ≡ last_line bytes.now }
 {
