@@ -14,3 +14,4 @@ pub mod Playing
 pub mod Heads
 pub mod Takings
 pub mod Ends
+pub mod Faults

@@ -1,9 +1,10 @@
 -- What the words of a loop do. Below, `held` is what the sink held before it and `now` is what it holds after it, where the sink tells
 -- them; `w` and `w'` are the sink's counts of faults before and after. `clock` and `links` are the readings to come and the links before
 -- it, and `clock'` and `links'` those after it. The events of a run are told with the newest first.
-use Rattle.std.specs.Prelude.{◌≡◌, ◌⊎◌, ℕ, List, [], Option, map, reverse}
+use Rattle.std.specs.Prelude.{◌≡◌, ◌⊎◌, ℕ, List, [], Option, Some, map, reverse, slice_get}
 use Rattle.nq_base.specs.declared.Event.{Event}
 use Rattle.nq_ending.specs.declared.Ending.{Ending}
+use Rattle.nq_io.specs.Faults.{Rose}
 use Rattle.nq_loop.specs.Printed.{PrintsRan, loop_text}
 use Rattle.nq_loop.specs.Turning.{Between, Ran, Stops, TakesTurns}
 use Rattle.nq_loop.specs.Whole.{loop_head}
@@ -86,6 +87,26 @@ LoopEnds Ending.Memory hosts turns clock clock' links links' held now w w' =
 LoopEnds Ending.LinkFault hosts turns clock clock' links links' held now w w' = StopsSilently LoopTurn.Link hosts turns clock clock' links links' held now w w'
 LoopEnds Ending.Limit hosts turns clock clock' links links' held now w w' = PrintsReached hosts turns clock clock' links links' held now w w'
 LoopEnds other hosts turns clock clock' links links' held now w w' = ⊥
+
+-- one of these links counted a fault
+pub record HasRisen (links links' : List LinkTold) : Type 0 where
+  pub place : ℕ
+  pub link : LinkTold
+  pub link' : LinkTold
+  pub before : slice_get links place ≡ Some link
+  pub behind : slice_get links' place ≡ Some link'
+  pub rose : Rose link.faults link'.faults
+
+-- an end that comes of a fault alone: memory was wanting, or the sink or a link counted a fault
+abbrev pub IsLoopFault : Ending → (links links' : List LinkTold) → (w w' : ℕ) → Type 0
+IsLoopFault Ending.Memory links links' w w' = Unit {0}
+IsLoopFault Ending.WriteFault links links' w w' = Rose w w'
+IsLoopFault Ending.LinkFault links links' w w' = HasRisen links links'
+IsLoopFault other links links' w w' = ⊥
+
+-- a loop took its turns or came to a limit, if no fault came in the place of that
+abbrev pub LoopsUnlessFault : (end : Ending) → (links links' : List LinkTold) → (w w' : ℕ) → Type 0
+LoopsUnlessFault end links links' w w' = (end ≡ Ending.Done) ⊎ ((end ≡ Ending.Limit) ⊎ IsLoopFault end links links' w w')
 
 -- a turn did not stop
 abbrev pub HasEnded : LoopTurn → Type 0

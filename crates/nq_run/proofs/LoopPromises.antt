@@ -2,9 +2,10 @@
 use Rattle.std.proofs.Common.{◌≡◌, ℕ, List, Option, Some, subst}
 use Rattle.nq_command.specs.declared.Command.{Command}
 use Rattle.nq_ending.proofs.Ends.{one_end}
-use Rattle.nq_ending.specs.Status.{status_of}
+use Rattle.nq_ending.specs.Status.{WithStatus, status_of}
 use Rattle.nq_ending.specs.declared.Ending.{Ending}
-use Rattle.nq_loop.specs.Looped.{LoopEnds}
+use Rattle.nq_loop.proofs.Faults.{loops-unless}
+use Rattle.nq_loop.specs.Looped.{LoopEnds, LoopsUnlessFault}
 use Rattle.nq_loop.specs.Whole.{loop_head}
 use Rattle.nq_node.specs.Links.{LinkTold}
 use Rattle.nq_run.proofs.Promises.{faultless, holds_throughout}
@@ -43,3 +44,8 @@ pub loop_lawful : (status hosts turns : ℕ) (clock clock' : Option (List ℕ)) 
 loop_lawful status hosts turns clock clock' links links' held now w w' does done =
     done_looped hosts turns clock clock' links links' held now w w'
     (subst (λ e. LoopEnds e hosts turns clock clock' links links' held now w w') (one_end does.end Ending.Done status does.status done) does.ends)
+
+pub loop_unless : (status hosts turns : ℕ) (clock clock' : Option (List ℕ)) (links links' : List LinkTold) (held now : Option (List ℕ)) (w w' : ℕ) → LoopsFor status hosts turns clock clock' links links' held now w w'
+    → WithStatus status (λ end. LoopsUnlessFault end links links' w w')
+loop_unless status hosts turns clock clock' links links' held now w w' does =
+    (does.end, does.status, loops-unless does.end hosts turns clock clock' links links' held now w w' does.ends)

@@ -28,7 +28,7 @@ fn losses_of(entry: &Entry) -> usize
 }
 
 /// Whether an entry tells a loss.
-#[tactic(auto, unfolding(crate::specs::Printed::is_loss))]
+#[tactic(auto, unfolding(crate::specs::Counts::is_loss))]
 fn is_loss(entry: &Entry) -> bool
     ensures { result ≡ is_loss entry.now }
 {
@@ -39,7 +39,7 @@ fn is_loss(entry: &Entry) -> bool
 }
 
 /// The line that counts events, packets and losses.
-#[tactic(auto, unfolding(crate::specs::Printed::storm_line))]
+#[tactic(auto, unfolding(crate::specs::Counts::storm_line))]
 pub fn count_text(
     alloc: Global,
     events: usize,
