@@ -49,7 +49,7 @@ module _ {P : Type 0} (content : P → Option Kept) (faults : P → ℕ) (follow
     left = ran.ran.last.server.keeper;
     same = on keeper ran.server.keeper ran.ran.last.server.keeper ran.booted.1 ran.ran.same;
     count = rose_from (faults keeper) (faults ran.server.keeper) (faults ran.ran.last.server.keeper) (rise keeper ran.server.keeper ran.booted.1)
-    (ran_counted longest turns time keeper (Err Halt.Keep) clock clock' link link' ran).1;
+        (ran_counted longest turns time keeper (Err Halt.Keep) clock clock' link link' ran).1;
   }
   keeper_failed on rise longest turns time keeper clock clock' link link' (inr none) = none.0
 

@@ -51,7 +51,10 @@ fn words_of(alloc: Global, said: &str) -> Result<Words> {
 
 /// Runs what words say in a scene; the status, and what was printed.
 fn play(alloc: Global, scene: &str, words: &Words, input: &str) -> Result<(u8, MemSink)> {
-    let mut source = MemSource::new(text_of(alloc, input)?, failing(alloc, scene.ends_with("unread"))?);
+    let mut source = MemSource::new(
+        text_of(alloc, input)?,
+        failing(alloc, scene.ends_with("unread"))?,
+    );
     let mut out = MemSink::new(alloc, ROOM, failing(alloc, scene.ends_with("unput"))?)?;
     let keeper = ListKeeper::new(alloc, failing(alloc, scene.ends_with("unkept"))?)?;
     let mut link = link_of(alloc, scene, Party::Client(Host(0)))?;
@@ -100,7 +103,13 @@ fn fates(alloc: Global) -> Result<Vec<Box<dyn Fate>>> {
 
 /// The link of a party in a scene.
 fn link_of(alloc: Global, scene: &str, me: Party) -> Result<MemLink> {
-    let mut link = MemLink::new(alloc, me, 8, 8000, failing(alloc, scene.ends_with("unsent"))?)?;
+    let mut link = MemLink::new(
+        alloc,
+        me,
+        8,
+        8000,
+        failing(alloc, scene.ends_with("unsent"))?,
+    )?;
     if scene.starts_with("attached") {
         link.bring(alloc, Party::Server, &ATTACHED)?;
     }
