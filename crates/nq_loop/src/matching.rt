@@ -69,7 +69,8 @@ fn equals(
     bytes: &mut Vec<u8>,
 ) -> Result<bool, NoMemory>
     requires { number < length packets.now.datagrams }
-    ensures { IfOk result (λ same. IsTrue same ↔ Equals packets.now.datagrams (record { sender = letter.now.sender; to = letter.now.to; bytes = letter.now.bytes.now }) number) }
+    ensures { IfOk result (λ same. IsTrue same ↔ Equals packets.now.datagrams
+        (record { sender = letter.now.sender; to = letter.now.to; bytes = letter.now.bytes.now }) number) }
 {
     match packets.get(number) {
         Some(packet) => is_letter(&packet, letter, bytes),

@@ -61,7 +61,8 @@ fn receive_hosts<K: Keeper, L: Link>(
     requires links { length links.old ≡ length state.old.begun + 1 }
     ensures loops { (head : Head) → head.hosts ≡ length state.old.begun
         → IsLooping head (loop_of K.content L.sent L.waiting L.faults world.old state.old ran.old links.old)
-        → Loops head (each_below head.hosts (λ host. Step.receive (Party.Client host))) result (loop_of K.content L.sent L.waiting L.faults world.old state.old ran.old links.old)
+        → Loops head (each_below head.hosts (λ host. Step.receive (Party.Client host))) result
+        (loop_of K.content L.sent L.waiting L.faults world.old state.old ran.old links.old)
         (loop_of K.content L.sent L.waiting L.faults world.new state.new ran.new links.new) }
     ensures keeps { Keeps result (K.faults world.old.server.keeper) (K.faults world.new.server.keeper)
         (length world.old.clients) (length world.new.clients) (length state.old.begun) (length state.new.begun) }

@@ -99,7 +99,8 @@ fn tick_hosts<K: Keeper, L: Link>(
     requires hosts { length world.old.clients ≡ length state.old.begun }
     ensures loops { (head : Head) → head.hosts ≡ length state.old.begun
         → IsLooping head (loop_of K.content L.sent L.waiting L.faults world.old state.old ran.old links.old)
-        → Loops head (each_below head.hosts (λ host. Step.given (Event.ClientTick host))) result (loop_of K.content L.sent L.waiting L.faults world.old state.old ran.old links.old)
+        → Loops head (each_below head.hosts (λ host. Step.given (Event.ClientTick host))) result
+        (loop_of K.content L.sent L.waiting L.faults world.old state.old ran.old links.old)
         (loop_of K.content L.sent L.waiting L.faults world.new state.new ran.new links.new) }
     ensures keeps { Keeps result (K.faults world.old.server.keeper) (K.faults world.new.server.keeper)
         (length world.old.clients) (length world.new.clients) (length state.old.begun) (length state.new.begun) }

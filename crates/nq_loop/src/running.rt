@@ -109,7 +109,8 @@ fn tell<P: Keeper, K: Sink>(
     requires head { head.now ≡ loop_head head.now.hosts }
     requires looped { AllByRecursion (IsLooped head.now.hosts) ran.now }
     requires reason { IsNoKeep last }
-    ensures { TellsEnd result last head.now world.now (P.content world.now.server.keeper) ran.now (K.held out.old) (K.held out.new) (K.faults out.old) (K.faults out.new) }
+    ensures { TellsEnd result last head.now world.now (P.content world.now.server.keeper) ran.now (K.held out.old) (K.held out.new) (K.faults out.old)
+        (K.faults out.new) }
 {
     match last {
         LoopTurn::Took => print_whole(alloc, head, world, ran, out),
@@ -134,7 +135,8 @@ fn print_whole<P: Keeper, K: Sink>(
     requires head { head.now ≡ loop_head head.now.hosts }
     requires looped { AllByRecursion (IsLooped head.now.hosts) ran.now }
     ensures { (last : LoopTurn) → HasEnded last
-        → TellsEnd result last head.now world.now (P.content world.now.server.keeper) ran.now (K.held out.old) (K.held out.new) (K.faults out.old) (K.faults out.new) }
+        → TellsEnd result last head.now world.now (P.content world.now.server.keeper) ran.now (K.held out.old) (K.held out.new) (K.faults out.old)
+        (K.faults out.new) }
 {
     print_loop(alloc, head, world, ran, out)
 }

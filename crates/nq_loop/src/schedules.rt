@@ -73,7 +73,8 @@ fn push_event_at(
 ) -> Result<(), NoMemory>
     requires lines { AllByRecursion (HasEvent 1) ran.now }
     requires there { place < length ran.now }
-    ensures { OnOk result ((event : _) × (line : List ℕ) × (slice_get ran.now place ≡ Some event) × SpellsEvent 1 event line × (text.new.items ≡ text.old.items ++ text_of (line ∷ []))) }
+    ensures { OnOk result ((event : _) × (line : List ℕ) × (slice_get ran.now place ≡ Some event) × SpellsEvent 1 event line
+        × (text.new.items ≡ text.old.items ++ text_of (line ∷ []))) }
 {
     match ran.get(place) {
         Some(event) => push_event(alloc, text, event),

@@ -87,7 +87,8 @@ impl LoopState {
     /// Notes an event that was taken in. A packet that is delivered has a flag.
     pub(crate) fn note(&mut self, event: &Event)
         requires { HasCount (length self.old.begun) event.now }
-        ensures marks { HasFlag (length self.old.flags) event.now → (events : List Event) → Marks self.old.flags events → Marks self.new.flags (event.now ∷ events) }
+        ensures marks { HasFlag (length self.old.flags) event.now → (events : List Event) → Marks self.old.flags events
+            → Marks self.new.flags (event.now ∷ events) }
         ensures counts { (events : List Event) → Counts self.old.begun events → Counts self.new.begun (event.now ∷ events) }
         ensures hosts { length self.new.begun ≡ length self.old.begun }
     {

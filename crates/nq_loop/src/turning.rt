@@ -101,7 +101,8 @@ fn call_and_receive<K: Keeper, L: Link>(
     requires links { length links.old ≡ length state.old.begun + 1 }
     ensures loops { (head : Head) → head.hosts ≡ length state.old.begun
         → IsLooping head (loop_of K.content L.sent L.waiting L.faults world.old state.old ran.old links.old)
-        → Loops head (call_steps head.hosts ++ receive_steps head.hosts) result (loop_of K.content L.sent L.waiting L.faults world.old state.old ran.old links.old)
+        → Loops head (call_steps head.hosts ++ receive_steps head.hosts) result
+        (loop_of K.content L.sent L.waiting L.faults world.old state.old ran.old links.old)
         (loop_of K.content L.sent L.waiting L.faults world.new state.new ran.new links.new) }
     ensures keeps { Keeps result (K.faults world.old.server.keeper) (K.faults world.new.server.keeper)
         (length world.old.clients) (length world.new.clients) (length state.old.begun) (length state.new.begun) }

@@ -55,7 +55,8 @@ fn play_second<K: Keeper>(
     requires hosts { hosts ≤ length world.old.clients }
     requires can { AreForWorld (length world.old.clients) world.old.skew.window lines.now }
     requires below { place < length lines.now }
-    ensures goes { (line : Line) → slice_get lines.now place ≡ Some line → (head : Head) (events : List Event) → head.hosts ≡ hosts → IsAt head events world.old (K.content world.old.server.keeper) delivered.old
+    ensures goes { (line : Line) → slice_get lines.now place ≡ Some line → (head : Head) (events : List Event) → head.hosts ≡ hosts
+        → IsAt head events world.old (K.content world.old.server.keeper) delivered.old
         → Goes result (play_line head most line events) (λ es. IsAt head es world.new (K.content world.new.server.keeper) delivered.new) }
     ensures faults { CountsFaults result (K.faults world.old.server.keeper) (K.faults world.new.server.keeper) }
     ensures follows { K.follows world.old.server.keeper world.new.server.keeper }
@@ -79,7 +80,8 @@ fn play_at<K: Keeper>(
     requires hosts { hosts ≤ length world.old.clients }
     requires can { AreForWorld (length world.old.clients) world.old.skew.window lines.now }
     requires below { place < length lines.now }
-    ensures goes { (line : Line) → slice_get lines.now place ≡ Some line → (head : Head) (events : List Event) → head.hosts ≡ hosts → IsAt head events world.old (K.content world.old.server.keeper) delivered.old
+    ensures goes { (line : Line) → slice_get lines.now place ≡ Some line → (head : Head) (events : List Event) → head.hosts ≡ hosts
+        → IsAt head events world.old (K.content world.old.server.keeper) delivered.old
         → Goes result (play_line head most line events) (λ es. IsAt head es world.new (K.content world.new.server.keeper) delivered.new) }
     ensures faults { CountsFaults result (K.faults world.old.server.keeper) (K.faults world.new.server.keeper) }
     ensures follows { K.follows world.old.server.keeper world.new.server.keeper }

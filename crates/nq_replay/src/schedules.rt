@@ -54,7 +54,8 @@ pub(crate) fn replay_text<K: Sink>(alloc: Global, text: &[u8], out: &mut K) -> E
 /// Runs a schedule over a keeper in memory, which is told to fail in no call.
 fn replay_in_memory<K: Sink>(alloc: Global, script: &Script, out: &mut K) -> Ending
     requires { IsReady script.now }
-    ensures { EndsPlayed result script.now.head (play script.now.head script.now.lines) (K.held out.old) (K.held out.new) (K.faults out.old) (K.faults out.new) }
+    ensures { EndsPlayed result script.now.head (play script.now.head script.now.lines) (K.held out.old) (K.held out.new) (K.faults out.old)
+        (K.faults out.new) }
 {
     match ListKeeper::new(alloc, Vec::new(alloc)) {
         Ok(keeper) => replay_script(alloc, script, keeper, out),
@@ -72,7 +73,8 @@ fn replay_script<L: Keeper + Drop, K: Sink>(
     requires ready { IsReady script.now }
     requires empty { L.content keeper ≡ Some empty_kept }
     requires never { NeverFails L.faults L.follows keeper }
-    ensures { EndsPlayed result script.now.head (play script.now.head script.now.lines) (K.held out.old) (K.held out.new) (K.faults out.old) (K.faults out.new) }
+    ensures { EndsPlayed result script.now.head (play script.now.head script.now.lines) (K.held out.old) (K.held out.new) (K.faults out.old)
+        (K.faults out.new) }
 {
     let Ok(mut world) = begin_surely(alloc, &script.head, keeper) else {
         return Ending::Memory;
@@ -89,7 +91,8 @@ fn play_over<L: Keeper>(alloc: Global, world: &mut World<L>, script: &Script) ->
     requires settings { HasSettings script.now.head.hosts script.now.head.longest script.now.head.term world.old }
     requires never { NeverFails L.faults L.follows world.old.server.keeper }
     ensures comes { Plays (beginning script.now.head) [] world.old (L.content world.old.server.keeper)
-        → Comes result (play script.now.head script.now.lines) (λ events. Plays (beginning script.now.head) events world.new (L.content world.new.server.keeper)) }
+        → Comes result (play script.now.head script.now.lines) (λ events. Plays (beginning script.now.head) events world.new
+        (L.content world.new.server.keeper)) }
     ensures reason { HasReason result }
 {
     let most = MOST_EVENTS + 1;
@@ -158,7 +161,8 @@ fn tell<L: Keeper, K: Sink>(
     requires version { IsVersion version }
     requires has { played ≡ Played.All → All (Has version) world.now.entries }
     requires reason { HasReason played }
-    ensures { (head : Head) (due : Ended) → head.version ≡ version → Comes played due (λ events. Plays (beginning head) events world.now (L.content world.now.server.keeper))
+    ensures { (head : Head) (due : Ended) → head.version ≡ version → Comes played due (λ events. Plays (beginning head) events world.now
+        (L.content world.now.server.keeper))
         → EndsPlayed result head due (K.held out.old) (K.held out.new) (K.faults out.old) (K.faults out.new) }
 {
     match played {

@@ -111,7 +111,8 @@ pub fn run<S: Source, K: Sink, P: Keeper + Drop, L: Link, C: Clock>(
         (record { sent = L.sent link.new; waiting = L.waiting link.new; faults = L.faults link.new })
         (K.held out.old) (K.held out.new) (K.faults out.old) (K.faults out.new) }
     ensures served { (turns longest : ℕ) → command_of words.now ≡ Some (Command.Serve turns longest)
-        → WithStatus result (λ end. ServesUnlessFault end P.faults P.follows keeper (L.faults link.old) (L.faults link.new) (K.faults out.old) (K.faults out.new)) }
+        → WithStatus result (λ end. ServesUnlessFault end P.faults P.follows keeper (L.faults link.old) (L.faults link.new) (K.faults out.old)
+        (K.faults out.new)) }
     ensures attends { (host inc turns : ℕ) → command_of words.now ≡ Some (Command.Client host inc turns)
         → Attends turns (record { host = host; inc = inc }) most_bytes result (S.left input.old) (S.left input.new) (S.faults input.old) (S.faults input.new)
         (K.held out.old) (K.held out.new) (K.faults out.old) (K.faults out.new) (C.readings clock.old) (C.readings clock.new)

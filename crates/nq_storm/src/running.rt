@@ -108,7 +108,8 @@ fn tell<L: Keeper, K: Sink>(
     requires head { head.now ≡ storm_head }
     requires stormy { AllByRecursion IsStormy ran.now }
     requires reason { IsNoFault stormed }
-    ensures { (start count : ℕ) (first : Option Rule) → Storms stormed (beginning storm_head) start count first (reverse ran.now) world.now (L.content world.now.server.keeper)
+    ensures { (start count : ℕ) (first : Option Rule) → Storms stormed (beginning storm_head) start count first (reverse ran.now) world.now
+        (L.content world.now.server.keeper)
         → StormEnds result start count first (K.held out.old) (K.held out.new) (K.faults out.old) (K.faults out.new) }
 {
     match stormed {
