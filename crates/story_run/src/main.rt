@@ -15,7 +15,7 @@ use nq_clock::MemClock;
 use nq_io::{MemSink, MemSource};
 use nq_keeper::ListKeeper;
 use nq_link::MemLink;
-use nq_run::{Command, Fate, HostileFate, SteadyFate, Words, run};
+use nq_run::{Command, Fate, HostileFate, NoMemory, SteadyFate, Words, run};
 use std::alloc::Global;
 use std::str;
 
@@ -76,7 +76,7 @@ fn play(alloc: Global, scene: &str, words: &Words, input: &str) -> Result<(u8, M
 }
 
 /// The numbers of the calls that fail: the first, or none.
-fn failing(alloc: Global, first: bool) -> Result<Vec<u32>> {
+fn failing(alloc: Global, first: bool) -> Result<Vec<u32>, NoMemory> {
     let mut numbers = Vec::new(alloc);
     if first {
         numbers.push(0)?;
@@ -94,7 +94,7 @@ fn text_of(alloc: Global, told: &str) -> Result<Vec<u8>> {
 }
 
 /// Two of the four fates.
-fn fates(alloc: Global) -> Result<Vec<Box<dyn Fate>>> {
+fn fates(alloc: Global) -> Result<Vec<Box<dyn Fate>>, NoMemory> {
     let mut fates: Vec<Box<dyn Fate>> = Vec::new(alloc);
     fates.push(Box::new(alloc, SteadyFate::new())?)?;
     fates.push(Box::new(alloc, HostileFate::new())?)?;
@@ -102,7 +102,7 @@ fn fates(alloc: Global) -> Result<Vec<Box<dyn Fate>>> {
 }
 
 /// The link of a party in a scene.
-fn link_of(alloc: Global, scene: &str, me: Party) -> Result<MemLink> {
+fn link_of(alloc: Global, scene: &str, me: Party) -> Result<MemLink, NoMemory> {
     let mut link = MemLink::new(
         alloc,
         me,
@@ -117,7 +117,7 @@ fn link_of(alloc: Global, scene: &str, me: Party) -> Result<MemLink> {
 }
 
 /// The links of a loop, where the words say one: the server's, and then that of each host.
-fn links_of(alloc: Global, scene: &str, words: &Words) -> Result<Vec<MemLink>>
+fn links_of(alloc: Global, scene: &str, words: &Words) -> Result<Vec<MemLink>, NoMemory>
     ensures { IfOk result (λ links. (hosts turns : ℕ) → command_of words.now ≡ Some (Command.Loop hosts turns) → vec_len links ≡ hosts + 1) }
 {
     match words.command() {
@@ -127,7 +127,7 @@ fn links_of(alloc: Global, scene: &str, words: &Words) -> Result<Vec<MemLink>>
 }
 
 /// The links of the server and of so many hosts.
-fn links_among(alloc: Global, scene: &str, hosts: u32) -> Result<Vec<MemLink>>
+fn links_among(alloc: Global, scene: &str, hosts: u32) -> Result<Vec<MemLink>, NoMemory>
     ensures { IfOk result (λ links. vec_len links ≡ hosts + 1) }
 {
     let mut links = Vec::new(alloc);
