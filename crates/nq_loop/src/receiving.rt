@@ -3,7 +3,7 @@
 ghost use Rattle.std.specs.Prelude.{◌≡◌, ◌<◌, ◌+◌, ◌∷◌, [], ℕ, length, map};
 ghost use Rattle.nq_base.specs.declared.Party.{Party};
 ghost use Rattle.nq_loop.specs.Holding.{IsLooping, Keeps, Loops, TakesFrom, loop_of};
-ghost use Rattle.nq_loop.specs.Looping.{Brings, Step, came_to, receive_steps};
+ghost use Rattle.nq_loop.specs.Looping.{Brings, Step, receive_steps};
 ghost use Rattle.nq_loop.specs.Sending.{place_of, told_of};
 ghost use Rattle.nq_loop.specs.Steps.{each_below};
 ghost use Rattle.nq_model.specs.World.{Head};
@@ -128,16 +128,14 @@ fn receive_through<K: Keeper, L: Link>(
     match bring(links, place, buffer) {
         Came::Nothing => Ok(false),
         Came::Failed => Err(Halt::Link),
-        Came::Datagram { length, sender } => take_in(
-            alloc,
-            world,
-            links,
-            state,
-            ran,
-            sender,
-            party,
-            &buffer[..length],
-        ),
+        Came::Datagram { length, sender } => {
+            let letter = Letter {
+                sender,
+                to: *party,
+                bytes: &buffer[..length],
+            };
+            take_in(alloc, world, links, state, ran, &letter)
+        }
     }
 }
 
@@ -157,25 +155,19 @@ fn take_in<K: Keeper, L: Link>(
     links: &mut [L],
     state: &mut LoopState,
     ran: &mut Schedule,
-    sender: Party,
-    to: &Party,
-    datagram: &[u8],
+    letter: &Letter<'_>,
 ) -> Result<bool, Halt>
     requires hosts { length world.old.clients ≡ length state.old.begun }
     ensures takes { (head : Head) → head.hosts ≡ length state.old.begun
         → IsLooping head (loop_of K.content L.sent L.waiting L.faults world.old state.old ran.old links.old)
-        → TakesFrom head (came_to to.now (sender, datagram.now)) result (loop_of K.content L.sent L.waiting L.faults world.old state.old ran.old links.old)
+        → TakesFrom head (record { sender = letter.now.sender; to = letter.now.to; bytes = letter.now.bytes.now }) result
+        (loop_of K.content L.sent L.waiting L.faults world.old state.old ran.old links.old)
         (loop_of K.content L.sent L.waiting L.faults world.new state.new ran.new links.new) }
     ensures keeps { Keeps result (K.faults world.old.server.keeper) (K.faults world.new.server.keeper)
         (length world.old.clients) (length world.new.clients) (length state.old.begun) (length state.new.begun) }
     ensures follows { K.follows world.old.server.keeper world.new.server.keeper }
 {
-    let letter = Letter {
-        sender,
-        to: *to,
-        bytes: datagram,
-    };
-    match packet_of(alloc, world.packets(), state, &letter) {
+    match packet_of(alloc, world.packets(), state, letter) {
         Ok(Some(number)) => give(alloc, world, links, state, ran, Event::Deliver(number)),
         Ok(None) => Ok(true),
         Err(_) => Err(Halt::Memory),
