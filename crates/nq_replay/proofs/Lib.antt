@@ -2,7 +2,7 @@ pub mod Begun
 mod Endings
 pub mod Printings
 mod Appending
-mod Parts
+mod Joining
 pub mod Heads
 pub mod Journals
 pub mod Judgements
