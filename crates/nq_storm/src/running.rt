@@ -3,7 +3,7 @@
 ghost use Rattle.std.specs.List.{AllByRecursion};
 ghost use Rattle.std.specs.Prelude.{◌≡◌, [], ℕ, Option, Some, reverse};
 ghost use Rattle.nq_keeper.specs.StoredKeeper.{empty_kept};
-ghost use Rattle.nq_model.specs.World.{Head};
+ghost use Rattle.nq_model.specs.World.{Head as Beginning};
 ghost use Rattle.nq_play.specs.Playing.{beginning};
 ghost use Rattle.nq_replay.specs.Schedules.{NeverFails};
 ghost use Rattle.nq_storm.specs.Ending.{IsNoFault, Storms};
@@ -88,7 +88,7 @@ fn storm_surely<L: Keeper>(
     requires settings { HasSettings 4 60 30 world.old }
     requires empty { ran.old ≡ [] }
     requires never { NeverFails L.faults L.follows world.old.server.keeper }
-    ensures storms { (head : Head) → Plays head [] world.old (L.content world.old.server.keeper)
+    ensures storms { (head : Beginning) → Plays head [] world.old (L.content world.old.server.keeper)
         → Storms result head start events (told fate) (reverse ran.new) world.new (L.content world.new.server.keeper) }
     ensures stormy { AllByRecursion IsStormy ran.new }
     ensures reason { IsNoFault result }
