@@ -1,4 +1,6 @@
+use Rattle.std.proofs.Common.{subst}
+use Rattle.nq_server.specs.Holding.{keeper_in}
 use Rattle.nq_hosts.proofs.serving.booted.Goals as goal
 
 pub returns-in-Ok : goal.returns-in-Ok
-returns-in-Ok g c = let follows = c.boot.ensures.follows in (c.in-Ok.ensures.boots.0, rw c.in-Ok.is at follows)
+returns-in-Ok g c = (c.in-Ok.ensures.boots.0, subst (λ r. g.K.Keeper.follows c.args.keeper (keeper_in r)) c.in-Ok.is c.boot.ensures.follows)
