@@ -8,3 +8,4 @@ pub mod Counts
 pub mod Printed
 pub mod Turning
 pub mod Whole
+pub mod Looped
