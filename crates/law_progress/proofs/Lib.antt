@@ -16,3 +16,11 @@ pub mod QuietFlows
 pub mod CancelFlows
 pub mod SharedRows
 pub mod NoticeRows
+pub mod Prompt
+pub mod Busy
+pub mod GoingOn
+pub mod Attaching
+pub mod AttachWorlds
+pub mod RowEnds
+pub mod NamedRows
+pub mod Meant

@@ -33,7 +33,7 @@ some-there [] x h = absurd h
 some-there (y ∷ xs) x h = omega arith
 
 -- a member is found under its key, where that key has one row at most
-member-found : (file host : ℕ) (row : Row) (rows : List Row) → is_row_of file host row ≡ true → length (filter (is_row_of file host) rows) ≤ 1 → In rows row → find_row file host rows ≡ Some row
+pub member-found : (file host : ℕ) (row : Row) (rows : List Row) → is_row_of file host row ≡ true → length (filter (is_row_of file host) rows) ≤ 1 → In rows row → find_row file host rows ≡ Some row
 member-found file host row [] own few h = absurd h
 member-found file host row (r ∷ rows) own few h = here (is_row_of file host r) refl h few (λ less i. member-found file host row rows own less i)
   where

@@ -10,3 +10,8 @@ pub mod QuietDeliveries
 pub mod CancelledDeliveries
 pub mod SharedFiles
 pub mod NoticesMark
+pub mod CallsGoOn
+pub mod AttachedSoon
+pub mod EndsSoon
+pub mod NamedRows
+pub mod RequestsAreMeant

@@ -3,11 +3,16 @@
 #![tactic(auto)]
 
 ghost use Rattle.law_progress.specs.AnswersStay.{AnswersStay, StoresStay};
+ghost use Rattle.law_progress.specs.AttachedSoon.{AttachedInRecovery, AttachedOnceDelivered};
+ghost use Rattle.law_progress.specs.CallsGoOn.{CallsGoOn};
 ghost use Rattle.law_progress.specs.CalmRoundsAreLawful.{CalmRoundsAreLawful};
 ghost use Rattle.law_progress.specs.CancelledDeliveries.{DeliveryEndsButForCancels};
 ghost use Rattle.law_progress.specs.ClocksTickOnce.{ClocksTickOnce};
+ghost use Rattle.law_progress.specs.EndsSoon.{RecoveriesEndSoon, RowsEndSoon};
+ghost use Rattle.law_progress.specs.NamedRows.{NamedRowsAreToGo};
 ghost use Rattle.law_progress.specs.NoticesMark.{NoticesMarkRows};
 ghost use Rattle.law_progress.specs.QuietDeliveries.{RecoveringDeliveryEnds, SparedDeliveryEnds};
+ghost use Rattle.law_progress.specs.RequestsAreMeant.{RequestsAreMeant};
 ghost use Rattle.law_progress.specs.SharedFiles.{SharedFilesStayShared, WhoIsPutOffHasRow};
 ghost use Rattle.law_progress.specs.SomeNeedHalf.{NeedsHalf};
 
@@ -65,4 +70,41 @@ pub fn who_is_put_off_has_row()
 /// The row that a notice names is marked as one that is to go.
 pub fn notices_mark_rows()
     ensures { NoticesMarkRows }
+{}
+
+/// In every run a client that has an open call pauses or has a request under way; no pause is longer than 2 ticks, and each request
+/// under way is sent again 2 ticks after it was sent last. A client that is not attached asks to be.
+pub fn calls_go_on()
+    ensures { CallsGoOn }
+{}
+
+/// Where the deliveries of the second and the third of three calm rounds end, all clients are attached after these rounds.
+pub fn attached_once_delivered()
+    ensures { AttachedOnceDelivered }
+{}
+
+/// Where a server recovers for three calm rounds, all clients are attached after them.
+pub fn attached_in_recovery()
+    ensures { AttachedInRecovery }
+{}
+
+/// In every run each row of the lease table ends no later than the longest term and the skew from now on, unless it is renewed.
+pub fn rows_end_soon()
+    ensures { RowsEndSoon }
+{}
+
+/// In every run a recovery ends no later than the kept longest term, the skew and the write slack from now on, unless a write is stored
+/// in it.
+pub fn recoveries_end_soon()
+    ensures { RecoveriesEndSoon }
+{}
+
+/// In every run a row whose latest tag was named, in a notice or in a VACATED, is to go: it is not granted again.
+pub fn named_rows_are_to_go()
+    ensures { NamedRowsAreToGo }
+{}
+
+/// In every run a request that wants a lease for a call is of the call that is under way, and wants what that call needs.
+pub fn requests_are_meant()
+    ensures { RequestsAreMeant }
 {}
