@@ -18,7 +18,7 @@ use Rattle.walk_server.proofs.Tests.{is-at-most, is-not-at-most, none-there}
 abbrev pub Busy : ClientStep → Type 0
 Busy t = (u : UnderWay) → t.client.call ≡ Some u → (is_some t.client.ticket ≡ true) ⊎ (t.client.now < t.client.pause)
 
-any-found : {A : Type 0} (p : A → Bool) (xs : List A) → list_any p xs ≡ true → find p xs ≡ None → ⊥
+pub any-found : {A : Type 0} (p : A → Bool) (xs : List A) → list_any p xs ≡ true → find p xs ≡ None → ⊥
 any-found p [] any none = let bad : false ≡ true = any in cc
 any-found p (x ∷ xs) any none = by (p x) (λ a n. any-found p xs a n) any none
   where
@@ -27,7 +27,7 @@ any-found p (x ∷ xs) any none = by (p x) (λ a n. any-found p xs a n) any none
     by false rest any none = rest any none
 
 -- a file that is not clean has delayed writes in the list, where none is under way
-dirty-listed : (file : ℕ) (dirty : List Push) (push : Option Push) → push ≡ None → is_clean_in file dirty push ≡ false → list_any (is_push_of file) dirty ≡ true
+pub dirty-listed : (file : ℕ) (dirty : List Push) (push : Option Push) → push ≡ None → is_clean_in file dirty push ≡ false → list_any (is_push_of file) dirty ≡ true
 dirty-listed file dirty push none unclean = by (list_any (is_push_of file) dirty) refl (subst (λ o. is_clean_in file dirty o ≡ false) none unclean)
   where
     by : (b : Bool) → list_any (is_push_of file) dirty ≡ b → (not b && true) ≡ false → b ≡ true

@@ -24,3 +24,4 @@ pub mod AttachWorlds
 pub mod RowEnds
 pub mod NamedRows
 pub mod Meant
+pub mod SendsAgain

@@ -15,7 +15,7 @@ use Rattle.nq_base.specs.declared.Want.{Want}
 use Rattle.nq_base.specs.declared.Who.{Who}
 use Rattle.nq_model.specs.Client.{Client, ClientStep, begun, Job, attaching, for_call, renewing, pushing, Lease, Ticket, UnderWay, lease_on}
 use Rattle.nq_model.specs.ClientStep.{begins_call, is_called, says_busy, client_call, at_time, sends_again, client_tick, attached_client, starts, fresh_client, restart}
-use Rattle.nq_model.specs.Hear.{hear, spends, answers_call, takes_optional, then_caches, knows_revision, caches_write, with_through, marks_through, push_done, push_refused, attached, pauses, replied, cancels, evicted, reply_counts}
+use Rattle.nq_model.specs.Hear.{hear, spends, answers_call, takes_optional, then_caches, knows_revision, caches_write, with_through, marks_through, push_done, push_refused, attached, pauses, replied, cancels, vacates_lease, notes_notice, evicted, reply_counts}
 use Rattle.nq_model.specs.Message.{Message}
 use Rattle.nq_model.specs.Send.{sends_request, after_seq, after_number, takes_push, gives_up, want_of, read_want, shares_live, send_next}
 use Rattle.nq_model.specs.Settle.{answers, names_losses, after_read, reads_cached, after_write, marks_written, is_for_call, ticket_is_for_call, settle}
@@ -26,16 +26,16 @@ use Rattle.walk_client.proofs.PartCases.{answers-call-cases, lease-done-cases}
 use Rattle.walk_client.proofs.RepliedCases.{replied-cases}
 use Rattle.walk_client.proofs.SendCases.{send-cases}
 use Rattle.walk_client.proofs.SettleCases.{settle-cases}
-use Rattle.walk_client.proofs.StepCases.{call-cases, unless-cached-cases, tick-cases, heard-cases}
+use Rattle.walk_client.proofs.StepCases.{call-cases, unless-cached-cases, tick-cases, evicted-cases, heard-cases}
 use Rattle.walk_run.proofs.Steps.{Changes, nothing, by_client, by_server, ClientActs, called, ticked, restarted, heard, step-changes}
 use Rattle.walk_run.proofs.Worlds.{Holds, run-holds, get-set-same, get-set-other, first-client}
 use Rattle.walk_server.proofs.Rows.{same-number, number-same}
-use Rattle.law_progress.specs.RequestsAreMeant.{IsWriteTo, IsMeant, RequestsAreMeant}
-use Rattle.law_progress.proofs.EffortReplies.{Goes, start as spent, start-same, known-goes, optional-goes, pushed-goes, refused-goes, read-goes, write-goes, attached-goes, evicted-goes}
+use Rattle.law_progress.specs.RequestsAreMeant.{IsWriteTo, wanted, IsMeant, RequestsAreMeant}
+use Rattle.law_progress.proofs.EffortReplies.{Goes, start as spent, start-same, known-goes, optional-goes, pushed-goes, refused-goes, read-goes, write-goes, attached-goes}
 
 -- a client's request is meant
 Meant : Client → Type 0
-Meant c = (t : Ticket) (u : UnderWay) → c.ticket ≡ Some t → t.job ≡ for_call → c.call ≡ Some u → IsMeant t u
+Meant c = (t : Ticket) (u : UnderWay) → c.ticket ≡ Some t → t.job ≡ for_call → c.call ≡ Some u → IsMeant c t u
 
 -- a request of another job is never one of the call
 other-meant : (c : Client) → ((t : Ticket) → c.ticket ≡ Some t → t.job ≡ for_call → ⊥) → Meant c
@@ -49,10 +49,14 @@ idle-meant : (c : Client) → c.call ≡ None → Meant c
 unfolding Meant
 idle-meant c none t u asks job has = none-some u (sym none ∙ has)
 
-same-meant : (c d : Client) → d.ticket ≡ c.ticket → (d.call ≡ c.call) ⊎ (d.call ≡ None) → Meant c → Meant d
+same-meant : (c d : Client) → d.who ≡ c.who → d.term ≡ c.term → d.ticket ≡ c.ticket → d.call ≡ c.call → Meant c → Meant d
 unfolding Meant
-same-meant c d ticket (inl call) m t u asks job has = m t u (sym ticket ∙ asks) job (sym call ∙ has)
-same-meant c d ticket (inr none) m t u asks job has = none-some u (sym none ∙ has)
+same-meant c d who term ticket call m t u asks job has =
+    let old = m t u (sym ticket ∙ asks) job (sym call ∙ has) in
+    record {
+      reads = λ w q file block want e. let k = old.reads w q file block want e in (k.0, k.1 ∙ ap (λ v. Request.Read v u.q file block (Some (wanted c Mode.Reading))) (sym who) ∙ ap (λ n. Request.Read d.who u.q file block (Some (record { mode = Mode.Reading; term = n }))) (sym term));
+      leases = λ w file want e. let k = old.leases w file want e in (k.0, k.1 ∙ ap (λ v. Request.GetLease v file (wanted c Mode.Writing)) (sym who) ∙ ap (λ n. Request.GetLease d.who file (record { mode = Mode.Writing; term = n })) (sym term));
+    }
 
 -- where the request under way is not the call's
 settling-meant : (c : Client) → ticket_is_for_call c.ticket ≡ false → Meant c
@@ -64,14 +68,14 @@ settling-meant c idle = other-meant c (λ t asks job. clash t job (ap ticket_is_
 -- ---- what is sent
 
 -- no request that wants a lease
-plain-meant : (t : Ticket) (u : UnderWay) → ((who : Who) (q file block : ℕ) (want : Want) → t.request ≡ Request.Read who q file block (Some want) → ⊥) → ((who : Who) (file : ℕ) (want : Want) → t.request ≡ Request.GetLease who file want → ⊥) → IsMeant t u
-plain-meant t u no_read no_lease = record { reads = λ who q file block want is. absurd (no_read who q file block want is); leases = λ who file want is. absurd (no_lease who file want is) }
+plain-meant : (c : Client) (t : Ticket) (u : UnderWay) → ((who : Who) (q file block : ℕ) (want : Want) → t.request ≡ Request.Read who q file block (Some want) → ⊥) → ((who : Who) (file : ℕ) (want : Want) → t.request ≡ Request.GetLease who file want → ⊥) → IsMeant c t u
+plain-meant c t u no_read no_lease = record { reads = λ who q file block want is. absurd (no_read who q file block want is); leases = λ who file want is. absurd (no_lease who file want is) }
 
 module _ (t : ClientStep) (m : Meant t.client) where
   -- a request of the call, where the call is this
-  sent : (d : Client) (u : UnderWay) (k : Ticket) → d.ticket ≡ Some k → d.call ≡ Some u → IsMeant k u → Meant d
+  sent : (d : Client) (u : UnderWay) (k : Ticket) → d.ticket ≡ Some k → d.call ≡ Some u → IsMeant d k u → Meant d
   unfolding Meant
-  sent d u k asks has is s w asked job other = subst (λ x. IsMeant x w) (some-same k s (sym asks ∙ asked)) (subst (λ x. IsMeant k x) (some-same u w (sym has ∙ other)) is)
+  sent d u k asks has is s w asked job other = subst (λ x. IsMeant d x w) (some-same k s (sym asks ∙ asked)) (subst (λ x. IsMeant d k x) (some-same u w (sym has ∙ other)) is)
 
   other-job : (d : Client) (k : Ticket) → d.ticket ≡ Some k → (k.job ≡ for_call → ⊥) → Meant d
   other-job d k asks other = other-meant d (λ s asked job. other (ap (λ (x : Ticket). x.job) (some-same k s (sym asks ∙ asked)) ∙ job))
@@ -82,43 +86,44 @@ module _ (t : ClientStep) (m : Meant t.client) where
     stays_asking = λ ticket is. m;
     stays = λ free none. m;
     pushing = λ file p free first same. other-job _ _ refl (λ e. cc);
-    creating = λ u name blocks free is. sent _ u _ refl free.called (plain-meant _ u (λ who q f b w e. cc) (λ who f w e. cc));
-    looking_up = λ u name free is. sent _ u _ refl free.called (plain-meant _ u (λ who q f b w e. cc) (λ who f w e. cc));
-    getting_attributes = λ u file free is. sent _ u _ refl free.called (plain-meant _ u (λ who q f b w e. cc) (λ who f w e. cc));
-    reading = λ u file block free is. sent _ u _ refl free.called (read u file block is);
-    fetching = λ u file block free is. sent _ u _ refl free.called (plain-meant _ u (λ who q f b w e. cc) (λ who f w e. cc));
-    writing = λ u file block body free is through. sent _ u _ refl free.called (plain-meant _ u (λ who q f b w e. cc) (λ who f w e. cc));
-    leasing = λ u file block body free is through shares. sent _ u _ refl free.called (lease u file block body is through);
-    putting = λ u file block body free is written. sent _ u _ refl free.called (plain-meant _ u (λ who q f b w e. cc) (λ who f w e. cc));
-    resizing = λ u file blocks free is clean. sent _ u _ refl free.called (plain-meant _ u (λ who q f b w e. cc) (λ who f w e. cc));
-    removing = λ u file free is clean. sent _ u _ refl free.called (plain-meant _ u (λ who q f b w e. cc) (λ who f w e. cc));
+    creating = λ u name blocks free is. sent _ u _ refl free.called (plain-meant _ _ u (λ who q f b w e. cc) (λ who f w e. cc));
+    looking_up = λ u name free is. sent _ u _ refl free.called (plain-meant _ _ u (λ who q f b w e. cc) (λ who f w e. cc));
+    getting_attributes = λ u file free is. sent _ u _ refl free.called (plain-meant _ _ u (λ who q f b w e. cc) (λ who f w e. cc));
+    reading = λ u file block free is. sent _ u _ refl free.called (read _ _ u file block refl refl refl is);
+    fetching = λ u file block free is. sent _ u _ refl free.called (plain-meant _ _ u (λ who q f b w e. cc) (λ who f w e. cc));
+    writing = λ u file block body free is through. sent _ u _ refl free.called (plain-meant _ _ u (λ who q f b w e. cc) (λ who f w e. cc));
+    leasing = λ u file block body free is through shares. sent _ u _ refl free.called (lease _ _ u file block body refl refl refl is through);
+    putting = λ u file block body free is written. sent _ u _ refl free.called (plain-meant _ _ u (λ who q f b w e. cc) (λ who f w e. cc));
+    resizing = λ u file blocks free is clean. sent _ u _ refl free.called (plain-meant _ _ u (λ who q f b w e. cc) (λ who f w e. cc));
+    removing = λ u file free is clean. sent _ u _ refl free.called (plain-meant _ _ u (λ who q f b w e. cc) (λ who f w e. cc));
     renewing = λ file lease ticks free none unpaused due held same clean unnoticed. other-job _ _ refl (λ e. cc);
   })
     where
-      ticket : (r : Request) → Ticket
-      ticket r = record { xid = t.client.xid; first = t.client.now; last = t.client.now; request = r; job = for_call }
+      same : (d : Client) (u : UnderWay) (file : ℕ) (b : Bool) → d.who ≡ t.client.who → d.term ≡ t.client.term → shares_live t.client.now (lease_on file t.client.leases) ≡ b → (want : Want) → read_want t.client file ≡ Some want → Some want ≡ Some (wanted d Mode.Reading)
+      same d u file true who term e want is = let none : read_want t.client file ≡ None = rw e refl in none-some want (sym none ∙ is)
+      same d u file false who term e want is = let some : read_want t.client file ≡ Some (want_of t.client Mode.Reading) = rw e refl in sym is ∙ some ∙ ap (λ n. Some (record { mode = Mode.Reading; term = n })) (sym term)
 
-      mode : (file : ℕ) (b : Bool) → shares_live t.client.now (lease_on file t.client.leases) ≡ b → (want : Want) → read_want t.client file ≡ Some want → want.mode ≡ Mode.Reading
-      mode file true e want is = let none : read_want t.client file ≡ None = rw e refl in none-some want (sym none ∙ is)
-      mode file false e want is = let some : read_want t.client file ≡ Some (want_of t.client Mode.Reading) = rw e refl in ap (λ (x : Want). x.mode) (sym (some-same (want_of t.client Mode.Reading) want (sym some ∙ is)))
-
-      read : (u : UnderWay) (file block : ℕ) → u.call ≡ Call.Read file block → IsMeant (ticket (Request.Read t.client.who u.q file block (read_want t.client file))) u
-      read u file block is = record {
+      read : (d : Client) (k : Ticket) (u : UnderWay) (file block : ℕ) → d.who ≡ t.client.who → d.term ≡ t.client.term → k.request ≡ Request.Read t.client.who u.q file block (read_want t.client file) → u.call ≡ Call.Read file block → IsMeant d k u
+      read d k u file block mine term request is = record {
         reads = λ who q f b want e.
+            let both : Request.Read t.client.who u.q file block (read_want t.client file) ≡ Request.Read who q f b (Some want) = sym request ∙ e in
             let same_file : file ≡ f = cc in
             let same_block : block ≡ b = cc in
             let same_want : read_want t.client file ≡ Some want = cc in
-            (is ∙ ap (λ g. Call.Read g block) same_file ∙ ap (λ d. Call.Read f d) same_block, mode file (shares_live t.client.now (lease_on file t.client.leases)) refl want same_want);
-        leases = λ who f want e. absurd (cc);
+            let wants = same d u file (shares_live t.client.now (lease_on file t.client.leases)) mine term refl want same_want in
+            (is ∙ ap (λ g. Call.Read g block) same_file ∙ ap (λ n. Call.Read f n) same_block,
+             request ∙ ap (λ w. Request.Read t.client.who u.q file block w) (same_want ∙ wants) ∙ ap (λ v. Request.Read v u.q file block (Some (wanted d Mode.Reading))) (sym mine) ∙ ap (λ g. Request.Read d.who u.q g block (Some (wanted d Mode.Reading))) same_file ∙ ap (λ n. Request.Read d.who u.q f n (Some (wanted d Mode.Reading))) same_block);
+        leases = λ who f want e. let both : Request.Read t.client.who u.q file block (read_want t.client file) ≡ Request.GetLease who f want = sym request ∙ e in absurd (cc);
       }
 
-      lease : (u : UnderWay) (file block : ℕ) (body : List ℕ) → u.call ≡ Call.Write file block body → u.through ≡ false → IsMeant (ticket (Request.GetLease t.client.who file (want_of t.client Mode.Writing))) u
-      lease u file block body is through = record {
-        reads = λ who q f b want e. absurd (cc);
+      lease : (d : Client) (k : Ticket) (u : UnderWay) (file block : ℕ) (body : List ℕ) → d.who ≡ t.client.who → d.term ≡ t.client.term → k.request ≡ Request.GetLease t.client.who file (want_of t.client Mode.Writing) → u.call ≡ Call.Write file block body → u.through ≡ false → IsMeant d k u
+      lease d k u file block body mine term request is through = record {
+        reads = λ who q f b want e. let both : Request.GetLease t.client.who file (want_of t.client Mode.Writing) ≡ Request.Read who q f b (Some want) = sym request ∙ e in absurd (cc);
         leases = λ who f want e.
+            let both : Request.GetLease t.client.who file (want_of t.client Mode.Writing) ≡ Request.GetLease who f want = sym request ∙ e in
             let same_file : file ≡ f = cc in
-            let same_want : want_of t.client Mode.Writing ≡ want = cc in
-            (record { block = block; body = body; is = is ∙ ap (λ g. Call.Write g block body) same_file; delayed = through }, ap (λ (x : Want). x.mode) (sym same_want));
+            (record { block = block; body = body; is = is ∙ ap (λ g. Call.Write g block body) same_file; delayed = through },
+             request ∙ ap (λ v. Request.GetLease v file (want_of t.client Mode.Writing)) (sym mine) ∙ ap (λ n. Request.GetLease d.who file (record { mode = Mode.Writing; term = n })) (sym term) ∙ ap (λ g. Request.GetLease d.who g (wanted d Mode.Writing)) same_file);
       }
 
   -- ---- what needs no packet
@@ -146,11 +151,20 @@ again-meant : (c : Client) (ticket : Ticket) → c.ticket ≡ Some ticket → Me
 unfolding at_time sends_again Meant
 again-meant c ticket is m t u asks job has =
     let same : record ticket { last = c.now + 1 } ≡ t = some-same _ t asks in
+    let one : ticket.request ≡ t.request = ap (λ (x : Ticket). x.request) same in
     let old = m ticket u is (ap (λ (x : Ticket). x.job) same ∙ job) has in
     record {
-      reads = λ who q file block want e. old.reads who q file block want (ap (λ (x : Ticket). x.request) same ∙ e);
-      leases = λ who file want e. old.leases who file want (ap (λ (x : Ticket). x.request) same ∙ e);
+      reads = λ who q file block want e. let k = old.reads who q file block want (one ∙ e) in (k.0, sym one ∙ k.1);
+      leases = λ who file want e. let k = old.leases who file want (one ∙ e) in (k.0, sym one ∙ k.1);
     }
+
+-- a notice leaves the call and the request
+evicted-meant : (t : ClientStep) (file : ℕ) (tag : Tag) → Meant t.client → Meant (evicted t file tag).client
+unfolding vacates_lease notes_notice
+evicted-meant t file tag m = evicted-cases t file tag (λ v. Meant v.client) (record {
+  clean = λ e. same-meant t.client _ refl refl refl refl m;
+  waiting = λ e. same-meant t.client _ refl refl refl refl m;
+})
 
 -- ---- each step
 
@@ -190,20 +204,20 @@ module _ (c : Client) where
 
   cut : (file : ℕ) → Meant c → Meant (cancels (begun c) file).client
   unfolding cancels Meant
-  cut file m t u asks job has = m t u (keeps-or-cancels file c.ticket t asks).0 job has
+  cut file m t u asks job has =
+      let old = m t u (keeps-or-cancels file c.ticket t asks).0 job has in
+      record { reads = old.reads; leases = old.leases }
 
   hear-meant : (k : ℕ) (msg : Message) (t : ClientStep) → Alone c → Meant c → hear c k msg ≡ Some t → Meant t.client
   hear-meant k msg t alone m hears = heard-cases c k msg t (λ v. Meant v.client) hears (record {
     answered = λ xid r ticket is asks own inc counts. next (replied (begun c) k ticket r) false (free-meant _ (replied-free k ticket r asks counts alone));
-    noticed = λ xid file tag is older.
-        let g = evicted-goes 3 5 (cancels (begun c) file) file tag in
-        next (evicted (cancels (begun c) file) file tag) false (same-meant (cancels (begun c) file).client _ g.ticket g.call (cut file m));
+    noticed = λ xid file tag is older. next (evicted (cancels (begun c) file) file tag) false (evicted-meant (cancels (begun c) file) file tag (cut file m));
   })
 
   call-meant : (op : Call) → Alone c → Meant c → Meant (client_call c op).client
   unfolding says_busy begins_call is_called answers
   call-meant op alone m = call-cases c op (λ v. Meant v.client) (record {
-    busy = λ why. same-meant c _ refl (inl refl) m;
+    busy = λ why. same-meant c _ refl refl refl refl m;
     telling = λ file loss losses idle on changes has. idle-meant _ refl;
     going = λ idle on none.
         let asked : Meant (is_called (begins_call c op) op).client = other-meant _ (λ t asks job. let has = alone.asking.called t asks job in let bad : false ≡ true = ap is_some (sym idle) ∙ has in cc) in
@@ -215,7 +229,7 @@ module _ (c : Client) where
   unfolding at_time sends_again
   tick-meant m = tick-cases c (c.now + 1) (λ v. Meant v.client) (record {
     again = λ ticket is late. resent ticket is;
-    quiet = λ ticket is soon. same-meant c _ refl (inl refl) m;
+    quiet = λ ticket is soon. same-meant c _ refl refl refl refl m;
     free = λ none. next (begun (at_time c (c.now + 1))) true (free-meant _ none);
   })
     where

@@ -49,7 +49,7 @@ call-of xid x r (Request.Vacated who file tag) e = cc
 call-of xid x r (Request.Resize who seq q file blocks) e = cc
 call-of xid x r (Request.Remove who seq q file) e = cc
 
-message-of : (m : Message) (xid : ℕ) (r : Request) → datagram_of m ≡ request xid r → m ≡ Message.call xid r
+pub message-of : (m : Message) (xid : ℕ) (r : Request) → datagram_of m ≡ request xid r → m ≡ Message.call xid r
 message-of (call x q) xid r e = call-of xid x r q e
 message-of (reply x a) xid r e = absurd (cc)
 message-of (error x a) xid r e = absurd (cc)

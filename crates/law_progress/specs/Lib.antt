@@ -15,3 +15,4 @@ pub mod AttachedSoon
 pub mod EndsSoon
 pub mod NamedRows
 pub mod RequestsAreMeant
+pub mod SendsAgain

@@ -16,11 +16,21 @@ pub record IsWriteTo (file : ℕ) (u : UnderWay) : Type 0 where
   pub is : u.call ≡ Call.Write file block body
   pub delayed : u.through ≡ false
 
+-- what a client wants for a call: a lease of this kind, for its term
+abbrev pub wanted : Client → Mode → Want
+wanted c mode = record { mode = mode; term = c.term }
+
 -- a request of a call: a READ that wants a lease is a `read` of that block, and wants to read; GETLEASE is of a `write` to that file, and
--- wants to write
-pub record IsMeant (t : Ticket) (u : UnderWay) : Type 0 where
-  pub reads : (who : Who) (q file block : ℕ) (want : Want) → t.request ≡ Request.Read who q file block (Some want) → (u.call ≡ Call.Read file block) × (want.mode ≡ Mode.Reading)
-  pub leases : (who : Who) (file : ℕ) (want : Want) → t.request ≡ Request.GetLease who file want → IsWriteTo file u × (want.mode ≡ Mode.Writing)
+-- wants to write. Sent anew it would be the same request
+pub record IsMeant (c : Client) (t : Ticket) (u : UnderWay) : Type 0 where
+  pub reads :
+    (who : Who) (q file block : ℕ) (want : Want)
+    → t.request ≡ Request.Read who q file block (Some want)
+    → (u.call ≡ Call.Read file block) × (t.request ≡ Request.Read c.who u.q file block (Some (wanted c Mode.Reading)))
+  pub leases :
+    (who : Who) (file : ℕ) (want : Want)
+    → t.request ≡ Request.GetLease who file want
+    → IsWriteTo file u × (t.request ≡ Request.GetLease c.who file (wanted c Mode.Writing))
 
 -- in every run, of any events whatever
 abbrev pub RequestsAreMeant : Type 0
@@ -30,4 +40,4 @@ RequestsAreMeant =
     → c.ticket ≡ Some t
     → t.job ≡ for_call
     → c.call ≡ Some u
-    → IsMeant t u
+    → IsMeant c t u

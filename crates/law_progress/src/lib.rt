@@ -13,6 +13,7 @@ ghost use Rattle.law_progress.specs.NamedRows.{NamedRowsAreToGo};
 ghost use Rattle.law_progress.specs.NoticesMark.{NoticesMarkRows};
 ghost use Rattle.law_progress.specs.QuietDeliveries.{RecoveringDeliveryEnds, SparedDeliveryEnds};
 ghost use Rattle.law_progress.specs.RequestsAreMeant.{RequestsAreMeant};
+ghost use Rattle.law_progress.specs.SendsAgain.{NoticesAreAnsweredAtOnce};
 ghost use Rattle.law_progress.specs.SharedFiles.{SharedFilesStayShared, WhoIsPutOffHasRow};
 ghost use Rattle.law_progress.specs.SomeNeedHalf.{NeedsHalf};
 
@@ -107,4 +108,10 @@ pub fn named_rows_are_to_go()
 /// In every run a request that wants a lease for a call is of the call that is under way, and wants what that call needs.
 pub fn requests_are_meant()
     ensures { RequestsAreMeant }
+{}
+
+/// In every run a client whose call's request a notice cancels gives the lease up and sends the same request again, right behind, unless it
+/// pauses or has delayed writes to send first.
+pub fn notices_are_answered_at_once()
+    ensures { NoticesAreAnsweredAtOnce }
 {}
