@@ -25,3 +25,4 @@ pub mod RowEnds
 pub mod NamedRows
 pub mod Meant
 pub mod SendsAgain
+pub mod SharingRows

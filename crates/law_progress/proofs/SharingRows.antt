@@ -1,10 +1,11 @@
 -- A row that does not cache is taken by no datagram but a REMOVE of its file and an ATTACH of its host.
-use Rattle.std.proofs.Common.{◌≡◌, ◌≢◌, ◌⊎◌, ℕ, ◌==◌, ◌&&◌, Bool, true, false, List, [], ◌∷◌, Option, Some, None, if◌then◌else◌, length, refl, sym, ap, subst, ◌∙◌, inl, inr}
+use Rattle.std.proofs.Common.{◌≡◌, ◌≢◌, ◌<◌, ◌⊎◌, ℕ, ◌==◌, ◌&&◌, Bool, true, false, List, [], ◌∷◌, Option, Some, None, if◌then◌else◌, length, refl, sym, ap, subst, ◌∙◌, arith, inl, inr}
 use Rattle.std.specs.Option.{option_map}
 use Rattle.std.specs.Prelude.{slice_get}
 use Rattle.std.proofs.lemmas.Bool.{and_parts}
 use Rattle.nq_base.specs.declared.Access.{Access}
 use Rattle.nq_base.specs.declared.Event.{Event}
+use Rattle.nq_base.specs.declared.Mode.{Mode}
 use Rattle.nq_base.specs.declared.Party.{Party}
 use Rattle.nq_base.specs.declared.Question.{Question}
 use Rattle.nq_base.specs.declared.Request.{Request}
@@ -17,17 +18,18 @@ use Rattle.nq_model.specs.Client.{Client, ClientStep}
 use Rattle.nq_model.specs.Decide.{decides, creates, writes_through, stores, stores_recovering, wrote, resizes, removes, puts_off, commits}
 use Rattle.nq_model.specs.Hear.{hear}
 use Rattle.nq_model.specs.Message.{Message, Packet, Datagram, call, request, datagram_of}
-use Rattle.nq_model.specs.Server.{Server, Phase, serving, recovering, after_notices, keeping, keeping_with, with_table, quiet, drops, says}
+use Rattle.nq_model.specs.Profile.{most_hosts}
+use Rattle.nq_model.specs.Server.{Server, Phase, standing_in, serving, recovering, after_notices, keeping, keeping_with, with_table, quiet, drops, says}
 use Rattle.nq_model.specs.ServerStep.{access_of, to_read, attaches, vacates, vacated_rows, tells_later, serves, leases, receive}
 use Rattle.nq_model.specs.Table.{Table, caches, is_writing, same_tag, find_row, is_row_of, drop_host, drop_rows_of, drop_row, put_row, with_rows, after_draw}
 use Rattle.nq_model.specs.World.{Head, World, from_host, after_server, after_client, after_hearing, sending_host, deliver, deliver_to, deliver_to_client, step, run}
 use Rattle.law_leases.proofs.LeaseIntervals.{run-runs}
 use Rattle.walk_client.proofs.ClientMoves.{some-same, none-some}
 use Rattle.walk_leases.proofs.Runs.{none-served}
+use Rattle.walk_tables.proofs.ServerTables.{NoneRecovering}
 use Rattle.walk_run.proofs.Packets.{In, in-get}
 use Rattle.walk_run.proofs.Worlds.{Holds, IsSent, by_host, by_server, run-holds}
 use Rattle.walk_server.proofs.AskCases.{IsGranted, shares_again, begins_sharing, begins_caching, renews_row}
-use Rattle.walk_server.proofs.Incarnations.{tag-same}
 use Rattle.walk_server.proofs.RowChanges.{mark, mark-is, find-marked, find-put, found-put, of-key, find-other-dropped, find-other-host-dropped, find-other-file-dropped}
 use Rattle.walk_server.proofs.Rows.{choice, found-row, same-number, number-same}
 use Rattle.walk_server.proofs.ServerCases.{server-hears}
@@ -58,13 +60,18 @@ rows-to-go most head events bounds within file host row found going = by (run he
         stands ph = standing_in ph (run head events).server.table
     by (recovering until heard last) e =
         let served = (run-runs most head events bounds within).served in
-        let empty : (run head events).server.table.rows ≡ [] = none-served most (run head events).server served until heard last e in
+        let empty : (run head events).server.table.rows ≡ [] = subst (λ ph. NoneRecovering ph (run head events).server.table) e (none-served most (run head events).server served) in
         none-some row (subst (λ rs. find_row file host rs ≡ Some row) empty found)
 
 -- ---- what a datagram does to a row that does not cache
 
 other-number : (a b : ℕ) → (a == b) ≡ false → a ≢ b
 other-number a b e same = let yes : (a == b) ≡ true = number-same a b same in let bad : true ≡ false = sym yes ∙ e in cc
+
+tag-same : (a b : Tag) → same_tag a b ≡ true → a ≡ b
+tag-same a b e =
+    let k = and_parts _ _ e in
+    ap (λ n. record { boot = n; number = a.number }) (same-number a.boot b.boot k.0) ∙ ap (λ n. record { boot = b.boot; number = n }) (same-number a.number b.number k.1)
 
 module _ (s : Server) (file host : ℕ) (row : Row) (found : find_row file host s.table.rows ≡ Some row) (sharing : caches row.mode ≡ false) where
   Still : List Row → Type 0
@@ -101,6 +108,7 @@ module _ (s : Server) (file host : ℕ) (row : Row) (found : find_row file host 
 
   -- a row that is given up has a tag that was named
   vacated : (who : Who) (f : ℕ) (tag : Tag) → ((f ≡ file) → (who.host ≡ host) → row.tag ≡ tag → ⊥) → (o : Option Row) → find_row f who.host s.table.rows ≡ o → Still (vacated_rows who f tag s.table.rows o)
+  unfolding Still
   vacated who f tag named None e = stays
   vacated who f tag named (Some own) e = choice Still (own.who.inc == who.inc && same_tag own.tag tag) (drop_row f who.host s.table.rows) s.table.rows (λ same. dropped (tag-same own.tag tag (and_parts _ _ same).1)) (λ differs. stays)
     where
@@ -133,10 +141,6 @@ module _ (s : Server) (file host : ℕ) (row : Row) (found : find_row file host 
       let bad : true ≡ false = sym caching ∙ no in
       absurd (cc)
 
-  -- the asker has no row, so the waiting one is another's
-  waiting : (q : Question) (want : Want) (new : Row) → find_row q.file q.who.host s.table.rows ≡ None → caches new.mode ≡ false → is_row_of file host new ≡ true → caches new.mode ≡ false
-  waiting q want new none off key = off
-
   writes-other : (f h : ℕ) (own : Row) → find_row f h s.table.rows ≡ Some own → is_writing own.mode ≡ true → is_row_of file host own ≡ true → ⊥
   writes-other f h own has writing key =
       let k = of-key file host own key in
@@ -145,12 +149,12 @@ module _ (s : Server) (file host : ℕ) (row : Row) (found : find_row file host 
       let one : own ≡ row = some-same own row (sym has ∙ there) in
       no-both row.mode (ap (λ (x : Row). is_writing x.mode) (sym one) ∙ writing) sharing
     where
-      no-both : (m : _) → is_writing m ≡ true → caches m ≡ false → ⊥
+      no-both : (m : Mode) → is_writing m ≡ true → caches m ≡ false → ⊥
       no-both Mode.NonCaching w c = let bad : false ≡ true = w in cc
       no-both Mode.Reading w c = let bad : false ≡ true = w in cc
       no-both Mode.Writing w c = let bad : true ≡ false = c in cc
 
-  received : (sender next : ℕ) (m : Message) → takes_row file host m ≡ false → ((xid : ℕ) (who : Who) (f : ℕ) (tag : Tag) → m ≡ call xid (Request.Vacated who f tag) → who.host ≡ sender → f ≡ file → who.host ≡ host → row.tag ≡ tag → ⊥) → Still (receive s sender next (datagram_of m)).server.table.rows
+  received : (sender next : ℕ) (m : Message) → takes_row file host m ≡ false → ((xid : ℕ) (who : Who) (f : ℕ) (tag : Tag) → m ≡ call xid (Request.Vacated who f tag) → who.host ≡ sender → who.host < most_hosts → f ≡ file → who.host ≡ host → row.tag ≡ tag → ⊥) → Still (receive s sender next (datagram_of m)).server.table.rows
   unfolding quiet drops says attaches vacates serves leases tells_later decides creates writes_through stores stores_recovering wrote resizes removes puts_off commits after_notices keeping keeping_with with_table with_rows after_draw sharing_row
   received sender next m keeps named = server-hears s sender next (datagram_of m) (λ t. Still t.server.table.rows) (record {
     stays = stays;
@@ -159,7 +163,7 @@ module _ (s : Server) (file host : ℕ) (row : Row) (found : find_row file host 
     answers_null = λ xid e. stays;
     replying = λ xid who r a e by from plain. stays;
     attaching = λ xid who e from later. attached who.host (sym (ap (takes_row file host) (message-of m xid (Request.Attach who) e)) ∙ keeps);
-    vacating = λ xid who f tag e current. vacated who f tag (named xid who f tag (message-of m xid (Request.Vacated who f tag) e) current.from.host) (find_row f who.host s.table.rows) refl;
+    vacating = λ xid who f tag e current. vacated who f tag (named xid who f tag (message-of m xid (Request.Vacated who f tag) e) current.from.host current.from.possible) (find_row f who.host s.table.rows) refl;
     putting_off = λ xid who r f clash e by at asking c. marks f.id who.host _;
     putting_off_waiting = λ xid who r f clash want e by at wants asking c own room. puts _ (marked f.id who.host (access_of (Some want)) s.table.rows) (marks f.id who.host (access_of (Some want))) (λ key. refl);
     putting_off_by_own = λ xid who r f want own e by at wants asking c o evicting. stays;
@@ -200,8 +204,8 @@ sharing-rows most head events bounds within file host k p sent keeps has = subst
     w : World
     w = run head events
 
-    going : (xid : ℕ) (who : Who) (f : ℕ) (tag : Tag) → p.message ≡ call xid (Request.Vacated who f tag) → who.host ≡ sending_host p.sender → f ≡ file → who.host ≡ host → has.row.tag ≡ tag → ⊥
-    going xid who f tag is from at here same = named ((run-holds head events).sent p (in-get (run head events).packets k p sent))
+    going : (xid : ℕ) (who : Who) (f : ℕ) (tag : Tag) → p.message ≡ call xid (Request.Vacated who f tag) → who.host ≡ sending_host p.sender → who.host < most_hosts → f ≡ file → who.host ≡ host → has.row.tag ≡ tag → ⊥
+    going xid who f tag is from possible at here same = named ((run-holds head events).sent p (in-get (run head events).packets k p sent))
       where
         told : p ≡ from_host host (call xid (Request.Vacated who file has.row.tag)) → ⊥
         told e =
@@ -211,10 +215,7 @@ sharing-rows most head events bounds within file host k p sent keeps has = subst
             cc
 
         named : IsSent p → ⊥
-        named (by_server h m e) = let other : call xid (Request.Vacated who f tag) ≡ m = sym is ∙ ap (λ (q : Packet). q.message) e in no-call h m e
-          where
-            no-call : (h : ℕ) (m : Message) → p ≡ _ → ⊥
-            no-call h m e = tt
+        named (by_server h m e) = let far : sending_host p.sender ≡ most_hosts = ap (λ (q : Packet). sending_host q.sender) e in omega arith
         named (by_host h x r v e by) =
             let one : h ≡ host = sym (ap (λ (q : Packet). sending_host q.sender) e) ∙ sym from ∙ here in
             let message : call x r ≡ call xid (Request.Vacated who f tag) = sym (ap (λ (q : Packet). q.message) e) ∙ is in

@@ -16,3 +16,4 @@ pub mod EndsSoon
 pub mod NamedRows
 pub mod RequestsAreMeant
 pub mod SendsAgain
+pub mod SharingRows

@@ -15,6 +15,7 @@ ghost use Rattle.law_progress.specs.QuietDeliveries.{RecoveringDeliveryEnds, Spa
 ghost use Rattle.law_progress.specs.RequestsAreMeant.{RequestsAreMeant};
 ghost use Rattle.law_progress.specs.SendsAgain.{NoticesAreAnsweredAtOnce};
 ghost use Rattle.law_progress.specs.SharedFiles.{SharedFilesStayShared, WhoIsPutOffHasRow};
+ghost use Rattle.law_progress.specs.SharingRows.{RowsToGoCache, SharingRowsStay, WhoIsPutOffShares};
 ghost use Rattle.law_progress.specs.SomeNeedHalf.{NeedsHalf};
 
 /// Calm rounds keep a schedule within its bounds and within skew.
@@ -114,4 +115,20 @@ pub fn requests_are_meant()
 /// pauses or has delayed writes to send first.
 pub fn notices_are_answered_at_once()
     ensures { NoticesAreAnsweredAtOnce }
+{}
+
+/// In every run a row that its holder is told to give up lets him cache.
+pub fn rows_to_go_cache()
+    ensures { RowsToGoCache }
+{}
+
+/// In every run a row that does not let its holder cache stays so, whatever packet is delivered but a REMOVE of the file and an ATTACH of the
+/// host.
+pub fn sharing_rows_stay()
+    ensures { SharingRowsStay }
+{}
+
+/// Whoever wants a lease and is put off shares the file then, where the table had room for one more, and he had no row that let him cache.
+pub fn who_is_put_off_shares()
+    ensures { WhoIsPutOffShares }
 {}
