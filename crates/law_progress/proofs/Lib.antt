@@ -26,3 +26,4 @@ pub mod NamedRows
 pub mod Meant
 pub mod SendsAgain
 pub mod SharingRows
+pub mod Turns

@@ -170,7 +170,7 @@ evicted-meant t file tag m = evicted-cases t file tag (λ v. Meant v.client) (re
 
 -- after a reply the request under way is spent
 module _ (c : Client) where
-  replied-free : (number : ℕ) (ticket : Ticket) (r : Reply) → c.ticket ≡ Some ticket → reply_counts r ticket ≡ true → Alone c → (replied (begun c) number ticket r).client.ticket ≡ None
+  pub replied-free : (number : ℕ) (ticket : Ticket) (r : Reply) → c.ticket ≡ Some ticket → reply_counts r ticket ≡ true → Alone c → (replied (begun c) number ticket r).client.ticket ≡ None
   unfolding answers pauses marks_through spends
   replied-free number ticket r asks counts alone = replied-cases c number ticket r (λ v. v.client.ticket ≡ None) (alone.asking.ticketed ticket asks).fits counts (record {
     attaching = λ who inc job request is. gone (attached (spent c)) 1 (attached-goes 3 5 c);

@@ -27,7 +27,8 @@ use Rattle.walk_server.proofs.AskCases.{IsGranted, shares_again, begins_sharing,
 use Rattle.walk_server.proofs.Rows.{choice}
 use Rattle.walk_server.proofs.ServerCases.{server-hears}
 use Rattle.walk_server.proofs.ServerOutcomes.{error_for, file_changed_by, wanted_by, base_in, IsPlain, unattached, attached_again, not_yet, no_entry, entry, no_attributes, attributes, no_file, no_block, decided_again, is_old}
-use Rattle.law_progress.proofs.Efforts.{total, total-more, is_idle, lease_weight, reply_weight, want_weight, request_weight, weight}
+use Rattle.law_progress.specs.Efforts.{is_idle}
+use Rattle.law_progress.proofs.Efforts.{total, total-more, lease_weight, reply_weight, want_weight, request_weight, weight}
 
 -- whether a request is VACATED
 abbrev pub is_vacated : Request → Bool

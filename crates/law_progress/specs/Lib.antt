@@ -17,3 +17,5 @@ pub mod NamedRows
 pub mod RequestsAreMeant
 pub mod SendsAgain
 pub mod SharingRows
+pub mod Efforts
+pub mod Turns

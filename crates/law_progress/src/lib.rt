@@ -17,6 +17,7 @@ ghost use Rattle.law_progress.specs.SendsAgain.{NoticesAreAnsweredAtOnce};
 ghost use Rattle.law_progress.specs.SharedFiles.{SharedFilesStayShared, WhoIsPutOffHasRow};
 ghost use Rattle.law_progress.specs.SharingRows.{RowsToGoCache, SharingRowsStay, WhoIsPutOffShares};
 ghost use Rattle.law_progress.specs.SomeNeedHalf.{NeedsHalf};
+ghost use Rattle.law_progress.specs.Turns.{TurnsFall};
 
 /// Calm rounds keep a schedule within its bounds and within skew.
 pub fn calm_rounds_are_lawful()
@@ -131,4 +132,10 @@ pub fn sharing_rows_stay()
 /// Whoever wants a lease and is put off shares the file then, where the table had room for one more, and he had no row that let him cache.
 pub fn who_is_put_off_shares()
     ensures { WhoIsPutOffShares }
+{}
+
+/// In every run a client has fewer turns left after whatever it hears, but for notices that it answers by VACATED alone, or by VACATED and
+/// the same request.
+pub fn turns_fall()
+    ensures { TurnsFall }
 {}
