@@ -36,10 +36,10 @@ use Rattle.law_progress.specs.CalmRoundsAreLawful.{IsLawful}
 use Rattle.law_progress.specs.DeliveryEnds.{IsDelivered}
 use Rattle.law_progress.specs.QuietDeliveries.{recovers}
 use Rattle.law_progress.proofs.Attaching.{hear-stays, tick-stays, hear-attaches, hears-attach, attach-answered, TickedOff, tick-off}
-use Rattle.law_progress.proofs.ClientCount.{client-count}
+use Rattle.law_calm.proofs.ClientCount.{client-count}
 use Rattle.law_progress.proofs.CalmIsLawful.{calm-is-lawful, flows, round, rounds}
-use Rattle.law_progress.proofs.GoingOn.{calls-go-on}
-use Rattle.law_progress.proofs.HostsBelow.{get-below}
+use Rattle.law_calm.proofs.GoingOn.{calls-go-on}
+use Rattle.law_calm.proofs.HostsBelow.{get-below}
 use Rattle.law_progress.proofs.QuietFlows.{delivered-phase, recovering-ends}
 
 -- ---- lists

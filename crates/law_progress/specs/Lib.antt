@@ -8,14 +8,4 @@ pub mod AnswersStay
 pub mod SomeNeedHalf
 pub mod QuietDeliveries
 pub mod CancelledDeliveries
-pub mod SharedFiles
-pub mod NoticesMark
-pub mod CallsGoOn
 pub mod AttachedSoon
-pub mod EndsSoon
-pub mod NamedRows
-pub mod RequestsAreMeant
-pub mod SendsAgain
-pub mod SharingRows
-pub mod Efforts
-pub mod Turns

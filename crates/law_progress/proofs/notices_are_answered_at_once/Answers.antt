@@ -1,5 +1,0 @@
-use Rattle.law_progress.proofs.SendsAgain.{sends-again}
-use Rattle.law_progress.proofs.notices_are_answered_at_once.Goals as goal
-
-pub returns : goal.returns
-returns c = sends-again
