@@ -110,9 +110,10 @@ module _ (t : ClientStep) (m : Meant t.client) where
             let same_file : file ≡ f = cc in
             let same_block : block ≡ b = cc in
             let same_want : read_want t.client file ≡ Some want = cc in
-            let wants = same d u file (shares_live t.client.now (lease_on file t.client.leases)) mine term refl want same_want in
-            (is ∙ ap (λ g. Call.Read g block) same_file ∙ ap (λ n. Call.Read f n) same_block,
-             request ∙ ap (λ w. Request.Read t.client.who u.q file block w) (same_want ∙ wants) ∙ ap (λ v. Request.Read v u.q file block (Some (wanted d Mode.Reading))) (sym mine) ∙ ap (λ g. Request.Read d.who u.q g block (Some (wanted d Mode.Reading))) same_file ∙ ap (λ n. Request.Read d.who u.q f n (Some (wanted d Mode.Reading))) same_block);
+            let wants = same d u file (shares_live t.client.now (lease_on file t.client.leases)) mine term refl want same_want in (
+              is ∙ ap (λ g. Call.Read g block) same_file ∙ ap (λ n. Call.Read f n) same_block,
+              request ∙ ap (λ w. Request.Read t.client.who u.q file block w) (same_want ∙ wants) ∙ ap (λ v. Request.Read v u.q file block (Some (wanted d Mode.Reading))) (sym mine) ∙ ap (λ g. Request.Read d.who u.q g block (Some (wanted d Mode.Reading))) same_file ∙ ap (λ n. Request.Read d.who u.q f n (Some (wanted d Mode.Reading))) same_block,
+            );
         leases = λ who f want e. let both : Request.Read t.client.who u.q file block (read_want t.client file) ≡ Request.GetLease who f want = sym request ∙ e in absurd (cc);
       }
 
@@ -121,9 +122,10 @@ module _ (t : ClientStep) (m : Meant t.client) where
         reads = λ who q f b want e. let both : Request.GetLease t.client.who file (want_of t.client Mode.Writing) ≡ Request.Read who q f b (Some want) = sym request ∙ e in absurd (cc);
         leases = λ who f want e.
             let both : Request.GetLease t.client.who file (want_of t.client Mode.Writing) ≡ Request.GetLease who f want = sym request ∙ e in
-            let same_file : file ≡ f = cc in
-            (record { block = block; body = body; is = is ∙ ap (λ g. Call.Write g block body) same_file; delayed = through },
-             request ∙ ap (λ v. Request.GetLease v file (want_of t.client Mode.Writing)) (sym mine) ∙ ap (λ n. Request.GetLease d.who file (record { mode = Mode.Writing; term = n })) (sym term) ∙ ap (λ g. Request.GetLease d.who g (wanted d Mode.Writing)) same_file);
+            let same_file : file ≡ f = cc in (
+              record { block = block; body = body; is = is ∙ ap (λ g. Call.Write g block body) same_file; delayed = through },
+              request ∙ ap (λ v. Request.GetLease v file (want_of t.client Mode.Writing)) (sym mine) ∙ ap (λ n. Request.GetLease d.who file (record { mode = Mode.Writing; term = n })) (sym term) ∙ ap (λ g. Request.GetLease d.who g (wanted d Mode.Writing)) same_file,
+            );
       }
 
   -- ---- what needs no packet

@@ -464,12 +464,12 @@ module _ (most : ℕ) (head : Head) (events : List Event) (bounds : KeepsBounds 
       (server-marks (receive s sender next d) (received-rows s each sender next d)
       (λ file host row found. inside file host row (subst (λ (u : ServerStep). find_row file host u.server.table.rows ≡ Some row) (sym is) found))
       (λ x host file v tag i row found.
-          let at = in-index (receive s sender next d).sends _ i in
-          let go = notices-mark s sender next d each at.0 host x file v tag at.1 in
-          let own = said-host host x file v tag (said _ i) in
-          let there : find_row file host (receive s sender next d).server.table.rows ≡ Some go.row = subst (λ h. find_row file h (receive s sender next d).server.table.rows ≡ Some go.row) own go.there in
-          let same : go.row ≡ row = some-same go.row row (sym there ∙ found) in
-          ap (λ (r : Row). r.evicting) (sym same) ∙ go.going)
+      let at = in-index (receive s sender next d).sends _ i in
+      let go = notices-mark s sender next d each at.0 host x file v tag at.1 in
+      let own = said-host host x file v tag (said _ i) in
+      let there : find_row file host (receive s sender next d).server.table.rows ≡ Some go.row = subst (λ h. find_row file h (receive s sender next d).server.table.rows ≡ Some go.row) own go.there in
+      let same : go.row ≡ row = some-same go.row row (sym there ∙ found) in
+      ap (λ (r : Row). r.evicting) (sym same) ∙ go.going)
       (λ x host file v tag i. said-no-call host x (Request.Vacated v file tag) (said _ i)))
   acted-marks t (ticks is) inside =
       let s = (run head events).server in

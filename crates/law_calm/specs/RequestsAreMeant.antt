@@ -24,13 +24,13 @@ wanted c mode = record { mode = mode; term = c.term }
 -- wants to write. Sent anew it would be the same request
 pub record IsMeant (c : Client) (t : Ticket) (u : UnderWay) : Type 0 where
   pub reads :
-    (who : Who) (q file block : ℕ) (want : Want)
-    → t.request ≡ Request.Read who q file block (Some want)
-    → (u.call ≡ Call.Read file block) × (t.request ≡ Request.Read c.who u.q file block (Some (wanted c Mode.Reading)))
+      (who : Who) (q file block : ℕ) (want : Want)
+      → t.request ≡ Request.Read who q file block (Some want)
+      → (u.call ≡ Call.Read file block) × (t.request ≡ Request.Read c.who u.q file block (Some (wanted c Mode.Reading)))
   pub leases :
-    (who : Who) (file : ℕ) (want : Want)
-    → t.request ≡ Request.GetLease who file want
-    → IsWriteTo file u × (t.request ≡ Request.GetLease c.who file (wanted c Mode.Writing))
+      (who : Who) (file : ℕ) (want : Want)
+      → t.request ≡ Request.GetLease who file want
+      → IsWriteTo file u × (t.request ≡ Request.GetLease c.who file (wanted c Mode.Writing))
 
 -- in every run, of any events whatever
 abbrev pub RequestsAreMeant : Type 0

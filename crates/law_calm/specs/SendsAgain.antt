@@ -19,9 +19,9 @@ is_cancelled file (Some ticket) = is_for_call ticket.job && wants_of file ticket
 -- it sends delayed writes first; or it pauses
 pub data SendsAgain (c : Client) (ticket : Ticket) (file : ℕ) (tag : Tag) (t : ClientStep) : Type 0 where
   the_same :
-    t.sends ≡ call c.xid (Request.Vacated c.who file tag) ∷ call (c.xid + 1) ticket.request ∷ []
-    → t.client.ticket ≡ Some (record { xid = c.xid + 1; first = c.now; last = c.now; request = ticket.request; job = for_call })
-    → SendsAgain c ticket file tag t
+      t.sends ≡ call c.xid (Request.Vacated c.who file tag) ∷ call (c.xid + 1) ticket.request ∷ []
+      → t.client.ticket ≡ Some (record { xid = c.xid + 1; first = c.now; last = c.now; request = ticket.request; job = for_call })
+      → SendsAgain c ticket file tag t
   delayed_writes : (p : Push) → c.push ≡ None → t.client.push ≡ Some p → SendsAgain c ticket file tag t
   nothing_now : c.now < c.pause → SendsAgain c ticket file tag t
 

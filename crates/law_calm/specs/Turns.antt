@@ -30,20 +30,20 @@ IsOfUse m = (xid inc : ℕ) (grant : Option Grant) → m ≡ reply xid (Reply.Ge
 pub data TakesTurn (c : Client) (m : Message) (t : ClientStep) : Type 0 where
   fewer : turns_left t.client < turns_left c → TakesTurn c m t
   again :
-    (xid file : ℕ) (tag : Tag) (ticket : Ticket)
-    → m ≡ call xid (Request.Evicted c.who file tag)
-    → c.ticket ≡ Some ticket
-    → t.sends ≡ call c.xid (Request.Vacated c.who file tag) ∷ call (c.xid + 1) ticket.request ∷ []
-    → t.client.ticket ≡ Some (record { xid = c.xid + 1; first = c.now; last = c.now; request = ticket.request; job = for_call })
-    → turns_left t.client ≤ turns_left c
-    → TakesTurn c m t
+      (xid file : ℕ) (tag : Tag) (ticket : Ticket)
+      → m ≡ call xid (Request.Evicted c.who file tag)
+      → c.ticket ≡ Some ticket
+      → t.sends ≡ call c.xid (Request.Vacated c.who file tag) ∷ call (c.xid + 1) ticket.request ∷ []
+      → t.client.ticket ≡ Some (record { xid = c.xid + 1; first = c.now; last = c.now; request = ticket.request; job = for_call })
+      → turns_left t.client ≤ turns_left c
+      → TakesTurn c m t
   silent :
-    (xid file : ℕ) (tag : Tag)
-    → m ≡ call xid (Request.Evicted c.who file tag)
-    → t.client.ticket ≡ c.ticket
-    → (t.sends ≡ []) ⊎ (t.sends ≡ call c.xid (Request.Vacated c.who file tag) ∷ [])
-    → turns_left t.client ≤ turns_left c
-    → TakesTurn c m t
+      (xid file : ℕ) (tag : Tag)
+      → m ≡ call xid (Request.Evicted c.who file tag)
+      → t.client.ticket ≡ c.ticket
+      → (t.sends ≡ []) ⊎ (t.sends ≡ call c.xid (Request.Vacated c.who file tag) ∷ [])
+      → turns_left t.client ≤ turns_left c
+      → TakesTurn c m t
 
 -- in every run, of any events whatever
 abbrev pub TurnsFall : Type 0

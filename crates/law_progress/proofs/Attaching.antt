@@ -81,12 +81,12 @@ goes-attached : (t : ClientStep) → t.client.attached ≡ true → (send_next f
 unfolding answers after_read reads_cached after_write marks_written sends_request after_seq after_number takes_push gives_up
 goes-attached t on =
     let settled : (settle t).client.attached ≡ true = settle-moves t (λ u. u.client.attached ≡ true) (record {
-          kept = on;
-          answered = λ v q answer so. so;
-          read = λ u file block body. on;
-          delayed = λ file block body. on;
-          marked = λ v u so. so;
-        }) in
+      kept = on;
+      answered = λ v q answer so. so;
+      read = λ u file block body. on;
+      delayed = λ file block body. on;
+      marked = λ v u so. so;
+    }) in
     send-moves false (settle t) (λ u. u.client.attached ≡ true) (record {
       kept = settled;
       pushes = λ file p first. settled;
@@ -160,8 +160,8 @@ attach-answered s next xid who few past small =
     let line = host_row s.kept who.host in
     choice (λ (t : ServerStep). t.sends ≡ to_host who.host (reply xid (Reply.Attach who.inc)) ∷ []) (who.host == who.host && nat_lt who.host most_hosts) (admit s who xid next (Request.Attach who) line) (drops s wrong_host)
     (λ e. choice (λ (t : ServerStep). t.sends ≡ to_host who.host (reply xid (Reply.Attach who.inc)) ∷ []) (nat_lt line.inc who.inc) (attach_later s who xid) (if nat_lt who.inc line.inc then drops s old_incarnation else replies s who.host xid (Reply.Attach who.inc))
-        (λ later. choice (λ (t : ServerStep). t.sends ≡ to_host who.host (reply xid (Reply.Attach who.inc)) ∷ []) (can_be_kept (row_of_attach who)) (attaches s who xid) (drops s out_of_bounds) (λ can. refl) (λ cannot. absurd (let can = kept in cc)))
-        (λ same. choice (λ (t : ServerStep). t.sends ≡ to_host who.host (reply xid (Reply.Attach who.inc)) ∷ []) (nat_lt who.inc line.inc) (drops s old_incarnation) (replies s who.host xid (Reply.Attach who.inc)) (λ old. absurd (let no = not_old in cc)) (λ current. refl)))
+    (λ later. choice (λ (t : ServerStep). t.sends ≡ to_host who.host (reply xid (Reply.Attach who.inc)) ∷ []) (can_be_kept (row_of_attach who)) (attaches s who xid) (drops s out_of_bounds) (λ can. refl) (λ cannot. absurd (let can = kept in cc)))
+    (λ same. choice (λ (t : ServerStep). t.sends ≡ to_host who.host (reply xid (Reply.Attach who.inc)) ∷ []) (nat_lt who.inc line.inc) (drops s old_incarnation) (replies s who.host xid (Reply.Attach who.inc)) (λ old. absurd (let no = not_old in cc)) (λ current. refl)))
     (λ e. absurd (let yes = own in cc))
   where
     own : (who.host == who.host && nat_lt who.host most_hosts) ≡ true
