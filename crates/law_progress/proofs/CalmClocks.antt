@@ -11,7 +11,7 @@ use Rattle.law_progress.specs.CalmRound.{calmed, calm_round, calm_rounds, most_d
 use Rattle.law_progress.specs.CalmRoundsAreLawful.{IsLawful}
 use Rattle.law_progress.specs.ClocksTickOnce.{ClocksTickOnce}
 use Rattle.law_progress.proofs.CalmIsLawful.{flows, round, calm-is-lawful}
-use Rattle.law_progress.proofs.ClientCount.{client-count}
+use Rattle.law_calm.proofs.ClientCount.{client-count}
 
 -- ---- deliveries
 

@@ -10,7 +10,7 @@ use Rattle.walk_run.proofs.NoCrash.{one-first}
 use Rattle.walk_server.proofs.Rows.{same-number}
 use Rattle.law_progress.specs.CalmRound.{calmed, calm_round, calm_rounds, most_deliveries}
 use Rattle.law_progress.specs.CalmRoundsAreLawful.{IsLawful, CalmRoundsAreLawful}
-use Rattle.law_progress.proofs.ClientCount.{client-count}
+use Rattle.law_calm.proofs.ClientCount.{client-count}
 use Rattle.law_progress.proofs.Skewed.{MayTick, quiet-within, own-may, later-may, ticked-within}
 
 module _ (most : ℕ) (head : Head) where

@@ -12,9 +12,10 @@ use Rattle.nq_model.specs.Message.{Message, Packet, datagram_of}
 use Rattle.nq_model.specs.ServerStep.{receive}
 use Rattle.nq_model.specs.World.{Head, World, after_hearing, sending_host, deliver, deliver_to, deliver_to_client, step}
 use Rattle.law_progress.specs.CalmRound.{calmed, calm_rounds}
-use Rattle.law_progress.specs.CancelledDeliveries.{is_cancelled, cancels_ticket, cancels_client, cancels_at, cancels_by, one_if, first_cancels, cancelled_in, DeliveryEndsButForCancels}
-use Rattle.law_progress.proofs.Efforts.{total, weight}
-use Rattle.law_progress.proofs.EffortReplies.{CancelCosts, hear-costs, cancel-costs, uncancelled-costs}
+use Rattle.law_calm.specs.SendsAgain.{is_cancelled}
+use Rattle.law_progress.specs.CancelledDeliveries.{cancels_ticket, cancels_client, cancels_at, cancels_by, one_if, first_cancels, cancelled_in, DeliveryEndsButForCancels}
+use Rattle.law_calm.proofs.Efforts.{total, weight}
+use Rattle.law_calm.proofs.EffortReplies.{CancelCosts, hear-costs, cancel-costs, uncancelled-costs}
 use Rattle.law_progress.proofs.FlowEnds.{AllSent, IsSentAll, some_weight, number_weight, left_to_pay, Pays, pays-nothing, client-pays, server-pays, next, next-sent, next-pays, stays-empty}
 use Rattle.law_progress.proofs.QuietFlows.{Stands, price_for, all-alone, all-dear, stands-goes, calm-sent, calm-stands, stands-bound}
 use Rattle.law_progress.proofs.ServerWeights.{packet_weight, some-weight, receive-lighter}

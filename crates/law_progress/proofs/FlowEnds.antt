@@ -14,8 +14,9 @@ use Rattle.nq_model.specs.World.{World, from_host, after_server, after_client, a
 use Rattle.walk_client.proofs.ClientFacts.{Alone}
 use Rattle.walk_client.proofs.ClientMoves.{some-same, none-some}
 use Rattle.walk_server.proofs.Rows.{choice, number-same}
-use Rattle.law_progress.proofs.Efforts.{total, total-append, weight, effort, cost}
-use Rattle.law_progress.proofs.EffortReplies.{CancelCosts, hear-pays}
+use Rattle.law_calm.specs.Efforts.{effort}
+use Rattle.law_calm.proofs.Efforts.{total, total-append, weight, cost}
+use Rattle.law_calm.proofs.EffortReplies.{CancelCosts, hear-pays}
 use Rattle.law_progress.proofs.ServerWeights.{packet_weight, packets_weight, Dear, some-weight, receive-lighter}
 
 -- ---- sums over lists

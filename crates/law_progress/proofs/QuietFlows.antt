@@ -27,17 +27,18 @@ use Rattle.walk_client.proofs.ClientFacts.{Alone}
 use Rattle.walk_client.proofs.ClientMoves.{none-some}
 use Rattle.walk_run.proofs.Packets.{in-get}
 use Rattle.walk_server.proofs.Tests.{is-below, is-not-below}
-use Rattle.law_progress.proofs.ClientCount.{client-count}
-use Rattle.law_progress.proofs.HostsBelow.{IsLocal, run-local, one-row-each}
+use Rattle.law_calm.proofs.ClientCount.{client-count}
+use Rattle.law_calm.proofs.HostsBelow.{IsLocal, run-local, one-row-each}
 use Rattle.law_progress.proofs.ServerWeights.{packets_weight, Dear}
 use Rattle.law_progress.proofs.SparedSteps.{found-all, delivered-spared}
 use Rattle.nq_promises.specs.Bounds.{KeepsBounds}
 use Rattle.nq_model.specs.Skew.{IsWithinSkew}
 use Rattle.law_progress.specs.CalmRound.{AreUnderWay, calmed, calm_round, calm_rounds, most_deliveries}
-use Rattle.law_progress.specs.QuietDeliveries.{recovers, IsSpared, RecoveringDeliveryEnds, SparedDeliveryEnds}
+use Rattle.law_calm.specs.Spared.{IsSpared}
+use Rattle.law_progress.specs.QuietDeliveries.{recovers, RecoveringDeliveryEnds, SparedDeliveryEnds}
 use Rattle.law_progress.proofs.Bounds.{within-bound}
 use Rattle.law_progress.proofs.CalmIsLawful.{calm-is-lawful}
-use Rattle.law_progress.proofs.EffortReplies.{cancel-costs, spared-costs}
+use Rattle.law_calm.proofs.EffortReplies.{cancel-costs, spared-costs}
 use Rattle.law_progress.proofs.FlowEnds.{AllSent, IsSentAll, sent-wider, sent-filter, sent-append, sent-from, left_to_pay, Affords, flow-ends}
 
 -- ---- what is under way was sent, in each play of a calm network

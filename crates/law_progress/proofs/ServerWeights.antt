@@ -27,32 +27,14 @@ use Rattle.walk_server.proofs.AskCases.{IsGranted, shares_again, begins_sharing,
 use Rattle.walk_server.proofs.Rows.{choice}
 use Rattle.walk_server.proofs.ServerCases.{server-hears}
 use Rattle.walk_server.proofs.ServerOutcomes.{error_for, file_changed_by, wanted_by, base_in, IsPlain, unattached, attached_again, not_yet, no_entry, entry, no_attributes, attributes, no_file, no_block, decided_again, is_old}
-use Rattle.law_progress.proofs.Efforts.{total, total-more, is_idle, lease_weight, reply_weight, want_weight, request_weight, weight}
+use Rattle.law_calm.specs.Efforts.{is_idle}
+use Rattle.law_calm.proofs.Requests.{message-of}
+use Rattle.law_calm.proofs.Efforts.{total, total-more, lease_weight, reply_weight, want_weight, request_weight, weight}
 
 -- whether a request is VACATED
 abbrev pub is_vacated : Request → Bool
 is_vacated (Request.Vacated who file tag) = true
 is_vacated other = false
-
--- a datagram that is a request is that call
-call-of : (xid x : ℕ) (r q : Request) → datagram_of_call x q ≡ request xid r → Message.call x q ≡ Message.call xid r
-call-of xid x r (Request.Evicted who file tag) e = absurd (cc)
-call-of xid x r Request.Null e = cc
-call-of xid x r (Request.Attach who) e = cc
-call-of xid x r (Request.Lookup who name) e = cc
-call-of xid x r (Request.Create who seq name blocks) e = cc
-call-of xid x r (Request.GetAttr who file) e = cc
-call-of xid x r (Request.Read who q file block want) e = cc
-call-of xid x r (Request.Write who seq file block first last push body) e = cc
-call-of xid x r (Request.GetLease who file want) e = cc
-call-of xid x r (Request.Vacated who file tag) e = cc
-call-of xid x r (Request.Resize who seq q file blocks) e = cc
-call-of xid x r (Request.Remove who seq q file) e = cc
-
-message-of : (m : Message) (xid : ℕ) (r : Request) → datagram_of m ≡ request xid r → m ≡ Message.call xid r
-message-of (call x q) xid r e = call-of xid x r q e
-message-of (reply x a) xid r e = absurd (cc)
-message-of (error x a) xid r e = absurd (cc)
 
 -- a row that is granted for a writing want caches no more than it writes
 greater-writes : (a b : Mode) → is_writing b ≡ true → is_writing (greater_mode a b) ≡ true

@@ -19,8 +19,8 @@ use Rattle.walk_client.proofs.RepliedCases.{replied-cases}
 use Rattle.walk_client.proofs.SendCases.{send-moves}
 use Rattle.walk_client.proofs.SettleCases.{settle-cases}
 use Rattle.walk_client.proofs.StepCases.{heard-cases}
-use Rattle.law_progress.specs.QuietDeliveries.{wants_lease, IsSpared, pausing, wants_none}
-use Rattle.law_progress.proofs.EffortReplies.{Goes, start, start-same, known-goes, optional-goes, pushed-goes, refused-goes, read-goes, write-goes, attached-goes, evicted-goes}
+use Rattle.law_calm.specs.Spared.{wants_lease, IsSpared, pausing, wants_none}
+use Rattle.law_calm.proofs.EffortReplies.{Goes, start, start-same, known-goes, optional-goes, pushed-goes, refused-goes, read-goes, write-goes, attached-goes, evicted-goes}
 
 -- a client with no call
 spared-idle : (c : Client) → c.call ≡ None → IsSpared c

@@ -5,6 +5,7 @@ use Rattle.nq_promises.specs.Bounds.{KeepsBounds}
 use Rattle.nq_model.specs.Client.{Client}
 use Rattle.nq_model.specs.Profile.{skew, write_slack, patience}
 use Rattle.nq_model.specs.Skew.{IsWithinSkew}
+use Rattle.nq_model.specs.Stepped.{most_events}
 use Rattle.nq_model.specs.World.{Head, run}
 use Rattle.law_progress.specs.CalmRound.{AreUnderWay, calmed, calm_rounds}
 
@@ -22,12 +23,14 @@ pub record IsAnswered (c : Client) : Type 0 where
   pub attached : c.attached ≡ true
   pub answered : c.call ≡ None
 
--- after every schedule within skew, whatever is under way: after that many calm rounds or more it is so with all clients
+-- after every schedule within skew that is no longer than a schedule may be, whatever is under way: after that many calm rounds or more
+-- it is so with all clients
 abbrev pub CallsAreAnswered : Type 0
 CallsAreAnswered =
     (most : ℕ) (head : Head) (events : List Event)
     → KeepsBounds most head events
     → IsWithinSkew head.hosts most events
+    → length events ≤ most_events
     → (under_way : List ℕ) (count : ℕ)
     → AreUnderWay (length (run head events).packets) under_way
     → rounds_enough most ≤ count

@@ -9,13 +9,10 @@ use Rattle.nq_model.specs.Lines.{Play, play_flow, flow_first}
 use Rattle.nq_model.specs.Message.{Message, Packet, call}
 use Rattle.nq_model.specs.Settle.{is_for_call}
 use Rattle.nq_model.specs.World.{World, run}
+use Rattle.law_calm.specs.SendsAgain.{is_cancelled}
 use Rattle.law_progress.specs.CalmRound.{AreUnderWay, calmed, calm_rounds, most_deliveries}
 
--- whether a notice for a file cancels the request under way, and it is the call's
-abbrev pub is_cancelled : (file : ℕ) → Option Ticket → Bool
-is_cancelled file None = false
-is_cancelled file (Some ticket) = is_for_call ticket.job && wants_of file ticket.request
-
+-- whether a message cancels it
 abbrev pub cancels_ticket : Message → Option Ticket → Bool
 cancels_ticket (call xid (Request.Evicted who file tag)) ticket = is_cancelled file ticket
 cancels_ticket other ticket = false

@@ -6,6 +6,7 @@ use Rattle.nq_promises.specs.Bounds.{KeepsBounds}
 use Rattle.nq_model.specs.Client.{Client}
 use Rattle.nq_model.specs.Lines.{play}
 use Rattle.nq_model.specs.Skew.{IsWithinSkew}
+use Rattle.nq_model.specs.Stepped.{most_events}
 use Rattle.nq_model.specs.World.{Head, run}
 use Rattle.law_progress.specs.CalmRound.{AreUnderWay, calmed, calm_rounds}
 use Rattle.law_progress.specs.CallsAreAnswered.{IsAnswered, rounds_enough}
@@ -21,6 +22,7 @@ EverythingIsStored =
     (most : ℕ) (head : Head) (events : List Event)
     → KeepsBounds most head events
     → IsWithinSkew head.hosts most events
+    → length events ≤ most_events
     → (under_way : List ℕ) (count : ℕ)
     → AreUnderWay (length (run head events).packets) under_way
     → rounds_enough most + most ≤ count
@@ -32,6 +34,7 @@ SyncsAreAnswered =
     (most : ℕ) (head : Head) (events : List Event)
     → KeepsBounds most head events
     → IsWithinSkew head.hosts most events
+    → length events ≤ most_events
     → (under_way : List ℕ) (count host file : ℕ)
     → AreUnderWay (length (run head events).packets) under_way
     → rounds_enough most ≤ count

@@ -8,5 +8,4 @@ pub mod AnswersStay
 pub mod SomeNeedHalf
 pub mod QuietDeliveries
 pub mod CancelledDeliveries
-pub mod SharedFiles
-pub mod NoticesMark
+pub mod AttachedSoon

@@ -5,19 +5,9 @@ use Rattle.nq_promises.specs.Bounds.{InEveryRun}
 use Rattle.nq_model.specs.Client.{Client, UnderWay}
 use Rattle.nq_model.specs.Server.{Phase, serving, recovering}
 use Rattle.nq_model.specs.World.{run}
+use Rattle.law_calm.specs.Spared.{IsSpared}
 use Rattle.law_progress.specs.CalmRound.{AreUnderWay, calmed, calm_rounds}
 use Rattle.law_progress.specs.DeliveryEnds.{IsDelivered}
-
--- whether a call may want a lease
-abbrev pub wants_lease : Call → Bool
-wants_lease (Call.Read file block) = true
-wants_lease (Call.Write file block body) = true
-wants_lease other = false
-
--- no call of a client waits for a lease: it pauses, or its call wants none
-pub data IsSpared (c : Client) : Type 0 where
-  pausing : c.now < c.pause → IsSpared c
-  wants_none : ((u : UnderWay) → c.call ≡ Some u → wants_lease u.call ≡ false) → IsSpared c
 
 -- whether the server recovers
 abbrev pub recovers : Phase → Bool

@@ -3,12 +3,11 @@
 #![tactic(auto)]
 
 ghost use Rattle.law_progress.specs.AnswersStay.{AnswersStay, StoresStay};
+ghost use Rattle.law_progress.specs.AttachedSoon.{AttachedInRecovery, AttachedOnceDelivered};
 ghost use Rattle.law_progress.specs.CalmRoundsAreLawful.{CalmRoundsAreLawful};
 ghost use Rattle.law_progress.specs.CancelledDeliveries.{DeliveryEndsButForCancels};
 ghost use Rattle.law_progress.specs.ClocksTickOnce.{ClocksTickOnce};
-ghost use Rattle.law_progress.specs.NoticesMark.{NoticesMarkRows};
 ghost use Rattle.law_progress.specs.QuietDeliveries.{RecoveringDeliveryEnds, SparedDeliveryEnds};
-ghost use Rattle.law_progress.specs.SharedFiles.{SharedFilesStayShared, WhoIsPutOffHasRow};
 ghost use Rattle.law_progress.specs.SomeNeedHalf.{NeedsHalf};
 
 /// Calm rounds keep a schedule within its bounds and within skew.
@@ -52,17 +51,12 @@ pub fn deliveries_end_but_for_cancels()
     ensures { DeliveryEndsButForCancels }
 {}
 
-/// Where a host has a row of a file that does not let it cache, nobody's row comes to let him cache the file by a datagram.
-pub fn shared_files_stay_shared()
-    ensures { SharedFilesStayShared }
+/// Where the deliveries of the second and the third of three calm rounds end, all clients are attached after these rounds.
+pub fn attached_once_delivered()
+    ensures { AttachedOnceDelivered }
 {}
 
-/// Whoever wants a lease and is put off has a row of the file then, where the table had room for one more.
-pub fn who_is_put_off_has_row()
-    ensures { WhoIsPutOffHasRow }
-{}
-
-/// The row that a notice names is marked as one that is to go.
-pub fn notices_mark_rows()
-    ensures { NoticesMarkRows }
+/// Where a server recovers for three calm rounds, all clients are attached after them.
+pub fn attached_in_recovery()
+    ensures { AttachedInRecovery }
 {}

@@ -18,7 +18,8 @@ use Rattle.walk_client.proofs.ClientMoves.{some-same, none-some}
 use Rattle.walk_client.proofs.SendCases.{pushed, send-cases}
 use Rattle.walk_client.proofs.SettleCases.{IsSettling, IsRead, IsWrite, IsSync, of_sync, of_put, needs_packet, CanWrite, WriteWaits, settle-cases}
 use Rattle.walk_server.proofs.Rows.{choice, number-same}
-use Rattle.law_progress.proofs.Efforts.{total-more, write_price, put_price, fresh_for, fresh_left, writes_to, read_left, lease_left, sent_left, asked_left, requests_left, put_delays, may_delay, delays_left, request_weight, weight, calls_left, cost}
+use Rattle.law_calm.specs.Efforts.{write_price, put_price, fresh_for, fresh_left, writes_to, read_left, lease_left, sent_left, asked_left, requests_left, put_delays, may_delay, delays_left, calls_left}
+use Rattle.law_calm.proofs.Efforts.{total-more, request_weight, weight, cost}
 
 -- ---- lists of delayed writes
 

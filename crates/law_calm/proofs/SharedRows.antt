@@ -12,7 +12,7 @@ use Rattle.nq_base.specs.declared.Row.{Row}
 use Rattle.nq_base.specs.declared.Tag.{Tag}
 use Rattle.nq_base.specs.declared.Want.{Want}
 use Rattle.nq_base.specs.declared.Who.{Who}
-use Rattle.nq_model.specs.Ask.{Reply, ask_past, ask_freely, ask_for, begin, renew, share_again, shares, conflicts, marked, sharing_row, caching_row, shared_again, renewed_row, with_waiting, put_off, free, put_off_by_own, granted, no_lease, term_of}
+use Rattle.nq_model.specs.Ask.{Reply, ask, ask_past, ask_freely, ask_for, begin, renew, share_again, shares, conflicts, marked, sharing_row, caching_row, shared_again, renewed_row, with_waiting, put_off, free, put_off_by_own, granted, no_lease, term_of}
 use Rattle.nq_model.specs.Message.{Datagram}
 use Rattle.nq_model.specs.Profile.{most_rows}
 use Rattle.nq_model.specs.Server.{Server}
@@ -25,7 +25,8 @@ use Rattle.nq_model.proofs.Finding.{number-other}
 use Rattle.walk_server.proofs.Rows.{choice, found-row, find-none, same-number, number-same}
 use Rattle.walk_server.proofs.ServerMoves.{server-moves}
 use Rattle.walk_server.proofs.Tests.{is-other}
-use Rattle.law_progress.specs.SharedFiles.{HasRow, HasCachingRow, SharedFilesStayShared, WhoIsPutOffHasRow}
+use Rattle.law_calm.specs.SharingRows.{HasSharingRow, WhoIsPutOffShares}
+use Rattle.law_calm.specs.SharedFiles.{HasRow, HasCachingRow, SharedFilesStayShared, WhoIsPutOffHasRow}
 
 none-any : {A : Type 0} (p : A → Bool) (xs : List A) → list_any p xs ≡ false → find p xs ≡ None
 none-any p [] h = refl
@@ -154,7 +155,21 @@ shared-stay s sender next d file host row found shared other has = only-old s fi
 some-row : (f : Row → Row) (o : Option Row) (row : Row) → o ≡ Some row → option_map f o ≡ Some (f row)
 some-row f o row is = ap (option_map f) is
 
+-- whoever is put off has a row then, which does not let him cache, unless he had one before that did
+record WaitsWith (before rows : List Row) (file host : ℕ) : Type 0 where
+  row : Row
+  there : find_row file host rows ≡ Some row
+  kind : (caches row.mode ≡ false) ⊎ HasCachingRow before file host
+
 module _ (table : Table) (q : Question) (want : Want) (wants : q.want ≡ Some want) (room : length table.rows < most_rows) where
+  -- a row of the asker that was there
+  kept-kind : (row r : Row) → find_row q.file q.who.host table.rows ≡ Some row → r.mode ≡ row.mode → (caches r.mode ≡ false) ⊎ HasCachingRow table.rows q.file q.who.host
+  kept-kind row r is same = by (caches row.mode) refl
+    where
+      by : (b : Bool) → caches row.mode ≡ b → (caches r.mode ≡ false) ⊎ HasCachingRow table.rows q.file q.who.host
+      by true e = inr (record { row = row; there = is; caching = e })
+      by false e = inl (ap caches same ∙ e)
+
   abbrev rows_then : List Row
   rows_then = marked q.file q.who.host q.access table.rows
 
@@ -164,14 +179,14 @@ module _ (table : Table) (q : Question) (want : Want) (wants : q.want ≡ Some w
       is-less : (a b : ℕ) → a < b → nat_lt a b ≡ true
       is-less a b less = grind (arith, nat_tests)
 
-  waits : (own : Option Row) → find_row q.file q.who.host table.rows ≡ own → HasRow (with_waiting (with_rows table rows_then) q (Some want) own).rows q.file q.who.host
+  waits : (own : Option Row) → find_row q.file q.who.host table.rows ≡ own → WaitsWith table.rows (with_waiting (with_rows table rows_then) q (Some want) own).rows q.file q.who.host
   unfolding with_rows after_draw sharing_row
-  waits (Some row) is = record { row = mark q.file q.who.host q.access row; there = find-marked q.file q.who.host q.file q.who.host q.access table.rows ∙ some-row (mark q.file q.who.host q.access) _ row is }
-  waits None is = choice (λ (t : Table). HasRow t.rows q.file q.who.host) (nat_lt (length rows_then) most_rows) (with_waiter table q want) (with_marked table q) (λ e. record { row = sharing_row (with_marked table q) q (term_of q want); there = find-put-same (sharing_row (with_marked table q) q (term_of q want)) rows_then }) (λ e. let some = marked-room in absurd (cc))
+  waits (Some row) is = record { row = mark q.file q.who.host q.access row; there = find-marked q.file q.who.host q.file q.who.host q.access table.rows ∙ some-row (mark q.file q.who.host q.access) _ row is; kind = kept-kind row (mark q.file q.who.host q.access row) is (mark-is q.file q.who.host q.access row).mode }
+  waits None is = choice (λ (t : Table). WaitsWith table.rows t.rows q.file q.who.host) (nat_lt (length rows_then) most_rows) (with_waiter table q want) (with_marked table q) (λ e. record { row = sharing_row (with_marked table q) q (term_of q want); there = find-put-same (sharing_row (with_marked table q) q (term_of q want)) rows_then; kind = inl refl }) (λ e. let some = marked-room in absurd (cc))
 
   -- what is granted is not put off
   abbrev Waits : Clash → Reply → Type 0
-  Waits clash r = r.asked ≡ Asked.TryLater clash → HasRow r.table.rows q.file q.who.host
+  Waits clash r = r.asked ≡ Asked.TryLater clash → WaitsWith table.rows r.table.rows q.file q.who.host
 
   granted-waits : (clash : Clash) (row : Row) (term : ℕ) → Waits clash (granted table q row term)
   unfolding granted
@@ -188,7 +203,7 @@ module _ (table : Table) (q : Question) (want : Want) (wants : q.want ≡ Some w
   unfolding put_off_by_own
   own-waits clash v own is =
       choice (Waits clash) own.evicting (put_off_by_own table own) (if caches own.mode then renew table q v own else share_again table q own)
-      (λ e f. record { row = own; there = is })
+      (λ e f. record { row = own; there = is; kind = kept-kind own own is refl })
       (λ e. choice (Waits clash) (caches own.mode) (renew table q v own) (share_again table q own) (λ f. granted-waits clash _ _) (λ f. granted-waits clash _ _))
 
   freely-waits : (clash : Clash) (w : Option Want) (own : Option Row) → find_row q.file q.who.host table.rows ≡ own → Waits clash (ask_freely table q w own)
@@ -200,7 +215,19 @@ module _ (table : Table) (q : Question) (want : Want) (wants : q.want ≡ Some w
   past-waits : (clash : Clash) (o : Option Row) → Waits clash (ask_past table q o (find_row q.file q.who.host table.rows))
   unfolding put_off
   past-waits clash None = freely-waits clash q.want (find_row q.file q.who.host table.rows) refl
-  past-waits clash (Some other) = λ e. subst (λ w. HasRow (with_waiting (with_rows table rows_then) q w (find_row q.file q.who.host table.rows)).rows q.file q.who.host) (sym wants) (waits (find_row q.file q.who.host table.rows) refl)
+  past-waits clash (Some other) = λ e. subst (λ w. WaitsWith table.rows (with_waiting (with_rows table rows_then) q w (find_row q.file q.who.host table.rows)).rows q.file q.who.host) (sym wants) (waits (find_row q.file q.who.host table.rows) refl)
 
 pub put-off-has-row : WhoIsPutOffHasRow
-put-off-has-row table q want clash wants room e = past-waits table q want wants room clash (find (conflicts q.file q.who.host q.access) table.rows) e
+put-off-has-row table q want clash wants room e =
+    let w = past-waits table q want wants room clash (find (conflicts q.file q.who.host q.access) table.rows) e in
+    record { row = w.row; there = w.there }
+
+pub put-off-shares : WhoIsPutOffShares
+put-off-shares table q want clash wants room none e = by (past-waits table q want wants room clash (find (conflicts q.file q.who.host q.access) table.rows) e)
+  where
+    by : WaitsWith table.rows (ask table q).table.rows q.file q.who.host → HasSharingRow (ask table q).table.rows q.file q.who.host
+    by w = which w.kind
+      where
+        which : (caches w.row.mode ≡ false) ⊎ HasCachingRow table.rows q.file q.who.host → HasSharingRow (ask table q).table.rows q.file q.who.host
+        which (inl off) = record { row = w.row; there = w.there; sharing = off }
+        which (inr caching) = absurd (none caching)

@@ -36,7 +36,7 @@ use Rattle.walk_server.proofs.Rows.{choice, found-row}
 use Rattle.walk_server.proofs.ServerCases.{server-hears}
 use Rattle.walk_server.proofs.ServerMoves.{tick-moves}
 use Rattle.walk_server.proofs.ServerOutcomes.{IsFrom}
-use Rattle.law_progress.proofs.ClientCount.{client-count}
+use Rattle.law_calm.proofs.ClientCount.{client-count}
 
 -- a number that is found stands below the length
 pub get-below : {A : Type 0} (xs : List A) (i : ℕ) (x : A) → slice_get xs i ≡ Some x → i < length xs

@@ -26,10 +26,11 @@ use Rattle.walk_client.proofs.SettleCases.{CanWrite, IsSettling}
 use Rattle.walk_client.proofs.StepCases.{evicted-cases, heard-cases}
 use Rattle.walk_server.proofs.Rows.{choice, same-number, number-same}
 use Rattle.walk_server.proofs.Tests.{is-not-below}
-use Rattle.law_progress.specs.CancelledDeliveries.{is_cancelled}
-use Rattle.law_progress.specs.QuietDeliveries.{wants_lease, IsSpared, pausing, wants_none}
-use Rattle.law_progress.proofs.Efforts.{total-more, write_price, put_price, fresh_for, fresh_left, writes_to, read_left, lease_left, sent_left, job_left, asked_left, requests_left, delays_left, is_idle, lease_weight, reply_weight, weight, writes_left, calls_left, effort, sent_weight, cost}
-use Rattle.law_progress.proofs.EffortParts.{filter-shorter, none-left, called-left, settle-cheap, send-cheap, settle-saves}
+use Rattle.law_calm.specs.SendsAgain.{is_cancelled}
+use Rattle.law_calm.specs.Spared.{wants_lease, IsSpared, pausing, wants_none}
+use Rattle.law_calm.specs.Efforts.{write_price, put_price, fresh_for, fresh_left, writes_to, read_left, lease_left, sent_left, job_left, asked_left, requests_left, delays_left, is_idle, writes_left, calls_left, effort}
+use Rattle.law_calm.proofs.Efforts.{total-more, lease_weight, reply_weight, weight, sent_weight, cost}
+use Rattle.law_calm.proofs.EffortParts.{filter-shorter, none-left, called-left, settle-cheap, send-cheap, settle-saves}
 
 -- what is left of a call is as before, or nothing
 pub record Goes (price note n : ℕ) (t u : ClientStep) : Type 0 where
@@ -549,7 +550,7 @@ module _ (price note : ℕ) where
   abbrev pub CancelCosts : (rise : ℕ) → Client → (file : ℕ) → Type 0
   CancelCosts rise c file = requests_left price c.now (nat_lt c.now c.pause) c.call (cancelled file c.ticket) ≤ calls_left price c + rise
 
-  goes-cost : (n : ℕ) (t u : ClientStep) → Goes price note n t u → cost price note u ≤ cost price note t + n
+  pub goes-cost : (n : ℕ) (t u : ClientStep) → Goes price note n t u → cost price note u ≤ cost price note t + n
   goes-cost n t u g =
       let rest = g.rest in
       let same : calls_left price u.client ≡ requests_left price t.client.now (nat_lt t.client.now t.client.pause) u.client.call t.client.ticket = rw (g.ticket, g.now, g.pause) refl in
@@ -566,7 +567,7 @@ module _ (price note : ℕ) where
   pub evicted-goes : (t : ClientStep) (file : ℕ) (tag : Tag) → Goes price note 1 t (evicted t file tag)
   evicted-goes t file tag = evicted-cases t file tag (Goes price note 1 t) (record { clean = λ e. vacates-goes t file tag; waiting = λ e. noted-goes t file tag })
 
-  cancels-cost : (rise : ℕ) (c : Client) (file : ℕ) → CancelCosts rise c file → cost price note (cancels (begun c) file) ≤ effort price c + rise
+  pub cancels-cost : (rise : ℕ) (c : Client) (file : ℕ) → CancelCosts rise c file → cost price note (cancels (begun c) file) ≤ effort price c + rise
   unfolding cancels
   cancels-cost rise c file few = omega arith
 

@@ -24,7 +24,7 @@ use Rattle.walk_server.proofs.RowChanges.{mark, own-key, find-put, find-marked, 
 use Rattle.walk_server.proofs.Rows.{found-row}
 use Rattle.walk_server.proofs.ServerCases.{server-hears}
 use Rattle.walk_server.proofs.ServerOutcomes.{error_for, wanted_by}
-use Rattle.law_progress.specs.NoticesMark.{IsToGo, NoticesMarkRows}
+use Rattle.law_calm.specs.NoticesMark.{IsToGo, NoticesMarkRows}
 
 -- ---- rows that are members
 
@@ -33,7 +33,7 @@ some-there [] x h = absurd h
 some-there (y ∷ xs) x h = omega arith
 
 -- a member is found under its key, where that key has one row at most
-member-found : (file host : ℕ) (row : Row) (rows : List Row) → is_row_of file host row ≡ true → length (filter (is_row_of file host) rows) ≤ 1 → In rows row → find_row file host rows ≡ Some row
+pub member-found : (file host : ℕ) (row : Row) (rows : List Row) → is_row_of file host row ≡ true → length (filter (is_row_of file host) rows) ≤ 1 → In rows row → find_row file host rows ≡ Some row
 member-found file host row [] own few h = absurd h
 member-found file host row (r ∷ rows) own few h = here (is_row_of file host r) refl h few (λ less i. member-found file host row rows own less i)
   where

@@ -1,0 +1,17 @@
+pub mod Prompt
+pub mod Busy
+pub mod GoingOn
+pub mod RowEnds
+pub mod Meant
+pub mod SendsAgain
+pub mod NamedRows
+pub mod SharingRows
+pub mod SharedRows
+pub mod NoticeRows
+pub mod Turns
+pub mod Efforts
+pub mod EffortParts
+pub mod EffortReplies
+pub mod HostsBelow
+pub mod ClientCount
+pub mod Requests

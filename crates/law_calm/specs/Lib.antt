@@ -1,0 +1,11 @@
+pub mod CallsGoOn
+pub mod EndsSoon
+pub mod RequestsAreMeant
+pub mod SendsAgain
+pub mod NamedRows
+pub mod SharingRows
+pub mod SharedFiles
+pub mod NoticesMark
+pub mod Turns
+pub mod Efforts
+pub mod Spared
