@@ -12,7 +12,7 @@ use Rattle.law_deeds.proofs.Places.{in-placed, placed-order, told-whole, fact-wh
 use Rattle.law_legal.proofs.LegalLaws.{legal-in-every-run}
 use Rattle.law_synchronized.proofs.KeptPlaces.{KeptHere, IsMadeOpen, HasWritten, OkAt, somewhere-more}
 use Rattle.law_synchronized.proofs.Standings.{answered-in-every-run}
-use Rattle.nq_model.specs.Journal.{Exists, Throughout, Somewhere, IsAnswer, IsAnswerBy, IsOpen, IsCounted, call_of}
+use Rattle.nq_model.specs.Journal.{Exists, Throughout, Somewhere, IsAnswer, IsAnswerBy, IsOpen, call_of}
 use Rattle.nq_model.specs.Legal.{IsReading, IsCountedWith, IsLegalAt, IsLegalAnswer}
 use Rattle.nq_model.specs.OfTheirCall.{Reads}
 use Rattle.nq_model.specs.Ordered.{Writes, Resizes}
@@ -117,16 +117,6 @@ module _ (j : List Entry) (t : Throughout Placed j) (who : Who) (q file block va
               in-exists (IsReadOfCall who q file block value (Some k)) before x early (same, one, a.0, a.1, gives, refl)
           order (inr (inl bad)) = absurd (cc)
           order (inr (inr late)) = absurd ((throughout-at Placed x place j t r).unanswered (subst (λ m. Exists (IsAnswerBy by m k) place) (sym one) (subst (λ w. Exists (IsAnswerBy w q k) place) (sym same) (in-exists (IsAnswerBy who q k) place (A who q said) late answers))))
-
--- the packet that an answer names, or none if it names none
-abbrev packet_of : Said → Option ℕ
-packet_of (OkBy value packet) = Some packet
-packet_of other = None
-
--- an answer by a packet names it
-names-packet : (who : Who) (q k : ℕ) (said : Said) → IsAnswerBy who q k (A who q said) → packet_of said ≡ Some k
-names-packet who q k (OkBy value packet) h = ap (λ n. Some n) h.2
-names-packet who q k other h = absurd h
 
 module _ (j : List Entry) (t : Throughout Placed j) (who : Who) (q file block value : ℕ) (before : List Entry) (asked : (f b : ℕ) → Reads f b (call_of j who q) → (f ≡ file) × (b ≡ block)) where
   -- the counted read of an answer without a packet is cached

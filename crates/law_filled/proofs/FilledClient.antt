@@ -1,22 +1,20 @@
 -- The bodies that a client has and sends stay filled over each of its steps.
-use Rattle.std.proofs.Common.{◌≡◌, ◌⊎◌, ℕ, ◌+◌, Bool, true, false, List, [], ◌∷◌, ◌++◌, Option, Some, None, if◌then◌else◌, map, refl, sym, subst, ap, ◌∙◌, inl, inr}
+use Rattle.std.proofs.Common.{◌≡◌, ℕ, ◌+◌, Bool, true, false, List, ◌∷◌, Option, Some, None, if◌then◌else◌, refl, subst, ap}
 use Rattle.nq_base.specs.declared.Answer.{Answer}
 use Rattle.nq_base.specs.declared.Call.{Call}
 use Rattle.nq_base.specs.declared.Grant.{Grant}
 use Rattle.nq_base.specs.declared.Push.{Push}
-use Rattle.nq_base.specs.declared.Refusal.{Refusal}
 use Rattle.nq_base.specs.declared.Reply.{Reply}
 use Rattle.nq_base.specs.declared.Request.{Request}
 use Rattle.nq_base.specs.declared.Tag.{Tag}
 use Rattle.nq_base.specs.declared.Value.{Value}
-use Rattle.nq_base.specs.declared.Who.{Who}
 use Rattle.law_filled.proofs.EachOf.{each-find, each-filter, each-through, each-most}
 use Rattle.nq_model.proofs.Lists.{each-append}
-use Rattle.nq_model.specs.Client.{Client, ClientStep, Clean, Job, Lease, Notice, Revision, Ticket, UnderWay, begun, is_clean_at, clean_at, drop_clean, dirty_at, is_push_at, is_push_of, first_dirty, drop_dirty, other_dirty, notice_on, purge, put_clean, revision_of, is_revision, for_call}
-use Rattle.nq_model.specs.ClientStep.{begins_call, is_called, sends_unless_cached, says_busy, client_call, at_time, sends_again, client_tick, fresh_client, starts, next_incarnation, restart}
-use Rattle.nq_model.specs.Hear.{vacates_lease, vacates_noticed, loses, reports, without_lease, push_refused, breaks_chain, if_broken, holds, takes_grant, takes_optional, answers_call, caches_block, purges, knows_revision, then_caches, read_done, with_through, marks_through, lease_done, caches_write, write_done, ends_push, caches_push, push_done, answer_of, spends, attached, pauses, replied, reply_counts, cancelled, wants_of, cancels, notes_notice, evicted, hear, other_push, clean_at_revision}
+use Rattle.nq_model.specs.Client.{Client, ClientStep, Clean, Job, Notice, Revision, Ticket, UnderWay, begun, is_clean_at, clean_at, drop_clean, dirty_at, is_push_at, is_push_of, first_dirty, notice_on, purge, put_clean, revision_of, is_revision, for_call}
+use Rattle.nq_model.specs.ClientStep.{begins_call, is_called, sends_unless_cached, says_busy, client_call, at_time, sends_again, client_tick, fresh_client, starts, restart}
+use Rattle.nq_model.specs.Hear.{vacates_lease, vacates_noticed, loses, reports, without_lease, push_refused, breaks_chain, if_broken, holds, takes_grant, takes_optional, answers_call, caches_block, purges, knows_revision, then_caches, read_done, with_through, marks_through, caches_write, write_done, ends_push, caches_push, push_done, answer_of, spends, attached, pauses, replied, reply_counts, cancels, notes_notice, evicted, hear, other_push, clean_at_revision}
 use Rattle.nq_model.specs.Journal.{Each}
-use Rattle.nq_model.specs.Message.{Message, reply}
+use Rattle.nq_model.specs.Message.{Message}
 use Rattle.nq_model.specs.Profile.{most_clean}
 use Rattle.nq_model.specs.Send.{sends_request, after_seq, after_number, takes_push, sends_write, gives_up, send_next}
 use Rattle.nq_model.specs.Settle.{answers, names_losses, reads_cached, after_read, looked_up, touched, reads_clean_in, clean_after_read, overwritten, overwritten_at, with_write, delays, after_write, marks_written, settle}

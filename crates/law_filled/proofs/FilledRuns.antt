@@ -1,24 +1,24 @@
 -- In every run whose calls bring filled bodies all bodies are filled.
-use Rattle.std.proofs.Common.{◌≡◌, ℕ, zero, suc, ◌+◌, List, [], ◌∷◌, ◌++◌, Option, Some, None, length, map, refl, sym, subst, ap, ◌∙◌}
+use Rattle.std.proofs.Common.{◌≡◌, ℕ, zero, suc, ◌+◌, List, [], ◌∷◌, Option, Some, None, length, map, refl, subst}
 use Rattle.std.specs.Prelude.{slice_get}
 use Rattle.nq_base.specs.declared.Call.{Call}
 use Rattle.nq_base.specs.declared.Event.{Event}
 use Rattle.nq_base.specs.declared.Party.{Party}
 use Rattle.nq_base.specs.declared.Request.{Request}
 use Rattle.law_filled.proofs.EachOf.{each-get, each-set}
-use Rattle.law_filled.proofs.FilledClient.{Fits, FitsIn, step-filled, call-fits, tick-fits, hear-fits, restart-fits}
+use Rattle.law_filled.proofs.FilledClient.{FitsIn, step-filled, call-fits, tick-fits, hear-fits, restart-fits}
 use Rattle.law_filled.proofs.FilledServer.{FileFilled, PacketFilled, StepFilled, new-filled, received, ticked, crashed}
 use Rattle.nq_model.proofs.Lists.{each-append}
 use Rattle.nq_model.specs.Client.{Client, ClientStep}
 use Rattle.nq_model.specs.ClientStep.{client_call, client_tick, restart, fresh_client, attached_client}
 use Rattle.nq_model.specs.Hear.{hear}
 use Rattle.nq_model.specs.Journal.{Each}
-use Rattle.nq_model.specs.Message.{Message, call, reply, error, Packet, Datagram, request, datagram_of, datagram_of_call}
+use Rattle.nq_model.specs.Message.{Message, call, reply, error, Packet, request, datagram_of, datagram_of_call}
 use Rattle.nq_model.specs.Server.{ServerStep}
-use Rattle.nq_model.specs.ServerStep.{boot, booted}
-use Rattle.nq_model.specs.World.{Head, World, from_host, after_server, after_client, at_client, after_hearing, sending_host, deliver_to_client, deliver_to, deliver, first_files, first_clients, first_kept, start, step, run}
+use Rattle.nq_model.specs.ServerStep.{boot}
+use Rattle.nq_model.specs.World.{Head, World, from_host, after_server, after_client, at_client, after_hearing, sending_host, deliver_to_client, deliver_to, deliver, first_files, first_clients, start, step, run}
 use Rattle.nq_promises.specs.BodiesAreFilled.{AsksFilled, HasFilledBody, HasFilledBodies, BringsFilledBody, BodiesAreFilled, BodiesAreFilledInEveryRun}
-use Rattle.walk_client.proofs.ClientMoves.{some-same, none-some}
+use Rattle.walk_client.proofs.ClientMoves.{none-some}
 use Rattle.walk_run.proofs.Worlds.{Holds, run-holds}
 
 -- ---- a step of the server

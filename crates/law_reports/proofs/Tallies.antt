@@ -61,17 +61,6 @@ tally-one f x [] h = absurd h
 tally-one f x (y ∷ xs) (inl e) = let same : f y ≡ f x = ap f e in omega arith
 tally-one f x (y ∷ xs) (inr h) = let rest = tally-one f x xs h in omega arith
 
-pub exists-reverse : {X : Type 0} (F : X → Type 0) (xs : List X) → Exists F xs → Exists F (reverse xs)
-exists-reverse F [] h = absurd h
-exists-reverse F (x ∷ xs) (inl h) = subst (Exists F) (sym (reverse_onto xs x [])) (exists-right F (reverse xs) (x ∷ []) (inl h))
-exists-reverse F (x ∷ xs) (inr h) = subst (Exists F) (sym (reverse_onto xs x [])) (exists-left F (reverse xs) (x ∷ []) (exists-reverse F xs h))
-
--- what is so of each is so of one that is there
-pub each-one : {X : Type 0} (F : X → Type 0) (xs : List X) (x : X) → Each F xs → IsOne xs x → F x
-each-one F [] x all h = absurd h
-each-one F (y ∷ xs) x all (inl e) = subst F e all.0
-each-one F (y ∷ xs) x all (inr h) = each-one F xs x all.1 h
-
 pub each-reverse : {X : Type 0} (F : X → Type 0) (xs : List X) → Each F xs → Each F (reverse xs)
 each-reverse F [] h = tt
 each-reverse F (x ∷ xs) h = subst (Each F) (sym (reverse_onto xs x [])) (each-append F (reverse xs) (x ∷ []) (each-reverse F xs h.1) (h.0, tt))
@@ -104,11 +93,6 @@ pub one-mapped : {X Y : Type 0} (g : X → Y) (xs : List X) (y : Y) → IsOne (m
 one-mapped g [] y h = absurd h
 one-mapped g (x ∷ xs) y (inl e) = (x, inl refl, e)
 one-mapped g (x ∷ xs) y (inr h) = let k = one-mapped g xs y h in (k.0, inr k.1, k.2)
-
-pub one-maps : {X Y : Type 0} (g : X → Y) (xs : List X) (x : X) → IsOne xs x → IsOne (map g xs) (g x)
-one-maps g [] x h = absurd h
-one-maps g (y ∷ xs) x (inl e) = inl (ap g e)
-one-maps g (y ∷ xs) x (inr h) = inr (one-maps g xs x h)
 
 found-step : {X : Type 0} (p : X → Bool) (x y : X) (xs : List X) (b : Bool) → (find p xs ≡ Some x → IsOne xs x) → (if b then Some y else find p xs) ≡ Some x → (y ≡ x) ⊎ IsOne xs x
 found-step p x y xs true rest e = inl cc

@@ -1,5 +1,5 @@
 -- Each event changes one party, from what that party has and what the event brings.
-use Rattle.std.proofs.Common.{◌≡◌, ◌≢◌, ℕ, ◌+◌, List, [], ◌∷◌, ◌++◌, Option, Some, None, length, map, refl, sym, subst, ap, ◌∙◌, arith, append-nil}
+use Rattle.std.proofs.Common.{◌≡◌, ℕ, ◌+◌, List, [], ◌++◌, Option, Some, None, length, map, refl, sym, subst, ap, ◌∙◌, arith, append-nil}
 use Rattle.std.proofs.lemmas.List.{length-append}
 use Rattle.std.specs.Prelude.{slice_get, slice_set}
 use Rattle.nq_base.specs.declared.Call.{Call}
@@ -11,8 +11,8 @@ use Rattle.nq_model.specs.Hear.{hear}
 use Rattle.nq_model.specs.Message.{Message, Packet, datagram_of}
 use Rattle.nq_model.specs.Server.{Server, ServerStep}
 use Rattle.nq_model.specs.ServerStep.{receive, tick, crash}
-use Rattle.nq_model.specs.World.{World, from_host, after_server, after_client, at_client, after_hearing, sending_host, deliver_to_client, deliver_to, deliver, step}
-use Rattle.nq_promises.specs.StepsAreOfOneHost.{receiver_of, stepper, ChangesOnly, StepsAreOfOneHost, IsAlike, BringsSame, DoesSame, StepsRestOnTheirHost}
+use Rattle.nq_model.specs.World.{World, from_host, after_server, after_client, at_client, after_hearing, sending_host, deliver_to_client, deliver_to, deliver}
+use Rattle.nq_promises.specs.StepsAreOfOneHost.{receiver_of, ChangesOnly, StepsAreOfOneHost, IsAlike, DoesSame, StepsRestOnTheirHost}
 use Rattle.walk_run.proofs.Worlds.{set-there, get-set-other}
 
 -- ---- one party

@@ -117,9 +117,6 @@ module _ (line : HostRow) (c : Client) (journal : List Entry) (h : Ready line c 
     numbers = numbered-more e loss k.numbers;
   }
 
-  new_call : Call → Entry
-  new_call op = C c.who (c.calls + 1) (told op)
-
   called : (op : Call) → KeepsOf line c (C c.who (c.calls + 1) (told op) ∷ journal)
   called op = one-more (C c.who (c.calls + 1) (told op)) (λ u is a. a) (λ f b n l e. cc) (λ f b n v e. cc) journal h.keeps
 

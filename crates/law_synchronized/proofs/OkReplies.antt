@@ -86,10 +86,6 @@ spent-caches : {call : Option UnderWay} {line : HostRow} {journal : List Entry} 
 unfolding caches_block
 spent-caches t file block body s = record { mid = s.mid; free = s.free; from = s.from }
 
-spent-purges : {call : Option UnderWay} {line : HostRow} {journal : List Entry} (t : ClientStep) (file : ℕ) → Spent call All line journal t → Spent call All line journal (purges t file)
-unfolding purges
-spent-purges t file s = record { mid = s.mid; free = s.free; from = s.from }
-
 spent-knows : {call : Option UnderWay} {line : HostRow} {journal : List Entry} (t : ClientStep) (file rev : ℕ) → Spent call All line journal t → Spent call All line journal (knows_revision t file rev)
 unfolding knows_revision
 spent-knows t file rev s = record { mid = s.mid; free = s.free; from = s.from }

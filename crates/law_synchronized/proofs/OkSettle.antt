@@ -250,9 +250,6 @@ other-keeps ticket apart numbers h = record {
 
 -- the next request
 module _ {line : HostRow} {journal : List Entry} (t : ClientStep) (m : Mid All line journal (book_of t)) where
-  ticket_for : Job → Request → Ticket
-  ticket_for job request = record { xid = t.client.xid; first = t.client.now; last = t.client.now; request = request; job = job }
-
   -- for the call, without a sequence
   asks : (u : UnderWay) (request : Request) → t.client.call ≡ Some u → IsFor u t.client.dirty t.client.push request → sequence_of request ≡ None → End line journal (book_of (sends_request t for_call request))
   unfolding sends_request

@@ -1,6 +1,6 @@
 -- In every run what an answer tells of files was so at the server.
-use Rattle.std.proofs.Common.{◌≡◌, ◌⊎◌, ℕ, ◌+◌, List, [], ◌∷◌, ◌++◌, Option, Some, None, length, refl, sym, subst, ap, ◌∙◌, inl, inr, arith}
-use Rattle.std.specs.Prelude.{⊤, slice_get}
+use Rattle.std.proofs.Common.{◌≡◌, ℕ, ◌+◌, List, [], ◌∷◌, ◌++◌, Option, Some, None, length, refl, sym, subst, ◌∙◌, inl, inr}
+use Rattle.std.specs.Prelude.{slice_get}
 use Rattle.nq_base.specs.declared.Answer.{Answer}
 use Rattle.nq_base.specs.declared.Call.{Call}
 use Rattle.nq_base.specs.declared.Entry.{Entry}
@@ -16,7 +16,7 @@ use Rattle.nq_model.specs.ClientStep.{told, client_call, client_tick, restart}
 use Rattle.nq_model.specs.Hear.{hear, inc_of}
 use Rattle.nq_model.specs.Journal.{Throughout, call_of}
 use Rattle.nq_model.specs.Kept.{host_row}
-use Rattle.nq_model.specs.Message.{Message, Packet, reply, datagram_of}
+use Rattle.nq_model.specs.Message.{Packet, reply, datagram_of}
 use Rattle.nq_model.specs.OfTheirCall.{Reads}
 use Rattle.nq_model.specs.Server.{ServerStep}
 use Rattle.nq_model.specs.ServerStep.{receive, tick, crash}
@@ -27,7 +27,6 @@ use Rattle.nq_promises.specs.AnswersTellWhatWas.{HasNamed, HasLength, ToldSo, Te
 use Rattle.nq_promises.specs.Bounds.{KeepsBounds}
 use Rattle.nq_promises.specs.RepliesTellWhatWas.{Once, KeepsNamed, KeepsAt}
 use Rattle.walk_calls.proofs.Placed.{Placed, call-told, call-later}
-use Rattle.walk_client.proofs.ClientFacts.{fits_job}
 use Rattle.walk_client.proofs.RepliedCases.{IsNamed, looked_up, created, attributes}
 use Rattle.walk_run.proofs.Clocks.{within-before}
 use Rattle.walk_run.proofs.NoCrash.{bounds-before}

@@ -1,5 +1,5 @@
 -- In every run what a reply tells of files was so at the server.
-use Rattle.std.proofs.Common.{◌≡◌, ◌⊎◌, ◌≤◌, ◌<◌, ℕ, ◌+◌, ◌==◌, Bool, true, false, List, [], ◌∷◌, ◌++◌, Option, Some, None, if◌then◌else◌, map, length, refl, sym, subst, ap, ◌∙◌, inl, inr, arith}
+use Rattle.std.proofs.Common.{◌≡◌, ◌⊎◌, ◌≤◌, ◌<◌, ℕ, ◌+◌, ◌==◌, List, [], ◌∷◌, ◌++◌, Option, Some, None, map, length, refl, sym, subst, ap, ◌∙◌, inl, inr, arith}
 use Rattle.std.specs.Prelude.{◌-◌, slice_get, replicate, unwrap_or, zero, suc}
 use Rattle.nq_base.specs.declared.Event.{Event}
 use Rattle.nq_base.specs.declared.HostRow.{HostRow}
@@ -18,11 +18,10 @@ use Rattle.nq_model.specs.Profile.{most_hosts}
 use Rattle.nq_model.specs.Server.{Server, ServerStep, quiet, with_table, keeping_with, to_host}
 use Rattle.nq_model.specs.ServerStep.{receive, tick, crash, boot, fence, at_time, opens, ends_writing}
 use Rattle.nq_model.specs.World.{Head, World, from_host, after_server, after_client, at_client, after_hearing, sending_host, deliver_to_client, deliver_to, deliver, first_row, start, run}
-use Rattle.nq_promises.specs.OneRequestPerSequence.{Asks}
-use Rattle.nq_promises.specs.RepliesTellWhatWas.{Once, IsSo, WasSo, TellsWhatWas, RepliesTellWhatWas}
+use Rattle.nq_promises.specs.RepliesTellWhatWas.{Once, IsSo, WasSo, RepliesTellWhatWas}
 use Rattle.walk_run.proofs.Mail.{none-to-host}
 use Rattle.walk_run.proofs.Packets.{In, in-append, in-left, in-get, Asked, Told}
-use Rattle.walk_run.proofs.Worlds.{Holds, to-server, run-holds}
+use Rattle.walk_run.proofs.Worlds.{to-server, run-holds}
 use Rattle.walk_server.proofs.Incarnations.{one-who}
 use Rattle.walk_server.proofs.KeptChanges.{booted-line}
 use Rattle.walk_server.proofs.ServerCases.{server-ticks}

@@ -1,6 +1,5 @@
 -- What the server tells of files in a step, and what it keeps of the request that it decided.
-use Rattle.std.proofs.Common.{◌≡◌, ◌⊎◌, ◌<◌, ℕ, ◌+◌, ◌%◌, ◌==◌, Bool, true, false, ◌&&◌, List, [], ◌∷◌, ◌++◌, Option, Some, None, length, refl, sym, subst, ap, ◌∙◌, inl, inr, arith}
-use Rattle.std.specs.List.{find}
+use Rattle.std.proofs.Common.{◌≡◌, ◌⊎◌, ◌<◌, ℕ, ◌%◌, true, List, [], ◌∷◌, ◌++◌, Some, None, refl, sym, subst, ap, ◌∙◌, inl, inr, arith}
 use Rattle.std.specs.Prelude.{replicate}
 use Rattle.std.proofs.lemmas.List.{length-replicate}
 use Rattle.std.proofs.lemmas.List.Folds.{find-append}
@@ -21,7 +20,7 @@ use Rattle.nq_model.specs.Profile.{same_bytes}
 use Rattle.nq_model.specs.Server.{Server, ServerStep, to_host, says, quiet, drops, notices, keeping, keeping_with, with_table, after_notices}
 use Rattle.nq_model.specs.ServerStep.{attaches, vacates, tells_later, serves, leases, receive}
 use Rattle.nq_model.specs.Table.{Table}
-use Rattle.nq_promises.specs.RepliesTellWhatWas.{KeepsNamed, KeepsAt, IsSo}
+use Rattle.nq_promises.specs.RepliesTellWhatWas.{KeepsNamed, IsSo}
 use Rattle.walk_run.proofs.Packets.{In, in-append, told-same, reply-same}
 use Rattle.walk_run.proofs.ServerSays.{notices-no-reply, verdict-inc, plain-inc}
 use Rattle.walk_server.proofs.KeptChanges.{line-as}
@@ -140,10 +139,6 @@ module _ (s : Server) (sender next : ℕ) (d : Datagram) (no_null : (xid : ℕ) 
 
   answers : (after : List File) (xid : ℕ) (who : Who) (r : Request) (a : Reply) → d ≡ request xid r → asker r ≡ Some who → IsFrom sender who → inc_of a ≡ who.inc → Reason s after who r a → Tells s after d sender who.host xid a
   answers after xid who r a e by from inc why = record { asks = r; who = who; is = e; by = by; to = from.host; home = refl; inc = inc; why = why }
-
-  -- a step that keeps what is kept
-  plainly : (t : ServerStep) → t.server.kept ≡ s.kept → Tell s.kept.files t.sends → Both t
-  plainly t same told = (subst (λ kept. Tell kept.files t.sends) (sym same) told, subst Rows (sym same) same-rows)
 
   later : (xid : ℕ) (who : Who) (r : Request) (table : Table) (rows : List Row) → d ≡ request xid r → asker r ≡ Some who → IsFrom sender who → Both (tells_later s who xid table rows)
   unfolding tells_later after_notices

@@ -180,9 +180,6 @@ client-known w events host c t mine is here up held known drew d g = record {
   mine-here : t.client.who.host ≡ host
   mine-here = ap (λ z. z.host) d.same ∙ here
 
-  mine-inc : t.client.who.inc ≡ mine.inc
-  mine-inc = ap (λ z. z.inc) d.same
-
   own : CallsOf line (IsRefused (packets_with w.packets host t.sends) t.client.who) t.client (t.entries ++ w.journal)
   own = calls-of-refused line (IsRefused w.packets mine) (IsRefused (packets_with w.packets host t.sends) t.client.who) t.client (t.entries ++ w.journal)
       (λ x some. (some.0, old-told w.packets host mine.host t.sends (reply x (Reply.Refused mine.inc some.0)) (subst (λ v. Told (packets_with w.packets host t.sends) v.host (reply x (Reply.Refused v.inc some.0))) d.same some.1)))

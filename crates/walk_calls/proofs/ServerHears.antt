@@ -93,9 +93,6 @@ module _ (w : World) (events : List Event) (held : Holds w) (known : Known w eve
   abbrev s : Server
   s = w.server
 
-  abbrev next : ℕ
-  next = length w.packets
-
   -- a step without entries, in which no line changes
   pub plain-does : (t : ServerStep) → t.entries ≡ [] → ((host : ℕ) → host_row t.server.kept host ≡ host_row s.kept host) → AllRefuse w.packets (λ host. host_row t.server.kept host) t.sends → ServerDoes w t
   plain-does t none same refuses = record {

@@ -47,10 +47,6 @@ below-not-above a b h = grind (arith, nat_tests)
 not-below-itself : (a : Tag) → tag_below a a ≡ false
 not-below-itself a = grind (arith, nat_tests)
 
--- tags in order
-between : (a b c : Tag) → tag_below a b ≡ false → tag_below a c ≡ true → tag_below b c ≡ true
-between a b c x y = grind (arith, nat_tests)
-
 at-least-same : (mode : Mode) → is_at_least mode mode ≡ true
 at-least-same NonCaching = refl
 at-least-same Reading = refl

@@ -85,10 +85,6 @@ new-grant s t w f want row term sender asking g q same rows =
 -- ---- replies
 
 module _ (ps : List Packet) (s : Server) (sender next : ℕ) (d : Datagram) (was_sent : (x : ℕ) (r : Request) → d ≡ request x r → Asked ps sender x r) (no_null : (x : ℕ) → d ≡ request x Request.Null → ⊥) (lines : LinesFitOf s) where
-  -- all replies of a step are new ones of this kind
-  AllNew : Server → List Packet → Type 0
-  AllNew t sends = (host x : ℕ) (a : Reply) → Told sends host (reply x a) → NewReply ps s t host x a
-
   abbrev Replies : ServerStep → Type 0
   Replies t = (host x : ℕ) (a : Reply) → Told t.sends host (reply x a) → NewReply ps s t.server host x a
 

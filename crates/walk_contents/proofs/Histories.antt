@@ -97,10 +97,6 @@ abbrev pub NoChanges : List Entry → Type 0
 NoChanges [] = Unit {0}
 NoChanges (e ∷ es) = ((file : ℕ) → changes e file ≡ false) × NoChanges es
 
-pub none-append : (es fs : List Entry) → NoChanges es → NoChanges fs → NoChanges (es ++ fs)
-none-append [] fs h k = k
-none-append (e ∷ es) fs h k = (h.0, none-append es fs h.1 k)
-
 pub count-same : (es j : List Entry) (file : ℕ) → NoChanges es → changes_of (es ++ j) file ≡ changes_of j file
 count-same [] j file h = refl
 count-same (e ∷ es) j file h = count-unchanged e (es ++ j) file (h.0 file) ∙ count-same es j file h.1

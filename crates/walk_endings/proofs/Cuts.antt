@@ -6,7 +6,7 @@ use Rattle.nq_base.specs.declared.Who.{Who}
 use Rattle.nq_model.proofs.Endings.{EndsIn, ends-first}
 use Rattle.nq_model.specs.CutOff.{Ends, IsCutOff, IsExcused}
 use Rattle.nq_model.specs.Hear.{loss_entry}
-use Rattle.nq_model.specs.Journal.{Exists, AtEachPlace, IsWithin, Loses}
+use Rattle.nq_model.specs.Journal.{Each, Exists, AtEachPlace, IsWithin, Loses}
 use Rattle.walk_run.proofs.Packets.{In}
 
 -- an entry is no delayed write, and no loss
@@ -16,8 +16,7 @@ IsPlain (Entry.L who file block first last) = ⊥
 IsPlain other = Unit {0}
 
 abbrev pub ArePlain : List Entry → Type 0
-ArePlain [] = Unit {0}
-ArePlain (e ∷ entries) = IsPlain e × ArePlain entries
+ArePlain entries = Each IsPlain entries
 
 -- a delayed write or a loss is of an incarnation
 abbrev pub IsOf : Who → Entry → Type 0

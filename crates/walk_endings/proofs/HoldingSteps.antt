@@ -14,7 +14,6 @@ use Rattle.walk_endings.proofs.Holdings.{view_of, Holding, uses, drops, fewer, n
 use Rattle.walk_endings.proofs.HoldingWrites.{writes}
 use Rattle.walk_endings.proofs.Waiting.{IsWaiting, none-waiting}
 use Rattle.nq_model.specs.Client.{ClientStep, Job, for_call, Lease, UnderWay, is_push_at, is_push_of, drop_dirty, first_dirty, is_clean, lease_on, lets_write}
-use Rattle.nq_model.specs.Kept.{host_row}
 use Rattle.nq_model.specs.Message.{sequence_of}
 use Rattle.nq_model.specs.Send.{sends_request, after_seq, after_number, takes_push, sends_write, gives_up, read_want, want_of, send_next}
 use Rattle.nq_model.specs.Server.{Server}
@@ -74,9 +73,6 @@ module _ (s : Server) (journal : List Entry) where
   settled t h = settle-cases t Between (settles t h)
 
   -- ---- the next request
-
-  abbrev Drawn : Server → ClientStep → ℕ → Type 0
-  Drawn s t n = (host_row s.kept t.client.who.host).inc ≡ t.client.who.inc → (host_row s.kept t.client.who.host).seq < n
 
   asked : (t : ClientStep) (job : Job) (request : Request) → sequence_of request ≡ None → Between t → Between (sends_request t job request)
   unfolding sends_request

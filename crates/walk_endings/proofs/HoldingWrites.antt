@@ -10,7 +10,8 @@ use Rattle.nq_model.proofs.ClientLists.{marked-before}
 use Rattle.walk_client.proofs.ClientMoves.{some-same}
 use Rattle.walk_endings.proofs.Cuts.{IsOf, IsExcusedIn, excused-past, AreCut, NoneLoses, cut-loss}
 use Rattle.walk_endings.proofs.Holdings.{View, IsHeldBound, IsPastLoss, Holding, uses, held-used}
-use Rattle.walk_endings.proofs.Waiting.{IsWaiting, in-written, IsWritten, lost-waited, left-waiting, fold-losses}
+use Rattle.walk_endings.proofs.Waiting.{IsWaiting, in-written, IsWritten, lost-waited, left-waiting}
+use Rattle.walk_entries.proofs.Losses.{fold-losses}
 use Rattle.nq_model.specs.Client.{Lease, is_push_of, lease_on, marked_used, used_lease, dirty_at, other_dirty, lets_write}
 use Rattle.nq_model.specs.Hear.{push_of, other_push, loss_entry}
 use Rattle.nq_model.specs.Journal.{Loses, Each}

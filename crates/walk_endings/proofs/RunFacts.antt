@@ -9,17 +9,15 @@ use Rattle.nq_base.specs.declared.Mode.TheVariants.{NonCaching, Reading, Writing
 use Rattle.nq_base.specs.declared.Push.{Push}
 use Rattle.nq_base.specs.declared.Refusal.{Refusal}
 use Rattle.nq_base.specs.declared.Reply.{Reply}
-use Rattle.nq_base.specs.declared.Request.{Request}
 use Rattle.nq_base.specs.declared.Verdict.{Verdict}
 use Rattle.walk_chains.proofs.ChainFacts.{ChainFits}
-use Rattle.walk_client.proofs.ClientFacts.{push_in, fits_job}
-use Rattle.walk_client.proofs.ClientMoves.{none-some}
+use Rattle.walk_client.proofs.ClientFacts.{push_in}
 use Rattle.walk_endings.proofs.FromChains.{takes-fit}
 use Rattle.walk_endings.proofs.RefusedPushes.{PushShape, push-shape}
 use Rattle.walk_endings.proofs.BoundRows.{IsBound, covered-bound}
 use Rattle.walk_endings.proofs.HoldingCalls.{HearsFit}
 use Rattle.walk_endings.proofs.Holdings.{IsHeldBound}
-use Rattle.nq_model.specs.Client.{Client, attaching, Lease, Ticket, lease_on, lets_write}
+use Rattle.nq_model.specs.Client.{Client, Lease, Ticket, lease_on, lets_write}
 use Rattle.nq_model.specs.Decide.{verdict_reply}
 use Rattle.nq_model.specs.Hear.{inc_of, granted_lease, is_put_off}
 use Rattle.nq_model.specs.Kept.{host_row}
@@ -63,13 +61,6 @@ module _ (s : Server) (events : List Event) (host : ℕ) (c : Client) (ps : List
         let until : ℕ = cover_end c.who.host ticket.first g.term events in
         covered-bound s s.phase c.who file g.tag until
         (subst (λ m. IsCovered s s.phase (claim_of c.who file m g.tag until)) (is-writing g.mode both.0) (knows.covered.given file g ticket takes (writing-caches g.mode both.0) below))
-
-    no-job : (p : Push) → push_in ticket.request ≡ Some p → ticket.job ≡ attaching → ⊥
-    no-job p pushes job = attaches ticket.request pushes (subst (λ j. fits_job j ticket.request ≡ true) job (a.alone.asking.ticketed ticket asked).fits)
-      where
-        attaches : (q : Request) → push_in q ≡ Some p → fits_job attaching q ≡ true → ⊥
-        attaches (Request.Attach w) e f = none-some p e
-        attaches q e f = absurd (cc)
 
     not-refused : (v : Verdict) (value inc status-inc : ℕ) (status : Refusal) (p : Push) (sh : PushShape ticket.request p) → v ≡ Verdict.Done → Reply.Refused status-inc status ≡ verdict_reply inc v value ticket.request → ⊥
     not-refused v value inc status-inc status p sh done e =

@@ -1,15 +1,11 @@
 -- Lists of delayed writes, entry by entry.
-use Rattle.std.proofs.Common.{◌≡◌, ◌≢◌, ◌⊎◌, ℕ, ◌==◌, Bool, true, false, not, List, [], ◌∷◌, ◌++◌, Option, Some, None, if◌then◌else◌, map, refl, sym, subst, ap, ◌∙◌, inl, inr, append_assoc}
+use Rattle.std.proofs.Common.{◌≡◌, ◌≢◌, ◌⊎◌, ℕ, ◌==◌, Bool, true, false, not, List, [], ◌∷◌, ◌++◌, Option, Some, None, if◌then◌else◌, map, refl, sym, subst, ap, ◌∙◌, inl, inr}
 use Rattle.std.specs.List.{filter, list_any}
-use Rattle.std.proofs.lemmas.List.{reverse-append}
-use Rattle.std.specs.Prelude.{reverse}
 use Rattle.std.proofs.lemmas.Bool.{and_parts, not-true, or_parts}
-use Rattle.nq_base.specs.declared.Entry.{Entry}
 use Rattle.nq_base.specs.declared.Push.{Push}
-use Rattle.nq_base.specs.declared.Who.{Who}
 use Rattle.walk_client.proofs.ClientMoves.{some-same, none-some}
 use Rattle.nq_model.specs.Client.{is_push_of, is_push_at, other_dirty, push_passes, is_clean_in}
-use Rattle.nq_model.specs.Hear.{push_of, other_push, loss_entry}
+use Rattle.nq_model.specs.Hear.{push_of, other_push}
 use Rattle.nq_model.specs.Settle.{overwritten, overwritten_at, with_write}
 use Rattle.walk_run.proofs.Members.{in-filter, in-push-of}
 use Rattle.walk_run.proofs.Packets.{In, in-append, in-last}
@@ -102,8 +98,3 @@ left-waiting file dirty (Some q) p (inr is) = step (is_push_of file q) refl is
     step false e is =
         let same : q ≡ p = some-same q p is in
         (inr is, λ on. let yes : (q.file == file) ≡ true = number-same q.file file (ap (λ z. z.file) same ∙ on) in absurd (cc))
-
--- the losses of some entries over a journal, one after the other
-pub fold-losses : (P : List Entry → Type 0) (who : Who) (lost : List Push) (journal : List Entry) → ((p : Push) (more : List Entry) → In lost p → P more → P (loss_entry who p ∷ more)) → P journal → P (reverse (map (loss_entry who) lost) ++ journal)
-fold-losses P who [] journal more h = h
-fold-losses P who (p ∷ lost) journal more h = subst P (sym (ap (λ l. l ++ journal) (reverse-append (loss_entry who p ∷ []) (map (loss_entry who) lost)) ∙ append_assoc (reverse (map (loss_entry who) lost)) (loss_entry who p ∷ []) journal)) (fold-losses P who lost (loss_entry who p ∷ journal) (λ q j there. more q j (inr there)) (more p journal (inl refl) h))

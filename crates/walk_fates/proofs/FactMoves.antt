@@ -163,9 +163,6 @@ module _ {line : HostRow} {who : Who} {number seq : ℕ} {ticket : Option Ticket
   abbrev longer : List Push
   longer = with_write file block number body dirty (dirty_at file block dirty)
 
-  fresh : (f b : ℕ) → CoversNumber j who f b number → ⊥
-  fresh f b c = let below = h.list.covered f b number c in omega arith
-
   listed : (q : Push) → InWritten file block number body dirty q → IsDirty who (number + 1) (delayed ∷ j) q
   listed q (is_other i apart) =
       let d = h.list.listed q i in

@@ -1,5 +1,5 @@
 -- The value that the server holds of a block, by a journal, and what one more entry does to it.
-use Rattle.std.proofs.Common.{◌≡◌, ◌<◌, ◌≤◌, ◌⊎◌, ℕ, ◌==◌, Bool, true, false, ◌&&◌, nat_le, List, [], ◌∷◌, if◌then◌else◌, refl, sym, subst, ap, ◌∙◌, arith, inl, inr}
+use Rattle.std.proofs.Common.{◌≡◌, ◌<◌, ◌≤◌, ◌⊎◌, ℕ, ◌==◌, Bool, true, false, ◌&&◌, nat_le, List, [], ◌∷◌, refl, sym, subst, ap, ◌∙◌, arith, inl, inr}
 use Rattle.std.proofs.lemmas.Bool.Decides.{nat_tests}
 use Rattle.nq_base.specs.declared.Entry.{Entry}
 use Rattle.nq_base.specs.declared.Entry.TheVariants.{W, S, Z}
@@ -93,13 +93,6 @@ module _ (e : Entry) (j : List Entry) (file block v : ℕ) where
 
   pub held-skip : Skips e j file block → HasHeld j file block v → HasHeld (e ∷ j) file block v
   held-skip s h = rw s.uncut (λ f. absurd (s.unheld f), λ none. last-same (IsHeld j file block) (IsHeld (e ∷ j) file block) (since_cut j file block) v (λ w i. held-after w) (λ w i. held-before s.stores w) h)
-
-  unheld-tail : (c : Bool) → cuts e file block ≡ c → c ≡ false → IsLastValue (IsHeld (e ∷ j) file block) (if c then [] else e ∷ since_cut j file block) v → (IsHeld (e ∷ j) file block e → ⊥) → IsLastValue (IsHeld (e ∷ j) file block) (since_cut j file block) v
-  unheld-tail true is other h none = absurd (cc)
-  unheld-tail false is other h none = h.1 none
-
-  pub held-unskip : Skips e j file block → HasHeld (e ∷ j) file block v → HasHeld j file block v
-  held-unskip s h = last-same (IsHeld (e ∷ j) file block) (IsHeld j file block) (since_cut j file block) v (λ w i. held-before s.stores w) (λ w i. held-after w) (unheld-tail (cuts e file block) refl s.uncut h s.unheld)
 
   pub held-cut : cuts e file block ≡ true → HasHeld (e ∷ j) file block 0
   held-cut is = rw is refl

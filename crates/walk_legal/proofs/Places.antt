@@ -1,5 +1,5 @@
 -- Entries of a journal at their places, and the last value of which a fact holds.
-use Rattle.std.proofs.Common.{◌≡◌, ◌⊎◌, ℕ, Bool, true, false, List, [], ◌∷◌, ◌++◌, if◌then◌else◌, refl, sym, subst, inl, inr}
+use Rattle.std.proofs.Common.{◌≡◌, ◌⊎◌, ℕ, Bool, true, false, List, [], ◌∷◌, if◌then◌else◌, refl, sym, subst, inl, inr}
 use Rattle.nq_base.specs.declared.Entry.{Entry}
 use Rattle.nq_model.specs.Journal.{Exists, Throughout, cuts, since_cut, IsLastValue}
 use Rattle.walk_run.proofs.Packets.{In}
@@ -24,10 +24,6 @@ pub before-exists : (Fact : Entry → Type 0) (e : Entry) (before j : List Entry
 before-exists Fact e before [] p i = absurd p
 before-exists Fact e before (y ∷ j) (inl p) i = inr (subst (Exists Fact) (sym p.1) i)
 before-exists Fact e before (y ∷ j) (inr p) i = inr (before-exists Fact e before j p i)
-
-pub placed-more : (e : Entry) (before es j : List Entry) → IsPlaced e before j → IsPlaced e before (es ++ j)
-placed-more e before [] j p = p
-placed-more e before (x ∷ es) j p = inr (placed-more e before es j p)
 
 -- a fact of each entry at its place
 pub throughout-at : (Fact : Entry → List Entry → Type 0) (e : Entry) (before j : List Entry) → Throughout Fact j → IsPlaced e before j → Fact e before

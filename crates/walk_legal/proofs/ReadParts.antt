@@ -16,7 +16,7 @@ use Rattle.walk_client.proofs.PartCases.{answers-call-cases, vacates-noticed-cas
 use Rattle.walk_client.proofs.SettleCases.{IsRead}
 use Rattle.walk_client.proofs.ClientMoves.{none-some, some-same}
 use Rattle.nq_model.specs.Client.{Client, ClientStep, for_call, Ticket, UnderWay, begun, notice_on}
-use Rattle.nq_model.specs.Hear.{vacates_lease, spends, attached, pauses, marks_through, loses, all_dirty, loss_entry, reports, without_lease, push_refused, breaks_chain, if_broken, holds, takes_grant, takes_optional, answers_call, answer_of, caches_block, purges, knows_revision, then_caches, read_done, lease_done, write_done, ends_push, caches_push, vacates_noticed, push_done, with_through}
+use Rattle.nq_model.specs.Hear.{vacates_lease, spends, attached, pauses, marks_through, loses, all_dirty, loss_entry, reports, without_lease, push_refused, breaks_chain, if_broken, holds, takes_grant, takes_optional, answers_call, answer_of, caches_block, purges, knows_revision, then_caches, read_done, lease_done, write_done, ends_push, caches_push, push_done, with_through}
 use Rattle.nq_model.specs.Message.{Message, call}
 use Rattle.nq_model.specs.Settle.{answers, names_losses, said}
 use Rattle.walk_run.proofs.Members.{in-reverse}
@@ -123,9 +123,6 @@ module _ (c : Client) (Valued : Entry → Type 0) where
       case : (x : ℕ) (r : Request) → In t.sends (call x r) ⊎ (call t.client.xid (Request.Vacated t.client.who file tag) ≡ call x r) → is_read r ≡ false
       case x r (inl old) = h.quiet x r old
       case x r (inr same) = ap is_read (sym (call-same t.client.xid x _ r same).1)
-
-  made-noticed : (t : ClientStep) (file : ℕ) → P t → P (vacates_noticed t file (notice_on file t.client.notices))
-  made-noticed t file h = vacates-noticed-cases t file (notice_on file t.client.notices) P (λ e. h) (λ n e. made-vacates t file n.tag h)
 
   made-reports : (t : ClientStep) (file : ℕ) → P t → P (reports t file)
   made-reports t file h = reports-cases t file P (λ e. h) (λ u e f. h) (λ u e f. made-names t u.q file h)

@@ -84,9 +84,6 @@ record Adds (w : World) (t : ServerStep) : Type 0 where
   unanswered_now : (who : Who) (q : ℕ) (said : Said) → In t.entries (A who q said) → ⊥
 
 module _ (w : World) (t : ServerStep) (said : AllSaid w.packets t.sends) (never : Never t.entries) (rising : Throughout IsRising (t.entries ++ w.journal)) (rests : Throughout Rests (t.entries ++ w.journal)) (h : ReadsFit w) where
-  Now : List Entry
-  Now = t.entries ++ w.journal
-
   after-adds : Adds w t → ReadsFit (after_server w t)
   unfolding after_server
   after-adds adds = record {

@@ -21,7 +21,7 @@ use Rattle.walk_client.proofs.ClientMoves.{some-same}
 use Rattle.nq_model.proofs.Lists.{each-append}
 use Rattle.nq_model.specs.Client.{Client, ClientStep, Job, Ticket, begun, notice_on}
 use Rattle.nq_model.specs.ClientStep.{begins_call, is_called, says_busy}
-use Rattle.nq_model.specs.Hear.{vacates_lease, notes_notice, evicted, cancels, spends, attached, pauses, marks_through, replied, reply_counts, loses, all_dirty, other_push, loss_entry, reports, without_lease, push_refused, breaks_chain, if_broken, holds, takes_grant, takes_optional, answers_call, caches_block, purges, knows_revision, read_done, lease_done, write_done, ends_push, caches_push, vacates_noticed, push_done}
+use Rattle.nq_model.specs.Hear.{vacates_lease, notes_notice, evicted, cancels, spends, attached, pauses, marks_through, replied, reply_counts, loses, all_dirty, other_push, loss_entry, reports, without_lease, push_refused, breaks_chain, if_broken, holds, takes_grant, takes_optional, answers_call, caches_block, purges, knows_revision, read_done, lease_done, write_done, ends_push, caches_push, push_done}
 use Rattle.nq_model.specs.Journal.{Each}
 use Rattle.nq_model.specs.Settle.{answers, names_losses}
 use Rattle.walk_server.proofs.Rows.{number-same}
@@ -89,9 +89,6 @@ module _ (c : Client) where
   plain-vacates : (t : ClientStep) (file : ℕ) (tag : Tag) → SpentOf t → SpentOf (vacates_lease t file tag)
   unfolding vacates_lease
   plain-vacates t file tag h = h
-
-  plain-noticed : (t : ClientStep) (file : ℕ) → SpentOf t → SpentOf (vacates_noticed t file (notice_on file t.client.notices))
-  plain-noticed t file h = vacates-noticed-cases t file (notice_on file t.client.notices) SpentOf (λ e. h) (λ n e. plain-vacates t file n.tag h)
 
   plain-reports : (t : ClientStep) (file : ℕ) → SpentOf t → SpentOf (reports t file)
   plain-reports t file h = reports-cases t file SpentOf (λ e. h) (λ u e f. h) (λ u e f. plain-names t u.q file h)

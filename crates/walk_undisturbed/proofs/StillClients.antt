@@ -24,7 +24,7 @@ use Rattle.nq_promises.specs.OneRequestPerSequence.{IsOpenRequest, IsUnderWay}
 use Rattle.walk_run.proofs.RunCases.{OfClients, clients-after}
 use Rattle.walk_run.proofs.Mail.{other-asked}
 use Rattle.walk_run.proofs.Packets.{In, in-append, Asked, message-same, call-same}
-use Rattle.walk_run.proofs.Worlds.{get-set-other, set-there}
+use Rattle.walk_run.proofs.Worlds.{set-there}
 use Rattle.walk_server.proofs.Incarnations.{one-who}
 use Rattle.walk_server.proofs.Rows.{same-number, number-same}
 use Rattle.walk_undisturbed.proofs.Accesses.{Accesses}
@@ -123,14 +123,6 @@ module _ (hosts most : ℕ) (w : World) (e : Event) (events : List Event) (host 
   own-is : slice_get (after_client w host t).clients host ≡ Some t.client
   unfolding after_client
   own-is = set-there w.clients host t.client c z.is
-
-  other-is : (other : ℕ) (d : Client) → other ≢ host → slice_get w.clients other ≡ Some d → slice_get (after_client w host t).clients other ≡ Some d
-  unfolding after_client
-  other-is other d apart there = get-set-other w.clients host other t.client apart ∙ there
-
-  server-same : (after_client w host t).server ≡ w.server
-  unfolding after_client
-  server-same = refl
 
   -- what was read and written in the step
   leaves : (who : Who) (file : ℕ) → HasWriting (standing w.server) who file → Each (LeavesAlone who file) t.entries

@@ -150,9 +150,6 @@ module _ (c : Client) (q : Push) (tag : Tag) (Brings : Grant → Type 0) where
   unfolding vacates_lease
   go-vacates t file g h = go t (vacates_lease t file g) (droppingly t (vacates_lease t file g) file [] refl refl) h
 
-  go-noticed : (t : ClientStep) (file : ℕ) → Follows t → Follows (vacates_noticed t file (notice_on file t.client.notices))
-  go-noticed t file h = vacates-noticed-cases t file (notice_on file t.client.notices) Follows (λ e. h) (λ n e. go-vacates t file n.tag h)
-
   go-reports : (t : ClientStep) (file : ℕ) → Follows t → Follows (reports t file)
   go-reports t file h = reports-cases t file Follows (λ e. h) (λ u e f. h) (λ u e f. go-names t u.q file h)
 
@@ -203,10 +200,6 @@ module _ (c : Client) (q : Push) (tag : Tag) (Brings : Grant → Type 0) where
       case : (l : Lease) → ((q.file ≡ file) × (l ≡ granted_lease file g sent)) ⊎ ((q.file ≢ file) × (lease_on q.file t.client.leases ≡ Some l)) → (m : Lease) × (lease_on q.file t.client.leases ≡ Some m) × (l.tag ≡ m.tag)
       case l (inl k) = absurd (apart k.0)
       case l (inr k) = (l, k.1, refl)
-
-  go-holds-lost : (t : ClientStep) (file : ℕ) (g : Grant) (sent : ℕ) → In t.entries (L c.who q.file q.block q.first q.last) → Follows (holds t file g sent)
-  unfolding holds
-  go-holds-lost t file g sent i = lost i
 
   go-holds-own : (t : ClientStep) (file : ℕ) (g : Grant) (sent : ℕ) → q.file ≡ file → Brings g → tag_below tag g.since ≡ false → Follows (holds t file g sent)
   unfolding holds granted_lease
