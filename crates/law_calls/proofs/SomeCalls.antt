@@ -28,7 +28,9 @@ some-calls =
 
 -- the journal then
 abbrev has_all : List Entry → Bool
-has_all journal = exists is_delayed journal && exists went_through journal && exists is_resize journal && exists is_cached journal && exists (is_counted_served journal) journal
+has_all journal =
+    exists is_delayed journal && exists went_through journal && exists is_resize journal && exists is_cached journal && exists
+    (is_counted_served journal) journal
 
 all-there : has_all (run one-host some-calls).journal ≡ true
 unfolding filled zeros given-run

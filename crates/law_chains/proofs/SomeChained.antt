@@ -146,7 +146,20 @@ chains-met = record {
     grant = given;
     row = held-row;
     there = asking-there;
-    takeable = record { k = 1; packet = to_host 0 (reply 1 (Reply.GetLease 1 (Some given))); xid = 1; answer = Reply.GetLease 1 (Some given); sent = grant-sent; for_host = refl; brings = refl; asked = asks; counts = counts; grants = refl; on_file = refl };
+    takeable =
+        record {
+          k = 1;
+          packet = to_host 0 (reply 1 (Reply.GetLease 1 (Some given)));
+          xid = 1;
+          answer = Reply.GetLease 1 (Some given);
+          sent = grant-sent;
+          for_host = refl;
+          brings = refl;
+          asked = asks;
+          counts = counts;
+          grants = refl;
+          on_file = refl;
+        };
     caching = refl;
     chained = record { own = record { stands = stands-then; holder = sym is-asking }; began = refl };
   };

@@ -49,7 +49,9 @@ has_answer test journal = exists (is_answer test journal) journal
 
 -- whether a journal has an ok of each form
 abbrev pub has_each : (journal : List Entry) → Bool
-has_each journal = has_answer is_write_done journal && has_answer is_put_done journal && has_answer is_resize_done journal && has_answer is_cached_done journal && has_answer is_read_done journal
+has_each journal =
+    has_answer is_write_done journal && has_answer is_put_done journal && has_answer is_resize_done journal && has_answer is_cached_done journal &&
+    has_answer is_read_done journal
 
 -- the premises are met, and not in vain: after some schedule within skew a `write`, a `put`, a `resize` and two reads were
 -- answered ok

@@ -44,7 +44,9 @@ bounds-silent = no-crash-within 60 silent refl
 
 bounds-opening : All (BootsWithin 60) opening
 unfolding delayed rounds opening
-bounds-opening = no-crash-after 60 rounds (Event.Crash 5 ∷ delayed) refl (one-first 60 (Event.Crash 5) delayed (omega arith, omega arith) (no-crash-within 60 delayed refl))
+bounds-opening =
+    no-crash-after 60 rounds (Event.Crash 5 ∷ delayed) refl
+    (one-first 60 (Event.Crash 5) delayed (omega arith, omega arith) (no-crash-within 60 delayed refl))
 
 within-silent : is_within_skew 1 60 silent ≡ true
 unfolding delayed rounds silent

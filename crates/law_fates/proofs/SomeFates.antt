@@ -116,15 +116,30 @@ is-unsaved = record {
   client = writer;
   runs = some-there (slice_get (run one-host four-writes).clients 0) (fresh_client (record { host = 0; inc = 1 }) 5 0) runs;
   same = is-next;
-  unsaved = subst (λ ps. Exists (λ p. Encloses p last-write) ps ⊎ UnderWayEncloses writer.push last-write) (sym dirty) (inl (inl (refl, refl, omega arith, omega arith)));
+  unsaved =
+      subst (λ ps. Exists (λ p. Encloses p last-write) ps ⊎ UnderWayEncloses writer.push last-write) (sym dirty)
+      (inl (inl (refl, refl, omega arith, omega arith)));
 }
 
 shows : ShowsEachFate (run one-host four-writes)
 shows = record {
-  stored = subst (λ j. AtSomePlace (λ after e before. IsDelayed e × IsStored j e) [] j) (sym is-told) (inr (inr (inr (inr (inr (inr (inr (inr (inr (inr (inr (inr (inr (inr (inr (inr (inr (inr (inr (inr (inl (tt, (tells_stored told (write 1)).sound refl))))))))))))))))))))));
-  lost = subst (λ j. AtSomePlace (λ after e before. IsDelayed e × IsLost j e) [] j) (sym is-told) (inr (inr (inr (inr (inr (inr (inr (inr (inr (inr (inr (inr (inr (inr (inl (tt, (tells_lost told (write 2)).sound refl))))))))))))))));
-  ended = subst (λ j. AtSomePlace (λ after e before. IsEnded j after e) [] j) (sym is-told) (inr (inr (inr (inr (inr (inr (inl (record { delayed = tt; uncovered = uncovered (write 3) refl; restarted = inr (inl refl) }))))))));
-  waiting = subst (λ j. AtSomePlace (λ after e before. IsWaiting j after e × IsStillUnsaved (run one-host four-writes) e) [] j) (sym is-told) (inr (inl (record { delayed = tt; uncovered = uncovered last-write refl; running = elim [ inl h ↦ h | inr h ↦ h ] }, is-unsaved)));
+  stored =
+      subst (λ j. AtSomePlace (λ after e before. IsDelayed e × IsStored j e) [] j) (sym is-told)
+      (inr
+      (inr
+      (inr
+      (inr
+      (inr
+      (inr (inr (inr (inr (inr (inr (inr (inr (inr (inr (inr (inr (inr (inr (inr (inl (tt, (tells_stored told (write 1)).sound refl))))))))))))))))))))));
+  lost =
+      subst (λ j. AtSomePlace (λ after e before. IsDelayed e × IsLost j e) [] j) (sym is-told)
+      (inr (inr (inr (inr (inr (inr (inr (inr (inr (inr (inr (inr (inr (inr (inl (tt, (tells_lost told (write 2)).sound refl))))))))))))))));
+  ended =
+      subst (λ j. AtSomePlace (λ after e before. IsEnded j after e) [] j) (sym is-told)
+      (inr (inr (inr (inr (inr (inr (inl (record { delayed = tt; uncovered = uncovered (write 3) refl; restarted = inr (inl refl) }))))))));
+  waiting =
+      subst (λ j. AtSomePlace (λ after e before. IsWaiting j after e × IsStillUnsaved (run one-host four-writes) e) [] j) (sym is-told)
+      (inr (inl (record { delayed = tt; uncovered = uncovered last-write refl; running = elim [ inl h ↦ h | inr h ↦ h ] }, is-unsaved)));
 }
 
 pub each-fate : HasEachFate

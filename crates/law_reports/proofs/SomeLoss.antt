@@ -66,7 +66,8 @@ has-lost : Exists (IsLossOf (record { host = 0; inc = 1 }) loss) (run one-host o
 unfolding filled zeros given-run
 has-lost = inl (refl, refl)
 
-is-named : Exists (Names (run one-host (Event.Call 0 (Call.Sync 1) ∷ one-loss)).journal (record { host = 0; inc = 1 }) loss) (run one-host (Event.Call 0 (Call.Sync 1) ∷ one-loss)).journal
+is-named : Exists (Names (run one-host (Event.Call 0 (Call.Sync 1) ∷ one-loss)).journal (record { host = 0; inc = 1 }) loss)
+    (run one-host (Event.Call 0 (Call.Sync 1) ∷ one-loss)).journal
 unfolding filled zeros given-run
 is-named = inl (refl, refl, inl (refl, refl, refl))
 

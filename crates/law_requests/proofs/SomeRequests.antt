@@ -85,7 +85,8 @@ asked-twice = record {
   runs = runs;
   first = first-open;
   again = again-open;
-  bounds_restarted = record { hosts = omega arith; first_long = omega arith; first_short = omega arith; boots = no-crash-within 60 (Event.Restart 0 ∷ one-create) refl };
+  bounds_restarted =
+      record { hosts = omega arith; first_long = omega arith; first_short = omega arith; boots = no-crash-within 60 (Event.Restart 0 ∷ one-create) refl };
   within_restarted = skew-test-is-sound 2 60 (Event.Restart 0 ∷ one-create) refl;
   outlives = outlives;
   stays = stays;

@@ -117,7 +117,30 @@ is-past-sometime = record {
   bounds = record { hosts = omega arith; first_long = omega arith; first_short = omega arith; boots = no-boots };
   within = skew-test-is-sound 2 60 again within;
   there = there;
-  gave = record { k = 5; packet = from_host 0 (call 2 (Request.Vacated holder 1 (drawn 1))); xid = 2; who = holder; sent = vacated-sent; by = refl; says = refl; running = runs-on };
+  gave =
+      record {
+        k = 5;
+        packet = from_host 0 (call 2 (Request.Vacated holder 1 (drawn 1)));
+        xid = 2;
+        who = holder;
+        sent = vacated-sent;
+        by = refl;
+        says = refl;
+        running = runs-on;
+      };
   held = held;
-  takeable = record { k = 9; packet = to_host 0 (reply 4 (Reply.GetLease 1 (Some given))); xid = 4; answer = Reply.GetLease 1 (Some given); sent = grant-sent; for_host = refl; brings = refl; asked = asks; counts = counts; grants = refl; on_file = refl };
+  takeable =
+      record {
+        k = 9;
+        packet = to_host 0 (reply 4 (Reply.GetLease 1 (Some given)));
+        xid = 4;
+        answer = Reply.GetLease 1 (Some given);
+        sent = grant-sent;
+        for_host = refl;
+        brings = refl;
+        asked = asks;
+        counts = counts;
+        grants = refl;
+        on_file = refl;
+      };
 }

@@ -50,7 +50,8 @@ module _ (Cause : (who : Who) (q value : ℕ) → Type 0) where
   }
 
   -- the answer that tells a file's id or length
-  named-answer : (who : Who) (q : ℕ) (request : Request) (r : Reply) (answer : Answer) → IsNamed request r answer → ((value : ℕ) → said answer None ≡ Said.OkValue value → Cause who q value) → AllRest Cause (Entry.A who q (said answer None) ∷ [])
+  named-answer : (who : Who) (q : ℕ) (request : Request) (r : Reply) (answer : Answer) → IsNamed request r answer
+      → ((value : ℕ) → said answer None ≡ Said.OkValue value → Cause who q value) → AllRest Cause (Entry.A who q (said answer None) ∷ [])
   named-answer who q request r answer (looked_up w name inc file blocks asks e) gives = (inr (gives file refl), tt)
   named-answer who q request r answer (created w seq name blocks inc file asks e) gives = (inr (gives file refl), tt)
   named-answer who q request r answer (attributes w file inc blocks rev asks e) gives = (inr (gives blocks refl), tt)
@@ -61,9 +62,14 @@ module _ (Cause : (who : Who) (q value : ℕ) → Type 0) where
   pub tick-rests : (c : Client) (now : ℕ) → Keeps (client_tick c now)
   tick-rests c now = tick-keeps (AllRest Cause) client-rests c now
 
-  pub hear-rests : (c : Client) (number : ℕ) (m : Message) (t : ClientStep) → hear c number m ≡ Some t → ((ticket : Ticket) → c.ticket ≡ Some ticket → fits_job ticket.job ticket.request ≡ true) → ((xid : ℕ) (r : Reply) (ticket : Ticket) (u : UnderWay) (answer : Answer) (value : ℕ) → m ≡ reply xid r → c.ticket ≡ Some ticket → xid ≡ ticket.xid → inc_of r ≡ c.who.inc → c.call ≡ Some u → ticket.job ≡ for_call → IsNamed ticket.request r answer → said answer None ≡ Said.OkValue value → Cause c.who u.q value) → Keeps t
+  pub hear-rests : (c : Client) (number : ℕ) (m : Message) (t : ClientStep) → hear c number m ≡ Some t
+      → ((ticket : Ticket) → c.ticket ≡ Some ticket → fits_job ticket.job ticket.request ≡ true)
+      → ((xid : ℕ) (r : Reply) (ticket : Ticket) (u : UnderWay) (answer : Answer) (value : ℕ) → m ≡ reply xid r → c.ticket ≡ Some ticket
+      → xid ≡ ticket.xid → inc_of r ≡ c.who.inc → c.call ≡ Some u → ticket.job ≡ for_call → IsNamed ticket.request r answer
+      → said answer None ≡ Said.OkValue value → Cause c.who u.q value) → Keeps t
   hear-rests c number m t hears fits gives = hear-keeps (AllRest Cause) client-rests c number m t hears fits
-      (λ xid r ticket u answer is asked same inc has job named. named-answer c.who u.q ticket.request r answer named (λ value tells. gives xid r ticket u answer value is asked same inc has job named tells))
+      (λ xid r ticket u answer is asked same inc has job named. named-answer c.who u.q ticket.request r answer named
+      (λ value tells. gives xid r ticket u answer value is asked same inc has job named tells))
 
   pub restart-rests : (c : Client) → Keeps (restart c)
   restart-rests c = restart-keeps (AllRest Cause) client-rests c

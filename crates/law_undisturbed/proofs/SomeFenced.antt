@@ -40,7 +40,9 @@ none-covers n = refl
 
 uncovered : IsUncovered (run one-host delayed).journal writer.who push
 uncovered n above below covered =
-    let yes : exists (λ e. covers e (W writer.who 1 0 n 0 false)) (run one-host delayed).journal ≡ true = (tells_exists (λ e. tells_covers e (W writer.who 1 0 n 0 false)) (run one-host delayed).journal).complete covered in
+    let yes : exists (λ e. covers e (W writer.who 1 0 n 0 false))
+    (run one-host delayed).journal ≡ true =
+    (tells_exists (λ e. tells_covers e (W writer.who 1 0 n 0 false)) (run one-host delayed).journal).complete covered in
     let no = none-covers n in
     cc
 
@@ -89,9 +91,13 @@ unfolding delayed rounds
 within-later = refl
 
 is-fenced : IsFencedAt (run one-host (rounds ++ delayed)) 0 later-writer 1
-is-fenced = case (bound-or-fenced-in-every-run 60 one-host (rounds ++ delayed) 0 later-writer 1 (record { hosts = omega arith; first_long = omega arith; first_short = omega arith; boots = bounds-later }) (skew-test-is-sound 1 60 (rounds ++ delayed) within-later) there-later unclean-later)
+is-fenced =
+    case (bound-or-fenced-in-every-run 60 one-host (rounds ++ delayed) 0 later-writer 1
+    (record { hosts = omega arith; first_long = omega arith; first_short = omega arith; boots = bounds-later })
+    (skew-test-is-sound 1 60 (rounds ++ delayed) within-later) there-later unclean-later)
   where
-    case : IsBoundAndDue (run one-host (rounds ++ delayed)) 0 later-writer 1 ⊎ IsFencedAt (run one-host (rounds ++ delayed)) 0 later-writer 1 → IsFencedAt (run one-host (rounds ++ delayed)) 0 later-writer 1
+    case : IsBoundAndDue (run one-host (rounds ++ delayed)) 0 later-writer 1 ⊎ IsFencedAt (run one-host (rounds ++ delayed)) 0 later-writer 1
+        → IsFencedAt (run one-host (rounds ++ delayed)) 0 later-writer 1
     case (inl b) = none-some b.bound.row (sym no-row ∙ b.bound.stands)
     case (inr f) = f
 

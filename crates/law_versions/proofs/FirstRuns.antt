@@ -47,7 +47,8 @@ kept-stays s sender next d =
 booted-longest : (kept : Kept) (longest : ℕ) → kept.longest ≡ 60 → longest ≡ 60 → (booted kept longest).longest ≡ 60
 booted-longest kept longest k l = by (kept.opened == 0)
   where
-    by : (b : Bool) → (if b then record kept { boot = kept.boot + 1; opened = kept.boot + 1; longest = longest } else record kept { boot = kept.boot + 1 }).longest ≡ 60
+    by : (b : Bool)
+        → (if b then record kept { boot = kept.boot + 1; opened = kept.boot + 1; longest = longest } else record kept { boot = kept.boot + 1 }).longest ≡ 60
     by true = l
     by false = k
 
@@ -68,12 +69,15 @@ module _ (w : World) (g : Good w) where
   heard host None tells = g
   heard host (Some t) tells = client-step host t (tells t refl)
 
-  fits : Holds w → (host : ℕ) (c : Client) → slice_get w.clients host ≡ Some c → (ticket : Ticket) → c.ticket ≡ Some ticket → fits_job ticket.job ticket.request ≡ true
+  fits : Holds w → (host : ℕ) (c : Client) → slice_get w.clients host ≡ Some c → (ticket : Ticket) → c.ticket ≡ Some ticket
+      → fits_job ticket.job ticket.request ≡ true
   fits h host c is ticket e = ((h.clients host c is).alone.asking.ticketed ticket e).fits
 
   to-client : Holds w → (k host : ℕ) (m : Message) (o : Option Client) → slice_get w.clients host ≡ o → Good (deliver_to_client w k host m o)
   to-client h k host m None is = g
-  to-client h k host m (Some c) is = heard host (hear c k m) (λ t hears. hear-keeps AllTell client-tells c k m t hears (fits h host c is) (λ xid r ticket u answer is_reply asked same inc called job named. (tt, tt)))
+  to-client h k host m (Some c) is =
+      heard host (hear c k m) (λ t hears. hear-keeps AllTell client-tells c k m t hears (fits h host c is)
+      (λ xid r ticket u answer is_reply asked same inc called job named. (tt, tt)))
 
   to-server : (sender next : ℕ) (d : Datagram) → Good (after_server w (receive w.server sender next d))
   to-server sender next d =
@@ -113,10 +117,12 @@ unfolding start boot
 starts head is = record { journal = tt; kept = is; longest = is }
 
 stepped : (w : World) (e : Event) → Holds w → IsOfFirst e → Good w → Good (step w e)
-stepped w (Event.Call host op) h first g = at-client-good w g host (λ c. client_call c op) (slice_get w.clients host) (λ c. call-keeps AllTell client-tells c op (λ q. (first, tt)))
+stepped w (Event.Call host op) h first g =
+    at-client-good w g host (λ c. client_call c op) (slice_get w.clients host) (λ c. call-keeps AllTell client-tells c op (λ q. (first, tt)))
 stepped w (Event.Deliver k) h first g = delivered w g h k (slice_get w.packets k)
 stepped w Event.ServerTick h first g = ticked w g (w.server.now + 1)
-stepped w (Event.ClientTick host) h first g = at-client-good w g host (λ c. client_tick c (c.now + 1)) (slice_get w.clients host) (λ c. client-tick-keeps AllTell client-tells c (c.now + 1))
+stepped w (Event.ClientTick host) h first g =
+    at-client-good w g host (λ c. client_tick c (c.now + 1)) (slice_get w.clients host) (λ c. client-tick-keeps AllTell client-tells c (c.now + 1))
 stepped w (Event.Restart host) h first g = at-client-good w g host restart (slice_get w.clients host) (restart-keeps AllTell client-tells)
 stepped w (Event.Crash longest) h first g = crashed w g longest first
 

@@ -93,7 +93,8 @@ silent-refused : exists (is_refusal first-one) (run one-host silent).packets ≡
 unfolding filled zeros given-run
 silent-refused = refl
 
-silent-lost : in_order (names (run one-host silent).journal first-one lost-one ∷ is_loss first-one lost-one ∷ is_silence_of first-one 1 ∷ is_lost_write first-one lost-one ∷ []) (run one-host silent).journal ≡ true
+silent-lost : in_order (names (run one-host silent).journal first-one lost-one ∷ is_loss first-one lost-one ∷ is_silence_of first-one 1 ∷ is_lost_write
+    first-one lost-one ∷ []) (run one-host silent).journal ≡ true
 unfolding filled zeros given-run
 silent-lost = refl
 
@@ -109,11 +110,13 @@ crashed-none-silent : exists is_silence (run one-host crashed).journal ≡ false
 unfolding filled zeros given-run
 crashed-none-silent = refl
 
-restarted-late : in_order (is_read (run one-host restarted).journal (next_incarnation first-one) 1 0 5 ∷ is_store first-one 1 0 1 ∷ is_start (next_incarnation first-one) ∷ is_delayed_write first-one 1 0 1 5 ∷ []) (run one-host restarted).journal ≡ true
+restarted-late : in_order (is_read (run one-host restarted).journal (next_incarnation first-one) 1 0 5 ∷ is_store first-one 1 0 1 ∷ is_start
+    (next_incarnation first-one) ∷ is_delayed_write first-one 1 0 1 5 ∷ []) (run one-host restarted).journal ≡ true
 unfolding filled zeros given-run
 restarted-late = refl
 
-resized-cut : in_order (is_read (run one-host resized).journal first-one 1 1 0 ∷ is_growth 1 1 ∷ is_cut 1 1 ∷ is_write 1 1 ∷ []) (run one-host resized).journal ≡ true
+resized-cut : in_order (is_read (run one-host resized).journal first-one 1 1 0 ∷ is_growth 1 1 ∷ is_cut 1 1 ∷ is_write 1 1 ∷ [])
+    (run one-host resized).journal ≡ true
 unfolding filled zeros given-run
 resized-cut = refl
 
@@ -135,7 +138,9 @@ after-recovery = record {
   most = 60;
   head = one-host;
   events = crashed;
-  bounds = bounded crashed (no-crash-after 60 silence (Event.Crash 5 ∷ delays) refl (one-first 60 (Event.Crash 5) delays (omega arith, omega arith) (no-crash-within 60 delays refl)));
+  bounds =
+      bounded crashed (no-crash-after 60 silence (Event.Crash 5 ∷ delays) refl
+      (one-first 60 (Event.Crash 5) delays (omega arith, omega arith) (no-crash-within 60 delays refl)));
   within = skew-test-is-sound 1 60 crashed refl;
   who = first-one;
   loss = lost-one;

@@ -42,10 +42,12 @@ IsExcusedIn journal who p = EndsIn (loss_entry who p) who p.file journal
 -- and they stay so after plain entries
 pub excused-more : (who : Who) (p : Push) (more journal : List Entry) → ArePlain more → IsExcusedIn journal who p → IsExcusedIn (more ++ journal) who p
 excused-more who p [] journal plain h = h
-excused-more who p (e ∷ more) journal plain h = inr (λ within. plain-outside who p.file p.block p.first p.last e plain.0 within, excused-more who p more journal plain.1 h)
+excused-more who p (e ∷ more) journal plain h =
+    inr (λ within. plain-outside who p.file p.block p.first p.last e plain.0 within, excused-more who p more journal plain.1 h)
 
 -- and after an entry that is not among them
-pub excused-past : (who : Who) (p : Push) (e : Entry) (journal : List Entry) → (IsWithin who p.file p.block p.first p.last e → ⊥) → IsExcusedIn journal who p → IsExcusedIn (e ∷ journal) who p
+pub excused-past : (who : Who) (p : Push) (e : Entry) (journal : List Entry) → (IsWithin who p.file p.block p.first p.last e → ⊥)
+    → IsExcusedIn journal who p → IsExcusedIn (e ∷ journal) who p
 excused-past who p e journal apart h = inr (apart, h)
 
 -- they are excused by an entry that ends the lease now
@@ -101,7 +103,8 @@ cut-off : (after : List Entry) (e : Entry) (before : List Entry) → EndsBefore 
 cut-off after (Entry.L who file block first last) before ends none = (ends-first (Entry.L who file block first last) who file before ends, none)
 cut-off after other before ends none = tt
 
-at-each-place : (after journal : List Entry) → AreCut journal → ((loss : Entry) → In journal loss → Exists (Loses loss) after → ⊥) → AtEachPlace IsCutOff after journal
+at-each-place : (after journal : List Entry) → AreCut journal → ((loss : Entry) → In journal loss → Exists (Loses loss) after → ⊥)
+    → AtEachPlace IsCutOff after journal
 at-each-place after [] h none = tt
 at-each-place after (e ∷ journal) h none = (
   cut-off after e journal h.0 (none e (inl refl)),

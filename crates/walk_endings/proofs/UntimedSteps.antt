@@ -29,7 +29,8 @@ call-untimed c op = call-keeps AreUntimed untimed c op (λ q. refl)
 pub tick-untimed : (c : Client) (now : ℕ) → AreUntimed (client_tick c now).entries
 tick-untimed c now = tick-keeps AreUntimed untimed c now
 
-pub hear-untimed : (c : Client) (number : ℕ) (m : Message) (t : ClientStep) → hear c number m ≡ Some t → ((ticket : Ticket) → c.ticket ≡ Some ticket → fits_job ticket.job ticket.request ≡ true) → AreUntimed t.entries
+pub hear-untimed : (c : Client) (number : ℕ) (m : Message) (t : ClientStep) → hear c number m ≡ Some t
+    → ((ticket : Ticket) → c.ticket ≡ Some ticket → fits_job ticket.job ticket.request ≡ true) → AreUntimed t.entries
 hear-untimed c number m t hears fits = hear-keeps AreUntimed untimed c number m t hears fits (λ xid r ticket u answer is asked same inc called job named. refl)
 
 pub restart-untimed : (c : Client) → AreUntimed (restart c).entries

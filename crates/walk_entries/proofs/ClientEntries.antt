@@ -37,7 +37,8 @@ pub record OfClient (P : List Entry → Type 0) : Type 0 where
   pub nothing : P []
   pub answered : (who : Who) (q : ℕ) (said : Said) (before : List Entry) → has_value said ≡ false → P before → P (Entry.A who q said ∷ before)
   -- a cached read, and the answer that brings its value
-  pub read : (who : Who) (q file block value : ℕ) (before : List Entry) → P before → P (Entry.A who q (Said.OkValue value) ∷ Entry.R who q file block value None ∷ before)
+  pub read : (who : Who) (q file block value : ℕ) (before : List Entry) → P before
+      → P (Entry.A who q (Said.OkValue value) ∷ Entry.R who q file block value None ∷ before)
   pub delayed : (who : Who) (file block number value : ℕ) (before : List Entry) → P before → P (Entry.W who file block number value false ∷ before)
   pub lost : (who : Who) (file block first last : ℕ) (before : List Entry) → P before → P (Entry.L who file block first last ∷ before)
   -- a restart
@@ -89,7 +90,9 @@ module _ (P : List Entry → Type 0) (o : OfClient P) where
     read_waits = λ u file block is read waits. h;
     write_out = λ u sync file block body lease is write can out. answered t u.q Answer.Range None refl h;
     write_full = λ u sync file block body lease is write can within full. answered t u.q Answer.DirtyFull None refl h;
-    writing = λ u file block body lease is write can within room. answered (delays t file block body) u.q (Answer.Ok Value.Nothing) None refl (delayed t file block body h);
+    writing =
+        λ u file block body lease is write can within room. answered (delays t file block body) u.q (Answer.Ok Value.Nothing) None refl
+        (delayed t file block body h);
     putting = λ u file block body lease is write unwritten can within room. marked (delays t file block body) u (delayed t file block body h);
     write_waits = λ u sync file block body is write waits. h;
     syncing = λ u file is sync clean. answered t u.q (Answer.Ok Value.Nothing) None refl h;
@@ -183,7 +186,8 @@ module _ (P : List Entry → Type 0) (o : OfClient P) where
   refused : (t : ClientStep) (file : ℕ) → Keeps t → Keeps (push_refused t file)
   refused t file h =
       let u : ClientStep = without_lease (loses t file) file in
-      reported (vacates_noticed u file (notice_on file t.client.notices)) file (noticed-vacated u file (notice_on file t.client.notices) (without (loses t file) file (lost t file h)))
+      reported (vacates_noticed u file (notice_on file t.client.notices)) file
+      (noticed-vacated u file (notice_on file t.client.notices) (without (loses t file) file (lost t file h)))
 
   broken : (t : ClientStep) (file : ℕ) → Keeps t → Keeps (breaks_chain t file)
   broken t file h =
@@ -202,7 +206,8 @@ module _ (P : List Entry → Type 0) (o : OfClient P) where
 
   module _ (c : Client) (number : ℕ) (ticket : Ticket) (r : Reply)
       -- the answer that tells a file's id or length
-      (named-answer : (u : UnderWay) (answer : Answer) → c.call ≡ Some u → ticket.job ≡ for_call → IsNamed ticket.request r answer → P (Entry.A c.who u.q (said answer None) ∷ [])) where
+      (named-answer : (u : UnderWay) (answer : Answer) → c.call ≡ Some u → ticket.job ≡ for_call → IsNamed ticket.request r answer
+      → P (Entry.A c.who u.q (said answer None) ∷ [])) where
     spent : Keeps (spends (begun c))
     unfolding spends
     spent = o.nothing
@@ -211,7 +216,8 @@ module _ (P : List Entry → Type 0) (o : OfClient P) where
     unfolding spends
     spent-call = refl
 
-    by-call : (u : UnderWay) (answer : Answer) → c.call ≡ Some u → ticket.job ≡ for_call → IsNamed ticket.request r answer → Keeps (answers (spends (begun c)) u.q answer None)
+    by-call : (u : UnderWay) (answer : Answer) → c.call ≡ Some u → ticket.job ≡ for_call → IsNamed ticket.request r answer
+        → Keeps (answers (spends (begun c)) u.q answer None)
     unfolding spends answers
     by-call u answer is job named = named-answer u answer is job named
 
@@ -222,18 +228,21 @@ module _ (P : List Entry → Type 0) (o : OfClient P) where
     read file block body g =
         let t : ClientStep = takes_optional (spends (begun c)) file g ticket.first in
         let h : Keeps t = optional (spends (begun c)) file g ticket.first spent in
-        call-answered (then_caches t file block body g) (Answer.Ok (Value.Body body)) (Some number) refl (then-caches-cases t file block body g Keeps (λ caching. cached-block t file block body h) (λ other. h))
+        call-answered (then_caches t file block body g) (Answer.Ok (Value.Body body)) (Some number) refl
+        (then-caches-cases t file block body g Keeps (λ caching. cached-block t file block body h) (λ other. h))
 
     leased : (file : ℕ) (g : Option Grant) → Keeps (lease_done (spends (begun c)) file g ticket.first)
     leased file g =
         let h : Keeps (takes_optional (spends (begun c)) file g ticket.first) = optional (spends (begun c)) file g ticket.first spent in
-        lease-done-cases (spends (begun c)) file g ticket.first Keeps (λ caching. h) (λ other. marked-through true (takes_optional (spends (begun c)) file g ticket.first) h)
+        lease-done-cases (spends (begun c)) file g ticket.first Keeps (λ caching. h)
+        (λ other. marked-through true (takes_optional (spends (begun c)) file g ticket.first) h)
 
     wrote : (file block : ℕ) (body : List ℕ) (rev : ℕ) → Keeps (write_done (spends (begun c)) file block body rev)
     wrote file block body rev =
         let t : ClientStep = spends (begun c) in
         call-answered (knows_revision (caches_write t file block body rev) file rev) (Answer.Ok Value.Nothing) None refl
-        (known (caches_write t file block body rev) file rev (caches-write-cases t file block body rev Keeps (λ holding before. cached-block t file block body spent) (purged t file spent)))
+        (known (caches_write t file block body rev) file rev
+        (caches-write-cases t file block body rev Keeps (λ holding before. cached-block t file block body spent) (purged t file spent)))
 
     stored : (file block : ℕ) (body : List ℕ) (rev : ℕ) → Keeps (push_done (spends (begun c)) file block body rev)
     stored file block body rev =
@@ -249,7 +258,9 @@ module _ (P : List Entry → Type 0) (o : OfClient P) where
       reading = λ who q file block want inc rev body grant of_call is. read file block body grant;
       leasing = λ who file want inc grant of_call is. leased file grant;
       writing = λ who seq file block first last body inc rev of_call is. wrote file block body rev;
-      resizing = λ who seq q file blocks inc rev of_call is. call-answered (knows_revision (spends (begun c)) file rev) (Answer.Ok Value.Nothing) None refl (known (spends (begun c)) file rev spent);
+      resizing =
+          λ who seq q file blocks inc rev of_call is. call-answered (knows_revision (spends (begun c)) file rev) (Answer.Ok Value.Nothing) None refl
+          (known (spends (begun c)) file rev spent);
       removing = λ who seq q file inc of_call is. call-answered (spends (begun c)) (Answer.Ok Value.Nothing) None refl spent;
       renewing = λ who file want inc grant job asks is. optional (spends (begun c)) file grant ticket.first spent;
       pushed = λ who seq file block first last base body inc rev job asks is. stored file block body rev;
@@ -294,7 +305,10 @@ module _ (P : List Entry → Type 0) (o : OfClient P) where
   call-keeps c op call = call-cases c op Keeps (record {
     busy = λ why. busy (begins_call c op) (begins c op call);
     telling = λ file loss losses none on changes has. named (begins_call c op) (begins_call c op).client.calls file (begins c op call);
-    going = λ none on no_loss. let t : ClientStep = settle (is_called (begins_call c op) op) in let k : Keeps t = settled (is_called (begins_call c op) op) (called (begins_call c op) op (begins c op call)) in unless-cached-cases t Keeps (λ from_cache. k) (λ other. sent-next false t k);
+    going =
+        λ none on no_loss. let t : ClientStep = settle (is_called (begins_call c op) op) in
+        let k : Keeps t = settled (is_called (begins_call c op) op) (called (begins_call c op) op (begins c op call)) in
+        unless-cached-cases t Keeps (λ from_cache. k) (λ other. sent-next false t k);
   })
 
   again : (t : ClientStep) (ticket : Ticket) → Keeps t → Keeps (sends_again t ticket)
@@ -311,9 +325,15 @@ module _ (P : List Entry → Type 0) (o : OfClient P) where
   went-on : (t : ClientStep) → Keeps t → Keeps (goes_on t)
   went-on t h = sent-next false (settle t) (settled t h)
 
-  pub hear-keeps : (c : Client) (number : ℕ) (m : Message) (t : ClientStep) → hear c number m ≡ Some t → ((ticket : Ticket) → c.ticket ≡ Some ticket → fits_job ticket.job ticket.request ≡ true) → ((xid : ℕ) (r : Reply) (ticket : Ticket) (u : UnderWay) (answer : Answer) → m ≡ reply xid r → c.ticket ≡ Some ticket → xid ≡ ticket.xid → inc_of r ≡ c.who.inc → c.call ≡ Some u → ticket.job ≡ for_call → IsNamed ticket.request r answer → P (Entry.A c.who u.q (said answer None) ∷ [])) → Keeps t
+  pub hear-keeps : (c : Client) (number : ℕ) (m : Message) (t : ClientStep) → hear c number m ≡ Some t
+      → ((ticket : Ticket) → c.ticket ≡ Some ticket → fits_job ticket.job ticket.request ≡ true)
+      → ((xid : ℕ) (r : Reply) (ticket : Ticket) (u : UnderWay) (answer : Answer) → m ≡ reply xid r → c.ticket ≡ Some ticket → xid ≡ ticket.xid
+      → inc_of r ≡ c.who.inc → c.call ≡ Some u → ticket.job ≡ for_call → IsNamed ticket.request r answer
+      → P (Entry.A c.who u.q (said answer None) ∷ [])) → Keeps t
   hear-keeps c number m t hears fits gives = heard-cases c number m t Keeps hears (record {
-    answered = λ xid r ticket is asked same inc counts. went-on (replied (begun c) number ticket r) (reply-keeps c number ticket r (λ u answer has job named. gives xid r ticket u answer is asked same inc has job named) (fits ticket asked) counts);
+    answered =
+        λ xid r ticket is asked same inc counts. went-on (replied (begun c) number ticket r)
+        (reply-keeps c number ticket r (λ u answer has job named. gives xid r ticket u answer is asked same inc has job named) (fits ticket asked) counts);
     noticed = λ xid file tag is later. went-on (evicted (cancels (begun c) file) file tag) (notice-keeps c file tag);
   })
 

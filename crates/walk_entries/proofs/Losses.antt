@@ -9,10 +9,12 @@ use Rattle.nq_model.specs.Hear.{loss_entry}
 use Rattle.walk_run.proofs.Packets.{In}
 
 -- the losses of some entries over a journal, one after the other
-pub fold-losses : (P : List Entry → Type 0) (who : Who) (lost : List Push) (journal : List Entry) → ((p : Push) (more : List Entry) → In lost p → P more → P (loss_entry who p ∷ more)) → P journal → P (reverse (map (loss_entry who) lost) ++ journal)
+pub fold-losses : (P : List Entry → Type 0) (who : Who) (lost : List Push) (journal : List Entry)
+    → ((p : Push) (more : List Entry) → In lost p → P more → P (loss_entry who p ∷ more)) → P journal → P (reverse (map (loss_entry who) lost) ++ journal)
 fold-losses P who [] journal more h = h
 fold-losses P who (p ∷ lost) journal more h =
     subst
     P
-    (sym (ap (λ l. l ++ journal) (reverse-append (loss_entry who p ∷ []) (map (loss_entry who) lost)) ∙ append_assoc (reverse (map (loss_entry who) lost)) (loss_entry who p ∷ []) journal))
+    (sym (ap (λ l. l ++ journal) (reverse-append (loss_entry who p ∷ []) (map (loss_entry who) lost))
+    ∙ append_assoc (reverse (map (loss_entry who) lost)) (loss_entry who p ∷ []) journal))
     (fold-losses P who lost (loss_entry who p ∷ journal) (λ q j there. more q j (inr there)) (more p journal (inl refl) h))

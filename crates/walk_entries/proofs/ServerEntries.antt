@@ -62,7 +62,8 @@ module _ (P : Entry → Type 0) (o : OfServer P) where
   grants-each s who file None = tt
   grants-each s who file (Some g) = (o.granted who file g.mode g.tag g.term s.now, tt)
 
-  serves-each : (s : Server) (who : Who) (xid next q : ℕ) (f : File) (block : ℕ) (body : List ℕ) (table : Table) (g : Option Grant) → Each P (serves s who xid next q f block body table g).entries
+  serves-each : (s : Server) (who : Who) (xid next q : ℕ) (f : File) (block : ℕ) (body : List ℕ) (table : Table) (g : Option Grant)
+      → Each P (serves s who xid next q f block body table g).entries
   unfolding serves
   serves-each s who xid next q f block body table g = (o.served who q f.id block (value_of body) next, grants-each s who f.id g)
 
@@ -90,11 +91,13 @@ module _ (P : Entry → Type 0) (o : OfServer P) where
   unfolding writes_through
   through-each s who f block number body = (o.wrote who f.id block number (value_of body), tt)
 
-  stores-each : (s : Server) (who : Who) (f : File) (row : Row) (block first last : ℕ) (body : List ℕ) → Each P (stores s who f row block first last body).entries
+  stores-each : (s : Server) (who : Who) (f : File) (row : Row) (block first last : ℕ) (body : List ℕ)
+      → Each P (stores s who f row block first last body).entries
   unfolding stores
   stores-each s who f row block first last body = (o.stored who f.id block first last s.now, tt)
 
-  recovering-each : (s : Server) (until : ℕ) (last : Option Table) (who : Who) (f : File) (block first final : ℕ) (body : List ℕ) → Each P (stores_recovering s until last who f block first final body).entries
+  recovering-each : (s : Server) (until : ℕ) (last : Option Table) (who : Who) (f : File) (block first final : ℕ) (body : List ℕ)
+      → Each P (stores_recovering s until last who f block first final body).entries
   unfolding stores_recovering
   recovering-each s until last who f block first final body = (o.stored who f.id block first final s.now, tt)
 
@@ -129,7 +132,9 @@ module _ (P : Entry → Type 0) (o : OfServer P) where
     creating = λ xid who seq blocks name e fresh serves can. committed who seq xid _ (creates s name blocks) (creates-each s name blocks);
     writing_through = λ xid who seq block first last body f e changing below c. committed who seq xid _ _ (through-each s who f block first body);
     storing = λ xid who seq block first last base body f row e changing below can. committed who seq xid _ _ (stores-each s who f row block first last body);
-    storing_recovering = λ xid who seq block first final base body f until heard last e fresh p found below boot rev. committed who seq xid _ _ (recovering-each s until last who f block first final body);
+    storing_recovering =
+        λ xid who seq block first final base body f until heard last e fresh p found below boot rev. committed who seq xid _ _
+        (recovering-each s until last who f block first final body);
     resizing = λ xid who seq q blocks f e changing can c. committed who seq xid _ _ (resizes-each s who q f blocks);
     removing = λ xid who seq q f e changing c. committed who seq xid _ _ (removes-each s who q f);
   })

@@ -31,16 +31,19 @@ throughout-at Fact e before [] t p = absurd p
 throughout-at Fact e before (x ∷ j) t (inl p) = subst (λ y. Fact y before) p.0 (subst (Fact x) p.1 t.0)
 throughout-at Fact e before (x ∷ j) t (inr p) = throughout-at Fact e before j t.1 p
 
-pub throughout-of : (Fact : Entry → List Entry → Type 0) (j : List Entry) → ((e : Entry) (before : List Entry) → IsPlaced e before j → Fact e before) → Throughout Fact j
+pub throughout-of : (Fact : Entry → List Entry → Type 0) (j : List Entry) → ((e : Entry) (before : List Entry) → IsPlaced e before j → Fact e before)
+    → Throughout Fact j
 throughout-of Fact [] all = tt
 throughout-of Fact (e ∷ j) all = (all e j (inl (refl, refl)), throughout-of Fact j (λ x before p. all x before (inr p)))
 
 -- ---- last values
 
 -- two facts that hold of the same entries have the same last value
-pub last-same : (Fact Other : Entry → Type 0) (es : List Entry) (v : ℕ) → ((e : Entry) → In es e → Fact e → Other e) → ((e : Entry) → In es e → Other e → Fact e) → IsLastValue Fact es v → IsLastValue Other es v
+pub last-same : (Fact Other : Entry → Type 0) (es : List Entry) (v : ℕ) → ((e : Entry) → In es e → Fact e → Other e)
+    → ((e : Entry) → In es e → Other e → Fact e) → IsLastValue Fact es v → IsLastValue Other es v
 last-same Fact Other [] v to from h = h
-last-same Fact Other (e ∷ es) v to from h = (λ o. h.0 (from e (inl refl) o), λ none. last-same Fact Other es v (λ x i. to x (inr i)) (λ x i. from x (inr i)) (h.1 (λ f. none (to e (inl refl) f))))
+last-same Fact Other (e ∷ es) v to from h =
+    (λ o. h.0 (from e (inl refl) o), λ none. last-same Fact Other es v (λ x i. to x (inr i)) (λ x i. from x (inr i)) (h.1 (λ f. none (to e (inl refl) f))))
 
 -- what stands after the last cut stands in the journal
 pub cut-in : (j : List Entry) (file block : ℕ) (e : Entry) → In (since_cut j file block) e → In j e
