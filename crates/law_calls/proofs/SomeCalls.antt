@@ -4,17 +4,8 @@ use Rattle.std.specs.Prelude.{IsTrue}
 use Rattle.std.proofs.lemmas.Bool.{and_parts}
 use Rattle.nq_base.specs.Block.{filled, zeros}
 use Rattle.walk_run.proofs.NoCrash.{no-crash-within}
-use Rattle.nq_model.specs.Ask.{grant_of, sharing_row, caching_row, shared_again, renewed_row, put_off, free, put_off_by_own, granted, no_lease}
-use Rattle.nq_model.specs.ClientStep.{begins_call, is_called, says_busy, at_time, sends_again, fresh_client, attached_client, starts}
-use Rattle.nq_model.specs.Decide.{decides, creates, writes_through, stores, wrote, stores_recovering, resizes, removes, puts_off, commits}
-use Rattle.nq_model.specs.Hear.{vacates_lease, loses, without_lease, granted_lease, holds, caches_block, purges, knows_revision, marks_through, ends_push, spends, attached, pauses, cancels, notes_notice}
-use Rattle.nq_model.specs.Kept.{new_file, written_file, resized_file, fenced_file, with_row, with_files, with_new_file}
-use Rattle.nq_model.specs.Send.{sends_request, after_seq, after_number, takes_push, gives_up}
-use Rattle.nq_model.specs.Server.{quiet, drops, says, after_notices, keeping, keeping_with, with_table}
-use Rattle.nq_model.specs.ServerStep.{attaches, tells_later, serves, leases, vacates, ends_writing, opens, at_time as at_time_of_serverstep, boot, crash}
-use Rattle.nq_model.specs.Settle.{answers, after_read, reads_cached, after_write, marks_written}
-use Rattle.nq_model.specs.Table.{empty_table, with_rows, after_draw}
-use Rattle.nq_model.specs.World.{after_server, after_client, start, Head, run}
+use Rattle.nq_model.specs.ServerStep.{at_time as at_time_of_serverstep, boot, crash}
+use Rattle.nq_model.specs.World.{Head, run}
 use Rattle.nq_base.specs.declared.Call.{Call}
 use Rattle.nq_base.specs.declared.Entry.{Entry}
 use Rattle.nq_base.specs.declared.Event.{Event}
@@ -22,6 +13,7 @@ use Rattle.law_calls.specs.Met.{AreMet, went_through, is_resize, is_cached, is_c
 use Rattle.nq_model.proofs.SkewTest.{skew-test-is-sound}
 use Rattle.nq_model.specs.JournalTest.{exists}
 use Rattle.nq_model.specs.FateTest.{is_delayed}
+use Rattle.walk_entries.proofs.GivenRuns.{given-run}
 
 -- one host, one file of one block
 abbrev one-host : Head
@@ -36,10 +28,12 @@ some-calls =
 
 -- the journal then
 abbrev has_all : List Entry → Bool
-has_all journal = exists is_delayed journal && exists went_through journal && exists is_resize journal && exists is_cached journal && exists (is_counted_served journal) journal
+has_all journal =
+    exists is_delayed journal && exists went_through journal && exists is_resize journal && exists is_cached journal && exists
+    (is_counted_served journal) journal
 
 all-there : has_all (run one-host some-calls).journal ≡ true
-unfolding filled zeros grant_of sharing_row caching_row shared_again renewed_row put_off free put_off_by_own granted no_lease begins_call is_called says_busy at_time sends_again fresh_client attached_client starts decides creates writes_through stores wrote stores_recovering resizes removes puts_off commits vacates_lease loses without_lease granted_lease holds caches_block purges knows_revision marks_through ends_push spends attached pauses cancels notes_notice new_file written_file resized_file fenced_file with_row with_files with_new_file sends_request after_seq after_number takes_push gives_up quiet drops says after_notices keeping keeping_with with_table attaches tells_later serves leases vacates ends_writing opens at_time_of_serverstep boot crash answers after_read reads_cached after_write marks_written empty_table with_rows after_draw after_server after_client start
+unfolding filled zeros given-run
 all-there = refl
 
 there : (a b c d e : Bool) → (a && b && c && d && e) ≡ true → IsTrue a × IsTrue b × IsTrue c × IsTrue d × IsTrue e

@@ -20,18 +20,15 @@ use Rattle.nq_model.proofs.SkewTest.{skew-test-is-sound}
 use Rattle.nq_model.specs.Client.{Client, Lease, Ticket, for_call, lease_on}
 use Rattle.nq_model.specs.Message.{reply}
 use Rattle.nq_model.specs.Skew.{is_within_skew}
-use Rattle.nq_model.specs.Server.{standing, to_host, quiet, drops, says, after_notices, keeping, keeping_with, with_table}
-use Rattle.nq_model.specs.Ask.{grant_of, sharing_row, caching_row, shared_again, renewed_row, put_off, free, put_off_by_own, granted, no_lease}
-use Rattle.nq_model.specs.ClientStep.{begins_call, is_called, says_busy, at_time, sends_again, fresh_client, attached_client, starts}
-use Rattle.nq_model.specs.Decide.{decides, creates, writes_through, stores, wrote, stores_recovering, resizes, removes, puts_off, commits}
-use Rattle.nq_model.specs.Hear.{is_reply_to, vacates_lease, loses, without_lease, granted_lease, holds, caches_block, purges, knows_revision, marks_through, ends_push, spends, attached, pauses, cancels, notes_notice}
-use Rattle.nq_model.specs.Send.{sends_request, after_seq, after_number, takes_push, gives_up}
-use Rattle.nq_model.specs.ServerStep.{attaches, tells_later, serves, leases, vacates, ends_writing, opens, boot, crash}
-use Rattle.nq_model.specs.Settle.{answers, after_read, reads_cached, after_write, marks_written}
-use Rattle.nq_model.specs.Kept.{new_file, written_file, resized_file, fenced_file, with_row, with_files, with_new_file, host_row}
-use Rattle.nq_model.specs.Table.{empty_table, with_rows, after_draw, find_row}
-use Rattle.nq_model.specs.World.{after_server, after_client, start, run}
+use Rattle.nq_model.specs.Server.{standing, to_host}
+use Rattle.nq_model.specs.ClientStep.{attached_client}
+use Rattle.nq_model.specs.Hear.{is_reply_to}
+use Rattle.nq_model.specs.ServerStep.{leases, boot}
+use Rattle.nq_model.specs.Kept.{host_row}
+use Rattle.nq_model.specs.Table.{find_row}
+use Rattle.nq_model.specs.World.{run}
 use Rattle.walk_server.proofs.Tests.{some-is}
+use Rattle.walk_entries.proofs.GivenRuns.{given-run}
 
 -- host 0 wants to write, and the server gives it the lease; the newest event first
 asked-for : List Event
@@ -74,7 +71,7 @@ abbrev asked : Ticket
 asked = record { xid = 1; first = 0; last = 0; request = Request.GetLease holder 1 (record { mode = Mode.Writing; term = 30 }); job = for_call }
 
 asking-is-there : is_some (slice_get (run two-hosts asked-for).clients 0) ≡ true
-unfolding asked-for grant_of sharing_row caching_row shared_again renewed_row put_off free put_off_by_own granted no_lease begins_call is_called says_busy at_time sends_again fresh_client attached_client starts decides creates writes_through stores wrote stores_recovering resizes removes puts_off commits vacates_lease loses without_lease granted_lease holds caches_block purges knows_revision marks_through ends_push spends attached pauses cancels notes_notice new_file written_file resized_file fenced_file with_row with_files with_new_file sends_request after_seq after_number takes_push gives_up quiet drops says after_notices keeping keeping_with with_table attaches tells_later serves leases vacates ends_writing opens boot crash answers after_read reads_cached after_write marks_written empty_table with_rows after_draw after_server after_client start
+unfolding asked-for given-run
 asking-is-there = refl
 
 asking-there : slice_get (run two-hosts asked-for).clients 0 ≡ Some asking-client
@@ -82,27 +79,27 @@ unfolding asking-client
 asking-there = some-is (slice_get (run two-hosts asked-for).clients 0) (attached_client holder 30 0) asking-is-there
 
 asks : asking-client.ticket ≡ Some asked
-unfolding asked-for asking-client grant_of sharing_row caching_row shared_again renewed_row put_off free put_off_by_own granted no_lease begins_call is_called says_busy at_time sends_again fresh_client attached_client starts decides creates writes_through stores wrote stores_recovering resizes removes puts_off commits vacates_lease loses without_lease granted_lease holds caches_block purges knows_revision marks_through ends_push spends attached pauses cancels notes_notice new_file written_file resized_file fenced_file with_row with_files with_new_file sends_request after_seq after_number takes_push gives_up quiet drops says after_notices keeping keeping_with with_table attaches tells_later serves leases vacates ends_writing opens boot crash answers after_read reads_cached after_write marks_written empty_table with_rows after_draw after_server after_client start
+unfolding asked-for asking-client given-run
 asks = refl
 
 counts : is_reply_to asking-client 1 (Reply.GetLease 1 (Some given)) asked ≡ true
-unfolding asked-for asking-client grant_of sharing_row caching_row shared_again renewed_row put_off free put_off_by_own granted no_lease begins_call is_called says_busy at_time sends_again fresh_client attached_client starts decides creates writes_through stores wrote stores_recovering resizes removes puts_off commits vacates_lease loses without_lease granted_lease holds caches_block purges knows_revision marks_through ends_push spends attached pauses cancels notes_notice new_file written_file resized_file fenced_file with_row with_files with_new_file sends_request after_seq after_number takes_push gives_up quiet drops says after_notices keeping keeping_with with_table attaches tells_later serves leases vacates ends_writing opens boot crash answers after_read reads_cached after_write marks_written empty_table with_rows after_draw after_server after_client start
+unfolding asked-for asking-client given-run
 counts = refl
 
 grant-sent : slice_get (run two-hosts asked-for).packets 1 ≡ Some (to_host 0 (reply 1 (Reply.GetLease 1 (Some given))))
-unfolding asked-for grant_of sharing_row caching_row shared_again renewed_row put_off free put_off_by_own granted no_lease begins_call is_called says_busy at_time sends_again fresh_client attached_client starts decides creates writes_through stores wrote stores_recovering resizes removes puts_off commits vacates_lease loses without_lease granted_lease holds caches_block purges knows_revision marks_through ends_push spends attached pauses cancels notes_notice new_file written_file resized_file fenced_file with_row with_files with_new_file sends_request after_seq after_number takes_push gives_up quiet drops says after_notices keeping keeping_with with_table attaches tells_later serves leases vacates ends_writing opens boot crash answers after_read reads_cached after_write marks_written empty_table with_rows after_draw after_server after_client start
+unfolding asked-for given-run
 grant-sent = refl
 
 stands-then : find_row 1 asking-client.who.host (standing (run two-hosts asked-for).server).rows ≡ Some held-row
-unfolding asked-for asking-client grant_of sharing_row caching_row shared_again renewed_row put_off free put_off_by_own granted no_lease begins_call is_called says_busy at_time sends_again fresh_client attached_client starts decides creates writes_through stores wrote stores_recovering resizes removes puts_off commits vacates_lease loses without_lease granted_lease holds caches_block purges knows_revision marks_through ends_push spends attached pauses cancels notes_notice new_file written_file resized_file fenced_file with_row with_files with_new_file sends_request after_seq after_number takes_push gives_up quiet drops says after_notices keeping keeping_with with_table attaches tells_later serves leases vacates ends_writing opens boot crash answers after_read reads_cached after_write marks_written empty_table with_rows after_draw after_server after_client start
+unfolding asked-for asking-client given-run
 stands-then = refl
 
 is-asking : asking-client.who ≡ holder
-unfolding asked-for asking-client grant_of sharing_row caching_row shared_again renewed_row put_off free put_off_by_own granted no_lease begins_call is_called says_busy at_time sends_again fresh_client attached_client starts decides creates writes_through stores wrote stores_recovering resizes removes puts_off commits vacates_lease loses without_lease granted_lease holds caches_block purges knows_revision marks_through ends_push spends attached pauses cancels notes_notice new_file written_file resized_file fenced_file with_row with_files with_new_file sends_request after_seq after_number takes_push gives_up quiet drops says after_notices keeping keeping_with with_table attaches tells_later serves leases vacates ends_writing opens boot crash answers after_read reads_cached after_write marks_written empty_table with_rows after_draw after_server after_client start
+unfolding asked-for asking-client given-run
 is-asking = refl
 
 pushing-is-there : is_some (slice_get (run two-hosts (pushed ++ asked-for)).clients 0) ≡ true
-unfolding asked-for pushed grant_of sharing_row caching_row shared_again renewed_row put_off free put_off_by_own granted no_lease begins_call is_called says_busy at_time sends_again fresh_client attached_client starts decides creates writes_through stores wrote stores_recovering resizes removes puts_off commits vacates_lease loses without_lease granted_lease holds caches_block purges knows_revision marks_through ends_push spends attached pauses cancels notes_notice new_file written_file resized_file fenced_file with_row with_files with_new_file sends_request after_seq after_number takes_push gives_up quiet drops says after_notices keeping keeping_with with_table attaches tells_later serves leases vacates ends_writing opens boot crash answers after_read reads_cached after_write marks_written empty_table with_rows after_draw after_server after_client start
+unfolding asked-for pushed given-run
 pushing-is-there = refl
 
 pushing-there : slice_get (run two-hosts (pushed ++ asked-for)).clients 0 ≡ Some pushing-client
@@ -110,19 +107,19 @@ unfolding pushing-client
 pushing-there = some-is (slice_get (run two-hosts (pushed ++ asked-for)).clients 0) (attached_client holder 30 0) pushing-is-there
 
 held : lease_on 1 pushing-client.leases ≡ Some held-lease
-unfolding asked-for pushed pushing-client grant_of sharing_row caching_row shared_again renewed_row put_off free put_off_by_own granted no_lease begins_call is_called says_busy at_time sends_again fresh_client attached_client starts decides creates writes_through stores wrote stores_recovering resizes removes puts_off commits vacates_lease loses without_lease granted_lease holds caches_block purges knows_revision marks_through ends_push spends attached pauses cancels notes_notice new_file written_file resized_file fenced_file with_row with_files with_new_file sends_request after_seq after_number takes_push gives_up quiet drops says after_notices keeping keeping_with with_table attaches tells_later serves leases vacates ends_writing opens boot crash answers after_read reads_cached after_write marks_written empty_table with_rows after_draw after_server after_client start
+unfolding asked-for pushed pushing-client given-run
 held = refl
 
 is-pushing : pushing-client.who ≡ holder
-unfolding asked-for pushed pushing-client grant_of sharing_row caching_row shared_again renewed_row put_off free put_off_by_own granted no_lease begins_call is_called says_busy at_time sends_again fresh_client attached_client starts decides creates writes_through stores wrote stores_recovering resizes removes puts_off commits vacates_lease loses without_lease granted_lease holds caches_block purges knows_revision marks_through ends_push spends attached pauses cancels notes_notice new_file written_file resized_file fenced_file with_row with_files with_new_file sends_request after_seq after_number takes_push gives_up quiet drops says after_notices keeping keeping_with with_table attaches tells_later serves leases vacates ends_writing opens boot crash answers after_read reads_cached after_write marks_written empty_table with_rows after_draw after_server after_client start
+unfolding asked-for pushed pushing-client given-run
 is-pushing = refl
 
 stands : find_row 1 pushing-client.who.host (standing (run two-hosts (pushed ++ asked-for)).server).rows ≡ Some held-row
-unfolding asked-for pushed pushing-client grant_of sharing_row caching_row shared_again renewed_row put_off free put_off_by_own granted no_lease begins_call is_called says_busy at_time sends_again fresh_client attached_client starts decides creates writes_through stores wrote stores_recovering resizes removes puts_off commits vacates_lease loses without_lease granted_lease holds caches_block purges knows_revision marks_through ends_push spends attached pauses cancels notes_notice new_file written_file resized_file fenced_file with_row with_files with_new_file sends_request after_seq after_number takes_push gives_up quiet drops says after_notices keeping keeping_with with_table attaches tells_later serves leases vacates ends_writing opens boot crash answers after_read reads_cached after_write marks_written empty_table with_rows after_draw after_server after_client start
+unfolding asked-for pushed pushing-client given-run
 stands = refl
 
 done : has_done_write (host_row (run two-hosts (pushed ++ asked-for)).server.kept 0) pushing-client.who.inc 1 pushing-client.ticket ≡ true
-unfolding asked-for pushed pushing-client grant_of sharing_row caching_row shared_again renewed_row put_off free put_off_by_own granted no_lease begins_call is_called says_busy at_time sends_again fresh_client attached_client starts decides creates writes_through stores wrote stores_recovering resizes removes puts_off commits vacates_lease loses without_lease granted_lease holds caches_block purges knows_revision marks_through ends_push spends attached pauses cancels notes_notice new_file written_file resized_file fenced_file with_row with_files with_new_file sends_request after_seq after_number takes_push gives_up quiet drops says after_notices keeping keeping_with with_table attaches tells_later serves leases vacates ends_writing opens boot crash answers after_read reads_cached after_write marks_written empty_table with_rows after_draw after_server after_client start
+unfolding asked-for pushed pushing-client given-run
 done = refl
 
 skew-asked : is_within_skew 2 60 asked-for ≡ true
@@ -149,7 +146,20 @@ chains-met = record {
     grant = given;
     row = held-row;
     there = asking-there;
-    takeable = record { k = 1; packet = to_host 0 (reply 1 (Reply.GetLease 1 (Some given))); xid = 1; answer = Reply.GetLease 1 (Some given); sent = grant-sent; for_host = refl; brings = refl; asked = asks; counts = counts; grants = refl; on_file = refl };
+    takeable =
+        record {
+          k = 1;
+          packet = to_host 0 (reply 1 (Reply.GetLease 1 (Some given)));
+          xid = 1;
+          answer = Reply.GetLease 1 (Some given);
+          sent = grant-sent;
+          for_host = refl;
+          brings = refl;
+          asked = asks;
+          counts = counts;
+          grants = refl;
+          on_file = refl;
+        };
     caching = refl;
     chained = record { own = record { stands = stands-then; holder = sym is-asking }; began = refl };
   };

@@ -64,16 +64,21 @@ clean-in-every-run most head events bounds within =
     let h : Fits first w = run-fits most head events bounds within in
     record {
       known = λ host c file r is e. ((h.clients host c is).known file r e).reached;
-      clean = λ host c file block k is e. let b = (h.clients host c is).clean file block k e in record { revision = b.revision; known = b.known; has = b.had.had };
+      clean =
+          λ host c file block k is e. let b = (h.clients host c is).clean file block k e in
+          record { revision = b.revision; known = b.known; has = b.had.had };
       based = λ host c t who seq file block f l push body is has asks. subst (IsOverKnown c.revisions) asks ((h.clients host c is).base t has);
       told = λ host c t place a is has sent inc.
           let here = ((run-holds head events).clients host c is).here in
           tells-contents (history_now first w) t.request a
-          ((h.clients host c is).told t a has (subst (λ n. Told w.packets n (reply t.xid a)) (sym here) (in-get w.packets place (to_host host (reply t.xid a)) sent)) inc);
+          ((h.clients host c is).told t a has
+          (subst (λ n. Told w.packets n (reply t.xid a)) (sym here) (in-get w.packets place (to_host host (reply t.xid a)) sent)) inc);
     }
 
 -- the request that was decided last is the one under way
-same-request : (first : ℕ → ℕ) (w : World) → Holds w → Draws w → Fits first w → (host : ℕ) (c : Client) (t : Ticket) → slice_get w.clients host ≡ Some c → c.ticket ≡ Some t → (line : HostRow) → line.inc ≡ c.who.inc → sequence_of t.request ≡ Some line.seq → line.verdict ≡ Verdict.Done → LineTells (history_now first w) w.packets host line → IsDoneAs first w.journal line.value t.request
+same-request : (first : ℕ → ℕ) (w : World) → Holds w → Draws w → Fits first w → (host : ℕ) (c : Client) (t : Ticket) → slice_get w.clients host ≡ Some c
+    → c.ticket ≡ Some t → (line : HostRow) → line.inc ≡ c.who.inc → sequence_of t.request ≡ Some line.seq → line.verdict ≡ Verdict.Done
+    → LineTells (history_now first w) w.packets host line → IsDoneAs first w.journal line.value t.request
 same-request first w held draws h host c t is has line inc sq done (inl none) =
     let own = (held.clients host c is).mail.own t has in
     absurd ((h.fair c.who.host t.xid t.request own.sent).1 (sq ∙ ap Some none))
@@ -81,7 +86,8 @@ same-request first w held draws h host c t is has line inc sq done (inr k) =
     let at = held.clients host c is in
     let own = at.mail.own t has in
     let one : k.who ≡ c.who = one-who k.who c.who (k.home ∙ sym at.here) (k.inc ∙ inc) in
-    let same : k.asks ≡ t.request = ((draws.clients host c is).once k.xid t.xid k.asks t.request c.who line.seq (subst (λ n. Asked w.packets n k.xid k.asks) (sym at.here) k.sent) own.sent (k.by ∙ ap Some one) own.asks k.sequence sq).1 in
+    let same : k.asks ≡ t.request = ((draws.clients host c is).once k.xid t.xid k.asks t.request c.who line.seq
+    (subst (λ n. Asked w.packets n k.xid k.asks) (sym at.here) k.sent) own.sent (k.by ∙ ap Some one) own.asks k.sequence sq).1 in
     let d = k.done done in
     subst (IsDoneAs first w.journal line.value) same (record { change = d.change; content = has-changed (history_now first w) line.value k.asks d.changed })
 
@@ -89,7 +95,8 @@ pub done-in-every-run : DoneRequestsAreChangesInEveryRun
 done-in-every-run most head events bounds within host c t is has inc sq done =
     let w : World = run head events in
     let h : Fits (first_length head events) w = run-fits most head events bounds within in
-    same-request (first_length head events) w (run-holds head events) (run-draws head events) h host c t is has (host_row w.server.kept host) inc sq done (h.lines host)
+    same-request (first_length head events) w (run-holds head events) (run-draws head events) h host c t is has (host_row w.server.kept host) inc sq
+    done (h.lines host)
 
 pub pushes-in-every-run : PushesCarryTheirLastWriteInEveryRun
 pushes-in-every-run most head events bounds within =
@@ -101,5 +108,8 @@ pushes-in-every-run most head events bounds within =
           subst (λ n. delayed_value w.journal c.who n block p.last ≡ Some (value_of p.body)) (same-number _ _ at.0)
           (subst (λ n. delayed_value w.journal c.who p.file n p.last ≡ Some (value_of p.body)) (same-number _ _ at.1)
           ((h.clients host c is).dirty p (find-in (is_push_at file block) c.dirty p e)));
-      sent = λ place host xid who seq file block f l push body e. (h.fair host xid (Request.Write who seq file block f l (Some push) body) (in-get w.packets place (from_host host (call xid (Request.Write who seq file block f l (Some push) body))) e)).0;
+      sent =
+          λ place host xid who seq file block f l push body e.
+          (h.fair host xid (Request.Write who seq file block f l (Some push) body)
+          (in-get w.packets place (from_host host (call xid (Request.Write who seq file block f l (Some push) body))) e)).0;
     }

@@ -27,13 +27,15 @@ placed-order e x before b (y ∷ j) (inr p) (inl r) = inr (inr (subst (λ z. In 
 placed-order e x before b (y ∷ j) (inr p) (inr r) = placed-order e x before b j p r
 
 -- what a call asks at a place it asks in the whole journal
-pub told-whole : (e : Entry) (before j : List Entry) (who : Who) (q : ℕ) (told : Told) → IsPlaced e before j → call_of before who q ≡ Some told → call_of j who q ≡ Some told
+pub told-whole : (e : Entry) (before j : List Entry) (who : Who) (q : ℕ) (told : Told) → IsPlaced e before j → call_of before who q ≡ Some told
+    → call_of j who q ≡ Some told
 told-whole e before [] who q told p is = absurd p
 told-whole e before (y ∷ j) who q told (inl p) is = call-told y j who q told (subst (λ z. call_of z who q ≡ Some told) (sym p.1) is)
 told-whole e before (y ∷ j) who q told (inr p) is = call-told y j who q told (told-whole e before j who q told p is)
 
 -- a fact of what a call asks, at a place, holds of what it asks in the whole journal
-pub fact-whole : (P : Option Told → Type 0) → (P None → ⊥) → (e : Entry) (before j : List Entry) (who : Who) (q : ℕ) → IsPlaced e before j → P (call_of before who q) → P (call_of j who q)
+pub fact-whole : (P : Option Told → Type 0) → (P None → ⊥) → (e : Entry) (before j : List Entry) (who : Who) (q : ℕ) → IsPlaced e before j
+    → P (call_of before who q) → P (call_of j who q)
 fact-whole P none e before j who q p h = case (call_of before who q) refl h
   where
     case : (o : Option Told) → call_of before who q ≡ o → P o → P (call_of j who q)
@@ -51,11 +53,13 @@ by-answer who q packet other h = absurd h
 
 -- an answer of a call is placed behind no other
 placed-first : (who : Who) (q packet : ℕ) (a : Entry) (before : List Entry) → Placed a before → IsAnswerBy who q packet a → ¬ Exists (IsAnswer who q) before
-placed-first who q packet (A by n (OkBy value k)) before p h = subst (λ m. ¬ Exists (IsAnswer who m) before) h.1 (subst (λ w. ¬ Exists (IsAnswer w n) before) h.0 p.0)
+placed-first who q packet (A by n (OkBy value k)) before p h =
+    subst (λ m. ¬ Exists (IsAnswer who m) before) h.1 (subst (λ w. ¬ Exists (IsAnswer w n) before) h.0 p.0)
 placed-first who q packet other before p h = absurd h
 
 -- where a call has an answer by a packet, its answer is that one
-pub one-answer : (who : Who) (q packet : ℕ) (said : Said) (before j : List Entry) → Throughout Placed j → IsPlaced (A who q said) before j → Exists (IsAnswerBy who q packet) j → IsAnswerBy who q packet (A who q said)
+pub one-answer : (who : Who) (q packet : ℕ) (said : Said) (before j : List Entry) → Throughout Placed j → IsPlaced (A who q said) before j
+    → Exists (IsAnswerBy who q packet) j → IsAnswerBy who q packet (A who q said)
 one-answer who q packet said before j t p some = from (exists-in (IsAnswerBy who q packet) j some)
   where
     mine : Placed (A who q said) before
@@ -70,4 +74,5 @@ one-answer who q packet said before j t p some = from (exists-in (IsAnswerBy who
             by : In before a ⊎ (a ≡ A who q said) ⊎ In b (A who q said) → IsAnswerBy who q packet (A who q said)
             by (inl early) = absurd (first-answer who q said before mine (in-exists (IsAnswer who q) before a early (by-answer who q packet a h)))
             by (inr (inl same)) = subst (IsAnswerBy who q packet) same h
-            by (inr (inr late)) = absurd (placed-first who q packet a b (throughout-at Placed a b j t r) h (in-exists (IsAnswer who q) b (A who q said) late (refl, refl)))
+            by (inr (inr late)) =
+                absurd (placed-first who q packet a b (throughout-at Placed a b j t r) h (in-exists (IsAnswer who q) b (A who q said) late (refl, refl)))

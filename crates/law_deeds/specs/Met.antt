@@ -1,5 +1,5 @@
 -- There is a schedule whose journal has an ok of each form of which the law speaks.
-use Rattle.std.specs.Prelude.{◌&&◌, ℕ, Bool, true, false, List, Option, Some, None, IsTrue}
+use Rattle.std.specs.Prelude.{◌&&◌, ℕ, Bool, true, false, List, Option, Some, IsTrue}
 use Rattle.nq_base.specs.declared.Entry.{Entry}
 use Rattle.nq_base.specs.declared.Entry.TheVariants.{A}
 use Rattle.nq_base.specs.declared.Event.{Event}
@@ -49,7 +49,9 @@ has_answer test journal = exists (is_answer test journal) journal
 
 -- whether a journal has an ok of each form
 abbrev pub has_each : (journal : List Entry) → Bool
-has_each journal = has_answer is_write_done journal && has_answer is_put_done journal && has_answer is_resize_done journal && has_answer is_cached_done journal && has_answer is_read_done journal
+has_each journal =
+    has_answer is_write_done journal && has_answer is_put_done journal && has_answer is_resize_done journal && has_answer is_cached_done journal &&
+    has_answer is_read_done journal
 
 -- the premises are met, and not in vain: after some schedule within skew a `write`, a `put`, a `resize` and two reads were
 -- answered ok

@@ -52,15 +52,19 @@ pub record Late (w : World) : Type 0 where
 
 -- ---- the last grant
 
-caching-step : (same cached : Bool) (rest : Bool) (term longest : ℕ) (now : ℕ) (more : Option Given) → (if same then cached else rest) ≡ true → (cached ≡ true → term ≤ longest) → (rest ≡ true → (g : Given) × (more ≡ Some g) × (g.term ≤ longest)) → (g : Given) × ((if same then Some (record { time = now; term = term }) else more) ≡ Some g) × (g.term ≤ longest)
+caching-step : (same cached : Bool) (rest : Bool) (term longest : ℕ) (now : ℕ) (more : Option Given) → (if same then cached else rest) ≡ true
+    → (cached ≡ true → term ≤ longest) → (rest ≡ true → (g : Given) × (more ≡ Some g) × (g.term ≤ longest))
+    → (g : Given) × ((if same then Some (record { time = now; term = term }) else more) ≡ Some g) × (g.term ≤ longest)
 caching-step true cached rest term longest now more e short later = (record { time = now; term = term }, refl, short e)
 caching-step false cached rest term longest now more e short later = later e
 
 -- a caching grant of the boot that served last was for the longest term at most
-short-caching : (journal : List Entry) (who : Who) (file opened longest : ℕ) → was_caching opened journal who file ≡ true → Each (IsShortGrant opened longest) (timed journal) → (g : Given) × (last_grant journal who file ≡ Some g) × (g.term ≤ longest)
+short-caching : (journal : List Entry) (who : Who) (file opened longest : ℕ) → was_caching opened journal who file ≡ true
+    → Each (IsShortGrant opened longest) (timed journal) → (g : Given) × (last_grant journal who file ≡ Some g) × (g.term ≤ longest)
 short-caching [] who file opened longest was each = absurd (cc)
 short-caching (Entry.G by f mode tag term now ∷ journal) who file opened longest was each =
-    caching-step (same_who by who && f == file) (caches mode && tag.boot == opened) (was_caching opened journal who file) term longest now (last_grant journal who file) was
+    caching-step (same_who by who && f == file) (caches mode && tag.boot == opened) (was_caching opened journal who file) term longest now
+    (last_grant journal who file) was
     (λ cached. let both = and_parts (caches mode) (tag.boot == opened) cached in each.0.1 both.0 (same-number tag.boot opened both.1))
     (λ more. short-caching journal who file opened longest more each.1)
 short-caching (Entry.S by f block first last now ∷ journal) who file opened longest was each = short-caching journal who file opened longest was each.1
@@ -108,7 +112,8 @@ record Shows (s : Server) (journal : List Entry) (t : ServerStep) : Type 0 where
 
 module _ (s : Server) (sender next : ℕ) (d : Datagram) (journal : List Entry) where
   shows-cases : ServerCases s sender next d (Shows s journal)
-  unfolding quiet drops says attaches vacates tells_later serves leases decides creates writes_through stores wrote stores_recovering resizes removes puts_off commits keeping keeping_with with_table after_notices with_files with_new_file with_row
+  unfolding quiet drops says attaches vacates tells_later serves leases decides creates writes_through stores wrote stores_recovering resizes
+      removes puts_off commits keeping keeping_with with_table after_notices with_files with_new_file with_row
   shows-cases = record {
     stays = record { opened = λ e. e; late = λ e l. l };
     dropping = λ reason. record { opened = λ e. e; late = λ e l. l };
@@ -130,7 +135,8 @@ module _ (s : Server) (sender next : ℕ) (d : Datagram) (journal : List Entry) 
     creating = λ xid w seq blocks name e fresh serves can. record { opened = λ e. e; late = λ e l. l };
     writing_through = λ xid w seq block first last body f e changing below c. record { opened = λ e. e; late = λ e l. (tt, l) };
     storing = λ xid w seq block first last base body f row e changing below can. record { opened = λ e. e; late = λ e l. (tt, l) };
-    storing_recovering = λ xid w seq block first final base body f until heard last e fresh recovers found below boot rev. record { opened = λ e. e; late = λ e l. (tt, l) };
+    storing_recovering =
+        λ xid w seq block first final base body f until heard last e fresh recovers found below boot rev. record { opened = λ e. e; late = λ e l. (tt, l) };
     resizing = λ xid w seq q blocks f e changing can c. record { opened = λ e. e; late = λ e l. (tt, l) };
     removing = λ xid w seq q f e changing c. record { opened = λ e. e; late = λ e l. (tt, l) };
   }
@@ -156,13 +162,16 @@ module _ (most booted : ℕ) (s : Server) (journal : List Entry) (fits : ServerA
       wait : Waits booted s.now s.kept.longest until heard
       wait = subst (λ q. PhaseWaits booted s.now s.kept.longest q) p log.waits
 
-      late : s.kept.opened ≡ boot_opened journal → (who : Who) (file : ℕ) → was_caching (boot_opened journal) journal who file ≡ true → IsLateOpening journal who file s.kept.boot now
+      late : s.kept.opened ≡ boot_opened journal → (who : Who) (file : ℕ) → was_caching (boot_opened journal) journal who file ≡ true
+          → IsLateOpening journal who file s.kept.boot now
       late e who file was =
           let g = short-caching journal who file s.kept.opened s.kept.longest (subst (λ n. was_caching n journal who file ≡ true) (sym e) was) log.short in
           let leases = wait.after_leases in
           let writes = wait.after_writes in
           record {
-            waited = subst (λ o. Exists (IsLongWait s.kept.boot now o) journal) (sym g.1) (long-wait journal s.kept.boot booted s.kept.longest now g.0 told g.2 (omega arith));
+            waited =
+                subst (λ o. Exists (IsLongWait s.kept.boot now o) journal) (sym g.1)
+                (long-wait journal s.kept.boot booted s.kept.longest now g.0 told g.2 (omega arith));
             stores_over = all-over journal who file heard now all (omega arith);
           }
 
@@ -170,15 +179,20 @@ module _ (most booted : ℕ) (s : Server) (journal : List Entry) (fits : ServerA
   unfolding quiet at_time with_table
   ends-reading = record { opened = λ e. e; late = λ e l. l }
 
-  ends-silently : (due : Row) → s.phase ≡ serving → find (is_due now) (end_reading now s.table.rows) ≡ Some due → Shows s journal (ends_writing (at_time s now) (end_reading now s.table.rows) due)
+  ends-silently : (due : Row) → s.phase ≡ serving → find (is_due now) (end_reading now s.table.rows) ≡ Some due
+      → Shows s journal (ends_writing (at_time s now) (end_reading now s.table.rows) due)
   unfolding ends_writing at_time keeping_with
   ends-silently due p ends = record { opened = λ e. fence-opened s.kept (find_file due.file s.kept.files) ∙ e; late = λ e l. (late, l) }
     where
       unique : HasUniqueKeys s.table.rows
-      unique = let own : TableFits s.kept.files s.table.boot s.table.drawn s.table.rows = subst (λ q. StandingFits s.kept.files q s.table) p fits.stands in own.unique
+      unique =
+          let own : TableFits s.kept.files s.table.boot s.table.drawn s.table.rows = subst (λ q. StandingFits s.kept.files q s.table) p fits.stands in
+          own.unique
 
       there : find_row due.file due.who.host s.table.rows ≡ Some due
-      there = (found-kept (λ r. not (is_over now r)) due.file due.who.host s.table.rows due unique (found-any (is_due now) (end_reading now s.table.rows) due (unique-filtered (λ r. not (is_over now r)) s.table.rows unique) ends)).0
+      there =
+          (found-kept (λ r. not (is_over now r)) due.file due.who.host s.table.rows due unique
+          (found-any (is_due now) (end_reading now s.table.rows) due (unique-filtered (λ r. not (is_over now r)) s.table.rows unique) ends)).0
 
       is-due : (is_writing due.mode && nat_le (max due.until due.heard + write_slack) now) ≡ true
       is-due = find-passes (is_due now) due (end_reading now s.table.rows) ends
@@ -187,7 +201,10 @@ module _ (most booted : ℕ) (s : Server) (journal : List Entry) (fits : ServerA
       writing = (and_parts (is_writing due.mode) (nat_le (max due.until due.heard + write_slack) now) is-due).0
 
       late : IsLateEnd journal due.who due.file due.until due.heard now
-      late = late-end journal due now ((subst (λ q. RowsGranted q s.table (timed journal)) p log.granted) due.file due.who.host due there (writing-caches due.mode writing)) ((subst (λ q. RowsHear q s.table (timed journal)) p log.hear) due.file due.who.host due there writing) (and_parts (is_writing due.mode) (nat_le (max due.until due.heard + write_slack) now) is-due).1
+      late =
+          late-end journal due now ((subst (λ q. RowsGranted q s.table (timed journal)) p log.granted) due.file due.who.host due there
+          (writing-caches due.mode writing)) ((subst (λ q. RowsHear q s.table (timed journal)) p log.hear) due.file due.who.host due there writing)
+          (and_parts (is_writing due.mode) (nat_le (max due.until due.heard + write_slack) now) is-due).1
 
   ticked-shows : Shows s journal (tick s now)
   ticked-shows = server-ticks s now (Shows s journal) (record {
@@ -201,12 +218,15 @@ crashed-shows : (s : Server) (longest : ℕ) (journal : List Entry) → HasServe
 unfolding crash boot
 crashed-shows s longest journal served = record { opened = λ e. same (s.kept.opened == 0) refl ∙ e; late = λ e l. (tt, l) }
   where
-    same : (b : Bool) → (s.kept.opened == 0) ≡ b → (if b then record s.kept { boot = s.kept.boot + 1; opened = s.kept.boot + 1; longest = longest } else record s.kept { boot = s.kept.boot + 1 }).opened ≡ s.kept.opened
+    same : (b : Bool) → (s.kept.opened == 0) ≡ b
+        → (if b then record s.kept { boot = s.kept.boot + 1; opened = s.kept.boot + 1; longest = longest } else record s.kept
+        { boot = s.kept.boot + 1 }).opened ≡ s.kept.opened
     same true e = let some = served.opened in let none : s.kept.opened ≡ 0 = same-number s.kept.opened 0 e in absurd (omega arith)
     same false e = refl
 
 -- a step of the server keeps it
-server-late : (w : World) (t : ServerStep) (booted : ℕ) → LogRuns booted t.server (timed t.entries ++ timed w.journal) → Shows w.server w.journal t → Late w → Late (after_server w t)
+server-late : (w : World) (t : ServerStep) (booted : ℕ) → LogRuns booted t.server (timed t.entries ++ timed w.journal) → Shows w.server w.journal t
+    → Late w → Late (after_server w t)
 unfolding after_server
 server-late w t booted logs shows h = record {
   booted = booted;
@@ -219,7 +239,9 @@ server-late w t booted logs shows h = record {
 
 module _ (most : ℕ) (head : Head) where
   alone : (events : List Event) → KeepsBounds most head events → IsWithinSkew head.hosts most events → ServerAlone most (run head events).server
-  alone events bounds within = let s : Served most (run head events).server = (run-runs most head events bounds within).served in record { boots = s.boots; stands = s.stood; incs = s.incs; terms = s.terms }
+  alone events bounds within =
+      let s : Served most (run head events).server = (run-runs most head events bounds within).served in
+      record { boots = s.boots; stands = s.stood; incs = s.incs; terms = s.terms }
 
   late-starts : Late (start head)
   unfolding start boot
@@ -231,12 +253,15 @@ module _ (most : ℕ) (head : Head) where
     called = λ events host c op during is g. client-late (run head events) host (client_call c op) (call-untimed c op) g;
     ticked = λ events host c during is g. client-late (run head events) host (client_tick c (c.now + 1)) (tick-untimed c (c.now + 1)) g;
     restarted = λ events host c during is g. client-late (run head events) host (restart c) (restart-untimed c) g;
-    heard = λ events k p host c t during sent to is hears g. client-late (run head events) host t (hear-untimed c k p.message t hears (λ ticket asked. (((run-holds head events).clients host c is).alone.asking.ticketed ticket asked).fits)) g;
+    heard =
+        λ events k p host c t during sent to is hears g. client-late (run head events) host t
+        (hear-untimed c k p.message t hears (λ ticket asked. (((run-holds head events).clients host c is).alone.asking.ticketed ticket asked).fits)) g;
     received = λ events k p during sent to g.
         let s : Server = (run head events).server in
         let d : Datagram = datagram_of p.message in
         server-late (run head events) (receive s (sending_host p.sender) (length (run head events).packets) d) g.booted
-        (runs-receive most g.booted s (sending_host p.sender) (length (run head events).packets) d (timed (run head events).journal) (alone events during.bounds during.within) g.logs)
+        (runs-receive most g.booted s (sending_host p.sender) (length (run head events).packets) d (timed (run head events).journal)
+        (alone events during.bounds during.within) g.logs)
         (received-shows s (sending_host p.sender) (length (run head events).packets) d (run head events).journal) g;
     server_ticked = λ events during g.
         let s : Server = (run head events).server in

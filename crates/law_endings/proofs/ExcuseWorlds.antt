@@ -56,18 +56,24 @@ pub record Excused (w : World) : Type 0 where
 -- ---- a step of a client
 
 -- the step of a host's client keeps it
-client-excused : (w : World) (host : ℕ) (t : ClientStep) → t.client.who.host ≡ host → ((other : ℕ) (c : Client) → slice_get w.clients other ≡ Some c → c.who.host ≡ other) → Between w.server w.journal t → Excused w → Excused (after_client w host t)
+client-excused : (w : World) (host : ℕ) (t : ClientStep) → t.client.who.host ≡ host
+    → ((other : ℕ) (c : Client) → slice_get w.clients other ≡ Some c → c.who.host ≡ other) → Between w.server w.journal t → Excused w
+    → Excused (after_client w host t)
 unfolding after_client
 client-excused w host t here there b h = record {
   booted = h.booted;
   logs = subst (LogRuns h.booted w.server) (sym (timed-append t.entries w.journal ∙ ap (λ es. es ++ timed w.journal) b.untimed)) h.logs;
   cut = b.cut;
-  clients = clients-after (λ host c w. ClientExcused w.server c w.journal) w host t (ended-excused w.server w.journal t b) (λ other c apart is. other-excused w.server t.client.who c t.entries w.journal (λ same. apart (sym (there other c is) ∙ same ∙ here)) b.own (h.clients other c is));
+  clients =
+      clients-after (λ host c w. ClientExcused w.server c w.journal) w host t (ended-excused w.server w.journal t b)
+      (λ other c apart is. other-excused w.server t.client.who c t.entries w.journal (λ same. apart (sym (there other c is) ∙ same ∙ here)) b.own
+      (h.clients other c is));
 }
 
 -- ---- a step of the server
 
-server-logs : (w : World) (t : ServerStep) (booted : ℕ) → LogRuns booted t.server (timed t.entries ++ timed w.journal) → LogRuns booted t.server (timed (t.entries ++ w.journal))
+server-logs : (w : World) (t : ServerStep) (booted : ℕ) → LogRuns booted t.server (timed t.entries ++ timed w.journal)
+    → LogRuns booted t.server (timed (t.entries ++ w.journal))
 server-logs w t booted l = subst (LogRuns booted t.server) (sym (timed-append t.entries w.journal)) l
 
 -- ---- each event
@@ -108,27 +114,35 @@ module _ (chains : ChainsInEveryRun) (most : ℕ) (head : Head) where
       begins : Between w.server w.journal (begun c)
       begins = begun-holding w.server c w.journal (live-bound w.server events host c w.packets at knows) chained.line.drawn h.cut mine
 
-      hears : (k : ℕ) (p : Packet) (t : ClientStep) → slice_get w.packets k ≡ Some p → p.to ≡ Party.Client host → hear c k p.message ≡ Some t → Between w.server w.journal t
+      hears : (k : ℕ) (p : Packet) (t : ClientStep) → slice_get w.packets k ≡ Some p → p.to ≡ Party.Client host → hear c k p.message ≡ Some t
+          → Between w.server w.journal t
       hears k p t sent to said =
           let told : Told w.packets host p.message = to-told w.packets p host (held.sent p (in-get w.packets k p sent)) to (in-get w.packets k p sent) in
           hear-keeps w.server w.journal c k p.message t said (λ ticket asked. (at.alone.asking.ticketed ticket asked).fits)
           (λ xid r ticket says asked same inc counts.
-          hears-fit w.server events host c w.packets at knows chained alone.boots alone.stands xid r ticket (subst (Told w.packets host) says told) asked same inc
+          hears-fit w.server events host c w.packets at knows chained alone.boots alone.stands xid r ticket
+          (subst (Told w.packets host) says told) asked same inc
           (λ q pushes n seq line decided not_done b. mine.refused ticket q n asked pushes seq line decided not_done b) w.journal)
           begins
 
       restarts : Between w.server w.journal (restart c)
       restarts = restart-keeps w.server w.journal c own-knows.lined.past mine.past h.cut
 
-      received : (k : ℕ) (p : Packet) → slice_get w.packets k ≡ Some p → p.to ≡ Party.Server → ClientExcused (receive w.server (sending_host p.sender) (length w.packets) (datagram_of p.message)).server c ((receive w.server (sending_host p.sender) (length w.packets) (datagram_of p.message)).entries ++ w.journal)
+      received : (k : ℕ) (p : Packet) → slice_get w.packets k ≡ Some p → p.to ≡ Party.Server
+          → ClientExcused (receive w.server (sending_host p.sender) (length w.packets) (datagram_of p.message)).server c
+          ((receive w.server (sending_host p.sender) (length w.packets) (datagram_of p.message)).entries ++ w.journal)
       received k p sent to =
           let there : In w.packets p = in-get w.packets k p sent in
           let hear = hearing head.hosts most w events p host c is there to held runs in
-          receive-excused w.server events c w.packets w.journal own-at own-knows chained alone.boots alone.stands mine (sending_host p.sender) (length w.packets) (datagram_of p.message) hear.was_sent runs.served.lines
-          (hears-effect w.packets w.server most (sending_host p.sender) (length w.packets) (datagram_of p.message) events c.who c.now c.xid c.attached c.ticket c.leases c.notices hear)
+          receive-excused w.server events c w.packets w.journal own-at own-knows chained alone.boots alone.stands mine (sending_host p.sender)
+          (length w.packets) (datagram_of p.message) hear.was_sent runs.served.lines
+          (hears-effect w.packets w.server most (sending_host p.sender) (length w.packets) (datagram_of p.message) events c.who c.now c.xid c.attached
+          c.ticket c.leases c.notices hear)
 
       ticked : ClientExcused (tick w.server (w.server.now + 1)).server c ((tick w.server (w.server.now + 1)).entries ++ w.journal)
-      ticked = tick-excused w.server events c w.packets w.journal own-at own-knows chained alone.boots alone.stands mine most h.booted (w.server.now + 1) alone h.logs
+      ticked =
+          tick-excused w.server events c w.packets w.journal own-at own-knows chained alone.boots alone.stands mine most h.booted (w.server.now + 1)
+          alone h.logs
 
       crashed : (longest : ℕ) → ClientExcused (crash w.server longest).server c ((crash w.server longest).entries ++ w.journal)
       crashed longest = crash-excused w.server events c w.packets w.journal own-at own-knows chained alone.boots alone.stands mine longest runs.served.opened
@@ -137,7 +151,9 @@ module _ (chains : ChainsInEveryRun) (most : ℕ) (head : Head) where
     there other c is = (held.clients other c is).here
 
     -- after a step of the server
-    server-step : (t : ServerStep) (booted : ℕ) → LogRuns booted t.server (timed t.entries ++ timed w.journal) → ArePlain t.entries → ((host : ℕ) (c : Client) → slice_get w.clients host ≡ Some c → ClientExcused t.server c (t.entries ++ w.journal)) → Excused w → Excused (after_server w t)
+    server-step : (t : ServerStep) (booted : ℕ) → LogRuns booted t.server (timed t.entries ++ timed w.journal) → ArePlain t.entries
+        → ((host : ℕ) (c : Client) → slice_get w.clients host ≡ Some c → ClientExcused t.server c (t.entries ++ w.journal)) → Excused w
+        → Excused (after_server w t)
     unfolding after_server
     server-step t booted logs plain clients h = record {
       booted = booted;
@@ -170,7 +186,9 @@ module _ (chains : ChainsInEveryRun) (most : ℕ) (head : Head) where
     booted = 0;
     logs = runs-start head;
     cut = tt;
-    clients = λ host c is. subst (λ z. ClientExcused (start head).server z []) (sym (first-client head.term 0 head.hosts host c is)) (first-excused (start head).server _ head.term);
+    clients =
+        λ host c is. subst (λ z. ClientExcused (start head).server z []) (sym (first-client head.term 0 head.hosts host c is))
+        (first-excused (start head).server _ head.term);
   }
 
   excused-keeps : Keeps most head Excused
@@ -178,18 +196,22 @@ module _ (chains : ChainsInEveryRun) (most : ℕ) (head : Head) where
     starts = λ bounds. excused-starts;
     called = λ events host c op during is g.
         let a = at events during.bounds during.within host c is g in
-        client-excused (run head events) host (client_call c op) (ap (λ z. z.host) (call-still host c (run head events).packets op a).same ∙ a.here) (there events during.bounds during.within)
+        client-excused (run head events) host (client_call c op) (ap (λ z. z.host) (call-still host c (run head events).packets op a).same ∙ a.here)
+        (there events during.bounds during.within)
         (call-keeps (run head events).server (run head events).journal c op (begins events during.bounds during.within host c is g)) g;
     ticked = λ events host c during is g.
         let a = at events during.bounds during.within host c is g in
-        client-excused (run head events) host (client_tick c (c.now + 1)) (ap (λ z. z.host) (tick-still host c (run head events).packets a).same ∙ a.here) (there events during.bounds during.within)
+        client-excused (run head events) host (client_tick c (c.now + 1))
+        (ap (λ z. z.host) (tick-still host c (run head events).packets a).same ∙ a.here) (there events during.bounds during.within)
         (tick-keeps (run head events).server (run head events).journal c (c.now + 1) (omega arith) (begins events during.bounds during.within host c is g)) g;
     restarted = λ events host c during is g.
         let a = at events during.bounds during.within host c is g in
-        client-excused (run head events) host (restart c) (restart-host c ∙ a.here) (there events during.bounds during.within) (restarts events during.bounds during.within host c is g) g;
+        client-excused (run head events) host (restart c) (restart-host c ∙ a.here) (there events during.bounds during.within)
+        (restarts events during.bounds during.within host c is g) g;
     heard = λ events k p host c t during sent to is hears-it g.
         let a = at events during.bounds during.within host c is g in
-        let told : Told (run head events).packets host p.message = to-told (run head events).packets p host ((run-holds head events).sent p (in-get (run head events).packets k p sent)) to (in-get (run head events).packets k p sent) in
+        let told : Told (run head events).packets host p.message = to-told (run head events).packets p host
+        ((run-holds head events).sent p (in-get (run head events).packets k p sent)) to (in-get (run head events).packets k p sent) in
         let still : StillIf c (Some t) = subst (StillIf c) hears-it (hear-still host c (run head events).packets k p.message told a) in
         client-excused (run head events) host t (ap (λ z. z.host) still.same ∙ a.here) (there events during.bounds during.within)
         (hears events during.bounds during.within host c is g k p t sent to hears-it) g;

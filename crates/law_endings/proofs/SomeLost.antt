@@ -11,19 +11,10 @@ use Rattle.nq_promises.specs.Bounds.{BootsWithin}
 use Rattle.nq_model.proofs.SkewTest.{skew-test-is-sound}
 use Rattle.nq_model.specs.Client.{Client, is_clean}
 use Rattle.nq_model.specs.Skew.{is_within_skew}
-use Rattle.nq_model.specs.World.{Head, after_server, after_client, start, run}
-use Rattle.nq_model.specs.Ask.{grant_of, sharing_row, caching_row, shared_again, renewed_row, put_off, free, put_off_by_own, granted, no_lease}
-use Rattle.nq_model.specs.ClientStep.{begins_call, is_called, says_busy, at_time, sends_again, fresh_client, attached_client, starts}
-use Rattle.nq_model.specs.Decide.{decides, creates, writes_through, stores, wrote, stores_recovering, resizes, removes, puts_off, commits}
-use Rattle.nq_model.specs.Hear.{vacates_lease, loses, without_lease, granted_lease, holds, caches_block, purges, knows_revision, marks_through, ends_push, spends, attached, pauses, cancels, notes_notice}
-use Rattle.nq_model.specs.Kept.{new_file, written_file, resized_file, fenced_file, with_row, with_files, with_new_file}
-use Rattle.nq_model.specs.Send.{sends_request, after_seq, after_number, takes_push, gives_up}
-use Rattle.nq_model.specs.Server.{quiet, drops, says, after_notices, keeping, keeping_with, with_table}
-use Rattle.nq_model.specs.ServerStep.{attaches, tells_later, serves, leases, vacates, ends_writing, opens, boot, crash}
-use Rattle.nq_model.specs.ServerStep as server
-use Rattle.nq_model.specs.Settle.{answers, after_read, reads_cached, after_write, marks_written}
-use Rattle.nq_model.specs.Table.{empty_table, with_rows, after_draw}
+use Rattle.nq_model.specs.World.{Head, run}
+use Rattle.nq_model.specs.ClientStep.{attached_client}
 use Rattle.walk_server.proofs.Tests.{some-is}
+use Rattle.walk_entries.proofs.GivenRuns.{given-run}
 
 -- one host that wants terms of five ticks, and one file of one block
 abbrev pub one-host : Head
@@ -60,7 +51,7 @@ unfoldable pub writer : Client
 writer = unwrap_or (slice_get (run one-host delayed).clients 0) (attached_client (record { host = 0; inc = 1 }) 5 0)
 
 is-there : is_some (slice_get (run one-host delayed).clients 0) ≡ true
-unfolding delayed grant_of sharing_row caching_row shared_again renewed_row put_off free put_off_by_own granted no_lease begins_call is_called says_busy at_time sends_again fresh_client attached_client starts decides creates writes_through stores wrote stores_recovering resizes removes puts_off commits vacates_lease loses without_lease granted_lease holds caches_block purges knows_revision marks_through ends_push spends attached pauses cancels notes_notice new_file written_file resized_file fenced_file with_row with_files with_new_file sends_request after_seq after_number takes_push gives_up quiet drops says after_notices keeping keeping_with with_table attaches tells_later serves leases vacates ends_writing opens boot crash answers after_read reads_cached after_write marks_written empty_table with_rows after_draw after_server after_client start
+unfolding delayed given-run
 is-there = refl
 
 pub there : slice_get (run one-host delayed).clients 0 ≡ Some writer
@@ -68,11 +59,11 @@ unfolding writer
 there = some-is (slice_get (run one-host delayed).clients 0) (attached_client (record { host = 0; inc = 1 }) 5 0) is-there
 
 pub unsaved : is_clean writer 1 ≡ false
-unfolding delayed writer grant_of sharing_row caching_row shared_again renewed_row put_off free put_off_by_own granted no_lease begins_call is_called says_busy at_time sends_again fresh_client attached_client starts decides creates writes_through stores wrote stores_recovering resizes removes puts_off commits vacates_lease loses without_lease granted_lease holds caches_block purges knows_revision marks_through ends_push spends attached pauses cancels notes_notice new_file written_file resized_file fenced_file with_row with_files with_new_file sends_request after_seq after_number takes_push gives_up quiet drops says after_notices keeping keeping_with with_table attaches tells_later serves leases vacates ends_writing opens boot crash answers after_read reads_cached after_write marks_written empty_table with_rows after_draw after_server after_client start
+unfolding delayed writer given-run
 unsaved = refl
 
 lost : list_any tells_loss (run one-host (lost-later ++ delayed)).journal ≡ true
-unfolding delayed rounds lost-later server.at_time grant_of sharing_row caching_row shared_again renewed_row put_off free put_off_by_own granted no_lease begins_call is_called says_busy at_time sends_again fresh_client attached_client starts decides creates writes_through stores wrote stores_recovering resizes removes puts_off commits vacates_lease loses without_lease granted_lease holds caches_block purges knows_revision marks_through ends_push spends attached pauses cancels notes_notice new_file written_file resized_file fenced_file with_row with_files with_new_file sends_request after_seq after_number takes_push gives_up quiet drops says after_notices keeping keeping_with with_table attaches tells_later serves leases vacates ends_writing opens boot crash answers after_read reads_cached after_write marks_written empty_table with_rows after_draw after_server after_client start
+unfolding delayed rounds lost-later given-run
 lost = refl
 
 pub bounds-delayed : All (BootsWithin 60) delayed

@@ -13,23 +13,16 @@ use Rattle.nq_promises.specs.WritesAreAccounted.{Encloses, UnderWayEncloses, IsA
 use Rattle.law_fates.specs.Met.{AtSomePlace, ShowsEachFate, HasEachFate}
 use Rattle.walk_run.proofs.NoCrash.{no-crash-within}
 use Rattle.nq_model.proofs.SkewTest.{skew-test-is-sound}
-use Rattle.nq_model.specs.Ask.{grant_of, sharing_row, caching_row, shared_again, renewed_row, put_off, free, put_off_by_own, granted, no_lease}
 use Rattle.nq_model.specs.Client.{Client}
-use Rattle.nq_model.specs.ClientStep.{begins_call, is_called, says_busy, at_time, sends_again, fresh_client, attached_client, starts}
-use Rattle.nq_model.specs.Decide.{decides, creates, writes_through, stores, wrote, stores_recovering, resizes, removes, puts_off, commits}
-use Rattle.nq_model.specs.Hear.{vacates_lease, loses, without_lease, granted_lease, holds, caches_block, purges, knows_revision, marks_through, ends_push, spends, attached, pauses, cancels, notes_notice}
+use Rattle.nq_model.specs.ClientStep.{fresh_client}
 use Rattle.nq_model.specs.Journal.{Exists, Covers, IsStored, IsLost}
 use Rattle.nq_model.specs.JournalTest.{exists, covers}
 use Rattle.nq_model.specs.Fate.{IsDelayed, IsEnded, IsWaiting}
 use Rattle.nq_model.proofs.JournalTests.{tells_exists, tells_covers, tells_stored, tells_lost}
 use Rattle.nq_model.proofs.Telling.{not_told}
-use Rattle.nq_model.specs.Kept.{new_file, written_file, resized_file, fenced_file, with_row, with_files, with_new_file}
-use Rattle.nq_model.specs.Send.{sends_request, after_seq, after_number, takes_push, gives_up}
-use Rattle.nq_model.specs.Server.{quiet, drops, says, after_notices, keeping, keeping_with, with_table}
-use Rattle.nq_model.specs.ServerStep.{attaches, tells_later, serves, leases, vacates, ends_writing, opens, boot, crash, at_time as at_server_time}
-use Rattle.nq_model.specs.Settle.{answers, after_read, reads_cached, after_write, marks_written}
-use Rattle.nq_model.specs.Table.{empty_table, with_rows, after_draw}
-use Rattle.nq_model.specs.World.{Head, after_server, after_client, start, run}
+use Rattle.nq_model.specs.ServerStep.{boot, at_time as at_server_time}
+use Rattle.nq_model.specs.World.{Head, run}
+use Rattle.walk_entries.proofs.GivenRuns.{given-run}
 
 -- one host, one file of one block, and short terms
 abbrev one-host : Head
@@ -71,15 +64,15 @@ some-there None c h = absurd (cc)
 some-there (Some x) c h = refl
 
 runs : is_some (slice_get (run one-host four-writes).clients 0) ≡ true
-unfolding filled zeros grant_of sharing_row caching_row shared_again renewed_row put_off free put_off_by_own granted no_lease begins_call is_called says_busy at_time sends_again fresh_client attached_client starts decides creates writes_through stores wrote stores_recovering resizes removes puts_off commits vacates_lease loses without_lease granted_lease holds caches_block purges knows_revision marks_through ends_push spends attached pauses cancels notes_notice new_file written_file resized_file fenced_file with_row with_files with_new_file sends_request after_seq after_number takes_push gives_up quiet drops says after_notices keeping keeping_with with_table attaches tells_later serves leases vacates ends_writing opens boot crash at_server_time answers after_read reads_cached after_write marks_written empty_table with_rows after_draw after_server after_client start
+unfolding filled zeros given-run
 runs = refl
 
 is-next : writer.who ≡ next
-unfolding filled zeros grant_of sharing_row caching_row shared_again renewed_row put_off free put_off_by_own granted no_lease begins_call is_called says_busy at_time sends_again fresh_client attached_client starts decides creates writes_through stores wrote stores_recovering resizes removes puts_off commits vacates_lease loses without_lease granted_lease holds caches_block purges knows_revision marks_through ends_push spends attached pauses cancels notes_notice new_file written_file resized_file fenced_file with_row with_files with_new_file sends_request after_seq after_number takes_push gives_up quiet drops says after_notices keeping keeping_with with_table attaches tells_later serves leases vacates ends_writing opens boot crash at_server_time answers after_read reads_cached after_write marks_written empty_table with_rows after_draw after_server after_client start
+unfolding filled zeros given-run
 is-next = refl
 
 dirty : writer.dirty ≡ record { file = 1; block = 0; first = 1; last = 1; body = zeros } ∷ []
-unfolding filled zeros grant_of sharing_row caching_row shared_again renewed_row put_off free put_off_by_own granted no_lease begins_call is_called says_busy at_time sends_again fresh_client attached_client starts decides creates writes_through stores wrote stores_recovering resizes removes puts_off commits vacates_lease loses without_lease granted_lease holds caches_block purges knows_revision marks_through ends_push spends attached pauses cancels notes_notice new_file written_file resized_file fenced_file with_row with_files with_new_file sends_request after_seq after_number takes_push gives_up quiet drops says after_notices keeping keeping_with with_table attaches tells_later serves leases vacates ends_writing opens boot crash at_server_time answers after_read reads_cached after_write marks_written empty_table with_rows after_draw after_server after_client start
+unfolding filled zeros given-run
 dirty = refl
 
 abbrev told : List Entry
@@ -110,7 +103,7 @@ told =
     ∷ []
 
 is-told : (run one-host four-writes).journal ≡ told
-unfolding filled zeros grant_of sharing_row caching_row shared_again renewed_row put_off free put_off_by_own granted no_lease begins_call is_called says_busy at_time sends_again fresh_client attached_client starts decides creates writes_through stores wrote stores_recovering resizes removes puts_off commits vacates_lease loses without_lease granted_lease holds caches_block purges knows_revision marks_through ends_push spends attached pauses cancels notes_notice new_file written_file resized_file fenced_file with_row with_files with_new_file sends_request after_seq after_number takes_push gives_up quiet drops says after_notices keeping keeping_with with_table attaches tells_later serves leases vacates ends_writing opens boot crash at_server_time answers after_read reads_cached after_write marks_written empty_table with_rows after_draw after_server after_client start
+unfolding filled zeros given-run
 is-told = refl
 
 -- ---- what became of them
@@ -123,15 +116,30 @@ is-unsaved = record {
   client = writer;
   runs = some-there (slice_get (run one-host four-writes).clients 0) (fresh_client (record { host = 0; inc = 1 }) 5 0) runs;
   same = is-next;
-  unsaved = subst (λ ps. Exists (λ p. Encloses p last-write) ps ⊎ UnderWayEncloses writer.push last-write) (sym dirty) (inl (inl (refl, refl, omega arith, omega arith)));
+  unsaved =
+      subst (λ ps. Exists (λ p. Encloses p last-write) ps ⊎ UnderWayEncloses writer.push last-write) (sym dirty)
+      (inl (inl (refl, refl, omega arith, omega arith)));
 }
 
 shows : ShowsEachFate (run one-host four-writes)
 shows = record {
-  stored = subst (λ j. AtSomePlace (λ after e before. IsDelayed e × IsStored j e) [] j) (sym is-told) (inr (inr (inr (inr (inr (inr (inr (inr (inr (inr (inr (inr (inr (inr (inr (inr (inr (inr (inr (inr (inl (tt, (tells_stored told (write 1)).sound refl))))))))))))))))))))));
-  lost = subst (λ j. AtSomePlace (λ after e before. IsDelayed e × IsLost j e) [] j) (sym is-told) (inr (inr (inr (inr (inr (inr (inr (inr (inr (inr (inr (inr (inr (inr (inl (tt, (tells_lost told (write 2)).sound refl))))))))))))))));
-  ended = subst (λ j. AtSomePlace (λ after e before. IsEnded j after e) [] j) (sym is-told) (inr (inr (inr (inr (inr (inr (inl (record { delayed = tt; uncovered = uncovered (write 3) refl; restarted = inr (inl refl) }))))))));
-  waiting = subst (λ j. AtSomePlace (λ after e before. IsWaiting j after e × IsStillUnsaved (run one-host four-writes) e) [] j) (sym is-told) (inr (inl (record { delayed = tt; uncovered = uncovered last-write refl; running = elim [ inl h ↦ h | inr h ↦ h ] }, is-unsaved)));
+  stored =
+      subst (λ j. AtSomePlace (λ after e before. IsDelayed e × IsStored j e) [] j) (sym is-told)
+      (inr
+      (inr
+      (inr
+      (inr
+      (inr
+      (inr (inr (inr (inr (inr (inr (inr (inr (inr (inr (inr (inr (inr (inr (inr (inl (tt, (tells_stored told (write 1)).sound refl))))))))))))))))))))));
+  lost =
+      subst (λ j. AtSomePlace (λ after e before. IsDelayed e × IsLost j e) [] j) (sym is-told)
+      (inr (inr (inr (inr (inr (inr (inr (inr (inr (inr (inr (inr (inr (inr (inl (tt, (tells_lost told (write 2)).sound refl))))))))))))))));
+  ended =
+      subst (λ j. AtSomePlace (λ after e before. IsEnded j after e) [] j) (sym is-told)
+      (inr (inr (inr (inr (inr (inr (inl (record { delayed = tt; uncovered = uncovered (write 3) refl; restarted = inr (inl refl) }))))))));
+  waiting =
+      subst (λ j. AtSomePlace (λ after e before. IsWaiting j after e × IsStillUnsaved (run one-host four-writes) e) [] j) (sym is-told)
+      (inr (inl (record { delayed = tt; uncovered = uncovered last-write refl; running = elim [ inl h ↦ h | inr h ↦ h ] }, is-unsaved)));
 }
 
 pub each-fate : HasEachFate

@@ -1,5 +1,5 @@
 -- What each element of a list has, it has after each change of the list.
-use Rattle.std.proofs.Common.{◌≡◌, ℕ, zero, suc, ◌-◌, ◌==◌, Bool, true, false, List, [], ◌∷◌, Some, if◌then◌else◌, take, replicate, map, refl, subst, inl, inr}
+use Rattle.std.proofs.Common.{◌≡◌, ℕ, zero, suc, ◌-◌, ◌==◌, Bool, true, false, List, [], ◌∷◌, Some, if◌then◌else◌, take, replicate, map, subst, inl, inr}
 use Rattle.std.specs.List.{find, filter}
 use Rattle.std.specs.Prelude.{slice_get, slice_set}
 use Rattle.nq_model.specs.Journal.{Each}

@@ -1,22 +1,20 @@
 -- The bodies that a client has and sends stay filled over each of its steps.
-use Rattle.std.proofs.Common.{◌≡◌, ◌⊎◌, ℕ, ◌+◌, Bool, true, false, List, [], ◌∷◌, ◌++◌, Option, Some, None, if◌then◌else◌, map, refl, sym, subst, ap, ◌∙◌, inl, inr}
+use Rattle.std.proofs.Common.{◌≡◌, ℕ, ◌+◌, Bool, true, false, List, ◌∷◌, Option, Some, None, if◌then◌else◌, refl, subst, ap}
 use Rattle.nq_base.specs.declared.Answer.{Answer}
 use Rattle.nq_base.specs.declared.Call.{Call}
 use Rattle.nq_base.specs.declared.Grant.{Grant}
 use Rattle.nq_base.specs.declared.Push.{Push}
-use Rattle.nq_base.specs.declared.Refusal.{Refusal}
 use Rattle.nq_base.specs.declared.Reply.{Reply}
 use Rattle.nq_base.specs.declared.Request.{Request}
 use Rattle.nq_base.specs.declared.Tag.{Tag}
 use Rattle.nq_base.specs.declared.Value.{Value}
-use Rattle.nq_base.specs.declared.Who.{Who}
 use Rattle.law_filled.proofs.EachOf.{each-find, each-filter, each-through, each-most}
 use Rattle.nq_model.proofs.Lists.{each-append}
-use Rattle.nq_model.specs.Client.{Client, ClientStep, Clean, Job, Lease, Notice, Revision, Ticket, UnderWay, begun, is_clean_at, clean_at, drop_clean, dirty_at, is_push_at, is_push_of, first_dirty, drop_dirty, other_dirty, notice_on, purge, put_clean, revision_of, is_revision, for_call}
-use Rattle.nq_model.specs.ClientStep.{begins_call, is_called, sends_unless_cached, says_busy, client_call, at_time, sends_again, client_tick, fresh_client, starts, next_incarnation, restart}
-use Rattle.nq_model.specs.Hear.{vacates_lease, vacates_noticed, loses, reports, without_lease, push_refused, breaks_chain, if_broken, holds, takes_grant, takes_optional, answers_call, caches_block, purges, knows_revision, then_caches, read_done, with_through, marks_through, lease_done, caches_write, write_done, ends_push, caches_push, push_done, answer_of, spends, attached, pauses, replied, reply_counts, cancelled, wants_of, cancels, notes_notice, evicted, hear, other_push, clean_at_revision}
+use Rattle.nq_model.specs.Client.{Client, ClientStep, Clean, Job, Notice, Revision, Ticket, UnderWay, begun, is_clean_at, clean_at, drop_clean, dirty_at, is_push_at, is_push_of, first_dirty, notice_on, purge, put_clean, revision_of, is_revision, for_call}
+use Rattle.nq_model.specs.ClientStep.{begins_call, is_called, sends_unless_cached, says_busy, client_call, at_time, sends_again, client_tick, fresh_client, starts, restart}
+use Rattle.nq_model.specs.Hear.{vacates_lease, vacates_noticed, loses, reports, without_lease, push_refused, breaks_chain, if_broken, holds, takes_grant, takes_optional, answers_call, caches_block, purges, knows_revision, then_caches, read_done, with_through, marks_through, caches_write, write_done, ends_push, caches_push, push_done, answer_of, spends, attached, pauses, replied, reply_counts, cancels, notes_notice, evicted, hear, other_push, clean_at_revision}
 use Rattle.nq_model.specs.Journal.{Each}
-use Rattle.nq_model.specs.Message.{Message, reply}
+use Rattle.nq_model.specs.Message.{Message}
 use Rattle.nq_model.specs.Profile.{most_clean}
 use Rattle.nq_model.specs.Send.{sends_request, after_seq, after_number, takes_push, sends_write, gives_up, send_next}
 use Rattle.nq_model.specs.Settle.{answers, names_losses, reads_cached, after_read, looked_up, touched, reads_clean_in, clean_after_read, overwritten, overwritten_at, with_write, delays, after_write, marks_written, settle}
@@ -30,7 +28,8 @@ use Rattle.walk_client.proofs.SettleCases.{settle-cases}
 use Rattle.walk_client.proofs.StepCases.{call-cases, unless-cached-cases, tick-cases, heard-cases, evicted-cases}
 
 -- the bodies of a client in the middle of a step, and of what it sends
-pub record Fits (call : Option UnderWay) (ticket : Option Ticket) (dirty : List Push) (push : Option Push) (clean : List Clean) (sends : List Message) : Type 0 where
+pub record Fits (call : Option UnderWay) (ticket : Option Ticket) (dirty : List Push) (push : Option Push) (clean : List Clean)
+    (sends : List Message) : Type 0 where
   pub called : (u : UnderWay) → call ≡ Some u → BringsFilled u.call
   pub asked : (t : Ticket) → ticket ≡ Some t → AsksFilled t.request
   pub listed : Each (λ p. IsFilled p.body) dirty
@@ -49,14 +48,20 @@ step-filled t m = record { called = m.called; asked = m.asked; dirty = m.listed;
 
 -- ---- lists
 
-put-filled : (file block : ℕ) (body : List ℕ) (clean : List Clean) → IsFilled body → Each (λ k. IsFilled k.body) clean → Each (λ k. IsFilled k.body) (put_clean file block body clean)
-put-filled file block body clean new h = each-most (λ k. IsFilled k.body) most_clean (record { file = file; block = block; body = body } ∷ drop_clean file block clean) (new, each-filter (λ k. IsFilled k.body) _ clean h)
+put-filled : (file block : ℕ) (body : List ℕ) (clean : List Clean) → IsFilled body → Each (λ k. IsFilled k.body) clean
+    → Each (λ k. IsFilled k.body) (put_clean file block body clean)
+put-filled file block body clean new h =
+    each-most (λ k. IsFilled k.body) most_clean (record { file = file; block = block; body = body } ∷ drop_clean file block clean)
+    (new, each-filter (λ k. IsFilled k.body) _ clean h)
 
-touched-filled : (file block : ℕ) (o : Option Clean) (clean : List Clean) → clean_at file block clean ≡ o → Each (λ k. IsFilled k.body) clean → Each (λ k. IsFilled k.body) (touched file block o clean)
+touched-filled : (file block : ℕ) (o : Option Clean) (clean : List Clean) → clean_at file block clean ≡ o → Each (λ k. IsFilled k.body) clean
+    → Each (λ k. IsFilled k.body) (touched file block o clean)
 touched-filled file block None clean is h = h
-touched-filled file block (Some k) clean is h = (each-find (λ k. IsFilled k.body) (is_clean_at file block) clean k is h, each-filter (λ k. IsFilled k.body) _ clean h)
+touched-filled file block (Some k) clean is h =
+    (each-find (λ k. IsFilled k.body) (is_clean_at file block) clean k is h, each-filter (λ k. IsFilled k.body) _ clean h)
 
-read-filled : (file block : ℕ) (dirty : List Push) (push : Option Push) (clean : List Clean) → Each (λ k. IsFilled k.body) clean → Each (λ k. IsFilled k.body) (clean_after_read file block dirty push clean)
+read-filled : (file block : ℕ) (dirty : List Push) (push : Option Push) (clean : List Clean) → Each (λ k. IsFilled k.body) clean
+    → Each (λ k. IsFilled k.body) (clean_after_read file block dirty push clean)
 read-filled file block dirty push clean h = step (reads_clean_in file block dirty push)
   where
     step : (b : Bool) → Each (λ k. IsFilled k.body) (if b then looked_up file block clean else clean)
@@ -70,11 +75,14 @@ over-filled file block number body new p old = step (is_push_at file block p)
     step true = new
     step false = old
 
-write-filled : (file block number : ℕ) (body : List ℕ) (dirty : List Push) (o : Option Push) → IsFilled body → Each (λ p. IsFilled p.body) dirty → Each (λ p. IsFilled p.body) (with_write file block number body dirty o)
-write-filled file block number body dirty (Some p) new h = each-through (λ p. IsFilled p.body) (overwritten_at file block number body) dirty (over-filled file block number body new) h
+write-filled : (file block number : ℕ) (body : List ℕ) (dirty : List Push) (o : Option Push) → IsFilled body → Each (λ p. IsFilled p.body) dirty
+    → Each (λ p. IsFilled p.body) (with_write file block number body dirty o)
+write-filled file block number body dirty (Some p) new h =
+    each-through (λ p. IsFilled p.body) (overwritten_at file block number body) dirty (over-filled file block number body new) h
 write-filled file block number body dirty None new h = each-append (λ p. IsFilled p.body) dirty _ h (new, tt)
 
-revision-filled : (file rev : ℕ) (revisions : List Revision) (clean : List Clean) → Each (λ k. IsFilled k.body) clean → Each (λ k. IsFilled k.body) (clean_at_revision file rev revisions clean)
+revision-filled : (file rev : ℕ) (revisions : List Revision) (clean : List Clean) → Each (λ k. IsFilled k.body) clean
+    → Each (λ k. IsFilled k.body) (clean_at_revision file rev revisions clean)
 revision-filled file rev revisions clean h = step (is_revision rev (revision_of file revisions))
   where
     step : (b : Bool) → Each (λ k. IsFilled k.body) (if b then clean else purge file clean)
@@ -97,15 +105,41 @@ named t q file m = record { called = λ u e. none-some u e; asked = m.asked; lis
 
 read-fits : (t : ClientStep) (u : UnderWay) (file block : ℕ) (body : List ℕ) → FitsIn t → FitsIn (reads_cached t u file block body)
 unfolding reads_cached answers after_read
-read-fits t u file block body m = record { called = λ v e. none-some v e; asked = m.asked; listed = m.listed; pushes = m.pushes; cached = read-filled file block t.client.dirty t.client.push t.client.clean m.cached; sent = m.sent }
+read-fits t u file block body m =
+    record {
+      called = λ v e. none-some v e;
+      asked = m.asked;
+      listed = m.listed;
+      pushes = m.pushes;
+      cached = read-filled file block t.client.dirty
+          t.client.push t.client.clean m.cached;
+      sent = m.sent;
+    }
 
 delayed : (t : ClientStep) (file block : ℕ) (body : List ℕ) → IsFilled body → FitsIn t → FitsIn (delays t file block body)
 unfolding after_write
-delayed t file block body new m = record { called = m.called; asked = m.asked; listed = write-filled file block t.client.number body t.client.dirty (dirty_at file block t.client.dirty) new m.listed; pushes = m.pushes; cached = each-filter (λ k. IsFilled k.body) _ t.client.clean m.cached; sent = m.sent }
+delayed t file block body new m =
+    record {
+      called = m.called;
+      asked = m.asked;
+      listed = write-filled file block t.client.number body t.client.dirty
+          (dirty_at file block t.client.dirty) new m.listed;
+      pushes = m.pushes;
+      cached = each-filter (λ k. IsFilled k.body) _ t.client.clean m.cached;
+      sent = m.sent;
+    }
 
 marked : (t : ClientStep) (u : UnderWay) → BringsFilled u.call → FitsIn t → FitsIn (marks_written t u)
 unfolding marks_written
-marked t u brings m = record { called = λ v e. subst (λ z. BringsFilled z.call) (some-same (record u { written = true }) v e) brings; asked = m.asked; listed = m.listed; pushes = m.pushes; cached = m.cached; sent = m.sent }
+marked t u brings m =
+    record {
+      called = λ v e. subst (λ z. BringsFilled z.call) (some-same (record u { written = true }) v e) brings;
+      asked = m.asked;
+      listed = m.listed;
+      pushes = m.pushes;
+      cached = m.cached;
+      sent = m.sent;
+    }
 
 pub settled : (t : ClientStep) → FitsIn t → FitsIn (settle t)
 settled t m = settle-cases t FitsIn (record {
@@ -116,8 +150,12 @@ settled t m = settle-cases t FitsIn (record {
   read_waits = λ u file block is read waits. m;
   write_out = λ u sync file block body lease is write can out. answered t u.q Answer.Range None m;
   write_full = λ u sync file block body lease is write can below full. answered t u.q Answer.DirtyFull None m;
-  writing = λ u file block body lease is write can below room. answered (delays t file block body) u.q (Answer.Ok Value.Nothing) None (delayed t file block body (brought (Call.Write file block body) u write (m.called u is.called)) m);
-  putting = λ u file block body lease is put written can below room. marked (delays t file block body) u (m.called u is.called) (delayed t file block body (brought (Call.WriteSync file block body) u put (m.called u is.called)) m);
+  writing =
+      λ u file block body lease is write can below room. answered (delays t file block body) u.q (Answer.Ok Value.Nothing) None
+      (delayed t file block body (brought (Call.Write file block body) u write (m.called u is.called)) m);
+  putting =
+      λ u file block body lease is put written can below room. marked (delays t file block body) u (m.called u is.called)
+      (delayed t file block body (brought (Call.WriteSync file block body) u put (m.called u is.called)) m);
   write_waits = λ u sync file block body is write waits. m;
   syncing = λ u file is sync clean. answered t u.q (Answer.Ok Value.Nothing) None m;
   sync_waits = λ u file is sync dirty. m;
@@ -147,11 +185,29 @@ number-fits t m = m
 
 gives-fits : (t : ClientStep) (file : ℕ) → FitsIn t → FitsIn (gives_up t file)
 unfolding gives_up
-gives-fits t file m = record { called = m.called; asked = m.asked; listed = m.listed; pushes = m.pushes; cached = each-filter (λ k. IsFilled k.body) _ t.client.clean m.cached; sent = m.sent }
+gives-fits t file m =
+    record {
+      called = m.called;
+      asked = m.asked;
+      listed = m.listed;
+      pushes = m.pushes;
+      cached = each-filter (λ k. IsFilled k.body) _ t.client.clean
+          m.cached;
+      sent = m.sent;
+    }
 
 taken : (t : ClientStep) (p : Push) → IsFilled p.body → FitsIn t → FitsIn (takes_push t p)
 unfolding takes_push
-taken t p filled m = record { called = m.called; asked = m.asked; listed = each-filter (λ p. IsFilled p.body) _ t.client.dirty m.listed; pushes = λ x e. subst (λ z. IsFilled z.body) (some-same p x e) filled; cached = m.cached; sent = m.sent }
+taken t p filled m =
+    record {
+      called = m.called;
+      asked = m.asked;
+      listed = each-filter (λ p. IsFilled p.body) _ t.client.dirty m.listed;
+      pushes = λ x e. subst
+          (λ z. IsFilled z.body) (some-same p x e) filled;
+      cached = m.cached;
+      sent = m.sent;
+    }
 
 push-fits : (t : ClientStep) (file : ℕ) (p : Push) → first_dirty file t.client.dirty ≡ Some p → FitsIn t → FitsIn (pushed t p)
 push-fits t file p first m =
@@ -191,7 +247,16 @@ attached-fits t m = m
 
 vacated : (t : ClientStep) (file : ℕ) (tag : Tag) → FitsIn t → FitsIn (vacates_lease t file tag)
 unfolding vacates_lease
-vacated t file tag m = record { called = m.called; asked = m.asked; listed = m.listed; pushes = m.pushes; cached = m.cached; sent = each-append HasFilledBody t.sends _ m.sent (tt, tt) }
+vacated t file tag m =
+    record {
+      called = m.called;
+      asked = m.asked;
+      listed = m.listed;
+      pushes = m.pushes;
+      cached = m.cached;
+      sent = each-append HasFilledBody t.sends _
+          m.sent (tt, tt);
+    }
 
 vacated-noticed : (t : ClientStep) (file : ℕ) (o : Option Notice) → FitsIn t → FitsIn (vacates_noticed t file o)
 vacated-noticed t file o m = vacates-noticed-cases t file o FitsIn (λ e. m) (λ n e. vacated t file n.tag m)
@@ -206,17 +271,37 @@ other-filled file (Some x) h p e = step (is_push_of file x) e
 
 lost : (t : ClientStep) (file : ℕ) → FitsIn t → FitsIn (loses t file)
 unfolding loses
-lost t file m = record { called = m.called; asked = m.asked; listed = each-filter (λ p. IsFilled p.body) _ t.client.dirty m.listed; pushes = other-filled file t.client.push m.pushes; cached = m.cached; sent = m.sent }
+lost t file m =
+    record {
+      called = m.called;
+      asked = m.asked;
+      listed = each-filter (λ p. IsFilled p.body) _ t.client.dirty m.listed;
+      pushes = other-filled file
+          t.client.push m.pushes;
+      cached = m.cached;
+      sent = m.sent;
+    }
 
 reported : (t : ClientStep) (file : ℕ) → FitsIn t → FitsIn (reports t file)
 reported t file m = reports-cases t file FitsIn (λ none. m) (λ u is waits. m) (λ u is waits. named t u.q file m)
 
 held : (t : ClientStep) (file : ℕ) (g : Grant) (sent : ℕ) → FitsIn t → FitsIn (holds t file g sent)
 unfolding holds
-held t file g at m = record { called = m.called; asked = m.asked; listed = m.listed; pushes = m.pushes; cached = revision-filled file g.rev t.client.revisions t.client.clean m.cached; sent = m.sent }
+held t file g at m =
+    record {
+      called = m.called;
+      asked = m.asked;
+      listed = m.listed;
+      pushes = m.pushes;
+      cached = revision-filled file g.rev t.client.revisions
+          t.client.clean m.cached;
+      sent = m.sent;
+    }
 
 broken : (t : ClientStep) (file : ℕ) → FitsIn t → FitsIn (breaks_chain t file)
-broken t file m = reported (vacates_noticed (loses t file) file (notice_on file t.client.notices)) file (vacated-noticed (loses t file) file (notice_on file t.client.notices) (lost t file m))
+broken t file m =
+    reported (vacates_noticed (loses t file) file (notice_on file t.client.notices)) file
+    (vacated-noticed (loses t file) file (notice_on file t.client.notices) (lost t file m))
 
 granted : (t : ClientStep) (file : ℕ) (g : Grant) (sent : ℕ) → FitsIn t → FitsIn (takes_grant t file g sent)
 granted t file g at m = held (if_broken t file g) file g at (if-broken-cases t file g FitsIn (λ e. m) (λ lease has breaks dirty. broken t file m))
@@ -226,11 +311,29 @@ takes t file o at m = takes-optional-cases t file o at FitsIn (λ e. m) (λ g e.
 
 caches : (t : ClientStep) (file block : ℕ) (body : List ℕ) → IsFilled body → FitsIn t → FitsIn (caches_block t file block body)
 unfolding caches_block
-caches t file block body filled m = record { called = m.called; asked = m.asked; listed = m.listed; pushes = m.pushes; cached = put-filled file block body t.client.clean filled m.cached; sent = m.sent }
+caches t file block body filled m =
+    record {
+      called = m.called;
+      asked = m.asked;
+      listed = m.listed;
+      pushes = m.pushes;
+      cached = put-filled file block body t.client.clean filled
+          m.cached;
+      sent = m.sent;
+    }
 
 purged : (t : ClientStep) (file : ℕ) → FitsIn t → FitsIn (purges t file)
 unfolding purges
-purged t file m = record { called = m.called; asked = m.asked; listed = m.listed; pushes = m.pushes; cached = each-filter (λ k. IsFilled k.body) _ t.client.clean m.cached; sent = m.sent }
+purged t file m =
+    record {
+      called = m.called;
+      asked = m.asked;
+      listed = m.listed;
+      pushes = m.pushes;
+      cached = each-filter (λ k. IsFilled k.body) _ t.client.clean
+          m.cached;
+      sent = m.sent;
+    }
 
 known : (t : ClientStep) (file rev : ℕ) → FitsIn t → FitsIn (knows_revision t file rev)
 unfolding knows_revision
@@ -244,29 +347,36 @@ ended : (t : ClientStep) → FitsIn t → FitsIn (ends_push t)
 unfolding ends_push
 ended t m = record { called = m.called; asked = m.asked; listed = m.listed; pushes = λ p e. none-some p e; cached = m.cached; sent = m.sent }
 
-through-filled : (on : Bool) (o : Option UnderWay) → ((u : UnderWay) → o ≡ Some u → BringsFilled u.call) → (v : UnderWay) → with_through on o ≡ Some v → BringsFilled v.call
+through-filled : (on : Bool) (o : Option UnderWay) → ((u : UnderWay) → o ≡ Some u → BringsFilled u.call) → (v : UnderWay) → with_through on o ≡ Some v
+    → BringsFilled v.call
 through-filled on None h v e = none-some v e
 through-filled on (Some u) h v e = subst (λ z. BringsFilled z.call) (some-same (record u { through = on }) v e) (h u refl)
 
 marks : (on : Bool) (t : ClientStep) → FitsIn t → FitsIn (marks_through on t)
 unfolding marks_through
-marks on t m = record { called = through-filled on t.client.call m.called; asked = m.asked; listed = m.listed; pushes = m.pushes; cached = m.cached; sent = m.sent }
+marks on t m =
+    record { called = through-filled on t.client.call m.called; asked = m.asked; listed = m.listed; pushes = m.pushes; cached = m.cached; sent = m.sent }
 
 paused : (t : ClientStep) → FitsIn t → FitsIn (pauses t)
 unfolding pauses marks_through
-paused t m = record { called = through-filled false t.client.call m.called; asked = m.asked; listed = m.listed; pushes = m.pushes; cached = m.cached; sent = m.sent }
+paused t m =
+    record { called = through-filled false t.client.call m.called; asked = m.asked; listed = m.listed; pushes = m.pushes; cached = m.cached; sent = m.sent }
 
 answers-fit : (t : ClientStep) (a : Answer) (by : Option ℕ) → FitsIn t → FitsIn (answers_call t a by)
 answers-fit t a by m = answers-call-cases t a by FitsIn (λ e. m) (λ u e. answered t u.q a by m)
 
-read-done : (t : ClientStep) (file block : ℕ) (body : List ℕ) (o : Option Grant) (sent number : ℕ) → IsFilled body → FitsIn t → FitsIn (read_done t file block body o sent number)
+read-done : (t : ClientStep) (file block : ℕ) (body : List ℕ) (o : Option Grant) (sent number : ℕ) → IsFilled body → FitsIn t
+    → FitsIn (read_done t file block body o sent number)
 read-done t file block body o at number filled m =
     let k = takes t file o at m in
-    answers-fit (then_caches (takes_optional t file o at) file block body o) _ _ (then-caches-cases (takes_optional t file o at) file block body o FitsIn (λ e. caches _ file block body filled k) (λ e. k))
+    answers-fit (then_caches (takes_optional t file o at) file block body o) _ _
+    (then-caches-cases (takes_optional t file o at) file block body o FitsIn (λ e. caches _ file block body filled k) (λ e. k))
 
 write-done : (t : ClientStep) (file block : ℕ) (body : List ℕ) (rev : ℕ) → IsFilled body → FitsIn t → FitsIn (write_done t file block body rev)
 write-done t file block body rev filled m =
-    answers-fit (knows_revision (caches_write t file block body rev) file rev) _ None (known (caches_write t file block body rev) file rev (caches-write-cases t file block body rev FitsIn (λ a b. caches t file block body filled m) (purged t file m)))
+    answers-fit (knows_revision (caches_write t file block body rev) file rev) _ None
+    (known (caches_write t file block body rev) file rev
+    (caches-write-cases t file block body rev FitsIn (λ a b. caches t file block body filled m) (purged t file m)))
 
 push-done : (t : ClientStep) (file block : ℕ) (body : List ℕ) (rev : ℕ) → IsFilled body → FitsIn t → FitsIn (push_done t file block body rev)
 push-done t file block body rev filled m =
@@ -291,13 +401,21 @@ module _ (c : Client) (number : ℕ) (ticket : Ticket) (r : Reply) (is : c.ticke
   replied-fits fits counts = replied-cases c number ticket r FitsIn fits counts (record {
     attaching = λ who inc job asks told. attached-fits _ k;
     named = λ answer job n. answers-fit _ answer None k;
-    reading = λ who q file block want inc rev body grant of told. read-done _ file block body grant ticket.first number (tells-body (Reply.Read inc rev body grant) told) k;
-    leasing = λ who file want inc grant of told. lease-done-cases _ file grant ticket.first FitsIn (λ e. takes _ file grant ticket.first k) (λ e. marks true _ (takes _ file grant ticket.first k));
-    writing = λ who seq file block first last body inc rev of told. write-done _ file block body rev (asks-body (Request.Write who seq file block first last None body) of.asks) k;
+    reading =
+        λ who q file block want inc rev body grant of told. read-done _ file block body grant ticket.first number
+        (tells-body (Reply.Read inc rev body grant) told) k;
+    leasing =
+        λ who file want inc grant of told. lease-done-cases _ file grant ticket.first FitsIn (λ e. takes _ file grant ticket.first k)
+        (λ e. marks true _ (takes _ file grant ticket.first k));
+    writing =
+        λ who seq file block first last body inc rev of told. write-done _ file block body rev
+        (asks-body (Request.Write who seq file block first last None body) of.asks) k;
     resizing = λ who seq q file blocks inc rev of told. answers-fit _ _ None (known _ file rev k);
     removing = λ who seq q file inc of told. answers-fit _ _ None k;
     renewing = λ who file want inc grant job asks told. takes _ file grant ticket.first k;
-    pushed = λ who seq file block first last base body inc rev job asks told. push-done _ file block body rev (asks-body (Request.Write who seq file block first last (Some base) body) asks) k;
+    pushed =
+        λ who seq file block first last base body inc rev job asks told. push-done _ file block body rev
+        (asks-body (Request.Write who seq file block first last (Some base) body) asks) k;
     putting_off = λ inc status job told off. paused _ k;
     refusing = λ inc status job told counted final. answers-fit _ (answer_of status) None k;
     renewal_refused = λ inc status job told final. k;
@@ -308,7 +426,15 @@ module _ (c : Client) (number : ℕ) (ticket : Ticket) (r : Reply) (is : c.ticke
 
 cancelled-fits : (t : ClientStep) (file : ℕ) → FitsIn t → FitsIn (cancels t file)
 unfolding cancels
-cancelled-fits t file m = record { called = m.called; asked = λ k e. m.asked k (keeps-or-cancels file t.client.ticket k e).0; listed = m.listed; pushes = m.pushes; cached = m.cached; sent = m.sent }
+cancelled-fits t file m =
+    record {
+      called = m.called;
+      asked = λ k e. m.asked k (keeps-or-cancels file t.client.ticket k e).0;
+      listed = m.listed;
+      pushes = m.pushes;
+      cached = m.cached;
+      sent = m.sent;
+    }
 
 notes : (t : ClientStep) (file : ℕ) (tag : Tag) → FitsIn t → FitsIn (notes_notice t file tag)
 unfolding notes_notice
@@ -335,7 +461,16 @@ busy c op h = record { called = h.called; asked = h.asked; listed = h.dirty; pus
 
 calls : (c : Client) (op : Call) → BringsFilled op → HasFilledBodies c → FitsIn (is_called (begins_call c op) op)
 unfolding is_called begins_call
-calls c op brings h = record { called = λ u e. subst (λ z. BringsFilled z.call) (some-same (record { q = c.calls + 1; call = op; through = false; written = false }) u e) brings; asked = h.asked; listed = h.dirty; pushes = h.pushed; cached = h.clean; sent = tt }
+calls c op brings h =
+    record {
+      called = λ u e. subst (λ z. BringsFilled z.call) (some-same (record { q = c.calls + 1; call = op; through = false; written = false }) u e)
+          brings;
+      asked = h.asked;
+      listed = h.dirty;
+      pushes = h.pushed;
+      cached = h.clean;
+      sent = tt;
+    }
 
 unless-cached : (t : ClientStep) → FitsIn t → FitsIn (sends_unless_cached (settle t))
 unless-cached t m = unless-cached-cases (settle t) FitsIn (λ e. settled t m) (λ e. goes-on false t m)
@@ -353,7 +488,15 @@ timed c now h = begun-fits c h
 
 again : (c : Client) (now : ℕ) (ticket : Ticket) → c.ticket ≡ Some ticket → HasFilledBodies c → FitsIn (sends_again (begun (at_time c now)) ticket)
 unfolding sends_again at_time
-again c now ticket is h = record { called = h.called; asked = λ k e. subst AsksFilled (ap (λ z. z.request) (some-same _ k e)) (h.asked ticket is); listed = h.dirty; pushes = h.pushed; cached = h.clean; sent = (h.asked ticket is, tt) }
+again c now ticket is h =
+    record {
+      called = h.called;
+      asked = λ k e. subst AsksFilled (ap (λ z. z.request) (some-same _ k e)) (h.asked ticket is);
+      listed = h.dirty;
+      pushes = h.pushed;
+      cached = h.clean;
+      sent = (h.asked ticket is, tt);
+    }
 
 pub tick-fits : (c : Client) (now : ℕ) → HasFilledBodies c → FitsIn (client_tick c now)
 tick-fits c now h = tick-cases c now FitsIn (record {
@@ -364,10 +507,21 @@ tick-fits c now h = tick-cases c now FitsIn (record {
 
 pub hear-fits : (c : Client) (k : ℕ) (m : Message) (t : ClientStep) → Alone c → HasFilledBody m → hear c k m ≡ Some t → HasFilledBodies c → FitsIn t
 hear-fits c k m t alone filled hears h = heard-cases c k m t FitsIn hears (record {
-  answered = λ xid r ticket is has same inc counts. goes-on false (replied (begun c) k ticket r) (replied-fits c k ticket r has (subst HasFilledBody is filled) (begun-fits c h) (alone.asking.ticketed ticket has).fits counts);
+  answered =
+      λ xid r ticket is has same inc counts. goes-on false (replied (begun c) k ticket r)
+      (replied-fits c k ticket r has (subst HasFilledBody is filled) (begun-fits c h) (alone.asking.ticketed ticket has).fits counts);
   noticed = λ xid file tag is early. goes-on false (evicted (cancels (begun c) file) file tag) (evicted-fits (begun c) file tag (begun-fits c h));
 })
 
 pub restart-fits : (c : Client) → FitsIn (restart c)
 unfolding starts fresh_client
-restart-fits c = record { called = λ u e. none-some u e; asked = λ t e. subst AsksFilled (ap (λ z. z.request) (some-same _ t e)) tt; listed = tt; pushes = λ p e. none-some p e; cached = tt; sent = (tt, tt) }
+restart-fits c =
+    record {
+      called = λ u e. none-some u e;
+      asked = λ t e. subst AsksFilled (ap (λ z. z.request) (some-same _ t e)) tt;
+      listed = tt;
+      pushes = λ p e.
+          none-some p e;
+      cached = tt;
+      sent = (tt, tt);
+    }

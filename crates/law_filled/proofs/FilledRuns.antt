@@ -1,24 +1,24 @@
 -- In every run whose calls bring filled bodies all bodies are filled.
-use Rattle.std.proofs.Common.{◌≡◌, ℕ, zero, suc, ◌+◌, List, [], ◌∷◌, ◌++◌, Option, Some, None, length, map, refl, sym, subst, ap, ◌∙◌}
+use Rattle.std.proofs.Common.{◌≡◌, ℕ, zero, suc, ◌+◌, List, [], ◌∷◌, Option, Some, None, length, map, refl, subst}
 use Rattle.std.specs.Prelude.{slice_get}
 use Rattle.nq_base.specs.declared.Call.{Call}
 use Rattle.nq_base.specs.declared.Event.{Event}
 use Rattle.nq_base.specs.declared.Party.{Party}
 use Rattle.nq_base.specs.declared.Request.{Request}
 use Rattle.law_filled.proofs.EachOf.{each-get, each-set}
-use Rattle.law_filled.proofs.FilledClient.{Fits, FitsIn, step-filled, call-fits, tick-fits, hear-fits, restart-fits}
+use Rattle.law_filled.proofs.FilledClient.{FitsIn, step-filled, call-fits, tick-fits, hear-fits, restart-fits}
 use Rattle.law_filled.proofs.FilledServer.{FileFilled, PacketFilled, StepFilled, new-filled, received, ticked, crashed}
 use Rattle.nq_model.proofs.Lists.{each-append}
 use Rattle.nq_model.specs.Client.{Client, ClientStep}
 use Rattle.nq_model.specs.ClientStep.{client_call, client_tick, restart, fresh_client, attached_client}
 use Rattle.nq_model.specs.Hear.{hear}
 use Rattle.nq_model.specs.Journal.{Each}
-use Rattle.nq_model.specs.Message.{Message, call, reply, error, Packet, Datagram, request, datagram_of, datagram_of_call}
+use Rattle.nq_model.specs.Message.{Message, call, reply, error, Packet, request, datagram_of, datagram_of_call}
 use Rattle.nq_model.specs.Server.{ServerStep}
-use Rattle.nq_model.specs.ServerStep.{boot, booted}
-use Rattle.nq_model.specs.World.{Head, World, from_host, after_server, after_client, at_client, after_hearing, sending_host, deliver_to_client, deliver_to, deliver, first_files, first_clients, first_kept, start, step, run}
+use Rattle.nq_model.specs.ServerStep.{boot}
+use Rattle.nq_model.specs.World.{Head, World, from_host, after_server, after_client, at_client, after_hearing, sending_host, deliver_to_client, deliver_to, deliver, first_files, first_clients, start, step, run}
 use Rattle.nq_promises.specs.BodiesAreFilled.{AsksFilled, HasFilledBody, HasFilledBodies, BringsFilledBody, BodiesAreFilled, BodiesAreFilledInEveryRun}
-use Rattle.walk_client.proofs.ClientMoves.{some-same, none-some}
+use Rattle.walk_client.proofs.ClientMoves.{none-some}
 use Rattle.walk_run.proofs.Worlds.{Holds, run-holds}
 
 -- ---- a step of the server
@@ -41,17 +41,21 @@ client-filled w host t m h = record {
   clients = each-set HasFilledBodies w.clients host t.client (step-filled t m) h.clients;
 }
 
-at-client-filled : (w : World) (host : ℕ) (f : Client → ClientStep) (o : Option Client) → slice_get w.clients host ≡ o → ((c : Client) → HasFilledBodies c → FitsIn (f c)) → BodiesAreFilled w → BodiesAreFilled (at_client w host f o)
+at-client-filled : (w : World) (host : ℕ) (f : Client → ClientStep) (o : Option Client) → slice_get w.clients host ≡ o
+    → ((c : Client) → HasFilledBodies c → FitsIn (f c)) → BodiesAreFilled w → BodiesAreFilled (at_client w host f o)
 at-client-filled w host f None is goes h = h
 at-client-filled w host f (Some c) is goes h = client-filled w host (f c) (goes c (each-get HasFilledBodies w.clients host c is h.clients)) h
 
 -- ---- a delivery
 
-hearing-filled : (w : World) (k host : ℕ) (m : Message) (c : Client) (o : Option ClientStep) → hear c k m ≡ o → slice_get w.clients host ≡ Some c → HasFilledBody m → Holds w → BodiesAreFilled w → BodiesAreFilled (after_hearing w host o)
+hearing-filled : (w : World) (k host : ℕ) (m : Message) (c : Client) (o : Option ClientStep) → hear c k m ≡ o → slice_get w.clients host ≡ Some c
+    → HasFilledBody m → Holds w → BodiesAreFilled w → BodiesAreFilled (after_hearing w host o)
 hearing-filled w k host m c None hears is filled held h = h
-hearing-filled w k host m c (Some t) hears is filled held h = client-filled w host t (hear-fits c k m t (held.clients host c is).alone filled hears (each-get HasFilledBodies w.clients host c is h.clients)) h
+hearing-filled w k host m c (Some t) hears is filled held h =
+    client-filled w host t (hear-fits c k m t (held.clients host c is).alone filled hears (each-get HasFilledBodies w.clients host c is h.clients)) h
 
-to-client-filled : (w : World) (k host : ℕ) (m : Message) (o : Option Client) → slice_get w.clients host ≡ o → HasFilledBody m → Holds w → BodiesAreFilled w → BodiesAreFilled (deliver_to_client w k host m o)
+to-client-filled : (w : World) (k host : ℕ) (m : Message) (o : Option Client) → slice_get w.clients host ≡ o → HasFilledBody m → Holds w
+    → BodiesAreFilled w → BodiesAreFilled (deliver_to_client w k host m o)
 to-client-filled w k host m None is filled held h = h
 to-client-filled w k host m (Some c) is filled held h = hearing-filled w k host m c (hear c k m) refl is filled held h
 
@@ -69,7 +73,8 @@ request-filled (reply x a) filled xid r e = absurd (cc)
 request-filled (error x a) filled xid r e = absurd (cc)
 
 to-filled : (w : World) (k : ℕ) (p : Packet) (to : Party) → HasFilledBody p.message → Holds w → BodiesAreFilled w → BodiesAreFilled (deliver_to w k p to)
-to-filled w k p Party.Server filled held h = server-filled w _ (received w.server h.kept (sending_host p.sender) (length w.packets) (datagram_of p.message) (request-filled p.message filled)) h
+to-filled w k p Party.Server filled held h =
+    server-filled w _ (received w.server h.kept (sending_host p.sender) (length w.packets) (datagram_of p.message) (request-filled p.message filled)) h
 to-filled w k p (Party.Client host) filled held h = to-client-filled w k host p.message (slice_get w.clients host) refl filled held h
 
 deliver-filled : (w : World) (k : ℕ) (o : Option Packet) → slice_get w.packets k ≡ o → Holds w → BodiesAreFilled w → BodiesAreFilled (deliver w k o)
@@ -79,10 +84,12 @@ deliver-filled w k (Some p) is held h = to-filled w k p p.to (each-get PacketFil
 -- ---- an event
 
 step-keeps : (w : World) (e : Event) → BringsFilledBody e → Holds w → BodiesAreFilled w → BodiesAreFilled (step w e)
-step-keeps w (Event.Call host op) brings held h = at-client-filled w host (λ c. client_call c op) (slice_get w.clients host) refl (λ c filled. call-fits c op brings filled) h
+step-keeps w (Event.Call host op) brings held h =
+    at-client-filled w host (λ c. client_call c op) (slice_get w.clients host) refl (λ c filled. call-fits c op brings filled) h
 step-keeps w (Event.Deliver k) brings held h = deliver-filled w k (slice_get w.packets k) refl held h
 step-keeps w Event.ServerTick brings held h = server-filled w _ (ticked w.server h.kept (w.server.now + 1)) h
-step-keeps w (Event.ClientTick host) brings held h = at-client-filled w host (λ c. client_tick c (c.now + 1)) (slice_get w.clients host) refl (λ c filled. tick-fits c (c.now + 1) filled) h
+step-keeps w (Event.ClientTick host) brings held h =
+    at-client-filled w host (λ c. client_tick c (c.now + 1)) (slice_get w.clients host) refl (λ c filled. tick-fits c (c.now + 1) filled) h
 step-keeps w (Event.Restart host) brings held h = at-client-filled w host restart (slice_get w.clients host) refl (λ c filled. restart-fits c) h
 step-keeps w (Event.Crash longest) brings held h = server-filled w _ (crashed w.server h.kept longest) h
 
@@ -95,7 +102,11 @@ first-filled id (f ∷ files) = (new-filled id f.0 f.1, first-filled (id + 1) fi
 clients-filled : (term host count : ℕ) → Each HasFilledBodies (first_clients term host count)
 unfolding attached_client fresh_client
 clients-filled term host zero = tt
-clients-filled term host (suc count) = (record { called = λ u e. none-some u e; asked = λ t e. none-some t e; dirty = tt; pushed = λ p e. none-some p e; clean = tt }, clients-filled term (host + 1) count)
+clients-filled term host (suc count) = (
+  record { called = λ u e. none-some u e; asked = λ t e. none-some t e; dirty = tt; pushed = λ p e. none-some p e; clean = tt },
+  clients-filled term
+      (host + 1) count,
+)
 
 start-filled : (head : Head) → BodiesAreFilled (start head)
 unfolding start boot

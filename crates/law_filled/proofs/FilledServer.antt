@@ -1,7 +1,7 @@
 -- The bodies that the server keeps and sends stay filled over each of its steps.
-use Rattle.std.proofs.Common.{◌≡◌, ℕ, ◌+◌, ◌%◌, ◌==◌, Bool, true, false, List, [], ◌∷◌, ◌++◌, Option, Some, None, if◌then◌else◌, replicate, refl, sym, subst, ap, ◌∙◌}
+use Rattle.std.proofs.Common.{◌≡◌, ℕ, ◌+◌, ◌%◌, ◌==◌, Bool, true, false, List, [], ◌∷◌, ◌++◌, Option, Some, None, if◌then◌else◌, replicate, refl, sym, subst}
 use Rattle.std.specs.Prelude.{slice_get}
-use Rattle.nq_base.specs.Block.{value_of, filled, zeros}
+use Rattle.nq_base.specs.Block.{filled, zeros}
 use Rattle.nq_base.specs.declared.Grant.{Grant}
 use Rattle.nq_base.specs.declared.Reply.{Reply}
 use Rattle.nq_base.specs.declared.Request.{Request}
@@ -55,7 +55,9 @@ written f block body new h = each-set IsFilled f.bodies block body new h
 
 resized-filled : (f : File) (blocks : ℕ) → FileFilled f → FileFilled (resized_file f blocks)
 unfolding resized_file
-resized-filled f blocks h = each-take IsFilled blocks (f.bodies ++ replicate blocks zeros) (each-append IsFilled f.bodies (replicate blocks zeros) h (each-replicate IsFilled blocks zeros zeros-filled))
+resized-filled f blocks h =
+    each-take IsFilled blocks (f.bodies ++ replicate blocks zeros)
+    (each-append IsFilled f.bodies (replicate blocks zeros) h (each-replicate IsFilled blocks zeros zeros-filled))
 
 fenced : (f : File) → FileFilled f → FileFilled (fenced_file f)
 unfolding fenced_file
@@ -135,15 +137,18 @@ module _ (s : Server) (h : Each FileFilled s.kept.files) where
   unfolding tells_later after_notices with_table
   later who xid table rows = record { kept = h; sent = each-append PacketFilled (notices s.notice rows) _ (notices-filled s.notice rows) (tt, tt) }
 
-  serving : (who : Who) (xid next q : ℕ) (f : File) (block : ℕ) (body : List ℕ) (table : Table) (o : Option Grant) → find_file f.id s.kept.files ≡ Some f → slice_get f.bodies block ≡ Some body → StepFilled (serves s who xid next q f block body table o)
+  serving : (who : Who) (xid next q : ℕ) (f : File) (block : ℕ) (body : List ℕ) (table : Table) (o : Option Grant)
+      → find_file f.id s.kept.files ≡ Some f → slice_get f.bodies block ≡ Some body → StepFilled (serves s who xid next q f block body table o)
   unfolding serves with_table
-  serving who xid next q f block body table o found there = record { kept = h; sent = (each-get IsFilled f.bodies block body there (found-filled f.id s.kept.files f found h), tt) }
+  serving who xid next q f block body table o found there =
+      record { kept = h; sent = (each-get IsFilled f.bodies block body there (found-filled f.id s.kept.files f found h), tt) }
 
   leasing : (who : Who) (xid file : ℕ) (table : Table) (o : Option Grant) → StepFilled (leases s who xid file table o)
   unfolding leases with_table
   leasing who xid file table o = record { kept = h; sent = (tt, tt) }
 
-  committing : (who : Who) (seq xid : ℕ) (r : Request) (d : Decision) → Each FileFilled d.server.kept.files → Each PacketFilled d.sends → StepFilled (commits who seq xid r d)
+  committing : (who : Who) (seq xid : ℕ) (r : Request) (d : Decision) → Each FileFilled d.server.kept.files → Each PacketFilled d.sends
+      → StepFilled (commits who seq xid r d)
   unfolding commits keeping with_row
   committing who seq xid r d kept sent = record { kept = kept; sent = each-append PacketFilled d.sends _ sent (verdict-filled who.inc d.verdict d.value r, tt) }
 
@@ -157,23 +162,36 @@ module _ (s : Server) (h : Each FileFilled s.kept.files) where
 
   creating : (who : Who) (seq xid : ℕ) (r : Request) (name : List ℕ) (blocks : ℕ) → StepFilled (commits who seq xid r (creates s name blocks))
   unfolding creates keeping with_new_file
-  creating who seq xid r name blocks = committing who seq xid r (creates s name blocks) (each-append FileFilled s.kept.files _ h (new-filled s.kept.next name blocks, tt)) tt
+  creating who seq xid r name blocks =
+      committing who seq xid r (creates s name blocks) (each-append FileFilled s.kept.files _ h (new-filled s.kept.next name blocks, tt)) tt
 
-  writing-through : (who : Who) (seq xid : ℕ) (r : Request) (f : File) (block number : ℕ) (body : List ℕ) → IsFilled body → find_file f.id s.kept.files ≡ Some f → StepFilled (commits who seq xid r (writes_through s who f block number body))
+  writing-through : (who : Who) (seq xid : ℕ) (r : Request) (f : File) (block number : ℕ) (body : List ℕ) → IsFilled body
+      → find_file f.id s.kept.files ≡ Some f → StepFilled (commits who seq xid r (writes_through s who f block number body))
   unfolding writes_through keeping with_files
-  writing-through who seq xid r f block number body new found = committing who seq xid r (writes_through s who f block number body) (replaced (written_file f block body) s.kept.files (written f block body new (found-filled f.id s.kept.files f found h)) h) tt
+  writing-through who seq xid r f block number body new found =
+      committing who seq xid r (writes_through s who f block number body)
+      (replaced (written_file f block body) s.kept.files (written f block body new (found-filled f.id s.kept.files f found h)) h) tt
 
-  storing : (who : Who) (seq xid : ℕ) (r : Request) (f : File) (row : Row) (block a b : ℕ) (body : List ℕ) → IsFilled body → find_file f.id s.kept.files ≡ Some f → StepFilled (commits who seq xid r (stores s who f row block a b body))
+  storing : (who : Who) (seq xid : ℕ) (r : Request) (f : File) (row : Row) (block a b : ℕ) (body : List ℕ) → IsFilled body
+      → find_file f.id s.kept.files ≡ Some f → StepFilled (commits who seq xid r (stores s who f row block a b body))
   unfolding stores keeping_with with_files
-  storing who seq xid r f row block a b body new found = committing who seq xid r (stores s who f row block a b body) (replaced (written_file f block body) s.kept.files (written f block body new (found-filled f.id s.kept.files f found h)) h) tt
+  storing who seq xid r f row block a b body new found =
+      committing who seq xid r (stores s who f row block a b body)
+      (replaced (written_file f block body) s.kept.files (written f block body new (found-filled f.id s.kept.files f found h)) h) tt
 
-  storing-recovering : (until : ℕ) (last : Option Table) (who : Who) (seq xid : ℕ) (r : Request) (f : File) (block a b : ℕ) (body : List ℕ) → IsFilled body → find_file f.id s.kept.files ≡ Some f → StepFilled (commits who seq xid r (stores_recovering s until last who f block a b body))
+  storing-recovering : (until : ℕ) (last : Option Table) (who : Who) (seq xid : ℕ) (r : Request) (f : File) (block a b : ℕ) (body : List ℕ)
+      → IsFilled body → find_file f.id s.kept.files ≡ Some f → StepFilled (commits who seq xid r (stores_recovering s until last who f block a b body))
   unfolding stores_recovering wrote keeping with_files
-  storing-recovering until last who seq xid r f block a b body new found = committing who seq xid r (stores_recovering s until last who f block a b body) (replaced (written_file f block body) s.kept.files (written f block body new (found-filled f.id s.kept.files f found h)) h) tt
+  storing-recovering until last who seq xid r f block a b body new found =
+      committing who seq xid r (stores_recovering s until last who f block a b body)
+      (replaced (written_file f block body) s.kept.files (written f block body new (found-filled f.id s.kept.files f found h)) h) tt
 
-  resizing : (who : Who) (seq xid : ℕ) (r : Request) (q : ℕ) (f : File) (blocks : ℕ) → find_file f.id s.kept.files ≡ Some f → StepFilled (commits who seq xid r (resizes s who q f blocks))
+  resizing : (who : Who) (seq xid : ℕ) (r : Request) (q : ℕ) (f : File) (blocks : ℕ) → find_file f.id s.kept.files ≡ Some f
+      → StepFilled (commits who seq xid r (resizes s who q f blocks))
   unfolding resizes keeping with_files
-  resizing who seq xid r q f blocks found = committing who seq xid r (resizes s who q f blocks) (replaced (resized_file f blocks) s.kept.files (resized-filled f blocks (found-filled f.id s.kept.files f found h)) h) tt
+  resizing who seq xid r q f blocks found =
+      committing who seq xid r (resizes s who q f blocks)
+      (replaced (resized_file f blocks) s.kept.files (resized-filled f blocks (found-filled f.id s.kept.files f found h)) h) tt
 
   removing : (who : Who) (seq xid : ℕ) (r : Request) (q : ℕ) (f : File) → StepFilled (commits who seq xid r (removes s who q f))
   unfolding removes keeping_with with_files
@@ -200,9 +218,15 @@ module _ (s : Server) (h : Each FileFilled s.kept.files) where
     declining = λ xid who seq r v e by sq fresh declined. declining who seq xid r v;
     putting_off_change = λ xid who seq r f clash e by sq changes base changing c. putting-off who seq xid r f.id _;
     creating = λ xid who seq blocks name e fresh serves can. creating who seq xid _ name blocks;
-    writing_through = λ xid who seq block first last body f e changing below c. writing-through who seq xid _ f block first body (asked xid (Request.Write who seq f.id block first last None body) e) changing.found;
-    storing = λ xid who seq block first last base body f row e changing below can. storing who seq xid _ f row block first last body (asked xid (Request.Write who seq f.id block first last (Some base) body) e) changing.found;
-    storing_recovering = λ xid who seq block first final base body f until heard last e fresh p found below boot rev. storing-recovering until last who seq xid _ f block first final body (asked xid (Request.Write who seq f.id block first final (Some base) body) e) found;
+    writing_through =
+        λ xid who seq block first last body f e changing below c. writing-through who seq xid _ f block first body
+        (asked xid (Request.Write who seq f.id block first last None body) e) changing.found;
+    storing =
+        λ xid who seq block first last base body f row e changing below can. storing who seq xid _ f row block first last body
+        (asked xid (Request.Write who seq f.id block first last (Some base) body) e) changing.found;
+    storing_recovering =
+        λ xid who seq block first final base body f until heard last e fresh p found below boot rev. storing-recovering until last who seq xid _ f block
+        first final body (asked xid (Request.Write who seq f.id block first final (Some base) body) e) found;
     resizing = λ xid who seq q blocks f e changing can c. resizing who seq xid _ q f blocks changing.found;
     removing = λ xid who seq q f e changing c. removing who seq xid _ q f;
   })

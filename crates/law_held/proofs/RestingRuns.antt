@@ -58,7 +58,8 @@ module _ (s : Server) where
   Grows t = s.kept.next ≤ t.server.kept.next
 
   grows-receive : (sender next : ℕ) (d : Datagram) → Grows (receive s sender next d)
-  unfolding quiet drops says attaches vacates tells_later serves leases decides creates writes_through stores wrote stores_recovering resizes removes puts_off commits keeping keeping_with with_table after_notices with_files with_new_file with_row
+  unfolding quiet drops says attaches vacates tells_later serves leases decides creates writes_through stores wrote stores_recovering resizes
+      removes puts_off commits keeping keeping_with with_table after_notices with_files with_new_file with_row
   grows-receive sender next d = server-hears s sender next d Grows (record {
     stays = omega arith;
     dropping = λ reason. omega arith;
@@ -117,7 +118,9 @@ pub record Resting (first : ℕ → ℕ) (w : World) : Type 0 where
 renamed : (first after : ℕ → ℕ) (w : World) → ((id : ℕ) → id < w.server.kept.next → after id ≡ first id) → Resting first w → Resting after w
 renamed first after w same h = record {
   stores = h.stores;
-  inside = throughout-weaker (IsInsideAt first w.server.kept.next) (IsInsideAt after w.server.kept.next) (inside-later first after w.server.kept.next w.server.kept.next (omega arith) same) w.journal h.inside;
+  inside =
+      throughout-weaker (IsInsideAt first w.server.kept.next) (IsInsideAt after w.server.kept.next)
+      (inside-later first after w.server.kept.next w.server.kept.next (omega arith) same) w.journal h.inside;
   earlier = h.earlier;
 }
 
@@ -136,8 +139,11 @@ own-goes c t own = goes_on own.same (λ x r i. let b = own.sends (call x r) i in
 
 module _ (w : World) (held : Holds w) (host : ℕ) (c : Client) (t : ClientStep) (there : slice_get w.clients host ≡ Some c) where
   acts-idle : ClientActs w host c t → Each IsIdle t.entries
-  acts-idle (called op is) = subst (λ z. Each IsIdle z.entries) (sym is) (accesses-idle c.who (client_call c op) (call-accesses c op (held.clients host c there).alone))
-  acts-idle (ticked is) = subst (λ z. Each IsIdle z.entries) (sym is) (accesses-idle c.who (client_tick c (c.now + 1)) (tick-accesses c (c.now + 1) (held.clients host c there).alone))
+  acts-idle (called op is) =
+      subst (λ z. Each IsIdle z.entries) (sym is) (accesses-idle c.who (client_call c op) (call-accesses c op (held.clients host c there).alone))
+  acts-idle (ticked is) =
+      subst (λ z. Each IsIdle z.entries) (sym is)
+      (accesses-idle c.who (client_tick c (c.now + 1)) (tick-accesses c (c.now + 1) (held.clients host c there).alone))
   acts-idle (restarted is) = subst (λ z. Each IsIdle z.entries) (sym is) (accesses-idle c.who (restart c) (restart-accesses c c.who))
   acts-idle (heard k p sent to hears) = accesses-idle c.who t (hear-accesses c k p.message t (held.clients host c there).alone hears)
 
@@ -148,14 +154,20 @@ module _ (w : World) (held : Holds w) (host : ℕ) (c : Client) (t : ClientStep)
   acts-goes (heard k p sent to hears) =
       let i = in-get w.packets k p sent in
       let a = held.clients host c there in
-      own-goes c t (hear-own c w.packets k p.message t a.alone a.mail (subst (λ n. In w.packets (to_host n p.message)) (sym a.here) (to-told w.packets p host (held.sent p i) to i)) hears)
+      own-goes c t (hear-own c w.packets k p.message t a.alone a.mail
+      (subst (λ n. In w.packets (to_host n p.message)) (sym a.here) (to-told w.packets p host (held.sent p i) to i)) hears)
 
-client-rests : (first after : ℕ → ℕ) (w : World) (held : Holds w) (host : ℕ) (c : Client) (t : ClientStep) → ((id : ℕ) → id < w.server.kept.next → after id ≡ first id) → slice_get w.clients host ≡ Some c → ClientActs w host c t → WritesFit (host_row w.server.kept host) c w.packets w.journal → WritesFit (host_row w.server.kept host) t.client (w.packets ++ map (from_host host) t.sends) (t.entries ++ w.journal) → t.client.who.host ≡ host → JournalFits (t.entries ++ w.journal) → Resting first w → Resting after (after_client w host t)
+client-rests : (first after : ℕ → ℕ) (w : World) (held : Holds w) (host : ℕ) (c : Client) (t : ClientStep)
+    → ((id : ℕ) → id < w.server.kept.next → after id ≡ first id) → slice_get w.clients host ≡ Some c → ClientActs w host c t
+    → WritesFit (host_row w.server.kept host) c w.packets w.journal
+    → WritesFit (host_row w.server.kept host) t.client (w.packets ++ map (from_host host) t.sends) (t.entries ++ w.journal) → t.client.who.host ≡ host
+    → JournalFits (t.entries ++ w.journal) → Resting first w → Resting after (after_client w host t)
 unfolding after_client
 client-rests first after w held host c t same there acts facts facts_after home journal h = record {
   stores = throughout-idle Rests rests-idle t.entries w.journal quiet h.stores;
   inside = throughout-idle (IsInsideAt after w.server.kept.next) (inside-idle after w.server.kept.next) t.entries w.journal quiet
-      (throughout-weaker (IsInsideAt first w.server.kept.next) (IsInsideAt after w.server.kept.next) (inside-later first after w.server.kept.next w.server.kept.next (omega arith) same) w.journal h.inside);
+      (throughout-weaker (IsInsideAt first w.server.kept.next) (IsInsideAt after w.server.kept.next)
+      (inside-later first after w.server.kept.next w.server.kept.next (omega arith) same) w.journal h.inside);
   earlier = clients-after (λ n d v. Earlier (host_row v.server.kept d.who.host) d v.packets v.journal) w host t own others;
 } where
   quiet : Each IsIdle t.entries
@@ -173,13 +185,20 @@ client-rests first after w held host c t same there acts facts facts_after home 
       (acts-goes w held host c t there acts) (home ∙ sym here)
       (subst (λ n. WritesFit (host_row w.server.kept host) t.client (w.packets ++ map (from_host n) t.sends) (t.entries ++ w.journal)) (sym here) facts_after)))
 
-  others : (other : ℕ) (d : Client) → other ≢ host → slice_get w.clients other ≡ Some d → Earlier (host_row w.server.kept d.who.host) d (w.packets ++ map (from_host host) t.sends) (t.entries ++ w.journal)
-  others other d apart is = earlier-other (host_row w.server.kept d.who.host) d host t.sends t.entries w.packets w.journal (λ e. apart (sym (held.clients other d is).here ∙ sym e)) quiet (h.earlier other d is)
+  others : (other : ℕ) (d : Client) → other ≢ host → slice_get w.clients other ≡ Some d
+      → Earlier (host_row w.server.kept d.who.host) d (w.packets ++ map (from_host host) t.sends) (t.entries ++ w.journal)
+  others other d apart is =
+      earlier-other (host_row w.server.kept d.who.host) d host t.sends t.entries w.packets w.journal
+      (λ e. apart (sym (held.clients other d is).here ∙ sym e)) quiet (h.earlier other d is)
 
 -- ---- a run
 
-module _ (most : ℕ) (head : Head) (known : (events : List Event) → KeepsBounds most head events → IsWithinSkew head.hosts most events → KnownOf head.hosts most (run head events) events) where
-  around : (events : List Event) (b : KeepsBounds most head events) (within : IsWithinSkew head.hosts most events) (host : ℕ) (c : Client) → slice_get (run head events).clients host ≡ Some c → Around (host_row (run head events).server.kept c.who.host) c (run head events).packets (run head events).journal
+module _ (most : ℕ) (head : Head)
+    (known : (events : List Event) → KeepsBounds most head events → IsWithinSkew head.hosts most events
+    → KnownOf head.hosts most (run head events) events) where
+  around : (events : List Event) (b : KeepsBounds most head events) (within : IsWithinSkew head.hosts most events) (host : ℕ) (c : Client)
+      → slice_get (run head events).clients host ≡ Some c
+      → Around (host_row (run head events).server.kept c.who.host) c (run head events).packets (run head events).journal
   around events b within host c is = record {
     facts = facts;
     mail = a.mail;
@@ -205,7 +224,8 @@ module _ (most : ℕ) (head : Head) (known : (events : List Event) → KeepsBoun
 
   -- ---- a step of the server
 
-  module _ (events : List Event) (b : KeepsBounds most head events) (within : IsWithinSkew head.hosts most events) (h : Resting (first_length head events) (run head events)) where
+  module _ (events : List Event) (b : KeepsBounds most head events) (within : IsWithinSkew head.hosts most events)
+      (h : Resting (first_length head events) (run head events)) where
     abbrev w : World
     w = run head events
 
@@ -213,51 +233,67 @@ module _ (most : ℕ) (head : Head) (known : (events : List Event) → KeepsBoun
     s = (run head events).server
 
     -- a block that the kept file has
-    inside : (f : File) (block : ℕ) → find_file f.id s.kept.files ≡ Some f → block < blocks_of f → (f.id < s.kept.next) × (block < length (content w.journal (first_length head events f.id) f.id))
+    inside : (f : File) (block : ℕ) → find_file f.id s.kept.files ≡ Some f → block < blocks_of f
+        → (f.id < s.kept.next) × (block < length (content w.journal (first_length head events f.id) f.id))
     inside f block found below =
         let k = (run-fits most head events b within).files f.id f found in
-        let values : map value_of f.bodies ≡ content w.journal (first_length head events f.id) f.id = k.content ∙ ap (content_at w.journal (first_length head events f.id) f.id) k.revision in
-        let size : length (content w.journal (first_length head events f.id) f.id) ≡ length f.bodies = ap (λ vs. length vs) (sym values) ∙ length-map f.bodies value_of in
+        let values : map value_of f.bodies ≡ content w.journal (first_length head events f.id) f.id = k.content
+        ∙ ap (content_at w.journal (first_length head events f.id) f.id) k.revision in
+        let size : length (content w.journal (first_length head events f.id) f.id) ≡ length f.bodies = ap (λ vs. length vs) (sym values)
+        ∙ length-map f.bodies value_of in
         (k.drawn, omega arith)
 
     -- what a store rests on
-    store-rests : (f : File) (who : Who) (block first last : ℕ) (m : MakesStore w.packets s f who block first last) (o : Option Client) → slice_get w.clients who.host ≡ o → StoreFits who f.id block first last w.journal
+    store-rests : (f : File) (who : Who) (block first last : ℕ) (m : MakesStore w.packets s f who block first last) (o : Option Client)
+        → slice_get w.clients who.host ≡ o → StoreFits who f.id block first last w.journal
     store-rests f who block first last m None is = absurd ((run-draws head events).lone who.host m.xid _ m.asked is)
     store-rests f who block first last m (Some c) is =
         let k = known events b within in
         let here : c.who.host ≡ who.host = (k.holds.clients who.host c is).here in
         let p : Push = record { file = f.id; block = block; first = first; last = last; body = m.body } in
-        let asked : Asked w.packets c.who.host m.xid (Request.Write who m.seq f.id block first last (Some m.base) m.body) = subst (λ n. Asked w.packets n m.xid (Request.Write who m.seq f.id block first last (Some m.base) m.body)) (sym here) m.asked in
+        let asked : Asked w.packets c.who.host m.xid (Request.Write who m.seq f.id block first last (Some m.base) m.body) = subst
+        (λ n. Asked w.packets n m.xid (Request.Write who m.seq f.id block first last (Some m.base) m.body)) (sym here) m.asked in
         let inc : who.inc ≡ (host_row s.kept c.who.host).inc = m.inc ∙ ap (λ n. (host_row s.kept n).inc) (sym here) in
         let above : (host_row s.kept c.who.host).seq < m.seq = subst (λ n. (host_row s.kept n).seq < m.seq) (sym here) m.above in
-        let o : IsOpenPush (host_row s.kept c.who.host) w.packets c.who.host who p = record { xid = m.xid; seq = m.seq; base = m.base; home = sym here; asked = asked; kept = sym inc; above = above } in
+        let o : IsOpenPush (host_row s.kept c.who.host) w.packets c.who.host who p = record
+        { xid = m.xid; seq = m.seq; base = m.base; home = sym here; asked = asked; kept = sym inc; above = above } in
         let facts = (around events b within who.host c is).facts in
         let behind = facts.sent.behind who p o in
         record {
           ordered = behind.ordered;
           clear = facts.sent.clear who p o;
-          undisturbed = ((run-still most head known events b within).fits who.host c is).sent m.xid who m.seq f.id block first last m.base m.body asked (sym here) inc above m.free;
+          undisturbed =
+              ((run-still most head known events b within).fits who.host c is).sent m.xid who m.seq f.id block first last m.base m.body asked (sym here)
+              inc above m.free;
           value = value_of m.body;
           last_there = behind.last_there;
           earlier = (h.earlier who.host c is).sent who p o;
         }
 
-    server-rests : (after : ℕ → ℕ) (t : ServerStep) → ((id : ℕ) → id < s.kept.next → after id ≡ first_length head events id) → s.kept.next ≤ t.server.kept.next → AllSaid w.packets t.sends → Moves w.packets s t → Makes w.packets s t.entries → Resting after (after_server w t)
+    server-rests : (after : ℕ → ℕ) (t : ServerStep) → ((id : ℕ) → id < s.kept.next → after id ≡ first_length head events id)
+        → s.kept.next ≤ t.server.kept.next → AllSaid w.packets t.sends → Moves w.packets s t → Makes w.packets s t.entries
+        → Resting after (after_server w t)
     unfolding after_server
     server-rests after t same grows said moves makes = record {
       stores = stores makes;
       inside = insides makes;
-      earlier = λ host c is. earlier-server s t c w.packets w.journal (λ x r asked. asked-before-server w.packets t.sends said c.who.host x r asked) (around events b within host c is) (h.earlier host c is) moves;
+      earlier =
+          λ host c is. earlier-server s t c w.packets w.journal (λ x r asked. asked-before-server w.packets t.sends said c.who.host x r asked)
+          (around events b within host c is) (h.earlier host c is) moves;
     } where
       stores : Makes w.packets s t.entries → Throughout Rests (t.entries ++ w.journal)
       stores (idle quiet) = throughout-idle Rests rests-idle t.entries w.journal quiet h.stores
       stores (writes f who block n v found below is) = subst (λ es. Throughout Rests (es ++ w.journal)) (sym is) (tt, h.stores)
-      stores (stored f who block first last now m is) = subst (λ es. Throughout Rests (es ++ w.journal)) (sym is) (store-rests f who block first last m (slice_get w.clients who.host) refl, h.stores)
+      stores (stored f who block first last now m is) =
+          subst (λ es. Throughout Rests (es ++ w.journal)) (sym is) (store-rests f who block first last m (slice_get w.clients who.host) refl, h.stores)
 
       old : Throughout (IsInsideAt after t.server.kept.next) w.journal
-      old = throughout-weaker (IsInsideAt (first_length head events) s.kept.next) (IsInsideAt after t.server.kept.next) (inside-later (first_length head events) after s.kept.next t.server.kept.next grows same) w.journal h.inside
+      old =
+          throughout-weaker (IsInsideAt (first_length head events) s.kept.next) (IsInsideAt after t.server.kept.next)
+          (inside-later (first_length head events) after s.kept.next t.server.kept.next grows same) w.journal h.inside
 
-      now-inside : (f : File) (block : ℕ) → find_file f.id s.kept.files ≡ Some f → block < blocks_of f → (f.id < t.server.kept.next) × (block < length (content w.journal (after f.id) f.id))
+      now-inside : (f : File) (block : ℕ) → find_file f.id s.kept.files ≡ Some f → block < blocks_of f
+          → (f.id < t.server.kept.next) × (block < length (content w.journal (after f.id) f.id))
       now-inside f block found below =
           let k = inside f block found below in
           let drawn = k.0 in
@@ -265,27 +301,40 @@ module _ (most : ℕ) (head : Head) (known : (events : List Event) → KeepsBoun
 
       insides : Makes w.packets s t.entries → Throughout (IsInsideAt after t.server.kept.next) (t.entries ++ w.journal)
       insides (idle quiet) = throughout-idle (IsInsideAt after t.server.kept.next) (inside-idle after t.server.kept.next) t.entries w.journal quiet old
-      insides (writes f who block n v found below is) = subst (λ es. Throughout (IsInsideAt after t.server.kept.next) (es ++ w.journal)) (sym is) (now-inside f block found below, old)
-      insides (stored f who block first last now m is) = subst (λ es. Throughout (IsInsideAt after t.server.kept.next) (es ++ w.journal)) (sym is) (now-inside f block m.found m.below, old)
+      insides (writes f who block n v found below is) =
+          subst (λ es. Throughout (IsInsideAt after t.server.kept.next) (es ++ w.journal)) (sym is) (now-inside f block found below, old)
+      insides (stored f who block first last now m is) =
+          subst (λ es. Throughout (IsInsideAt after t.server.kept.next) (es ++ w.journal)) (sym is) (now-inside f block m.found m.below, old)
 
-    acts-rest : (after : ℕ → ℕ) (t : ServerStep) → ((id : ℕ) → id < s.kept.next → after id ≡ first_length head events id) → ServerActs w t → Resting after (after_server w t)
+    acts-rest : (after : ℕ → ℕ) (t : ServerStep) → ((id : ℕ) → id < s.kept.next → after id ≡ first_length head events id) → ServerActs w t
+        → Resting after (after_server w t)
     acts-rest after t same (received k p sent to is) =
         let i = in-get w.packets k p sent in
         let known_now = known events b within in
         subst (λ z. Resting after (after_server w z)) (sym is)
         (server-rests after _ same (grows-receive s (sending_host p.sender) (length w.packets) (datagram_of p.message)) (received-said w p i to known_now.holds)
         (received-tells head.hosts most w events p i to known_now.holds known_now.runs).moves
-        (receive-makes w.packets s (sending_host p.sender) (length w.packets) (datagram_of p.message) (λ xid r e. (to-server w.packets p (known_now.holds.sent p i) to i xid r e).0) known_now.runs.served.boots))
-    acts-rest after t same (ticks is) = subst (λ z. Resting after (after_server w z)) (sym is) (server-rests after _ same (grows-tick s (s.now + 1)) (tick-said w.packets s (s.now + 1)) (tick-tells w.packets s (s.now + 1)).moves (tick-makes w.packets s (s.now + 1)))
-    acts-rest after t same (crashes longest is) = subst (λ z. Resting after (after_server w z)) (sym is) (server-rests after _ same (grows-crash s longest) (crash-said w.packets s longest) (crash-tells w.packets s longest).moves (crash-makes w.packets s longest))
+        (receive-makes w.packets s (sending_host p.sender) (length w.packets) (datagram_of p.message)
+        (λ xid r e. (to-server w.packets p (known_now.holds.sent p i) to i xid r e).0) known_now.runs.served.boots))
+    acts-rest after t same (ticks is) =
+        subst (λ z. Resting after (after_server w z)) (sym is)
+        (server-rests after _ same (grows-tick s (s.now + 1)) (tick-said w.packets s (s.now + 1)) (tick-tells w.packets s (s.now + 1)).moves
+        (tick-makes w.packets s (s.now + 1)))
+    acts-rest after t same (crashes longest is) =
+        subst (λ z. Resting after (after_server w z)) (sym is)
+        (server-rests after _ same (grows-crash s longest) (crash-said w.packets s longest) (crash-tells w.packets s longest).moves
+        (crash-makes w.packets s longest))
 
   -- ---- an event
 
-  client-there : (w : World) (host : ℕ) (c : Client) (t : ClientStep) → slice_get w.clients host ≡ Some c → slice_get (after_client w host t).clients host ≡ Some t.client
+  client-there : (w : World) (host : ℕ) (c : Client) (t : ClientStep) → slice_get w.clients host ≡ Some c
+      → slice_get (after_client w host t).clients host ≡ Some t.client
   unfolding after_client
   client-there w host c t is = set-there w.clients host t.client c is
 
-  writes-of : (w : World) (host : ℕ) (t : ClientStep) → WritesFit (host_row (after_client w host t).server.kept host) t.client (after_client w host t).packets (after_client w host t).journal → WritesFit (host_row w.server.kept host) t.client (w.packets ++ map (from_host host) t.sends) (t.entries ++ w.journal)
+  writes-of : (w : World) (host : ℕ) (t : ClientStep)
+      → WritesFit (host_row (after_client w host t).server.kept host) t.client (after_client w host t).packets (after_client w host t).journal
+      → WritesFit (host_row w.server.kept host) t.client (w.packets ++ map (from_host host) t.sends) (t.entries ++ w.journal)
   unfolding after_client
   writes-of w host t k = k
 
@@ -293,15 +342,21 @@ module _ (most : ℕ) (head : Head) (known : (events : List Event) → KeepsBoun
   unfolding after_client
   journal-of w host t k = k
 
-  goes : (e : Event) (events : List Event) → During most head e events → Changes (run head events) (run head (e ∷ events)) → Resting (first_length head events) (run head events) → Resting (first_length head (e ∷ events)) (run head (e ∷ events))
-  goes e events during (nothing is) h = subst (Resting (first_length head (e ∷ events))) (sym is) (renamed (first_length head events) (first_length head (e ∷ events)) (run head events) (lengths-first head e events).same h)
+  goes : (e : Event) (events : List Event) → During most head e events → Changes (run head events) (run head (e ∷ events))
+      → Resting (first_length head events) (run head events) → Resting (first_length head (e ∷ events)) (run head (e ∷ events))
+  goes e events during (nothing is) h =
+      subst (Resting (first_length head (e ∷ events))) (sym is)
+      (renamed (first_length head events) (first_length head (e ∷ events)) (run head events) (lengths-first head e events).same h)
   goes e events during (by_client host c t there acts is) h =
       let before = known events during.bounds during.within in
-      let after : KnownOf head.hosts most (after_client (run head events) host t) (e ∷ events) = subst (λ z. KnownOf head.hosts most z (e ∷ events)) is (known (e ∷ events) during.bounds_after during.within_after) in
+      let after : KnownOf head.hosts most (after_client (run head events) host t) (e ∷ events) = subst (λ z. KnownOf head.hosts most z (e ∷ events)) is
+      (known (e ∷ events) during.bounds_after during.within_after) in
       let now : slice_get (after_client (run head events) host t).clients host ≡ Some t.client = client-there (run head events) host c t there in
       subst (Resting (first_length head (e ∷ events))) (sym is)
-      (client-rests (first_length head events) (first_length head (e ∷ events)) (run head events) before.holds host c t (lengths-first head e events).same there acts (before.writes host c there)
-      (writes-of (run head events) host t (after.writes host t.client now)) (after.holds.clients host t.client now).here (journal-of (run head events) host t after.journal) h)
+      (client-rests (first_length head events) (first_length head (e ∷ events)) (run head events) before.holds host c t
+      (lengths-first head e events).same there acts (before.writes host c there)
+      (writes-of (run head events) host t (after.writes host t.client now)) (after.holds.clients host t.client now).here
+      (journal-of (run head events) host t after.journal) h)
   goes e events during (by_server t acts is) h =
       subst (Resting (first_length head (e ∷ events))) (sym is)
       (acts-rest events during.bounds during.within h (first_length head (e ∷ events)) t (lengths-first head e events).same acts)
@@ -316,14 +371,18 @@ module _ (most : ℕ) (head : Head) (known : (events : List Event) → KeepsBoun
     earlier = λ host c is. record { sent = λ v p o. absurd o.asked; under_way = λ p push clear n st. absurd st };
   }
 
-  pub run-rests : (events : List Event) → KeepsBounds most head events → IsWithinSkew head.hosts most events → Resting (first_length head events) (run head events)
+  pub run-rests : (events : List Event) → KeepsBounds most head events → IsWithinSkew head.hosts most events
+      → Resting (first_length head events) (run head events)
   run-rests = run-goes most head (λ events. Resting (first_length head events) (run head events)) (λ b. starts-resting) goes
 
-  pub rests-on : (events : List Event) → KeepsBounds most head events → IsWithinSkew head.hosts most events → RestsOn (first_length head events) (run head events).journal
+  pub rests-on : (events : List Event) → KeepsBounds most head events → IsWithinSkew head.hosts most events
+      → RestsOn (first_length head events) (run head events).journal
   rests-on events b within =
       let h = run-rests events b within in
       record {
         rising = (known events b within).journal.rising;
         stores = h.stores;
-        inside = throughout-weaker (IsInsideAt (first_length head events) (run head events).server.kept.next) _ (inside-is (first_length head events) (run head events).server.kept.next) (run head events).journal h.inside;
+        inside =
+            throughout-weaker (IsInsideAt (first_length head events) (run head events).server.kept.next) _
+            (inside-is (first_length head events) (run head events).server.kept.next) (run head events).journal h.inside;
       }

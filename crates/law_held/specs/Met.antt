@@ -33,7 +33,8 @@ has_7 (Some file) = is_body_of_7 (slice_get file.bodies 0)
 -- whether a delayed write to the first block of file 1 was stored, the block has and is to have the value 7, and the file's
 -- length was changed to 2
 abbrev pub has_held : World → Bool
-has_held w = exists (is_store writer 1 0 1) w.journal && has_7 (find_file 1 w.server.kept.files) && held_value w.journal 1 0 == 7 && is_2 (last_length w.journal 1)
+has_held w =
+    exists (is_store writer 1 0 1) w.journal && has_7 (find_file 1 w.server.kept.files) && held_value w.journal 1 0 == 7 && is_2 (last_length w.journal 1)
 
 -- there is a schedule within skew after which it is so
 pub record HeldAreMet : Type 0 where

@@ -83,7 +83,8 @@ opened-tick s now h = tick-moves s now (λ kept phase table. HasServed kept) (re
 opened-booted : (kept : Kept) (longest : ℕ) → HasServed kept → HasServed (booted kept longest)
 opened-booted kept longest h = by (kept.opened == 0)
   where
-    by : (b : Bool) → HasServed (if b then record kept { boot = kept.boot + 1; opened = kept.boot + 1; longest = longest } else record kept { boot = kept.boot + 1 })
+    by : (b : Bool)
+        → HasServed (if b then record kept { boot = kept.boot + 1; opened = kept.boot + 1; longest = longest } else record kept { boot = kept.boot + 1 })
     by true = record { opened = omega arith; booted = omega arith }
     by false = record { opened = h.opened; booted = omega arith }
 
@@ -133,7 +134,8 @@ start-served most head events b =
 -- ---- what holds in a run
 
 -- a host's client is one that was there, or one that stepped there
-client-there : (w : World) (host other : ℕ) (t : ClientStep) (c : Client) → slice_get (after_client w host t).clients other ≡ Some c → (d : Client) × (slice_get w.clients other ≡ Some d)
+client-there : (w : World) (host other : ℕ) (t : ClientStep) (c : Client) → slice_get (after_client w host t).clients other ≡ Some c
+    → (d : Client) × (slice_get w.clients other ≡ Some d)
 unfolding after_client
 client-there w host other t c is = there w.clients host other is
   where
@@ -147,7 +149,9 @@ client-there w host other t c is = there w.clients host other is
 -- ---- a step of a client
 
 -- a client's step leaves the server, and what is known after it is known
-client-runs : (hosts most : ℕ) (w : World) (events : List Event) (e : Event) (host : ℕ) (t : ClientStep) → Known (after_client w host t) (e ∷ events) → (t.client.attached ≡ false → IsUnrowed t.client.who w.server.table.rows) → Runs hosts most w events → Runs hosts most (after_client w host t) (e ∷ events)
+client-runs : (hosts most : ℕ) (w : World) (events : List Event) (e : Event) (host : ℕ) (t : ClientStep) → Known (after_client w host t) (e ∷ events)
+    → (t.client.attached ≡ false → IsUnrowed t.client.who w.server.table.rows) → Runs hosts most w events
+    → Runs hosts most (after_client w host t) (e ∷ events)
 unfolding after_client
 client-runs hosts most w events e host t known own h = record {
   served = h.served;
@@ -155,7 +159,8 @@ client-runs hosts most w events e host t known own h = record {
   known = known;
   unrowed = λ other c is. case other c (other == host) refl is;
 } where
-  case : (other : ℕ) (c : Client) (b : Bool) → (other == host) ≡ b → slice_get (slice_set w.clients host t.client) other ≡ Some c → c.attached ≡ false → IsUnrowed c.who w.server.table.rows
+  case : (other : ℕ) (c : Client) (b : Bool) → (other == host) ≡ b → slice_get (slice_set w.clients host t.client) other ≡ Some c → c.attached ≡ false
+      → IsUnrowed c.who w.server.table.rows
   case other c true same is =
       let one : other ≡ host = same-number other host same in
       let new : c ≡ t.client = get-set-same w.clients host t.client c (subst (λ n. slice_get (slice_set w.clients host t.client) n ≡ Some c) one is) in
@@ -169,23 +174,34 @@ idle-runs : (hosts most : ℕ) (w : World) (events : List Event) (e : Event) →
 idle-runs hosts most w events e known h = record { served = h.served; few = h.few; known = known; unrowed = h.unrowed }
 
 -- an incarnation that goes on has no row where it had none
-still-unrowed : {now : ℕ} (w : World) (c : Client) (t : ClientStep) → StillOf now c t → (c.attached ≡ false → IsUnrowed c.who w.server.table.rows) → t.client.attached ≡ false → IsUnrowed t.client.who w.server.table.rows
+still-unrowed : {now : ℕ} (w : World) (c : Client) (t : ClientStep) → StillOf now c t → (c.attached ≡ false → IsUnrowed c.who w.server.table.rows)
+    → t.client.attached ≡ false → IsUnrowed t.client.who w.server.table.rows
 still-unrowed w c t s before e = subst (λ z. IsUnrowed z w.server.table.rows) (sym s.same) (before (s.stays e))
 
-at-client-runs : (hosts most : ℕ) (w : World) (events : List Event) (e : Event) (host : ℕ) (f : Client → ClientStep) (o : Option Client) → slice_get w.clients host ≡ o → Known (at_client w host f o) (e ∷ events) → ((c : Client) → slice_get w.clients host ≡ Some c → (f c).client.attached ≡ false → IsUnrowed (f c).client.who w.server.table.rows) → Runs hosts most w events → Runs hosts most (at_client w host f o) (e ∷ events)
+at-client-runs : (hosts most : ℕ) (w : World) (events : List Event) (e : Event) (host : ℕ) (f : Client → ClientStep) (o : Option Client)
+    → slice_get w.clients host ≡ o → Known (at_client w host f o) (e ∷ events)
+    → ((c : Client) → slice_get w.clients host ≡ Some c → (f c).client.attached ≡ false → IsUnrowed (f c).client.who w.server.table.rows)
+    → Runs hosts most w events → Runs hosts most (at_client w host f o) (e ∷ events)
 at-client-runs hosts most w events e host f None is known own h = idle-runs hosts most w events e known h
 at-client-runs hosts most w events e host f (Some c) is known own h = client-runs hosts most w events e host (f c) known (own c is) h
 
-hearing-runs : (hosts most : ℕ) (w : World) (events : List Event) (e : Event) (host : ℕ) (c : Client) (o : Option ClientStep) → slice_get w.clients host ≡ Some c → StillIf c o → Known (after_hearing w host o) (e ∷ events) → Runs hosts most w events → Runs hosts most (after_hearing w host o) (e ∷ events)
+hearing-runs : (hosts most : ℕ) (w : World) (events : List Event) (e : Event) (host : ℕ) (c : Client) (o : Option ClientStep)
+    → slice_get w.clients host ≡ Some c → StillIf c o → Known (after_hearing w host o) (e ∷ events) → Runs hosts most w events
+    → Runs hosts most (after_hearing w host o) (e ∷ events)
 hearing-runs hosts most w events e host c None is still known h = idle-runs hosts most w events e known h
-hearing-runs hosts most w events e host c (Some t) is still known h = client-runs hosts most w events e host t known (still-unrowed w c t still (h.unrowed host c is)) h
+hearing-runs hosts most w events e host c (Some t) is still known h =
+    client-runs hosts most w events e host t known (still-unrowed w c t still (h.unrowed host c is)) h
 
-to-client-runs : (hosts most : ℕ) (w : World) (events : List Event) (k host : ℕ) (m : Message) (o : Option Client) → slice_get w.clients host ≡ o → Told w.packets host m → Holds w → Known (deliver_to_client w k host m o) (Event.Deliver k ∷ events) → Runs hosts most w events → Runs hosts most (deliver_to_client w k host m o) (Event.Deliver k ∷ events)
+to-client-runs : (hosts most : ℕ) (w : World) (events : List Event) (k host : ℕ) (m : Message) (o : Option Client) → slice_get w.clients host ≡ o
+    → Told w.packets host m → Holds w → Known (deliver_to_client w k host m o) (Event.Deliver k ∷ events) → Runs hosts most w events
+    → Runs hosts most (deliver_to_client w k host m o) (Event.Deliver k ∷ events)
 to-client-runs hosts most w events k host m None is sent held known h = idle-runs hosts most w events (Event.Deliver k) known h
-to-client-runs hosts most w events k host m (Some c) is sent held known h = hearing-runs hosts most w events (Event.Deliver k) host c (hear c k m) is (hear-still host c w.packets k m sent (held.clients host c is)) known h
+to-client-runs hosts most w events k host m (Some c) is sent held known h =
+    hearing-runs hosts most w events (Event.Deliver k) host c (hear c k m) is (hear-still host c w.packets k m sent (held.clients host c is)) known h
 
 -- the next incarnation has no row: all are of the kept one, which is no later than the running one
-fresh-unrowed : (s : Server) (phase : Phase) (c : Client) → (host_row s.kept c.who.host).inc ≤ c.who.inc → IncsFit s.kept phase s.table → NoneRecovering phase s.table → IsUnrowed (next_incarnation c.who) s.table.rows
+fresh-unrowed : (s : Server) (phase : Phase) (c : Client) → (host_row s.kept c.who.host).inc ≤ c.who.inc → IncsFit s.kept phase s.table
+    → NoneRecovering phase s.table → IsUnrowed (next_incarnation c.who) s.table.rows
 fresh-unrowed s serving c past incs none = λ file row found inc. let same = incs file c.who.host row found in omega arith
 fresh-unrowed s (recovering until heard last) c past incs none = λ file row found inc. none-some row (ap (find_row file c.who.host) (sym none) ∙ found)
 
@@ -193,11 +209,14 @@ restarted-who : (c : Client) → (restart c).client.who ≡ next_incarnation c.w
 unfolding starts fresh_client
 restarted-who c = refl
 
-restart-unrowed : (hosts most : ℕ) (w : World) (events : List Event) (host : ℕ) (c : Client) → slice_get w.clients host ≡ Some c → Holds w → Runs hosts most w events → (restart c).client.attached ≡ false → IsUnrowed (restart c).client.who w.server.table.rows
+restart-unrowed : (hosts most : ℕ) (w : World) (events : List Event) (host : ℕ) (c : Client) → slice_get w.clients host ≡ Some c → Holds w
+    → Runs hosts most w events → (restart c).client.attached ≡ false → IsUnrowed (restart c).client.who w.server.table.rows
 restart-unrowed hosts most w events host c is held h e =
     let a = held.clients host c is in
-    let past : (host_row w.server.kept c.who.host).inc ≤ c.who.inc = subst (λ n. (host_row w.server.kept n).inc ≤ c.who.inc) (sym a.here) (h.known.clients host c is).lined.past in
-    subst (λ z. IsUnrowed z w.server.table.rows) (sym (restarted-who c)) (fresh-unrowed w.server w.server.phase c past h.served.incs (none-served most w.server h.served))
+    let past : (host_row w.server.kept c.who.host).inc ≤ c.who.inc = subst (λ n. (host_row w.server.kept n).inc ≤ c.who.inc) (sym a.here)
+    (h.known.clients host c is).lined.past in
+    subst (λ z. IsUnrowed z w.server.table.rows) (sym (restarted-who c))
+    (fresh-unrowed w.server w.server.phase c past h.served.incs (none-served most w.server h.served))
 
 -- ---- a datagram at the server
 
@@ -206,12 +225,18 @@ attach-requests-none (Request.Attach w) e = refl
 attach-requests-none r e = absurd (cc)
 
 -- a client that is not attached has no lease and asks for none
-idle-asks : (c : Client) (ps : List Packet) (host : ℕ) → IsAt host c ps → c.attached ≡ false → (c.leases ≡ []) × ((t : Ticket) → c.ticket ≡ Some t → requested_file t.request ≡ None)
+idle-asks : (c : Client) (ps : List Packet) (host : ℕ) → IsAt host c ps → c.attached ≡ false
+    → (c.leases ≡ []) × ((t : Ticket) → c.ticket ≡ Some t → requested_file t.request ≡ None)
 idle-asks c ps host a e =
-    let w = a.alone.asking.waiting e in
-    (w.no_lease, λ t is. let one : w.request ≡ t = some-same w.request t (sym w.asks ∙ is) in attach-requests-none t.request (subst (λ j. fits_job j t.request ≡ true) (ap (λ z. z.job) (sym one) ∙ w.job) (a.alone.asking.ticketed t is).fits))
+    let w = a.alone.asking.waiting e in (
+      w.no_lease,
+      λ t is. let one : w.request ≡ t = some-same w.request t (sym w.asks ∙ is) in
+          attach-requests-none t.request (subst (λ j. fits_job j t.request ≡ true) (ap (λ z. z.job) (sym one) ∙ w.job) (a.alone.asking.ticketed t is).fits),
+    )
 
-pub hearing : (hosts most : ℕ) (w : World) (events : List Event) (p : Packet) (host : ℕ) (c : Client) → slice_get w.clients host ≡ Some c → In w.packets p → p.to ≡ Party.Server → Holds w → Runs hosts most w events → Hearing w.packets w.server most (sending_host p.sender) (datagram_of p.message) events c.who c.now c.xid c.attached c.ticket c.leases c.notices
+pub hearing : (hosts most : ℕ) (w : World) (events : List Event) (p : Packet) (host : ℕ) (c : Client) → slice_get w.clients host ≡ Some c
+    → In w.packets p → p.to ≡ Party.Server → Holds w → Runs hosts most w events
+    → Hearing w.packets w.server most (sending_host p.sender) (datagram_of p.message) events c.who c.now c.xid c.attached c.ticket c.leases c.notices
 hearing hosts most w events p host c is i to held h =
     let a = held.clients host c is in
     record {
@@ -228,7 +253,9 @@ hearing hosts most w events p host c is i to held h =
       idle = idle-asks c w.packets host a;
     }
 
-received-runs : (hosts most : ℕ) (w : World) (events : List Event) (k : ℕ) (p : Packet) → In w.packets p → p.to ≡ Party.Server → Holds w → Clocked w events → Runs hosts most w events → Runs hosts most (after_server w (receive w.server (sending_host p.sender) (length w.packets) (datagram_of p.message))) (Event.Deliver k ∷ events)
+received-runs : (hosts most : ℕ) (w : World) (events : List Event) (k : ℕ) (p : Packet) → In w.packets p → p.to ≡ Party.Server → Holds w
+    → Clocked w events → Runs hosts most w events
+    → Runs hosts most (after_server w (receive w.server (sending_host p.sender) (length w.packets) (datagram_of p.message))) (Event.Deliver k ∷ events)
 unfolding after_server
 received-runs hosts most w events k p i to held clocked h =
     let sender : ℕ = sending_host p.sender in
@@ -238,20 +265,28 @@ received-runs hosts most w events k p i to held clocked h =
       served = served-receive most w.server sender next d h.served;
       few = h.few;
       known = server-known w (Event.Deliver k) events (receive w.server sender next d) (record {
-        effects = λ host c is. hears-effect w.packets w.server most sender next d events c.who c.now c.xid c.attached c.ticket c.leases c.notices (hearing hosts most w events p host c is i to held h);
+        effects =
+            λ host c is. hears-effect w.packets w.server most sender next d events c.who c.now c.xid c.attached c.ticket c.leases c.notices
+            (hearing hosts most w events p host c is i to held h);
         unrowed = λ host c is e. h.unrowed host c is e;
       }) held clocked h.known;
-      unrowed = λ host c is e. unrowed-receive w.packets w.server most sender next d events c.who c.now c.xid c.attached c.ticket c.leases c.notices (hearing hosts most w events p host c is i to held h) e (h.unrowed host c is e);
+      unrowed =
+          λ host c is e. unrowed-receive w.packets w.server most sender next d events c.who c.now c.xid c.attached c.ticket c.leases c.notices
+          (hearing hosts most w events p host c is i to held h) e (h.unrowed host c is e);
     }
 
-delivered-runs : (hosts most : ℕ) (w : World) (events : List Event) (k : ℕ) (p : Packet) (to : Party) → p.to ≡ to → In w.packets p → Holds w → Clocked w events → Runs hosts most w events → Runs hosts most (deliver_to w k p to) (Event.Deliver k ∷ events)
+delivered-runs : (hosts most : ℕ) (w : World) (events : List Event) (k : ℕ) (p : Packet) (to : Party) → p.to ≡ to → In w.packets p → Holds w
+    → Clocked w events → Runs hosts most w events → Runs hosts most (deliver_to w k p to) (Event.Deliver k ∷ events)
 delivered-runs hosts most w events k p Party.Server to i held clocked h = received-runs hosts most w events k p i to held clocked h
 delivered-runs hosts most w events k p (Party.Client host) to i held clocked h =
     let told : Told w.packets host p.message = to-told w.packets p host (held.sent p i) to i in
-    to-client-runs hosts most w events k host p.message (slice_get w.clients host) refl told held (to-client-known w (Event.Deliver k) events k host p.message (slice_get w.clients host) refl told held clocked h.known) h
+    to-client-runs hosts most w events k host p.message (slice_get w.clients host) refl told held
+    (to-client-known w (Event.Deliver k) events k host p.message (slice_get w.clients host) refl told held clocked h.known) h
 
-deliver-runs : (hosts most : ℕ) (w : World) (events : List Event) (k : ℕ) (o : Option Packet) → slice_get w.packets k ≡ o → Holds w → Clocked w events → Runs hosts most w events → Runs hosts most (deliver w k o) (Event.Deliver k ∷ events)
-deliver-runs hosts most w events k None is held clocked h = idle-runs hosts most w events (Event.Deliver k) (ignored-known w (Event.Deliver k) events held clocked h.known) h
+deliver-runs : (hosts most : ℕ) (w : World) (events : List Event) (k : ℕ) (o : Option Packet) → slice_get w.packets k ≡ o → Holds w → Clocked w events
+    → Runs hosts most w events → Runs hosts most (deliver w k o) (Event.Deliver k ∷ events)
+deliver-runs hosts most w events k None is held clocked h =
+    idle-runs hosts most w events (Event.Deliver k) (ignored-known w (Event.Deliver k) events held clocked h.known) h
 deliver-runs hosts most w events k (Some p) is held clocked h = delivered-runs hosts most w events k p p.to refl (in-get w.packets k p is) held clocked h
 
 -- ---- ticks of the server's clock, and crashes
@@ -281,7 +316,10 @@ unfolding crash
 crash-sends s longest = refl
 
 -- a step that sends nothing, after which each client is known
-silent-known : (w : World) (events : List Event) (e : Event) (t : ServerStep) → t.sends ≡ [] → Holds w → ((host : ℕ) (c : Client) → slice_get w.clients host ≡ Some c → Knows NoneHeard NoneGiven (host_row t.server.kept c.who.host) t.server (e ∷ events) c.who c.now c.attached c.ticket c.leases c.notices w.packets) → Known (after_server w t) (e ∷ events)
+silent-known : (w : World) (events : List Event) (e : Event) (t : ServerStep) → t.sends ≡ [] → Holds w
+    → ((host : ℕ) (c : Client) → slice_get w.clients host ≡ Some c
+    → Knows NoneHeard NoneGiven (host_row t.server.kept c.who.host) t.server (e ∷ events) c.who c.now c.attached c.ticket c.leases c.notices w.packets)
+    → Known (after_server w t) (e ∷ events)
 unfolding after_server
 silent-known w events e t silent held knows = record {
   clients = λ host c is.
@@ -291,39 +329,51 @@ silent-known w events e t silent held knows = record {
       (knows host c is)));
 }
 
-known-here : (w : World) (events : List Event) (host : ℕ) (c : Client) → slice_get w.clients host ≡ Some c → Holds w → Known w events → KnowsOf (host_row w.server.kept c.who.host) w.server events c w.packets
-known-here w events host c is held known = subst (λ n. KnowsOf (host_row w.server.kept n) w.server events c w.packets) (sym (held.clients host c is).here) (known.clients host c is)
+known-here : (w : World) (events : List Event) (host : ℕ) (c : Client) → slice_get w.clients host ≡ Some c → Holds w → Known w events
+    → KnowsOf (host_row w.server.kept c.who.host) w.server events c w.packets
+known-here w events host c is held known =
+    subst (λ n. KnowsOf (host_row w.server.kept n) w.server events c w.packets) (sym (held.clients host c is).here) (known.clients host c is)
 
-tick-runs : (hosts most : ℕ) (w : World) (events : List Event) → IsWithinSkew hosts most (Event.ServerTick ∷ events) → Holds w → Clocked w events → Runs hosts most w events → Runs hosts most (after_server w (tick w.server (w.server.now + 1))) (Event.ServerTick ∷ events)
+tick-runs : (hosts most : ℕ) (w : World) (events : List Event) → IsWithinSkew hosts most (Event.ServerTick ∷ events) → Holds w → Clocked w events
+    → Runs hosts most w events → Runs hosts most (after_server w (tick w.server (w.server.now + 1))) (Event.ServerTick ∷ events)
 unfolding after_server
 tick-runs hosts most w events within held clocked h = record {
   served = served-tick most w.server (w.server.now + 1) h.served;
   few = h.few;
   known = silent-known w events Event.ServerTick (tick w.server (w.server.now + 1)) (tick-sends w.server (w.server.now + 1)) held (λ host c is.
-      knows-tick w.server hosts most events c.who c.now h.served.boots h.served.stood h.served.terms within (let below = h.few host c is in let here = (held.clients host c is).here in omega arith) (at-clock w events host c is held clocked) clocked.server c.attached c.ticket c.leases c.notices w.packets (timely w events host c is held clocked) (known-here w events host c is held h.known));
+      knows-tick w.server hosts most events c.who c.now h.served.boots h.served.stood h.served.terms within
+      (let below = h.few host c is in let here = (held.clients host c is).here in omega arith) (at-clock w events host c is held clocked)
+      clocked.server c.attached c.ticket c.leases c.notices w.packets (timely w events host c is held clocked)
+      (known-here w events host c is held h.known));
   unrowed = λ host c is e. unrowed-tick w.server (w.server.now + 1) c.who h.served.stood (h.unrowed host c is e);
 }
 
-crash-runs : (hosts most : ℕ) (w : World) (events : List Event) (longest : ℕ) → shortest_term ≤ longest → longest ≤ most → Holds w → Clocked w events → Runs hosts most w events → Runs hosts most (after_server w (crash w.server longest)) (Event.Crash longest ∷ events)
+crash-runs : (hosts most : ℕ) (w : World) (events : List Event) (longest : ℕ) → shortest_term ≤ longest → longest ≤ most → Holds w → Clocked w events
+    → Runs hosts most w events → Runs hosts most (after_server w (crash w.server longest)) (Event.Crash longest ∷ events)
 unfolding after_server
 crash-runs hosts most w events longest long few held clocked h = record {
   served = served-crash most w.server longest long few h.served;
   few = h.few;
   known = silent-known w events (Event.Crash longest) (crash w.server longest) (crash-sends w.server longest) held (λ host c is.
-      knows-crash w.server longest events c.who c.now h.served.boots h.served.stood h.served.opened (at-clock w events host c is held clocked) clocked.server c.attached c.ticket c.leases c.notices w.packets (timely w events host c is held clocked) (known-here w events host c is held h.known));
+      knows-crash w.server longest events c.who c.now h.served.boots h.served.stood h.served.opened (at-clock w events host c is held clocked)
+      clocked.server c.attached c.ticket c.leases c.notices w.packets (timely w events host c is held clocked)
+      (known-here w events host c is held h.known));
   unrowed = λ host c is e. unrowed-crash w.server longest c.who;
 }
 
 -- ---- each event
 
-step-runs : (hosts most : ℕ) (w : World) (e : Event) (events : List Event) → BootsWithin most e → IsWithinSkew hosts most (e ∷ events) → Holds w → Clocked w events → Runs hosts most w events → Runs hosts most (step w e) (e ∷ events)
+step-runs : (hosts most : ℕ) (w : World) (e : Event) (events : List Event) → BootsWithin most e → IsWithinSkew hosts most (e ∷ events) → Holds w
+    → Clocked w events → Runs hosts most w events → Runs hosts most (step w e) (e ∷ events)
 step-runs hosts most w (Event.Call host op) events boots within held clocked h =
-    at-client-runs hosts most w events (Event.Call host op) host (λ c. client_call c op) (slice_get w.clients host) refl (call-known w events host op held clocked h.known)
+    at-client-runs hosts most w events (Event.Call host op) host (λ c. client_call c op) (slice_get w.clients host) refl
+    (call-known w events host op held clocked h.known)
     (λ c is. still-unrowed w c (client_call c op) (call-still host c w.packets op (held.clients host c is)) (h.unrowed host c is)) h
 step-runs hosts most w (Event.Deliver k) events boots within held clocked h = deliver-runs hosts most w events k (slice_get w.packets k) refl held clocked h
 step-runs hosts most w Event.ServerTick events boots within held clocked h = tick-runs hosts most w events within held clocked h
 step-runs hosts most w (Event.ClientTick host) events boots within held clocked h =
-    at-client-runs hosts most w events (Event.ClientTick host) host (λ c. client_tick c (c.now + 1)) (slice_get w.clients host) refl (tick-known w events host held clocked h.known)
+    at-client-runs hosts most w events (Event.ClientTick host) host (λ c. client_tick c (c.now + 1)) (slice_get w.clients host) refl
+    (tick-known w events host held clocked h.known)
     (λ c is. still-unrowed w c (client_tick c (c.now + 1)) (tick-still host c w.packets (held.clients host c is)) (h.unrowed host c is)) h
 step-runs hosts most w (Event.Restart host) events boots within held clocked h =
     at-client-runs hosts most w events (Event.Restart host) host restart (slice_get w.clients host) refl (restart-known w events host held clocked h.known)
@@ -342,10 +392,13 @@ start-runs most head b = record {
   served = start-served most head [] b;
   few = λ host c is. first-there head.term 0 head.hosts host c is;
   known = start-known head;
-  unrowed = λ host c is e. let yes : c.attached ≡ true = ap (λ z. z.attached) (first-client head.term 0 head.hosts host c is) ∙ start-attached _ head.term in absurd (cc);
+  unrowed =
+      λ host c is e. let yes : c.attached ≡ true = ap (λ z. z.attached) (first-client head.term 0 head.hosts host c is) ∙ start-attached _ head.term in
+      absurd (cc);
 }
 
-pub run-runs : (most : ℕ) (head : Head) (events : List Event) → KeepsBounds most head events → IsWithinSkew head.hosts most events → Runs head.hosts most (run head events) events
+pub run-runs : (most : ℕ) (head : Head) (events : List Event) → KeepsBounds most head events → IsWithinSkew head.hosts most events
+    → Runs head.hosts most (run head events) events
 run-runs most head [] b within = start-runs most head b
 run-runs most head (e ∷ earlier) b within =
     step-runs head.hosts most (run head earlier) e earlier (b.boots 0 e (omega arith)) within (run-holds head earlier) (run-clocked head earlier)

@@ -57,9 +57,11 @@ use Rattle.nq_promises.specs.Undisturbed.{IsUndisturbed}
 
 -- ---- the row of a lease that runs
 
-covered-chained : (s : Server) (phase : Phase) (who : Who) (file : ℕ) (mode : Mode) (tag : Tag) (until : ℕ) → IsCovered s phase (claim_of who file mode tag until) → (row : Row) × IsChained (standing_in phase s.table) who file tag row
+covered-chained : (s : Server) (phase : Phase) (who : Who) (file : ℕ) (mode : Mode) (tag : Tag) (until : ℕ)
+    → IsCovered s phase (claim_of who file mode tag until) → (row : Row) × IsChained (standing_in phase s.table) who file tag row
 covered-chained s serving who file mode tag until k = (k.row, record { own = record { stands = k.stands; holder = k.fits.holder }; began = k.fits.began })
-covered-chained s (recovering end heard last) who file mode tag until k = let f = k.fitting in (f.row, record { own = record { stands = f.stands; holder = f.fits.holder }; began = f.fits.began })
+covered-chained s (recovering end heard last) who file mode tag until k =
+    let f = k.fitting in (f.row, record { own = record { stands = f.stands; holder = f.fits.holder }; began = f.fits.began })
 
 -- ---- writes that were done
 
@@ -116,10 +118,13 @@ record IsPushRequest (r : Request) (p : Push) : Type 0 where
   is : r ≡ Request.Write who seq p.file p.block p.first p.last (Some base) p.body
 
 push-request : (r : Request) (p : Push) → push_in r ≡ Some p → IsPushRequest r p
-push-request (Request.Write w n file block first last (Some base) body) p e = record { who = w; seq = n; base = base; is = ap (λ q. Request.Write w n q.file q.block q.first q.last (Some base) q.body) (some-same _ p e) }
+push-request (Request.Write w n file block first last (Some base) body) p e =
+    record { who = w; seq = n; base = base; is = ap (λ q. Request.Write w n q.file q.block q.first q.last (Some base) q.body) (some-same _ p e) }
 push-request r p e = none-some p e
 
-is-done-write : (line : HostRow) (inc file : ℕ) (r : Request) (who : Who) (seq f block first last : ℕ) (push : Option PushBase) (body : List ℕ) → r ≡ Request.Write who seq f block first last push body → f ≡ file → line.inc ≡ inc → line.seq ≡ seq → line.verdict ≡ Verdict.Done → has_done line inc file r ≡ true
+is-done-write : (line : HostRow) (inc file : ℕ) (r : Request) (who : Who) (seq f block first last : ℕ) (push : Option PushBase) (body : List ℕ)
+    → r ≡ Request.Write who seq f block first last push body → f ≡ file → line.inc ≡ inc → line.seq ≡ seq → line.verdict ≡ Verdict.Done
+    → has_done line inc file r ≡ true
 is-done-write line inc file r who seq f block first last push body asks of kept decided done =
     let a : (f == file) ≡ true = number-same _ _ of in
     let i : (line.inc == inc) ≡ true = number-same _ _ kept in
@@ -128,7 +133,8 @@ is-done-write line inc file r who seq f block first last push body asks of kept 
     subst (λ q. has_done line inc file q ≡ true) (sym asks) (rw (a, i, n, d) refl)
 
 -- the request of a call, for a write that goes through
-through-job : (job : Job) (r : Request) (who : Who) (seq file block first last : ℕ) (body : List ℕ) → r ≡ Request.Write who seq file block first last None body → fits_job job r ≡ true → job ≡ for_call
+through-job : (job : Job) (r : Request) (who : Who) (seq file block first last : ℕ) (body : List ℕ)
+    → r ≡ Request.Write who seq file block first last None body → fits_job job r ≡ true → job ≡ for_call
 through-job job r who seq file block first last body asks fits = go job (subst (λ q. fits_job job q ≡ true) asks fits)
   where
     go : (j : Job) → fits_job j (Request.Write who seq file block first last None body) ≡ true → j ≡ for_call
@@ -150,25 +156,32 @@ find-none test (q ∷ ps) p e i is = case (test q) refl e i (find-none test ps p
 data HasBody (c : Client) (file block : ℕ) (body : List ℕ) : Type 0 where
   is_dirty : (p : Push) → In c.dirty p → p.file ≡ file → p.block ≡ block → p.body ≡ body → HasBody c file block body
   is_pushed : (p : Push) → dirty_at file block c.dirty ≡ None → c.push ≡ Some p → p.file ≡ file → p.block ≡ block → p.body ≡ body → HasBody c file block body
-  is_clean : (k : Clean) → dirty_at file block c.dirty ≡ None → pushed_body file block c.push ≡ None → clean_at file block c.clean ≡ Some k → k.body ≡ body → HasBody c file block body
+  is_clean : (k : Clean) → dirty_at file block c.dirty ≡ None → pushed_body file block c.push ≡ None → clean_at file block c.clean ≡ Some k
+      → k.body ≡ body → HasBody c file block body
 
 has-body : (c : Client) (file block : ℕ) (body : List ℕ) → cached_body c file block ≡ Some body → HasBody c file block body
 has-body c file block body is = dirty (dirty_at file block c.dirty) refl is
   where
-    clean : (o : Option Clean) → clean_at file block c.clean ≡ o → dirty_at file block c.dirty ≡ None → pushed_body file block c.push ≡ None → clean_body o ≡ Some body → HasBody c file block body
+    clean : (o : Option Clean) → clean_at file block c.clean ≡ o → dirty_at file block c.dirty ≡ None → pushed_body file block c.push ≡ None
+        → clean_body o ≡ Some body → HasBody c file block body
     clean None e d p h = none-some body h
     clean (Some k) e d p h = is_clean k d p e (some-same k.body body h)
 
-    pushed-now : (q : Push) → c.push ≡ Some q → dirty_at file block c.dirty ≡ None → (b : Bool) → is_push_at file block q ≡ b → held_body None (if b then Some q.body else None) (clean_body (clean_at file block c.clean)) ≡ Some body → HasBody c file block body
+    pushed-now : (q : Push) → c.push ≡ Some q → dirty_at file block c.dirty ≡ None → (b : Bool) → is_push_at file block q ≡ b
+        → held_body None (if b then Some q.body else None) (clean_body (clean_at file block c.clean)) ≡ Some body → HasBody c file block body
     pushed-now q e d true at h = let a = is-at file block q at in is_pushed q d e a.0 a.1 (some-same q.body body h)
     pushed-now q e d false at h = clean (clean_at file block c.clean) refl d (ap (pushed_body file block) e ∙ rw at refl) h
 
-    pushed : (o : Option Push) → c.push ≡ o → dirty_at file block c.dirty ≡ None → held_body None (pushed_body file block o) (clean_body (clean_at file block c.clean)) ≡ Some body → HasBody c file block body
+    pushed : (o : Option Push) → c.push ≡ o → dirty_at file block c.dirty ≡ None
+        → held_body None (pushed_body file block o) (clean_body (clean_at file block c.clean)) ≡ Some body → HasBody c file block body
     pushed None e d h = clean (clean_at file block c.clean) refl d (ap (pushed_body file block) e) h
     pushed (Some q) e d h = pushed-now q e d (is_push_at file block q) refl h
 
-    dirty : (o : Option Push) → dirty_at file block c.dirty ≡ o → held_body o (pushed_body file block c.push) (clean_body (clean_at file block c.clean)) ≡ Some body → HasBody c file block body
-    dirty (Some p) e h = let a = is-at file block p (find-passes (is_push_at file block) p c.dirty e) in is_dirty p (find-in (is_push_at file block) c.dirty p e) a.0 a.1 (some-same p.body body h)
+    dirty : (o : Option Push) → dirty_at file block c.dirty ≡ o
+        → held_body o (pushed_body file block c.push) (clean_body (clean_at file block c.clean)) ≡ Some body → HasBody c file block body
+    dirty (Some p) e h =
+        let a = is-at file block p (find-passes (is_push_at file block) p c.dirty e) in
+        is_dirty p (find-in (is_push_at file block) c.dirty p e) a.0 a.1 (some-same p.body body h)
     dirty None e h = pushed c.push refl e h
 
 -- no unsaved write of the block encloses a number
@@ -176,14 +189,19 @@ abbrev pub NoneEncloses : (c : Client) (file block : ℕ) → Type 0
 NoneEncloses c file block = (n : ℕ) → LiesWithin c.dirty c.push file block n → ⊥
 
 -- so none waits
-pub none-waits : (line : HostRow) (c : Client) (ps : List _) (j : List Entry) → WritesFit line c ps j → (file block : ℕ) → NoneEncloses c file block → NoneWaits j c.who file block
+pub none-waits : (line : HostRow) (c : Client) (ps : List _) (j : List Entry) → WritesFit line c ps j → (file block : ℕ) → NoneEncloses c file block
+    → NoneWaits j c.who file block
 none-waits line c ps j facts file block none n v i = case (facts.list.unsaved file block n v i)
   where
     case : CoversNumber j c.who file block n ⊎ LiesWithin c.dirty c.push file block n → CoversNumber j c.who file block n
     case (inl covered) = covered
     case (inr within) = absurd (none n within)
 
-module _ (most : ℕ) (head : Head) (known : (events : List Event) → KeepsBounds most head events → IsWithinSkew head.hosts most events → KnownOf head.hosts most (run head events) events) (events : List Event) (b : KeepsBounds most head events) (within : IsWithinSkew head.hosts most events) (host : ℕ) (c : Client) (is : slice_get (run head events).clients host ≡ Some c) (file block : ℕ) (lease : Lease) (held : lease_on file c.leases ≡ Some lease) (lets : lets_read c.now lease ≡ true) (idle : c.call ≡ None) where
+module _ (most : ℕ) (head : Head)
+    (known : (events : List Event) → KeepsBounds most head events → IsWithinSkew head.hosts most events
+    → KnownOf head.hosts most (run head events) events) (events : List Event) (b : KeepsBounds most head events)
+    (within : IsWithinSkew head.hosts most events) (host : ℕ) (c : Client) (is : slice_get (run head events).clients host ≡ Some c) (file block : ℕ)
+    (lease : Lease) (held : lease_on file c.leases ≡ Some lease) (lets : lets_read c.now lease ≡ true) (idle : c.call ≡ None) where
   abbrev w : World
   w = run head events
 
@@ -214,38 +232,47 @@ module _ (most : ℕ) (head : Head) (known : (events : List Event) → KeepsBoun
       let own : lease_on lease.file c.leases ≡ Some lease = ap (λ n. lease_on n c.leases) of ∙ held in
       let runs = caching.1 in
       subst (λ n. (row : Row) × IsChained (standing w.server) c.who n lease.tag row) of
-      (covered-chained w.server w.server.phase c.who lease.file lease.mode lease.tag (cover_end host (lease.expiry - lease.term) lease.term events) (k.covers.held host c lease is own caching.0 (grind (arith, nat_tests))))
+      (covered-chained w.server w.server.phase c.who lease.file lease.mode lease.tag (cover_end host (lease.expiry - lease.term) lease.term events)
+      (k.covers.held host c lease is own caching.0 (grind (arith, nat_tests))))
 
-  knows : KnowsFile w.server.kept (host_row w.server.kept c.who.host) chain.0.mode lease.mode file (revision_or_zero (revision_of file c.revisions)) lease.blocks (has_done_write (host_row w.server.kept c.who.host) c.who.inc file c.ticket)
+  knows : KnowsFile w.server.kept (host_row w.server.kept c.who.host) chain.0.mode lease.mode file (revision_or_zero (revision_of file c.revisions))
+      lease.blocks (has_done_write (host_row w.server.kept c.who.host) c.who.inc file c.ticket)
   knows = (k.chains host c is).held.chained file lease chain.0 held caching.0 chain.1
 
   -- the value of a block at the kept revision is held
   revision-held : (v : ℕ) → HasValue (first_length head events) journal file knows.f.rev block v → HasHeld journal file block v
   revision-held v h =
       let r = ((run-fits most head events b within).files file knows.f knows.found).revision in
-      (held-blocks most head known events b within file).here block v (ap (λ n. slice_get (content_at journal (first_length head events file) file n) block) (sym r) ∙ h.has)
+      (held-blocks most head known events b within file).here block v
+      (ap (λ n. slice_get (content_at journal (first_length head events file) file n) block) (sym r) ∙ h.has)
 
   -- ---- unsaved writes
 
-  undisturbed : (p : Push) → In c.dirty p ⊎ (c.push ≡ Some p) → p.file ≡ file → IsClear journal c.who p.file p.block p.first p.last → IsUndisturbed c.who p.file p.block p.first journal
+  undisturbed : (p : Push) → In c.dirty p ⊎ (c.push ≡ Some p) → p.file ≡ file → IsClear journal c.who p.file p.block p.first p.last
+      → IsUndisturbed c.who p.file p.block p.first journal
   undisturbed p entry of clear =
-      ((run-still most head known events b within).fits host c is).unsaved p entry clear lease chain.0 (ap (λ n. lease_on n c.leases) of ∙ held) (subst (λ n. IsChained (standing w.server) c.who n lease.tag chain.0) (sym of) chain.1)
+      ((run-still most head known events b within).fits host c is).unsaved p entry clear lease chain.0 (ap (λ n. lease_on n c.leases) of ∙ held)
+      (subst (λ n. IsChained (standing w.server) c.who n lease.tag chain.0) (sym of) chain.1)
 
   dirty-stands : (p : Push) → In c.dirty p → p.file ≡ file → IsStandingValue journal journal c.who p.file p.block (value_of p.body)
   dirty-stands p i of =
       let d = facts.list.listed p i in
       let clear = dirty-clear d in
-      unsaved-stands journal c.who p.file p.block p.first p.last (value_of p.body) (undisturbed p (inl i) of clear) k.journal.rising d.behind.ordered d.behind.last_there
+      unsaved-stands journal c.who p.file p.block p.first p.last (value_of p.body) (undisturbed p (inl i) of clear) k.journal.rising d.behind.ordered
+      d.behind.last_there
       (λ lost. clear p.last d.behind.ordered (omega arith) (lost-covered journal c.who p.file p.block p.last (value_of p.body) lost))
       (λ n u above there. absurd (none-above d n u above (facts.list.unsaved p.file p.block n u there)))
       (λ n above st. let past = d.above n (stored-covered journal c.who p.file p.block n 0 st) in let ordered = d.behind.ordered in omega arith)
     where
-      none-above : IsDirty c.who c.number journal p → (n u : ℕ) → p.last < n → CoversNumber journal c.who p.file p.block n ⊎ LiesWithin c.dirty c.push p.file p.block n → ⊥
+      none-above : IsDirty c.who c.number journal p → (n u : ℕ) → p.last < n
+          → CoversNumber journal c.who p.file p.block n ⊎ LiesWithin c.dirty c.push p.file p.block n → ⊥
       none-above d n u above (inl covered) = let past = d.above n covered in let ordered = d.behind.ordered in omega arith
-      none-above d n u above (inr (in_list q j f g low high)) = let same : q ≡ p = facts.list.distinct q p j i f g in let last : q.last ≡ p.last = ap (λ z. z.last) same in omega arith
+      none-above d n u above (inr (in_list q j f g low high)) =
+          let same : q ≡ p = facts.list.distinct q p j i f g in let last : q.last ≡ p.last = ap (λ z. z.last) same in omega arith
       none-above d n u above (inr (under_way q e f g low high)) = let past = facts.list.earlier q p e i f g in let ordered = d.behind.ordered in omega arith
 
-  pushed-stands : (p : Push) → dirty_at file block c.dirty ≡ None → c.push ≡ Some p → p.file ≡ file → p.block ≡ block → IsClear journal c.who p.file p.block p.first p.last → IsStandingValue journal journal c.who p.file p.block (value_of p.body)
+  pushed-stands : (p : Push) → dirty_at file block c.dirty ≡ None → c.push ≡ Some p → p.file ≡ file → p.block ≡ block
+      → IsClear journal c.who p.file p.block p.first p.last → IsStandingValue journal journal c.who p.file p.block (value_of p.body)
   pushed-stands p none e of at clear =
       let d = push-behind (host_row w.server.kept c.who.host) c w.packets journal facts p e in
       unsaved-stands journal c.who p.file p.block p.first p.last (value_of p.body) (undisturbed p (inr e) of clear) k.journal.rising d.ordered d.last_there
@@ -253,10 +280,12 @@ module _ (most : ℕ) (head : Head) (known : (events : List Event) → KeepsBoun
       (λ n u above there. later n u above (facts.list.unsaved p.file p.block n u there))
       (λ n above st. let past = earlier.under_way p e clear n st in let ordered = d.ordered in omega arith)
     where
-      later : (n u : ℕ) → p.last < n → CoversNumber journal c.who p.file p.block n ⊎ LiesWithin c.dirty c.push p.file p.block n → IsLost journal (W c.who p.file p.block n u false)
+      later : (n u : ℕ) → p.last < n → CoversNumber journal c.who p.file p.block n ⊎ LiesWithin c.dirty c.push p.file p.block n
+          → IsLost journal (W c.who p.file p.block n u false)
       later n u above (inl covered) = either (covered-either journal c.who p.file p.block n u covered)
         where
-          either : IsStored journal (W c.who p.file p.block n u false) ⊎ IsLost journal (W c.who p.file p.block n u false) → IsLost journal (W c.who p.file p.block n u false)
+          either : IsStored journal (W c.who p.file p.block n u false) ⊎ IsLost journal (W c.who p.file p.block n u false)
+              → IsLost journal (W c.who p.file p.block n u false)
           either (inr lost) = lost
           either (inl st) =
               let past = earlier.under_way p e clear n (stored-value journal c.who p.file p.block n u 0 st) in
@@ -271,16 +300,29 @@ module _ (most : ℕ) (head : Head) (known : (events : List Event) → KeepsBoun
   dirty-none none n q j f g = find-none (is_push_at file block) c.dirty q none j (at-is file block q f g)
 
   -- the decided request of the client
-  decided-as : (t : Ticket) → c.ticket ≡ Some t → (host_row w.server.kept c.who.host).inc ≡ c.who.inc → sequence_of t.request ≡ Some (host_row w.server.kept c.who.host).seq → (host_row w.server.kept c.who.host).verdict ≡ Verdict.Done → IsDoneAs (first_length head events) journal (host_row w.server.kept c.who.host).value t.request
-  decided-as t has kept sequence done = subst (λ n. (host_row w.server.kept n).inc ≡ c.who.inc → sequence_of t.request ≡ Some (host_row w.server.kept n).seq → (host_row w.server.kept n).verdict ≡ Verdict.Done → IsDoneAs (first_length head events) journal (host_row w.server.kept n).value t.request) (sym here) (done-in-every-run most head events b within host c t is has) kept sequence done
+  decided-as : (t : Ticket) → c.ticket ≡ Some t → (host_row w.server.kept c.who.host).inc ≡ c.who.inc
+      → sequence_of t.request ≡ Some (host_row w.server.kept c.who.host).seq → (host_row w.server.kept c.who.host).verdict ≡ Verdict.Done
+      → IsDoneAs (first_length head events) journal (host_row w.server.kept c.who.host).value t.request
+  decided-as t has kept sequence done =
+      subst (λ n. (host_row w.server.kept n).inc ≡ c.who.inc → sequence_of t.request ≡ Some (host_row w.server.kept n).seq
+      → (host_row w.server.kept n).verdict ≡ Verdict.Done → IsDoneAs (first_length head events) journal (host_row w.server.kept n).value t.request)
+      (sym here) (done-in-every-run most head events b within host c t is has) kept sequence done
 
-  pushed-held : (p : Push) → c.push ≡ Some p → p.file ≡ file → p.block ≡ block → (u : Ticket) → c.ticket ≡ Some u → (r : IsPushRequest u.request p) → IsDecidedAs (host_row w.server.kept c.who.host) c.who r.seq Verdict.Done → HasHeld journal file block (value_of p.body)
+  pushed-held : (p : Push) → c.push ≡ Some p → p.file ≡ file → p.block ≡ block → (u : Ticket) → c.ticket ≡ Some u → (r : IsPushRequest u.request p)
+      → IsDecidedAs (host_row w.server.kept c.who.host) c.who r.seq Verdict.Done → HasHeld journal file block (value_of p.body)
   pushed-held p e of at u has r d =
       let seq : sequence_of u.request ≡ Some (host_row w.server.kept c.who.host).seq = ap sequence_of r.is ∙ ap Some (sym d.decided) in
-      let does : IsDoneAs (first_length head events) journal (host_row w.server.kept c.who.host).value (Request.Write r.who r.seq p.file p.block p.first p.last (Some r.base) p.body) = subst (λ q. IsDoneAs (first_length head events) journal (host_row w.server.kept c.who.host).value q) r.is (decided-as u has d.inc seq d.told) in
-      let done : has_done_write (host_row w.server.kept c.who.host) c.who.inc file c.ticket ≡ true = ap (has_done_write (host_row w.server.kept c.who.host) c.who.inc file) has ∙ is-done-write (host_row w.server.kept c.who.host) c.who.inc file u.request r.who r.seq p.file p.block p.first p.last (Some r.base) p.body r.is of d.inc d.decided d.told in
+      let does : IsDoneAs (first_length head events) journal (host_row w.server.kept c.who.host).value
+      (Request.Write r.who r.seq p.file p.block p.first p.last (Some r.base) p.body) = subst
+      (λ q. IsDoneAs (first_length head events) journal (host_row w.server.kept c.who.host).value q) r.is (decided-as u has d.inc seq d.told) in
+      let done : has_done_write (host_row w.server.kept c.who.host) c.who.inc file c.ticket ≡ true = ap
+      (has_done_write (host_row w.server.kept c.who.host) c.who.inc file) has
+      ∙ is-done-write (host_row w.server.kept c.who.host) c.who.inc file u.request r.who r.seq p.file p.block p.first p.last (Some r.base) p.body
+      r.is of d.inc d.decided d.told in
       let value : (host_row w.server.kept c.who.host).value ≡ knows.f.rev = knows.value done in
-      revision-held (value_of p.body) (subst (λ n. HasValue (first_length head events) journal file knows.f.rev n (value_of p.body)) at (subst (λ n. HasValue (first_length head events) journal n knows.f.rev p.block (value_of p.body)) of (subst (λ n. HasValue (first_length head events) journal p.file n p.block (value_of p.body)) value does.content.this)))
+      revision-held (value_of p.body) (subst (λ n. HasValue (first_length head events) journal file knows.f.rev n (value_of p.body)) at
+      (subst (λ n. HasValue (first_length head events) journal n knows.f.rev p.block (value_of p.body)) of
+      (subst (λ n. HasValue (first_length head events) journal p.file n p.block (value_of p.body)) value does.content.this)))
 
   clean-held : (x : Clean) → pushed_body file block c.push ≡ None → clean_at file block c.clean ≡ Some x → HasHeld journal file block (value_of x.body)
   clean-held x none e = case (has_done_write (host_row w.server.kept c.who.host) c.who.inc file c.ticket) refl
@@ -297,14 +339,16 @@ module _ (most : ℕ) (head : Head) (known : (events : List Event) → KeepsBoun
         where
           by-push : (o : Option PushBase) → d.push ≡ o → ⊥
           by-push (Some base) q =
-              let asks : d.t.request ≡ Request.Write d.who d.seq file d.block d.first d.last (Some base) d.body = d.asks ∙ ap (λ o. Request.Write d.who d.seq file d.block d.first d.last o d.body) q in
+              let asks : d.t.request ≡ Request.Write d.who d.seq file d.block d.first d.last (Some base) d.body = d.asks
+              ∙ ap (λ o. Request.Write d.who d.seq file d.block d.first d.last o d.body) q in
               let p : Push = record { file = file; block = d.block; first = d.first; last = d.last; body = d.body } in
               let way : c.push ≡ Some p = ((k.chains host c is).writes.pushed d.t d.who d.seq file d.block d.first d.last base d.body d.has asks).under_way in
               let here_is : is_push_at file block p ≡ true = at-is file block p refl (sym same) in
               let some : pushed_body file block c.push ≡ Some d.body = ap (pushed_body file block) way ∙ rw here_is refl in
               none-some d.body (sym none ∙ some)
           by-push None q =
-              let asks : d.t.request ≡ Request.Write d.who d.seq file d.block d.first d.last None d.body = d.asks ∙ ap (λ o. Request.Write d.who d.seq file d.block d.first d.last o d.body) q in
+              let asks : d.t.request ≡ Request.Write d.who d.seq file d.block d.first d.last None d.body = d.asks
+              ∙ ap (λ o. Request.Write d.who d.seq file d.block d.first d.last o d.body) q in
               let a = (k.holds.clients host c is).alone.asking in
               let job : d.t.job ≡ for_call = through-job d.t.job d.t.request d.who d.seq file d.block d.first d.last d.body asks (a.ticketed d.t d.has).fits in
               let called : is_some c.call ≡ true = a.called d.t d.has job in
@@ -312,16 +356,26 @@ module _ (most : ℕ) (head : Head) (known : (events : List Event) → KeepsBoun
               cc
 
       case : (done : Bool) → has_done_write (host_row w.server.kept c.who.host) c.who.inc file c.ticket ≡ done → HasHeld journal file block (value_of x.body)
-      case false q = revision-held (value_of x.body) (subst (λ n. HasValue (first_length head events) journal file n block (value_of x.body)) (sym rev ∙ sym (knows.revision ∙ ap (λ z. due z (revision_or_zero (revision_of file c.revisions))) q)) r.has)
+      case false q =
+          revision-held (value_of x.body)
+          (subst (λ n. HasValue (first_length head events) journal file n block (value_of x.body))
+          (sym rev ∙ sym (knows.revision ∙ ap (λ z. due z (revision_or_zero (revision_of file c.revisions))) q)) r.has)
       case true q =
           let d = done-write (host_row w.server.kept c.who.host) c.who.inc file c.ticket q in
           let seq : sequence_of d.t.request ≡ Some (host_row w.server.kept c.who.host).seq = ap sequence_of d.asks ∙ ap Some (sym d.decided) in
-          let does : IsDoneAs (first_length head events) journal (host_row w.server.kept c.who.host).value (Request.Write d.who d.seq file d.block d.first d.last d.push d.body) = subst (λ z. IsDoneAs (first_length head events) journal (host_row w.server.kept c.who.host).value z) d.asks (decided-as d.t d.has d.kept seq d.verdict) in
+          let does : IsDoneAs (first_length head events) journal (host_row w.server.kept c.who.host).value
+          (Request.Write d.who d.seq file d.block d.first d.last d.push d.body) = subst
+          (λ z. IsDoneAs (first_length head events) journal (host_row w.server.kept c.who.host).value z) d.asks
+          (decided-as d.t d.has d.kept seq d.verdict) in
           let value : (host_row w.server.kept c.who.host).value ≡ knows.f.rev = knows.value q in
-          let next : knows.f.rev ≡ r.revision.rev + 1 = knows.revision ∙ ap (λ z. due z (revision_or_zero (revision_of file c.revisions))) q ∙ ap (λ n. n + 1) rev in
-          revision-held (value_of x.body) (subst (λ n. HasValue (first_length head events) journal file n block (value_of x.body)) value (does.content.others r.revision.rev block (value_of x.body) (value ∙ next) (other-block d) r.has))
+          let next : knows.f.rev ≡ r.revision.rev + 1 = knows.revision ∙ ap (λ z. due z (revision_or_zero (revision_of file c.revisions))) q
+          ∙ ap (λ n. n + 1) rev in
+          revision-held (value_of x.body)
+          (subst (λ n. HasValue (first_length head events) journal file n block (value_of x.body)) value
+          (does.content.others r.revision.rev block (value_of x.body) (value ∙ next) (other-block d) r.has))
 
-  pushed-reads : (p : Push) → dirty_at file block c.dirty ≡ None → c.push ≡ Some p → p.file ≡ file → p.block ≡ block → IsStandingValue journal journal c.who file block (value_of p.body)
+  pushed-reads : (p : Push) → dirty_at file block c.dirty ≡ None → c.push ≡ Some p → p.file ≡ file → p.block ≡ block
+      → IsStandingValue journal journal c.who file block (value_of p.body)
   pushed-reads p none e of at = case ((facts.pushed p u.request r.seq e u.asks (ap sequence_of r.is)).stands)
     where
       u : IsPush c.ticket p
@@ -331,7 +385,9 @@ module _ (most : ℕ) (head : Head) (known : (events : List Event) → KeepsBoun
       r = push-request u.request.request p u.pushes
 
       place : IsStandingValue journal journal c.who p.file p.block (value_of p.body) → IsStandingValue journal journal c.who file block (value_of p.body)
-      place h = subst (λ n. IsStandingValue journal journal c.who file n (value_of p.body)) at (subst (λ n. IsStandingValue journal journal c.who n p.block (value_of p.body)) of h)
+      place h =
+          subst (λ n. IsStandingValue journal journal c.who file n (value_of p.body)) at
+          (subst (λ n. IsStandingValue journal journal c.who n p.block (value_of p.body)) of h)
 
       none_waits : (now : ℕ) → In journal (S c.who p.file p.block p.first p.last now) → NoneWaits journal c.who file block
       none_waits now i n v there = covered (facts.list.unsaved file block n v there)
@@ -343,7 +399,9 @@ module _ (most : ℕ) (head : Head) (known : (events : List Event) → KeepsBoun
               let same : q ≡ p = some-same q p (sym h ∙ e) in
               let from : q.first ≡ p.first = ap (λ z. z.first) same in
               let to : q.last ≡ p.last = ap (λ z. z.last) same in
-              subst (λ z. CoversNumber journal c.who file z n) at (subst (λ z. CoversNumber journal c.who z p.block n) of (store-covers journal c.who p.file p.block p.first p.last now n i (omega arith) (omega arith)))
+              subst (λ z. CoversNumber journal c.who file z n) at
+              (subst (λ z. CoversNumber journal c.who z p.block n) of
+              (store-covers journal c.who p.file p.block p.first p.last now n i (omega arith) (omega arith)))
 
       case : PushStands (host_row w.server.kept c.who.host) c.who r.seq journal p → IsStandingValue journal journal c.who file block (value_of p.body)
       case (waits undone clear) = place (pushed-stands p none e of at clear)
@@ -361,6 +419,12 @@ module _ (most : ℕ) (head : Head) (known : (events : List Event) → KeepsBoun
   cached-stands body has = case (has-body c file block body has)
     where
       case : HasBody c file block body → IsStandingValue journal journal c.who file block (value_of body)
-      case (is_dirty p i f g same) = subst (λ z. IsStandingValue journal journal c.who file block (value_of z)) same (subst (λ n. IsStandingValue journal journal c.who file n (value_of p.body)) g (subst (λ n. IsStandingValue journal journal c.who n p.block (value_of p.body)) f (dirty-stands p i f)))
+      case (is_dirty p i f g same) =
+          subst (λ z. IsStandingValue journal journal c.who file block (value_of z)) same
+          (subst (λ n. IsStandingValue journal journal c.who file n (value_of p.body)) g
+          (subst (λ n. IsStandingValue journal journal c.who n p.block (value_of p.body)) f (dirty-stands p i f)))
       case (is_pushed p none e f g same) = subst (λ z. IsStandingValue journal journal c.who file block (value_of z)) same (pushed-reads p none e f g)
-      case (is_clean x none unpushed e same) = subst (λ z. IsStandingValue journal journal c.who file block (value_of z)) same (held-stands journal c.who file block (value_of x.body) (none-waits (host_row w.server.kept c.who.host) c w.packets journal facts file block (clean-waits none unpushed)) (clean-held x unpushed e))
+      case (is_clean x none unpushed e same) =
+          subst (λ z. IsStandingValue journal journal c.who file block (value_of z)) same
+          (held-stands journal c.who file block (value_of x.body)
+          (none-waits (host_row w.server.kept c.who.host) c w.packets journal facts file block (clean-waits none unpushed)) (clean-held x unpushed e))

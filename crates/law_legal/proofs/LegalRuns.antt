@@ -35,7 +35,8 @@ each-in Fact [] e all i = absurd i
 each-in Fact (x ∷ j) e all (inl same) = subst Fact same all.0
 each-in Fact (x ∷ j) e all (inr i) = each-in Fact j e all.1 i
 
-counted-once : (whole after : List Entry) (e : Entry) (before : List Entry) (who : Who) (q : ℕ) → IsInOrder whole after e before → IsCountedBy whole who q e → Exists (IsCountedBy whole who q) before → ⊥
+counted-once : (whole after : List Entry) (e : Entry) (before : List Entry) (who : Who) (q : ℕ) → IsInOrder whole after e before
+    → IsCountedBy whole who q e → Exists (IsCountedBy whole who q) before → ⊥
 counted-once whole after (R by n file block v served) before who q order c h =
     let o : IsReadInOrder whole before by n = order c.1 in
     o.first (subst (λ z. Exists (IsCountedBy whole z n) before) (sym c.0.0) (subst (λ z. Exists (IsCountedBy whole who z) before) (sym c.0.1) h))
@@ -45,14 +46,20 @@ one-counted : (whole after j : List Entry) (who : Who) (q : ℕ) → AtEachPlace
 one-counted whole after [] who q order = tt
 one-counted whole after (e ∷ j) who q order = (λ c h. counted-once whole after e j who q order.0 c h, one-counted whole (e ∷ after) j who q order.1)
 
-module _ (journal : List Entry) (order : IsOrdered journal) (calls : AreOfTheirCall journal) (good : (who : Who) (q file block v : ℕ) (by : Option ℕ) (before : List Entry) → IsPlaced (R who q file block v by) before journal → IsCounted journal (R who q file block v by) → IsGood journal before who q file block v) (backed : (who : Who) (q v : ℕ) (said : Said) → In journal (A who q said) → GivesValue v said → IsBacked journal who q v) where
-  legal-read : (who : Who) (q file block v : ℕ) (by : Option ℕ) (before : List Entry) → IsPlaced (R who q file block v by) before journal → IsCounted journal (R who q file block v by) → IsLegalRead journal before who q file block v
+module _ (journal : List Entry) (order : IsOrdered journal) (calls : AreOfTheirCall journal)
+    (good : (who : Who) (q file block v : ℕ) (by : Option ℕ) (before : List Entry) → IsPlaced (R who q file block v by) before journal
+    → IsCounted journal (R who q file block v by) → IsGood journal before who q file block v)
+    (backed : (who : Who) (q v : ℕ) (said : Said) → In journal (A who q said) → GivesValue v said → IsBacked journal who q v) where
+  legal-read : (who : Who) (q file block v : ℕ) (by : Option ℕ) (before : List Entry) → IsPlaced (R who q file block v by) before journal
+      → IsCounted journal (R who q file block v by) → IsLegalRead journal before who q file block v
   legal-read who q file block v by before p counted =
       let g = good who q file block v by before p counted in
-      let c : IsOfItsCall journal (R who q file block v by) = each-in (IsOfItsCall journal) journal (R who q file block v by) calls (placed-in (R who q file block v by) before journal p) in
+      let c : IsOfItsCall journal (R who q file block v by) = each-in (IsOfItsCall journal) journal (R who q file block v by) calls
+      (placed-in (R who q file block v by) before journal p) in
       record { standing = g.standing; call = reads-reading file block (call_of journal who q) (c counted); answer = g.answer }
 
-  legal-answer : (who : Who) (q v : ℕ) (said : Said) → In journal (A who q said) → GivesValue v said → IsReading (call_of journal who q) → IsLegalAnswer journal who q v
+  legal-answer : (who : Who) (q v : ℕ) (said : Said) → In journal (A who q said) → GivesValue v said → IsReading (call_of journal who q)
+      → IsLegalAnswer journal who q v
   legal-answer who q v said i gives reading = record { read = case (backed who q v said i gives); only = one-counted journal [] journal who q order }
     where
       case : IsBacked journal who q v → Exists (IsCountedWith journal who q v) journal
@@ -62,7 +69,8 @@ module _ (journal : List Entry) (order : IsOrdered journal) (calls : AreOfTheirC
   legal-at : (e : Entry) (before : List Entry) → IsPlaced e before journal → IsLegalAt journal e before
   legal-at (R who q file block v by) before p = λ counted. legal-read who q file block v by before p counted
   legal-at (A who q (OkValue v)) before p = λ reading. legal-answer who q v (OkValue v) (placed-in (A who q (OkValue v)) before journal p) refl reading
-  legal-at (A who q (OkBy v packet)) before p = λ reading. legal-answer who q v (OkBy v packet) (placed-in (A who q (OkBy v packet)) before journal p) refl reading
+  legal-at (A who q (OkBy v packet)) before p =
+      λ reading. legal-answer who q v (OkBy v packet) (placed-in (A who q (OkBy v packet)) before journal p) refl reading
   legal-at other before p = tt
 
   pub legal : IsLegal journal
@@ -70,9 +78,12 @@ module _ (journal : List Entry) (order : IsOrdered journal) (calls : AreOfTheirC
 
 -- ---- every run
 
-module _ (most : ℕ) (head : Head) (known : (events : List Event) → KeepsBounds most head events → IsWithinSkew head.hosts most events → KnownOf head.hosts most (run head events) events) where
+module _ (most : ℕ) (head : Head)
+    (known : (events : List Event) → KeepsBounds most head events → IsWithinSkew head.hosts most events
+    → KnownOf head.hosts most (run head events) events) where
   pub run-legal : (events : List Event) → KeepsBounds most head events → IsWithinSkew head.hosts most events → IsLegal (run head events).journal
   run-legal events b within =
       let h = run-reads most head known events b within in
       let j = (calls-known most head events b within).journal in
-      legal (run head events).journal (ordered (run head events).journal j.placed j.spaced) (of-their-call (run head events).journal j.placed) h.counted h.answered
+      legal (run head events).journal (ordered (run head events).journal j.placed j.spaced) (of-their-call (run head events).journal j.placed) h.counted
+      h.answered

@@ -87,7 +87,8 @@ restart-adds w host c = record {
   next : Who
   next = next_incarnation c.who
 
-  attaching : (t : Ticket) → record { xid = 1; first = c.now; last = c.now; request = Request.Attach next; job = Job.attaching } ≡ t → t.job ≡ Job.for_call → (u : UnderWay) × (None ≡ Some u) × MadeFor t.request u
+  attaching : (t : Ticket) → record { xid = 1; first = c.now; last = c.now; request = Request.Attach next; job = Job.attaching } ≡ t
+      → t.job ≡ Job.for_call → (u : UnderWay) × (None ≡ Some u) × MadeFor t.request u
   attaching t one job = let other : Job.attaching ≡ Job.for_call = ap (λ z. z.job) one ∙ job in absurd (cc)
 
   none-read : (who : Who) (q file block v : ℕ) (by : Option ℕ) → (B next ≡ R who q file block v by) ⊎ ⊥ → ⊥
@@ -112,12 +113,15 @@ any-first : (file : ℕ) (ps : List Push) → list_any (is_push_of file) ps ≡ 
 any-first file [] any none = cc
 any-first file (p ∷ ps) any none = case (is_push_of file p) any none (any-first file ps)
   where
-    case : (b : Bool) → (b || list_any (is_push_of file) ps) ≡ true → (if b then Some p else first_dirty file ps) ≡ None → (list_any (is_push_of file) ps ≡ true → first_dirty file ps ≡ None → ⊥) → ⊥
+    case : (b : Bool) → (b || list_any (is_push_of file) ps) ≡ true → (if b then Some p else first_dirty file ps) ≡ None
+        → (list_any (is_push_of file) ps ≡ true → first_dirty file ps ≡ None → ⊥) → ⊥
     case true any none rest = none-some p (sym none)
     case false any none rest = rest any none
 
 any-dirty : (c : Client) (file : ℕ) → c.push ≡ None → is_clean c file ≡ false → list_any (is_push_of file) c.dirty ≡ true
-any-dirty c file none unclean = case (list_any (is_push_of file) c.dirty) (sym (ap (λ o. not (list_any (is_push_of file) c.dirty) && not (push_passes (is_push_of file) o)) none) ∙ unclean)
+any-dirty c file none unclean =
+    case (list_any (is_push_of file) c.dirty)
+    (sym (ap (λ o. not (list_any (is_push_of file) c.dirty) && not (push_passes (is_push_of file) o)) none) ∙ unclean)
   where
     case : (b : Bool) → (not b && not false) ≡ false → b ≡ true
     case true e = refl
@@ -126,7 +130,8 @@ any-dirty c file none unclean = case (list_any (is_push_of file) c.dirty) (sym (
 has-dirty : (c : Client) (file block : ℕ) (p : Push) → In c.dirty p → p.file ≡ file → p.block ≡ block → cached_body c file block ≡ None → ⊥
 has-dirty c file block p i f g none = case (dirty_at file block c.dirty) refl none
   where
-    case : (o : Option Push) → dirty_at file block c.dirty ≡ o → held_body o (pushed_body file block c.push) (clean_body (clean_at file block c.clean)) ≡ None → ⊥
+    case : (o : Option Push) → dirty_at file block c.dirty ≡ o
+        → held_body o (pushed_body file block c.push) (clean_body (clean_at file block c.clean)) ≡ None → ⊥
     case None e h = find-none (is_push_at file block) c.dirty p e i (at-is file block p f g)
     case (Some q) e h = none-some q.body (sym h)
 
@@ -134,7 +139,8 @@ to-push-unclean : (c : Client) (l : Lease) → is_to_push c l ≡ true → is_cl
 to-push-unclean c l is = not-true _ (and_parts _ _ (and_parts _ _ is).0).1
 
 none-to-push : (c : Client) (file : ℕ) (l : Lease) → l.file ≡ file → is_to_push c l ≡ true → c.push ≡ None → first_dirty file c.dirty ≡ None → ⊥
-none-to-push c file l of due unpushed none = any-first file c.dirty (any-dirty c file unpushed (subst (λ n. is_clean c n ≡ false) of (to-push-unclean c l due))) none
+none-to-push c file l of due unpushed none =
+    any-first file c.dirty (any-dirty c file unpushed (subst (λ n. is_clean c n ≡ false) of (to-push-unclean c l due))) none
 
 lease-in : (file : ℕ) (ls : List Lease) (l : Lease) → lease_on file ls ≡ Some l → In ls l
 lease-in file [] l e = none-some l e
@@ -156,15 +162,22 @@ least-exists : (p : Lease → Bool) (ls : List Lease) (l : Lease) → In ls l �
 least-exists p [] l i is = absurd i
 least-exists p (m ∷ ls) l i is = case (p m) refl i (least-exists p ls l)
   where
-    case : (b : Bool) → p m ≡ b → (m ≡ l) ⊎ In ls l → (In ls l → p l ≡ true → (f : ℕ) × (least (map file_of_lease (filter p ls)) ≡ Some f)) → (f : ℕ) × (least (map file_of_lease (if b then m ∷ filter p ls else filter p ls)) ≡ Some f)
+    case : (b : Bool) → p m ≡ b → (m ≡ l) ⊎ In ls l → (In ls l → p l ≡ true → (f : ℕ) × (least (map file_of_lease (filter p ls)) ≡ Some f))
+        → (f : ℕ) × (least (map file_of_lease (if b then m ∷ filter p ls else filter p ls)) ≡ Some f)
     case true e j rest = least-some m.file (least (map file_of_lease (filter p ls)))
     case false e (inl same) rest = let yes : p m ≡ true = ap p same ∙ is in absurd (cc)
     case false e (inr j) rest = rest j is
 
-module _ (most : ℕ) (head : Head) (known : (events : List Event) → KeepsBounds most head events → IsWithinSkew head.hosts most events → KnownOf head.hosts most (run head events) events) where
+module _ (most : ℕ) (head : Head)
+    (known : (events : List Event) → KeepsBounds most head events → IsWithinSkew head.hosts most events
+    → KnownOf head.hosts most (run head events) events) where
   -- a READ that was made now: no own write on its block waits
-  fresh-waits : (events : List Event) (b : KeepsBounds most head events) (within : IsWithinSkew head.hosts most events) (host : ℕ) (t : ClientStep) → slice_get (run head events).clients host ≡ Some t.client → (who : Who) (q file block : ℕ) (want : Option Want) → NewRead t who q file block want → NoneWaits (run head events).journal t.client.who file block
-  fresh-waits events b within host t is who q file block want new = none-waits (host_row (run head events).server.kept host) t.client (run head events).packets (run head events).journal ((known events b within).writes host t.client is) file block none
+  fresh-waits : (events : List Event) (b : KeepsBounds most head events) (within : IsWithinSkew head.hosts most events) (host : ℕ) (t : ClientStep)
+      → slice_get (run head events).clients host ≡ Some t.client → (who : Who) (q file block : ℕ) (want : Option Want) → NewRead t who q file block want
+      → NoneWaits (run head events).journal t.client.who file block
+  fresh-waits events b within host t is who q file block want new =
+      none-waits (host_row (run head events).server.kept host) t.client (run head events).packets (run head events).journal
+      ((known events b within).writes host t.client is) file block none
     where
       k : KnownOf head.hosts most (run head events) events
       k = known events b within
@@ -180,7 +193,8 @@ module _ (most : ℕ) (head : Head) (known : (events : List Event) → KeepsBoun
       unpushed (Some p) e = absurd (no-push p e)
 
       -- a lease that has run out over delayed writes is one to push for
-      run-out : (p : Push) (l : Lease) → In t.client.dirty p → p.file ≡ file → lease_on file t.client.leases ≡ Some l → is_writing l.mode ≡ true → nat_lt t.client.now l.expiry ≡ false → ⊥
+      run-out : (p : Push) (l : Lease) → In t.client.dirty p → p.file ≡ file → lease_on file t.client.leases ≡ Some l → is_writing l.mode ≡ true
+          → nat_lt t.client.now l.expiry ≡ false → ⊥
       run-out p l i f held writes past =
           let of : l.file ≡ file = same-number l.file file (find-passes (λ m. m.file == file) l t.client.leases held) in
           let unclean : is_clean t.client l.file ≡ false = subst (λ n. is_clean t.client n ≡ false) (f ∙ sym of) (unclean-entry t.client p (inl i)) in
@@ -207,14 +221,16 @@ module _ (most : ℕ) (head : Head) (known : (events : List Event) → KeepsBoun
       none n (under_way p e f g low high) = no-push p e
       none n (in_list p i f g low high) = dirty-free p i f g
 
-  rises : (events : List Event) (b : KeepsBounds most head events) (within : IsWithinSkew head.hosts most events) → Throughout IsRising (run head events).journal
+  rises : (events : List Event) (b : KeepsBounds most head events) (within : IsWithinSkew head.hosts most events)
+      → Throughout IsRising (run head events).journal
   rises events b within = (known events b within).journal.rising
 
   journal-is : (w : World) (host : ℕ) (t : ClientStep) (P : List Entry → Type 0) → P (after_client w host t).journal → P (t.entries ++ w.journal)
   unfolding after_client
   journal-is w host t P h = h
 
-  client-is : (w : World) (host : ℕ) (c : Client) (t : ClientStep) → slice_get w.clients host ≡ Some c → slice_get (after_client w host t).clients host ≡ Some t.client
+  client-is : (w : World) (host : ℕ) (c : Client) (t : ClientStep) → slice_get w.clients host ≡ Some c
+      → slice_get (after_client w host t).clients host ≡ Some t.client
   unfolding after_client
   client-is w host c t is = set-there w.clients host t.client c is
 
@@ -224,7 +240,9 @@ module _ (most : ℕ) (head : Head) (known : (events : List Event) → KeepsBoun
 
   -- ---- a client's step
 
-  module _ (e : Event) (events : List Event) (during : During most head e events) (host : ℕ) (c : Client) (t : ClientStep) (there : slice_get (run head events).clients host ≡ Some c) (is : run head (e ∷ events) ≡ after_client (run head events) host t) (h : ReadsFit (run head events)) where
+  module _ (e : Event) (events : List Event) (during : During most head e events) (host : ℕ) (c : Client) (t : ClientStep)
+      (there : slice_get (run head events).clients host ≡ Some c) (is : run head (e ∷ events) ≡ after_client (run head events) host t)
+      (h : ReadsFit (run head events)) where
     abbrev w : World
     w = run head events
 
@@ -241,15 +259,25 @@ module _ (most : ℕ) (head : Head) (known : (events : List Event) → KeepsBoun
     rests = to-now (Throughout Rests) ((rests-on most head known (e ∷ events) during.bounds_after during.within_after).stores)
 
     after : (u : UnderWay) → t.client.call ≡ Some u → IsOpenAsTold t.client.who t.client.calls u (t.entries ++ w.journal)
-    after u going = to-now (λ j. IsOpenAsTold t.client.who t.client.calls u j) (((calls-known most head (e ∷ events) during.bounds_after during.within_after).clients host t.client now-there).calls_fit.under_way u going)
+    after u going =
+        to-now (λ j. IsOpenAsTold t.client.who t.client.calls u j)
+        (((calls-known most head (e ∷ events) during.bounds_after during.within_after).clients host t.client now-there).calls_fit.under_way u going)
 
-    cached : (who : Who) → t.client.who ≡ who → (file block : ℕ) (lease : Lease) (body : List ℕ) → IsHeld t.client file block lease → lets_read t.client.now lease ≡ true → cached_body t.client file block ≡ Some body → t.client.call ≡ None → IsStandingValue (t.entries ++ w.journal) (t.entries ++ w.journal) who file block (value_of body)
+    cached : (who : Who) → t.client.who ≡ who → (file block : ℕ) (lease : Lease) (body : List ℕ) → IsHeld t.client file block lease
+        → lets_read t.client.now lease ≡ true → cached_body t.client file block ≡ Some body → t.client.call ≡ None
+        → IsStandingValue (t.entries ++ w.journal) (t.entries ++ w.journal) who file block (value_of body)
     cached who mine file block lease body held lets has idle =
-        to-now (λ j. IsStandingValue j j who file block (value_of body)) (subst (λ z. IsStandingValue (run head (e ∷ events)).journal (run head (e ∷ events)).journal z file block (value_of body)) mine
-        (cached-stands most head known (e ∷ events) during.bounds_after during.within_after host t.client now-there file block lease held.held lets idle body has))
+        to-now (λ j. IsStandingValue j j who file block (value_of body))
+        (subst (λ z. IsStandingValue (run head (e ∷ events)).journal (run head (e ∷ events)).journal z file block (value_of body)) mine
+        (cached-stands most head known (e ∷ events) during.bounds_after during.within_after host t.client now-there file block lease held.held lets idle
+        body has))
 
-    fresh : (by : Who) → t.client.who ≡ by → (who : Who) (q file block : ℕ) (want : Option Want) → NewRead t who q file block want → NoneWaits (t.entries ++ w.journal) by file block
-    fresh by mine who q file block want new = to-now (λ j. NoneWaits j by file block) (subst (λ z. NoneWaits (run head (e ∷ events)).journal z file block) mine (fresh-waits (e ∷ events) during.bounds_after during.within_after host t now-there who q file block want new))
+    fresh : (by : Who) → t.client.who ≡ by → (who : Who) (q file block : ℕ) (want : Option Want) → NewRead t who q file block want
+        → NoneWaits (t.entries ++ w.journal) by file block
+    fresh by mine who q file block want new =
+        to-now (λ j. NoneWaits j by file block)
+        (subst (λ z. NoneWaits (run head (e ∷ events)).journal z file block) mine
+        (fresh-waits (e ∷ events) during.bounds_after during.within_after host t now-there who q file block want new))
 
     k0 : KnownOf head.hosts most w events
     k0 = known events during.bounds during.within
@@ -257,17 +285,25 @@ module _ (most : ℕ) (head : Head) (known : (events : List Event) → KeepsBoun
     a : IsAt host c w.packets
     a = k0.holds.clients host c there
 
-    done-adds : (k : ℕ) (m : Message) → Accesses c.who t → Done c (ValuedBy c k m) t → ((x inc rev : ℕ) (body : List ℕ) (grant : Option Grant) → m ≡ reply x (Reply.Read inc rev body grant) → slice_get w.packets k ≡ Some (to_host host (reply x (Reply.Read inc rev body grant)))) → ReadsFit (after_client w host t)
+    done-adds : (k : ℕ) (m : Message) → Accesses c.who t → Done c (ValuedBy c k m) t
+        → ((x inc rev : ℕ) (body : List ℕ) (grant : Option Grant) → m ≡ reply x (Reply.Read inc rev body grant)
+        → slice_get w.packets k ≡ Some (to_host host (reply x (Reply.Read inc rev body grant)))) → ReadsFit (after_client w host t)
     done-adds k m accesses done heard_in =
         reads-after w host t k0.holds rising rests
-        (step-adds w host c t k m there k0.holds (calls-known most head events during.bounds during.within) after rising rests accesses done heard_in (cached c.who done.tells.who_is) (fresh c.who done.tells.who_is) h) h
+        (step-adds w host c t k m there k0.holds (calls-known most head events during.bounds during.within) after rising rests accesses done heard_in
+        (cached c.who done.tells.who_is) (fresh c.who done.tells.who_is) h) h
 
-    no-message : (x inc rev : ℕ) (body : List ℕ) (grant : Option Grant) → call 0 Request.Null ≡ reply x (Reply.Read inc rev body grant) → slice_get w.packets 0 ≡ Some (to_host host (reply x (Reply.Read inc rev body grant)))
+    no-message : (x inc rev : ℕ) (body : List ℕ) (grant : Option Grant) → call 0 Request.Null ≡ reply x (Reply.Read inc rev body grant)
+        → slice_get w.packets 0 ≡ Some (to_host host (reply x (Reply.Read inc rev body grant)))
     no-message x inc rev body grant bad = absurd (cc)
 
     acts-fit : ClientActs w host c t → ReadsFit (after_client w host t)
-    acts-fit (called op eq) = done-adds 0 (call 0 Request.Null) (subst (Accesses c.who) (sym eq) (call-accesses c op a.alone)) (weaker c 0 (call 0 Request.Null) t (subst (Done c NoneValued) (sym eq) (call-done c ((h.clients host c there).ticketed) op))) no-message
-    acts-fit (ticked eq) = done-adds 0 (call 0 Request.Null) (subst (Accesses c.who) (sym eq) (tick-accesses c (c.now + 1) a.alone)) (weaker c 0 (call 0 Request.Null) t (subst (Done c NoneValued) (sym eq) (tick-done c ((h.clients host c there).ticketed) (c.now + 1)))) no-message
+    acts-fit (called op eq) =
+        done-adds 0 (call 0 Request.Null) (subst (Accesses c.who) (sym eq) (call-accesses c op a.alone))
+        (weaker c 0 (call 0 Request.Null) t (subst (Done c NoneValued) (sym eq) (call-done c ((h.clients host c there).ticketed) op))) no-message
+    acts-fit (ticked eq) =
+        done-adds 0 (call 0 Request.Null) (subst (Accesses c.who) (sym eq) (tick-accesses c (c.now + 1) a.alone))
+        (weaker c 0 (call 0 Request.Null) t (subst (Done c NoneValued) (sym eq) (tick-done c ((h.clients host c there).ticketed) (c.now + 1)))) no-message
     acts-fit (restarted eq) = reads-after w host t k0.holds rising rests (subst (Adds w host) (sym eq) (restart-adds w host c)) h
     acts-fit (heard k p sent to hears) =
         let i = in-get w.packets k p sent in
@@ -277,7 +313,8 @@ module _ (most : ℕ) (head : Head) (known : (events : List Event) → KeepsBoun
 
   -- ---- a server's step
 
-  module _ (e : Event) (events : List Event) (during : During most head e events) (t : ServerStep) (is : run head (e ∷ events) ≡ after_server (run head events) t) (h : ReadsFit (run head events)) where
+  module _ (e : Event) (events : List Event) (during : During most head e events) (t : ServerStep)
+      (is : run head (e ∷ events) ≡ after_server (run head events) t) (h : ReadsFit (run head events)) where
     abbrev v : World
     v = run head events
 
@@ -302,13 +339,22 @@ module _ (most : ℕ) (head : Head) (known : (events : List Event) → KeepsBoun
             let i = in-get v.packets n p sent in
             go-on (subst (λ z. AllSaid v.packets z.sends) (sym eq) (received-said v p i to k.holds))
             (subst (λ z. Never z.entries) (sym eq) (receive-never v.server (sending_host p.sender) (length v.packets) (datagram_of p.message)))
-            (subst (ServesRead v.packets v.server (length v.packets)) (sym eq) (receive-reads v.packets v.server (sending_host p.sender) (length v.packets) (datagram_of p.message) (λ xid r d. (to-server v.packets p (k.holds.sent p i) to i xid r d).0)))
-        go (ticks eq) = go-on (subst (λ z. AllSaid v.packets z.sends) (sym eq) (tick-said v.packets v.server (v.server.now + 1))) (subst (λ z. Never z.entries) (sym eq) (tick-never v.server (v.server.now + 1))) (subst (ServesRead v.packets v.server (length v.packets)) (sym eq) (tick-reads v.packets v.server (length v.packets) (v.server.now + 1)))
-        go (crashes longest eq) = go-on (subst (λ z. AllSaid v.packets z.sends) (sym eq) (crash-said v.packets v.server longest)) (subst (λ z. Never z.entries) (sym eq) (crash-never v.server longest)) (subst (ServesRead v.packets v.server (length v.packets)) (sym eq) (crash-reads v.packets v.server (length v.packets) longest))
+            (subst (ServesRead v.packets v.server (length v.packets)) (sym eq)
+            (receive-reads v.packets v.server (sending_host p.sender) (length v.packets) (datagram_of p.message)
+            (λ xid r d. (to-server v.packets p (k.holds.sent p i) to i xid r d).0)))
+        go (ticks eq) =
+            go-on (subst (λ z. AllSaid v.packets z.sends) (sym eq) (tick-said v.packets v.server (v.server.now + 1)))
+            (subst (λ z. Never z.entries) (sym eq) (tick-never v.server (v.server.now + 1)))
+            (subst (ServesRead v.packets v.server (length v.packets)) (sym eq) (tick-reads v.packets v.server (length v.packets) (v.server.now + 1)))
+        go (crashes longest eq) =
+            go-on (subst (λ z. AllSaid v.packets z.sends) (sym eq) (crash-said v.packets v.server longest))
+            (subst (λ z. Never z.entries) (sym eq) (crash-never v.server longest))
+            (subst (ServesRead v.packets v.server (length v.packets)) (sym eq) (crash-reads v.packets v.server (length v.packets) longest))
 
   -- ---- every run
 
-  goes : (e : Event) (events : List Event) → During most head e events → Changes (run head events) (run head (e ∷ events)) → ReadsFit (run head events) → ReadsFit (run head (e ∷ events))
+  goes : (e : Event) (events : List Event) → During most head e events → Changes (run head events) (run head (e ∷ events)) → ReadsFit (run head events)
+      → ReadsFit (run head (e ∷ events))
   goes e events during (nothing is) h = subst ReadsFit (sym is) h
   goes e events during (by_client host c t there acts is) h = subst ReadsFit (sym is) (acts-fit e events during host c t there is h acts)
   goes e events during (by_server t acts is) h = subst ReadsFit (sym is) (s-fits e events during t is h acts)

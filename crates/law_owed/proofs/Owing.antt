@@ -1,5 +1,5 @@
 -- A server sends one reply to each datagram that is owed one, and nothing to another.
-use Rattle.std.proofs.Common.{◌≡◌, ◌⊎◌, ℕ, ◌==◌, Bool, true, false, not, ◌&&◌, nat_lt, List, [], ◌∷◌, ◌++◌, Option, Some, None, if◌then◌else◌, refl, sym, subst, ap, ◌∙◌, inl, inr, arith}
+use Rattle.std.proofs.Common.{◌≡◌, ◌⊎◌, ℕ, ◌==◌, Bool, true, false, not, ◌&&◌, nat_lt, List, [], ◌∷◌, ◌++◌, Option, Some, None, if◌then◌else◌, refl, sym, subst, ap, inl, inr, arith}
 use Rattle.std.proofs.lemmas.Bool.Decides.{nat_tests}
 use Rattle.std.specs.Prelude.{slice_get}
 use Rattle.nq_base.specs.declared.Access.{Access}
@@ -13,7 +13,7 @@ use Rattle.nq_base.specs.declared.Tag.{Tag}
 use Rattle.nq_base.specs.declared.Verdict.{Verdict}
 use Rattle.nq_base.specs.declared.Want.{Want}
 use Rattle.nq_base.specs.declared.Who.{Who}
-use Rattle.nq_promises.specs.RepliesAreOwed.{has_reply, goes_out, is_out_of_bounds, owes_incarnation, owes_request, owes, CanBe, IsReply, brings_result, brings_error, IsReplied, AnswersAsOwed, RepliesAreOwed}
+use Rattle.nq_promises.specs.RepliesAreOwed.{has_reply, goes_out, is_out_of_bounds, owes_incarnation, owes_request, owes, CanBe, IsReply, brings_result, brings_error, IsReplied, RepliesAreOwed}
 use Rattle.nq_model.specs.Decide.{Decision, decide, decides, creates, writes_through, stores, stores_recovering, resizes, removes, puts_off, verdict_reply, row_after, commits, decided_once}
 use Rattle.nq_model.specs.Kept.{File, find_file, find_name, can_be_kept, host_row}
 use Rattle.nq_model.specs.Message.{Message, reply, Packet, Datagram, too_long, no_message, no_call, other_rpc, other_program, other_version, unknown_procedure, garbage_vacated, garbage, request, Reason, wrong_host, asker}
@@ -64,7 +64,8 @@ module _ (s : Server) where
   unfolding tells_later
   later who xid table rows = inr (record { rows = rows; answer = _; is = refl; replies = brings_result who.host xid _ refl })
 
-  serving-one : (who : Who) (xid next q : ℕ) (f : File) (block : ℕ) (body : List ℕ) (table : Table) (o : Option Grant) → Shaped s (serves s who xid next q f block body table o)
+  serving-one : (who : Who) (xid next q : ℕ) (f : File) (block : ℕ) (body : List ℕ) (table : Table) (o : Option Grant)
+      → Shaped s (serves s who xid next q f block body table o)
   unfolding serves
   serving-one who xid next q f block body table o = inr (record { rows = []; answer = _; is = refl; replies = brings_result who.host xid _ refl })
 
@@ -76,7 +77,14 @@ module _ (s : Server) where
   unfolding commits
   committing who seq xid r d rows is =
       let answer = to_host who.host (reply xid (verdict_reply who.inc d.verdict d.value r)) in
-      inr (record { rows = rows; answer = answer; is = ap (λ z. z ++ answer ∷ []) is; replies = brings_result who.host xid (verdict_reply who.inc d.verdict d.value r) refl })
+      inr
+      (record {
+        rows = rows;
+        answer = answer;
+        is = ap (λ z. z ++ answer ∷ []) is;
+        replies = brings_result who.host xid
+            (verdict_reply who.inc d.verdict d.value r) refl;
+      })
 
   declining : (who : Who) (seq xid : ℕ) (r : Request) (v : Verdict) → Shaped s (commits who seq xid r (decides s v))
   unfolding decides
@@ -90,15 +98,18 @@ module _ (s : Server) where
   unfolding creates
   creating who seq xid r name blocks = committing who seq xid r (creates s name blocks) [] refl
 
-  writing-through : (who : Who) (seq xid : ℕ) (r : Request) (f : File) (block number : ℕ) (body : List ℕ) → Shaped s (commits who seq xid r (writes_through s who f block number body))
+  writing-through : (who : Who) (seq xid : ℕ) (r : Request) (f : File) (block number : ℕ) (body : List ℕ)
+      → Shaped s (commits who seq xid r (writes_through s who f block number body))
   unfolding writes_through
   writing-through who seq xid r f block number body = committing who seq xid r (writes_through s who f block number body) [] refl
 
-  storing : (who : Who) (seq xid : ℕ) (r : Request) (f : File) (row : Row) (block a b : ℕ) (body : List ℕ) → Shaped s (commits who seq xid r (stores s who f row block a b body))
+  storing : (who : Who) (seq xid : ℕ) (r : Request) (f : File) (row : Row) (block a b : ℕ) (body : List ℕ)
+      → Shaped s (commits who seq xid r (stores s who f row block a b body))
   unfolding stores
   storing who seq xid r f row block a b body = committing who seq xid r (stores s who f row block a b body) [] refl
 
-  storing-recovering : (until : ℕ) (last : Option Table) (who : Who) (seq xid : ℕ) (r : Request) (f : File) (block a b : ℕ) (body : List ℕ) → Shaped s (commits who seq xid r (stores_recovering s until last who f block a b body))
+  storing-recovering : (until : ℕ) (last : Option Table) (who : Who) (seq xid : ℕ) (r : Request) (f : File) (block a b : ℕ) (body : List ℕ)
+      → Shaped s (commits who seq xid r (stores_recovering s until last who f block a b body))
   unfolding stores_recovering
   storing-recovering until last who seq xid r f block a b body = committing who seq xid r (stores_recovering s until last who f block a b body) [] refl
 
@@ -132,7 +143,9 @@ module _ (s : Server) where
     creating = λ xid who seq blocks name e fresh serves can. creating who seq xid _ name blocks;
     writing_through = λ xid who seq block first last body f e changing below c. writing-through who seq xid _ f block first body;
     storing = λ xid who seq block first last base body f row e changing below can. storing who seq xid _ f row block first last body;
-    storing_recovering = λ xid who seq block first final base body f until heard last e fresh p found below boot rev. storing-recovering until last who seq xid _ f block first final body;
+    storing_recovering =
+        λ xid who seq block first final base body f until heard last e fresh p found below boot rev. storing-recovering until last who seq xid _ f block
+        first final body;
     resizing = λ xid who seq q blocks f e changing can c. resizing who seq xid _ q f blocks;
     removing = λ xid who seq q f e changing c. removing who seq xid _ q f;
   })
@@ -214,7 +227,8 @@ module _ (s : Server) where
   unfolding tells_later
   told-later who xid table rows e = more-sent _ _ e
 
-  served : (who : Who) (xid next q : ℕ) (f : File) (block : ℕ) (body : List ℕ) (table : Table) (o : Option Grant) → Sends (serves s who xid next q f block body table o)
+  served : (who : Who) (xid next q : ℕ) (f : File) (block : ℕ) (body : List ℕ) (table : Table) (o : Option Grant)
+      → Sends (serves s who xid next q f block body table o)
   unfolding serves
   served who xid next q f block body table o e = cc
 
@@ -226,13 +240,15 @@ module _ (s : Server) where
   unfolding commits
   committed who seq xid r d e = more-sent d.sends _ e
 
-  read-sends : (who : Who) (xid next q : ℕ) (f : File) (block : ℕ) (body : List ℕ) (access : Access) (table : Table) (a : Asked) → Sends (read_asked s who xid next q f block body access table a)
+  read-sends : (who : Who) (xid next q : ℕ) (f : File) (block : ℕ) (body : List ℕ) (access : Access) (table : Table) (a : Asked)
+      → Sends (read_asked s who xid next q f block body access table a)
   read-sends who xid next q f block body access table (Asked.TryLater clash) = told-later who xid table _
   read-sends who xid next q f block body access table (Asked.Granted g) = served who xid next q f block body table (Some g)
   read-sends who xid next q f block body access table Asked.Free = served who xid next q f block body table None
   read-sends who xid next q f block body access table Asked.NoLease = served who xid next q f block body table None
 
-  block-sends : (who : Who) (xid next q : ℕ) (f : File) (block : ℕ) (want : Option Want) (o : Option (List ℕ)) → Sends (read_block s who xid next q f block want o)
+  block-sends : (who : Who) (xid next q : ℕ) (f : File) (block : ℕ) (want : Option Want) (o : Option (List ℕ))
+      → Sends (read_block s who xid next q f block want o)
   block-sends who xid next q f block want None = said who.host _
   block-sends who xid next q f block want (Some body) = read-sends who xid next q f block body _ _ _
 
@@ -324,7 +340,8 @@ module _ (s : Server) where
           (λ e. choice Sends (nat_lt who.inc line.inc) _ _ (λ old. absurd (cc)) (λ f.
           choice Sends (nat_lt line.inc who.inc) _ _ (λ g. unattached who xid r parts.0) (λ g. performs who xid next line r young g by parts.0 parts.1)))
 
-  requests : (sender xid next : ℕ) (r : Request) (o : Option Who) → asker r ≡ o → owes_request s sender r o ≡ true → Sends (answer_request s sender xid next r o)
+  requests : (sender xid next : ℕ) (r : Request) (o : Option Who) → asker r ≡ o → owes_request s sender r o ≡ true
+      → Sends (answer_request s sender xid next r o)
   requests sender xid next r None by owed = said sender _
   requests sender xid next r (Some who) by owed = step (who.host == sender && nat_lt who.host most_hosts) owed
     where
@@ -360,14 +377,19 @@ module _ (s : Server) where
   abbrev Silent : ServerStep → Type 0
   Silent t = t.sends ≡ []
 
-  old-silent : (who : Who) (xid next : ℕ) (r : Request) (line : HostRow) → nat_lt who.inc line.inc ≡ true → nat_lt line.inc who.inc ≡ false → Silent (admit s who xid next r line)
+  old-silent : (who : Who) (xid next : ℕ) (r : Request) (line : HostRow) → nat_lt who.inc line.inc ≡ true → nat_lt line.inc who.inc ≡ false
+      → Silent (admit s who xid next r line)
   old-silent who xid next r line old other =
       choice Silent (is_attach r) _ _
-      (λ e. choice Silent (nat_lt line.inc who.inc) _ _ (λ f. absurd (cc)) (λ f. choice Silent (nat_lt who.inc line.inc) _ _ (λ g. dropped _) (λ g. absurd (cc))))
+      (λ e. choice Silent (nat_lt line.inc who.inc) _ _ (λ f. absurd (cc))
+      (λ f. choice Silent (nat_lt who.inc line.inc) _ _ (λ g. dropped _) (λ g. absurd (cc))))
       (λ e. choice Silent (nat_lt who.inc line.inc) _ _ (λ f. dropped _) (λ f. absurd (cc)))
 
-  mute : (who : Who) (xid next : ℕ) (r : Request) (line : HostRow) → CanBe (request xid r) → nat_lt who.inc line.inc ≡ false → has_reply r ≡ false → Silent (admit s who xid next r line)
-  mute who xid next (Request.Vacated w file tag) line can young has = choice Silent (nat_lt who.inc line.inc) _ _ (λ e. absurd (cc)) (λ e. choice Silent (nat_lt line.inc who.inc) _ _ (λ f. quiet-none) (λ f. vacated-none who file tag))
+  mute : (who : Who) (xid next : ℕ) (r : Request) (line : HostRow) → CanBe (request xid r) → nat_lt who.inc line.inc ≡ false → has_reply r ≡ false
+      → Silent (admit s who xid next r line)
+  mute who xid next (Request.Vacated w file tag) line can young has =
+      choice Silent (nat_lt who.inc line.inc) _ _ (λ e. absurd (cc))
+      (λ e. choice Silent (nat_lt line.inc who.inc) _ _ (λ f. quiet-none) (λ f. vacated-none who file tag))
   mute who xid next (Request.Evicted w file tag) line can young has = absurd can
   mute who xid next Request.Null line can young has = absurd (cc)
   mute who xid next (Request.Attach w) line can young has = absurd (cc)
@@ -424,7 +446,8 @@ module _ (s : Server) where
       by-age true old e = old-silent who xid next r line old (older who.inc line.inc old)
       by-age false young has = by-cause young (unowed-parts (has_reply r) (is_out_of_bounds s who r line) has)
 
-  requests-silent : (sender xid next : ℕ) (r : Request) (o : Option Who) → CanBe (request xid r) → owes_request s sender r o ≡ false → Silent (answer_request s sender xid next r o)
+  requests-silent : (sender xid next : ℕ) (r : Request) (o : Option Who) → CanBe (request xid r) → owes_request s sender r o ≡ false
+      → Silent (answer_request s sender xid next r o)
   requests-silent sender xid next r None can unowed = absurd (cc)
   requests-silent sender xid next r (Some who) can unowed = step (who.host == sender && nat_lt who.host most_hosts) unowed
     where

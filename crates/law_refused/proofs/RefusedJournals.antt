@@ -1,11 +1,9 @@
 -- Journals that only these laws refuse.
-use Rattle.std.proofs.Common.{◌≡◌, ◌⊎◌, ℕ, List, refl, ap, arith, inl, inr}
-use Rattle.std.specs.Prelude.{IsTrue}
+use Rattle.std.proofs.Common.{◌≡◌, ◌⊎◌, ℕ, refl, ap, arith, inl, inr}
 use Rattle.nq_base.specs.declared.Who.{Who}
 use Rattle.nq_promises.specs.AnswersAreOfTheirCalls.{AnswersAreOfTheirCalls}
 use Rattle.nq_promises.specs.BusyIsSaidAtOnce.{BusyIsSaidAtOnce}
-use Rattle.nq_promises.specs.OksHaveTheirDeeds.{OksHaveTheirDeeds}
-use Rattle.law_refused.specs.Refused.{passes, a_vanished_write, an_answer_to_no_call, a_late_busy, OnlyDeedsRefuse, OnlyCallsRefuse, OnlyBusyRefuses}
+use Rattle.law_refused.specs.Refused.{a_vanished_write, a_late_busy, OnlyDeedsRefuse, OnlyCallsRefuse, OnlyBusyRefuses}
 
 abbrev first-host : Who
 first-host = record { host = 0; inc = 1 }

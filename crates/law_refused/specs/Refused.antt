@@ -17,7 +17,8 @@ use Rattle.nq_promises.specs.OksHaveTheirDeeds.{OksHaveTheirDeeds}
 -- whether a journal passes the tests of all other laws of journals
 abbrev pub passes : (journal : List Entry) → Bool
 passes journal =
-    is_legal journal && is_ordered journal && are_of_their_call journal && is_accounted journal && is_excused journal && is_reported journal && is_synchronized journal
+    is_legal journal && is_ordered journal && are_of_their_call journal && is_accounted journal && is_excused journal && is_reported journal &&
+    is_synchronized journal
 
 -- a write is answered ok and has vanished: the same client reads zeros then
 abbrev pub a_vanished_write : List Entry

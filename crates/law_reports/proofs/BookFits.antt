@@ -36,31 +36,36 @@ pub record Counted (who : Who) (number : ℕ) (dirty : List Push) (push : Option
   pub waiting : (n : ℕ) → tally (loss_at n) losses ≤ tally (lost_at who n) j
 
 -- an entry that is no L
-pub counted-entry : {who : Who} {number : ℕ} {dirty : List Push} {push : Option Push} {losses : List Loss} {j : List Entry} (e : Entry) → ((n : ℕ) → lost_at who n e ≡ 0) → Counted who number dirty push losses j → Counted who number dirty push losses (e ∷ j)
+pub counted-entry : {who : Who} {number : ℕ} {dirty : List Push} {push : Option Push} {losses : List Loss} {j : List Entry} (e : Entry)
+    → ((n : ℕ) → lost_at who n e ≡ 0) → Counted who number dirty push losses j → Counted who number dirty push losses (e ∷ j)
 counted-entry {who = who} {j = j} e none h = record {
   once = λ n. let here = none n in let split = tally-cons (lost_at who n) e j in let before = h.once n in omega arith;
   below = λ n above. let here = none n in let split = tally-cons (lost_at who n) e j in let before = h.below n above in omega arith;
   waiting = λ n. let here = none n in let split = tally-cons (lost_at who n) e j in let before = h.waiting n in omega arith;
 }
 
-counted-fewer : {who : Who} {number : ℕ} {dirty : List Push} {push : Option Push} {losses : List Loss} {j : List Entry} (file : ℕ) → Counted who number dirty push losses j → Counted who number dirty push (other_losses file losses) j
+counted-fewer : {who : Who} {number : ℕ} {dirty : List Push} {push : Option Push} {losses : List Loss} {j : List Entry} (file : ℕ)
+    → Counted who number dirty push losses j → Counted who number dirty push (other_losses file losses) j
 counted-fewer {losses = losses} file h = record {
   once = h.once;
   below = h.below;
   waiting = λ n. let split = tally-split (loss_at n) (λ l. l.file == file) losses in let before = h.waiting n in omega arith;
 }
 
-counted-number : {who : Who} {number : ℕ} {dirty : List Push} {push : Option Push} {losses : List Loss} {j : List Entry} → Counted who number dirty push losses j → Counted who (number + 1) dirty push losses j
+counted-number : {who : Who} {number : ℕ} {dirty : List Push} {push : Option Push} {losses : List Loss} {j : List Entry}
+    → Counted who number dirty push losses j → Counted who (number + 1) dirty push losses j
 counted-number h = record { once = h.once; below = λ n above. h.below n (omega arith); waiting = h.waiting }
 
-counted-ends : {who : Who} {number : ℕ} {dirty : List Push} {push : Option Push} {losses : List Loss} {j : List Entry} → Counted who number dirty push losses j → Counted who number dirty None losses j
+counted-ends : {who : Who} {number : ℕ} {dirty : List Push} {push : Option Push} {losses : List Loss} {j : List Entry}
+    → Counted who number dirty push losses j → Counted who number dirty None losses j
 counted-ends h = record {
   once = λ n. let before = h.once n in let none = tally-nil (push_at n) in omega arith;
   below = λ n above. let before = h.below n above in let none = tally-nil (push_at n) in omega arith;
   waiting = h.waiting;
 }
 
-counted-takes : {who : Who} {number : ℕ} {dirty : List Push} {push : Option Push} {losses : List Loss} {j : List Entry} (p : Push) → IsOne dirty p → Counted who number dirty push losses j → Counted who number (drop_dirty p.file p.block dirty) (Some p) losses j
+counted-takes : {who : Who} {number : ℕ} {dirty : List Push} {push : Option Push} {losses : List Loss} {j : List Entry} (p : Push) → IsOne dirty p
+    → Counted who number dirty push losses j → Counted who number (drop_dirty p.file p.block dirty) (Some p) losses j
 counted-takes {dirty = dirty} p there h = record {
   once = λ n. let before = h.once n in let less = taken n in let single = one n in omega arith;
   below = λ n above. let before = h.below n above in let less = taken n in let single = one n in omega arith;
@@ -101,7 +106,9 @@ next-once number n sum few none = step (number == n) refl
     step true e = let same : number ≡ n = same-number number n e in let zero_sum = none (omega arith) in omega arith
     step false e = omega arith
 
-counted-writes : {who : Who} {number : ℕ} {dirty : List Push} {push : Option Push} {losses : List Loss} {j : List Entry} (file block : ℕ) (body : List ℕ) (o : Option Push) → Counted who number dirty push losses j → Counted who (number + 1) (with_write file block number body dirty o) push losses j
+counted-writes : {who : Who} {number : ℕ} {dirty : List Push} {push : Option Push} {losses : List Loss} {j : List Entry} (file block : ℕ)
+    (body : List ℕ) (o : Option Push) → Counted who number dirty push losses j
+    → Counted who (number + 1) (with_write file block number body dirty o) push losses j
 counted-writes {number = number} {dirty = dirty} file block body (Some p) h = record {
   once = λ n. let before = h.once n in let same = kept n in omega arith;
   below = λ n above. let before = h.below n (omega arith) in let same = kept n in omega arith;
@@ -110,7 +117,9 @@ counted-writes {number = number} {dirty = dirty} file block body (Some p) h = re
   kept : (n : ℕ) → tally (push_at n) (map (overwritten_at file block number body) dirty) ≡ tally (push_at n) dirty
   kept n = tally-map (push_at n) (push_at n) (overwritten_at file block number body) dirty (overwritten-counts file block number n body)
 counted-writes {who = who} {number = number} {dirty = dirty} {push = push} {j = j} file block body None h = record {
-  once = λ n. let more = grown n in let few = next-once number n (tally (lost_at who n) j + (tally (push_at n) (push_list push) + tally (push_at n) dirty)) (h.once n) (h.below n) in omega arith;
+  once =
+      λ n. let more = grown n in let few = next-once number n (tally (lost_at who n) j + (tally (push_at n) (push_list push) + tally (push_at n) dirty))
+      (h.once n) (h.below n) in omega arith;
   below = λ n above. let before = h.below n (omega arith) in let more = grown n in let other = test-other number n (λ e. omega arith) in omega arith;
   waiting = h.waiting;
 } where
@@ -121,7 +130,8 @@ counted-writes {who = who} {number = number} {dirty = dirty} {push = push} {j = 
   grown n = let split = tally-append (push_at n) dirty (p ∷ []) in let single = tally-cons (push_at n) p [] in let none = tally-nil (push_at n) in omega arith
 
 -- all delayed writes of a file are lost
-push-split : (n file : ℕ) (push : Option Push) → tally (push_at n) (push_of file push) + tally (push_at n) (push_list (other_push file push)) ≡ tally (push_at n) (push_list push)
+push-split : (n file : ℕ) (push : Option Push)
+    → tally (push_at n) (push_of file push) + tally (push_at n) (push_list (other_push file push)) ≡ tally (push_at n) (push_list push)
 push-split n file None = let none = tally-nil (push_at n) in omega arith
 push-split n file (Some p) = step (is_push_of file p)
   where
@@ -129,14 +139,20 @@ push-split n file (Some p) = step (is_push_of file p)
     step true = let none = tally-nil (push_at n) in omega arith
     step false = let none = tally-nil (push_at n) in omega arith
 
-unsaved-counts : (n file : ℕ) (push : Option Push) (dirty : List Push) → tally (push_at n) (unsaved_on file push dirty) + (tally (push_at n) (push_list (other_push file push)) + tally (push_at n) (other_dirty file dirty)) ≡ tally (push_at n) (push_list push) + tally (push_at n) dirty
+unsaved-counts : (n file : ℕ) (push : Option Push) (dirty : List Push)
+    → tally (push_at n) (unsaved_on file push dirty) +
+    (tally (push_at n) (push_list (other_push file push)) + tally (push_at n) (other_dirty file dirty)) ≡ tally (push_at n) (push_list push) + tally
+    (push_at n) dirty
 unsaved-counts n file push dirty =
     let both = tally-append (push_at n) (push_of file push) (filter (is_push_of file) dirty) in
     let a = push-split n file push in
     let b = tally-split (push_at n) (is_push_of file) dirty in
     omega arith
 
-counted-loses : {who : Who} {number : ℕ} {dirty : List Push} {push : Option Push} {losses : List Loss} {j : List Entry} (file : ℕ) → Counted who number dirty push losses j → Counted who number (other_dirty file dirty) (other_push file push) (add_losses file (map loss_of (unsaved_on file push dirty)) losses) (reverse (map (loss_entry who) (unsaved_on file push dirty)) ++ j)
+counted-loses : {who : Who} {number : ℕ} {dirty : List Push} {push : Option Push} {losses : List Loss} {j : List Entry} (file : ℕ)
+    → Counted who number dirty push losses j
+    → Counted who number (other_dirty file dirty) (other_push file push) (add_losses file (map loss_of (unsaved_on file push dirty)) losses)
+    (reverse (map (loss_entry who) (unsaved_on file push dirty)) ++ j)
 counted-loses {who = who} {dirty = dirty} {push = push} {losses = losses} {j = j} file h = record {
   once = λ n. let before = h.once n in let all = unsaved-counts n file push dirty in let more = longer n in omega arith;
   below = λ n above. let before = h.below n above in let all = unsaved-counts n file push dirty in let more = longer n in omega arith;
@@ -179,14 +195,18 @@ plain-said other by h = refl
 
 fits-names : (b : Book) (u : UnderWay) (file : ℕ) → b.call ≡ Some u → waits_for file u.written u.call ≡ true → Fits b → Fits (after_names b u.q file)
 fits-names b u file is waits f = record {
-  journals = journals-names u.q file (told u.call) (f.under_way u is) (waits-speaks u.call file u.written waits) (λ n. let a = f.counted.waiting n in let c = f.counted.once n in omega arith) f.journals;
+  journals =
+      journals-names u.q file (told u.call) (f.under_way u is) (waits-speaks u.call file u.written waits)
+      (λ n. let a = f.counted.waiting n in let c = f.counted.once n in omega arith) f.journals;
   under_way = λ v e. none-some v e;
   counted = counted-entry (Entry.A b.who u.q _) (λ n. refl) (counted-fewer file f.counted);
 }
 
 fits-loss : (b : Book) (file : ℕ) → Fits b → Fits (after_loss b file)
 fits-loss b file f = record {
-  journals = journals-same (add_losses file (map loss_of ps) b.losses) (added-one file_of_loss file (map loss_of ps) b.losses) (one-added file_of_loss file (map loss_of ps) b.losses) (journals-lose ps new f.journals);
+  journals =
+      journals-same (add_losses file (map loss_of ps) b.losses) (added-one file_of_loss file (map loss_of ps) b.losses)
+      (one-added file_of_loss file (map loss_of ps) b.losses) (journals-lose ps new f.journals);
   under_way = λ u is. still-called (grows (reverse (map (loss_entry b.who) ps)) b.journal) b.who u.q (told u.call) (f.under_way u is);
   counted = counted-loses file f.counted;
 } where
@@ -219,12 +239,19 @@ fits-closed = record {
     counted = counted-entry (Entry.A b.who u.q (said answer by)) (λ n. refl) f.counted;
   };
   loses = λ b file f. fits-report (after_loss b file) file b.call refl (fits-loss b file f);
-  takes = λ b file p is f. record { journals = f.journals; under_way = f.under_way; counted = counted-takes p (one-found (is_push_of file) p b.dirty is) f.counted };
+  takes =
+      λ b file p is f. record {
+        journals = f.journals;
+        under_way = f.under_way;
+        counted = counted-takes p (one-found (is_push_of file) p b.dirty is)
+            f.counted;
+      };
   ends = λ b f. record { journals = f.journals; under_way = f.under_way; counted = counted-ends f.counted };
   writes = λ b file block value body f. record {
     journals = journals-quiet (Entry.W b.who file block b.number value false) tt f.journals;
     under_way = λ u is. still-called (grows (Entry.W b.who file block b.number value false ∷ []) b.journal) b.who u.q (told u.call) (f.under_way u is);
-    counted = counted-entry (Entry.W b.who file block b.number value false) (λ n. refl) (counted-writes file block body (dirty_at file block b.dirty) f.counted);
+    counted =
+        counted-entry (Entry.W b.who file block b.number value false) (λ n. refl) (counted-writes file block body (dirty_at file block b.dirty) f.counted);
   };
   numbers = λ b f. record { journals = f.journals; under_way = f.under_way; counted = counted-number f.counted };
   reads = λ b q file block value f. record {
@@ -234,7 +261,9 @@ fits-closed = record {
   };
   busy = λ b op f. record {
     journals = journals-busy (told op) f.journals;
-    under_way = λ u is. still-called (grows (Entry.A b.who (b.calls + 1) Said.Busy ∷ Entry.C b.who (b.calls + 1) (told op) ∷ []) b.journal) b.who u.q (told u.call) (f.under_way u is);
+    under_way =
+        λ u is. still-called (grows (Entry.A b.who (b.calls + 1) Said.Busy ∷ Entry.C b.who (b.calls + 1) (told op) ∷ []) b.journal) b.who u.q
+        (told u.call) (f.under_way u is);
     counted = counted-entry (Entry.A b.who (b.calls + 1) Said.Busy) (λ n. refl) (counted-entry (Entry.C b.who (b.calls + 1) (told op)) (λ n. refl) f.counted);
   };
   names = λ b op file is f. record {
@@ -246,7 +275,8 @@ fits-closed = record {
     journals = journals-begin op free f.journals;
     under_way = λ u e.
         let one = some-same _ u e in
-        subst (λ z. call_of (Entry.C b.who (b.calls + 1) (told op) ∷ b.journal) b.who z.q ≡ Some (told z.call)) one (call-begun b.journal b.who b.calls (told op) f.journals.numbered);
+        subst (λ z. call_of (Entry.C b.who (b.calls + 1) (told op) ∷ b.journal) b.who z.q ≡ Some (told z.call)) one
+        (call-begun b.journal b.who b.calls (told op) f.journals.numbered);
     counted = counted-entry (Entry.C b.who (b.calls + 1) (told op)) (λ n. refl) f.counted;
   };
 }

@@ -60,7 +60,9 @@ unsaved-one file push dirty p one = step (exists-append (λ y. y ≡ p) (push_of
     step (inr b) = same-number p.file file (one-passed (is_push_of file) p dirty b).1
 
 other-losses : (file g : ℕ) (ps : List Push) → ((p : Push) → IsOne ps p → p.file ≡ file) → (g ≡ file → ⊥) → losses_of g (map loss_of ps) ≡ []
-other-losses file g ps on apart = filter-none (λ l. l.file == g) (map loss_of ps) (λ l one. let k = one-mapped loss_of ps l one in differs l (ap (λ z. z.file) (sym k.2) ∙ on k.0 k.1) (l.file == g) refl)
+other-losses file g ps on apart =
+    filter-none (λ l. l.file == g) (map loss_of ps)
+    (λ l one. let k = one-mapped loss_of ps l one in differs l (ap (λ z. z.file) (sym k.2) ∙ on k.0 k.1) (l.file == g) refl)
   where
     differs : (l : Loss) → l.file ≡ file → (b : Bool) → (l.file == g) ≡ b → b ≡ false
     differs l is true e = absurd (apart (sym (same-number l.file g e) ∙ is))
@@ -81,7 +83,8 @@ none-report b file (Some w) is h =
     apart : (u : UnderWay) (g : ℕ) → b.call ≡ Some u → cleans g u.call ≡ true → waits_for file w.written w.call ≡ false → g ≡ file → ⊥
     apart u g f cleaned e same =
         let one : u ≡ w = some-same u w (sym f ∙ is) in
-        let waits : waits_for file w.written w.call ≡ true = cleans-waits w.call file w.written (subst (λ z. cleans file z.call ≡ true) one (subst (λ n. cleans n u.call ≡ true) same cleaned)) in
+        let waits : waits_for file w.written w.call ≡ true = cleans-waits w.call file w.written
+        (subst (λ z. cleans file z.call ≡ true) one (subst (λ n. cleans n u.call ≡ true) same cleaned)) in
         absurd (cc)
 
 pub none-closed : Closed NoneWaits
@@ -126,12 +129,15 @@ names_all b q file = Entry.A b.who q (Said.Lost (span_list (losses_of file b.los
 own-one : (who : Who) (old : List Entry) (b : Book) (e : Entry) → IsBy who e → Own who old b → Own who old (record b { journal = e ∷ b.journal })
 own-one who old b e by h = record { same = h.same; new = e ∷ h.new; split = ap (λ j. e ∷ j) h.split; by = (by, h.by) }
 
-own-lost : (who : Who) (old : List Entry) (b : Book) (ps : List Push) → Own who old b → Own who old (record b { journal = reverse (map (loss_entry b.who) ps) ++ b.journal })
+own-lost : (who : Who) (old : List Entry) (b : Book) (ps : List Push) → Own who old b
+    → Own who old (record b { journal = reverse (map (loss_entry b.who) ps) ++ b.journal })
 own-lost who old b ps h = record {
   same = h.same;
   new = reverse (map (loss_entry b.who) ps) ++ h.new;
   split = ap (λ j. reverse (map (loss_entry b.who) ps) ++ j) h.split ∙ sym (append_assoc (reverse (map (loss_entry b.who) ps)) h.new old);
-  by = each-append (IsBy who) (reverse (map (loss_entry b.who) ps)) h.new (each-reverse (IsBy who) (map (loss_entry b.who) ps) (each-mapped (IsBy who) (loss_entry b.who) ps (λ p one. h.same))) h.by;
+  by =
+      each-append (IsBy who) (reverse (map (loss_entry b.who) ps)) h.new
+      (each-reverse (IsBy who) (map (loss_entry b.who) ps) (each-mapped (IsBy who) (loss_entry b.who) ps (λ p one. h.same))) h.by;
 }
 
 -- the rest of a book does not matter
@@ -140,7 +146,9 @@ own-same who old b d same journal h = record { same = same ∙ h.same; new = h.n
 
 own-report : (who : Who) (old : List Entry) (b : Book) (file : ℕ) (o : Option UnderWay) → Own who old b → Own who old (after_report b file o)
 own-report who old b file None h = h
-own-report who old b file (Some u) h = choice (Own who old) (waits_for file u.written u.call) (after_names b u.q file) b (λ e. own-adds who old b (after_names b u.q file) (names_all b u.q file) h.same refl refl h) (λ e. h)
+own-report who old b file (Some u) h =
+    choice (Own who old) (waits_for file u.written u.call) (after_names b u.q file) b
+    (λ e. own-adds who old b (after_names b u.q file) (names_all b u.q file) h.same refl refl h) (λ e. h)
 
 own-call : (who : Who) (old : List Entry) (b : Book) (op : Call) → Own who old b → Own who old (after_call b op)
 own-call who old b op h = own-adds who old b (after_call b op) (Entry.C b.who (b.calls + 1) (told op)) h.same refl refl h
@@ -149,10 +157,19 @@ pub own-closed : (who : Who) (old : List Entry) → Closed (Own who old)
 own-closed who old = record {
   marks = λ b u v is q same h. record { same = h.same; new = h.new; split = h.split; by = h.by };
   answers = λ b u answer by is plain h. own-adds who old b _ (Entry.A b.who u.q (said answer by)) h.same refl refl h;
-  loses = λ b file h. own-report who old (after_loss b file) file b.call (own-same who old _ (after_loss b file) refl refl (own-lost who old b (unsaved_on file b.push b.dirty) h));
+  loses =
+      λ b file h. own-report who old (after_loss b file) file b.call
+      (own-same who old _ (after_loss b file) refl refl (own-lost who old b (unsaved_on file b.push b.dirty) h));
   takes = λ b file p is h. record { same = h.same; new = h.new; split = h.split; by = h.by };
   ends = λ b h. record { same = h.same; new = h.new; split = h.split; by = h.by };
-  writes = λ b file block value body h. record { same = h.same; new = Entry.W b.who file block b.number value false ∷ h.new; split = ap (λ j. Entry.W b.who file block b.number value false ∷ j) h.split; by = (tt, h.by) };
+  writes =
+      λ b file block value body h. record {
+        same = h.same;
+        new = Entry.W b.who file block b.number value false ∷ h.new;
+        split = ap (λ j. Entry.W b.who file block b.number value false ∷ j)
+            h.split;
+        by = (tt, h.by);
+      };
   numbers = λ b h. record { same = h.same; new = h.new; split = h.split; by = h.by };
   reads = λ b q file block value h. own-one who old b (Entry.R b.who q file block value None) tt h;
   busy = λ b op h. own-adds who old (after_call b op) _ (Entry.A b.who (b.calls + 1) Said.Busy) h.same refl refl (own-call who old b op h);

@@ -46,7 +46,8 @@ part-append (x ∷ xs) (y ∷ ys) zs ws (inl h) k = inl (h.0, part-append xs ys 
 part-append (x ∷ xs) (y ∷ ys) zs ws (inr h) k = inr (part-append (x ∷ xs) ys zs ws h k)
 
 -- a filter leaves a part
-filter-step : (x : Loss) (fewer xs : List Loss) (b : Bool) (ys : List Loss) → ((all : List Loss) → IsPartOf xs all → IsPartOf fewer all) → IsPartOf (x ∷ xs) ys → IsPartOf (if b then x ∷ fewer else fewer) ys
+filter-step : (x : Loss) (fewer xs : List Loss) (b : Bool) (ys : List Loss) → ((all : List Loss) → IsPartOf xs all → IsPartOf fewer all)
+    → IsPartOf (x ∷ xs) ys → IsPartOf (if b then x ∷ fewer else fewer) ys
 filter-step x fewer xs false ys rest h = rest ys (part-less x xs ys h)
 filter-step x fewer xs true [] rest h = h
 filter-step x fewer xs true (y ∷ ys) rest (inl h) = inl (h.0, rest ys h.1)
@@ -64,10 +65,12 @@ Ordered b = (file : ℕ) → IsPartOf (losses_of file b.losses) (losses_told b.w
 told-more : (who : Who) (ps : List Push) (j : List Entry) → losses_told who (reverse (map (loss_entry who) ps) ++ j) ≡ losses_told who j ++ map loss_of ps
 told-more who [] j = sym (append-nil (losses_told who j))
 told-more who (p ∷ ps) j =
-    let turned : reverse (map (loss_entry who) (p ∷ ps)) ++ j ≡ reverse (map (loss_entry who) ps) ++ (loss_entry who p ∷ j) = ap (λ z. z ++ j) (reverse_onto (map (loss_entry who) ps) (loss_entry who p) []) ∙ append_assoc (reverse (map (loss_entry who) ps)) (loss_entry who p ∷ []) j in
+    let turned : reverse (map (loss_entry who) (p ∷ ps)) ++ j ≡ reverse (map (loss_entry who) ps) ++ (loss_entry who p ∷ j) = ap (λ z. z ++ j)
+    (reverse_onto (map (loss_entry who) ps) (loss_entry who p) []) ∙ append_assoc (reverse (map (loss_entry who) ps)) (loss_entry who p ∷ []) j in
     let same : same_who who who ≡ true = same-who who who refl in
     let one : losses_told who (loss_entry who p ∷ j) ≡ losses_told who j ++ loss_of p ∷ [] = rw same refl in
-    ap (losses_told who) turned ∙ told-more who ps (loss_entry who p ∷ j) ∙ ap (λ z. z ++ map loss_of ps) one ∙ append_assoc (losses_told who j) (loss_of p ∷ []) (map loss_of ps)
+    ap (losses_told who) turned ∙ told-more who ps (loss_entry who p ∷ j) ∙ ap (λ z. z ++ map loss_of ps) one
+    ∙ append_assoc (losses_told who j) (loss_of p ∷ []) (map loss_of ps)
 
 lost-on : (b : Book) (file : ℕ) → Each (λ l. l.file ≡ file) (map loss_of (unsaved_on file b.push b.dirty))
 lost-on b file = each-mapped (λ l. l.file ≡ file) loss_of (unsaved_on file b.push b.dirty) (unsaved-one file b.push b.dirty)
@@ -110,12 +113,15 @@ order-closed = record {
 -- ---- entries of others
 
 told-by-other : (who other : Who) (e : Entry) (j : List Entry) → who.host ≢ other.host → IsBy who e → losses_told other (e ∷ j) ≡ losses_told other j
-told-by-other who other (L by file block first last) j apart h = let differs : same_who by other ≡ false = other-who by other (λ same. apart (ap (λ w. w.host) (sym h ∙ same))) in rw differs refl
+told-by-other who other (L by file block first last) j apart h =
+    let differs : same_who by other ≡ false = other-who by other (λ same. apart (ap (λ w. w.host) (sym h ∙ same))) in rw differs refl
 told-by-other who other e j apart h = refl
 
-pub order-other : (b : Book) (who : Who) (new : List Entry) → who.host ≢ b.who.host → Each (IsBy who) new → Ordered b → Ordered (record b { journal = new ++ b.journal })
+pub order-other : (b : Book) (who : Who) (new : List Entry) → who.host ≢ b.who.host → Each (IsBy who) new → Ordered b
+    → Ordered (record b { journal = new ++ b.journal })
 order-other b who [] apart by h g = h g
-order-other b who (e ∷ new) apart by h g = subst (IsPartOf (losses_of g b.losses)) (sym (told-by-other who b.who e (new ++ b.journal) apart by.0)) (order-other b who new apart by.1 h g)
+order-other b who (e ∷ new) apart by h g =
+    subst (IsPartOf (losses_of g b.losses)) (sym (told-by-other who b.who e (new ++ b.journal) apart by.0)) (order-other b who new apart by.1 h g)
 
 told-quiet : (who : Who) (e : Entry) (j : List Entry) → IsQuiet e → losses_told who (e ∷ j) ≡ losses_told who j
 told-quiet who (L by file block first last) j h = absurd h
@@ -123,4 +129,5 @@ told-quiet who e j h = refl
 
 pub order-quiet : (b : Book) (new : List Entry) → Each IsQuiet new → Ordered b → Ordered (record b { journal = new ++ b.journal })
 order-quiet b [] quiet h g = h g
-order-quiet b (e ∷ new) quiet h g = subst (IsPartOf (losses_of g b.losses)) (sym (told-quiet b.who e (new ++ b.journal) quiet.0)) (order-quiet b new quiet.1 h g)
+order-quiet b (e ∷ new) quiet h g =
+    subst (IsPartOf (losses_of g b.losses)) (sym (told-quiet b.who e (new ++ b.journal) quiet.0)) (order-quiet b new quiet.1 h g)

@@ -33,14 +33,16 @@ module _ {P : Book → Type 0} (closed : Closed P) (j : List Entry) where
 
   -- ---- a call is settled
 
-  answered : (t : ClientStep) (u : UnderWay) (answer : Answer) (by : Option ℕ) → t.client.call ≡ Some u → tells_losses answer ≡ false → K t → K (answers t u.q answer by)
+  answered : (t : ClientStep) (u : UnderWay) (answer : Answer) (by : Option ℕ) → t.client.call ≡ Some u → tells_losses answer ≡ false → K t
+      → K (answers t u.q answer by)
   unfolding answers
   answered t u answer by is plain k = closed.answers (book_of j t) u answer by is plain k
 
   cached : (t : ClientStep) (u : UnderWay) (file block : ℕ) (body : List ℕ) → t.client.call ≡ Some u → K t → K (reads_cached t u file block body)
   unfolding reads_cached answers after_read
   cached t u file block body is k =
-      closed.answers (record (book_of j t) { journal = Entry.R t.client.who u.q file block (value_of body) None ∷ (book_of j t).journal }) u (Answer.Ok (Value.Body body)) None is refl
+      closed.answers (record (book_of j t) { journal = Entry.R t.client.who u.q file block (value_of body) None ∷ (book_of j t).journal }) u
+      (Answer.Ok (Value.Body body)) None is refl
       (closed.reads (book_of j t) u.q file block (value_of body) k)
 
   delayed : (t : ClientStep) (file block : ℕ) (body : List ℕ) → K t → K (delays t file block body)
@@ -64,8 +66,12 @@ module _ {P : Book → Type 0} (closed : Closed P) (j : List Entry) where
     read_waits = λ u file block is read waits. k;
     write_out = λ u sync file block body lease is write can out. answered t u Answer.Range None is.called refl k;
     write_full = λ u sync file block body lease is write can within full. answered t u Answer.DirtyFull None is.called refl k;
-    writing = λ u file block body lease is write can within room. answered (delays t file block body) u (Answer.Ok Value.Nothing) None (delayed-call t file block body ∙ is.called) refl (delayed t file block body k);
-    putting = λ u file block body lease is write unwritten can within room. written (delays t file block body) u (delayed-call t file block body ∙ is.called) (delayed t file block body k);
+    writing =
+        λ u file block body lease is write can within room. answered (delays t file block body) u (Answer.Ok Value.Nothing) None
+        (delayed-call t file block body ∙ is.called) refl (delayed t file block body k);
+    putting =
+        λ u file block body lease is write unwritten can within room. written (delays t file block body) u (delayed-call t file block body ∙ is.called)
+        (delayed t file block body k);
     write_waits = λ u sync file block body is write waits. k;
     syncing = λ u file is sync clean. answered t u (Answer.Ok Value.Nothing) None is.called refl k;
     sync_waits = λ u file is sync dirty. k;
@@ -157,7 +163,9 @@ module _ {P : Book → Type 0} (closed : Closed P) (j : List Entry) where
   held t file g sent k = k
 
   taken : (t : ClientStep) (file : ℕ) (o : Option Grant) (sent : ℕ) → K t → K (takes_optional t file o sent)
-  taken t file o sent k = takes-optional-cases t file o sent K (λ none. k) (λ g is. held (if_broken t file g) file g sent (if-broken-cases t file g K (λ whole. k) (λ lease has broken dirty. breaks-keeps t file k)))
+  taken t file o sent k =
+      takes-optional-cases t file o sent K (λ none. k)
+      (λ g is. held (if_broken t file g) file g sent (if-broken-cases t file g K (λ whole. k) (λ lease has broken dirty. breaks-keeps t file k)))
 
   answered-call : (t : ClientStep) (answer : Answer) (by : Option ℕ) → tells_losses answer ≡ false → K t → K (answers_call t answer by)
   answered-call t answer by plain k = answers-call-cases t answer by K (λ none. k) (λ u is. answered t u answer by is plain k)
@@ -222,20 +230,23 @@ module _ {P : Book → Type 0} (closed : Closed P) (j : List Entry) where
   plain-refusal Refusal.NotAttached = refl
   plain-refusal Refusal.Old = refl
 
-  replied-keeps : (c : Client) (number : ℕ) (ticket : Ticket) (r : Reply) → fits_job ticket.job ticket.request ≡ true → reply_counts r ticket ≡ true → P (book_at j c) → K (replied (begun c) number ticket r)
+  replied-keeps : (c : Client) (number : ℕ) (ticket : Ticket) (r : Reply) → fits_job ticket.job ticket.request ≡ true → reply_counts r ticket ≡ true
+      → P (book_at j c) → K (replied (begun c) number ticket r)
   replied-keeps c number ticket r fits counts before = replied-cases c number ticket r K fits counts (record {
     attaching = λ who inc job asks is. attached-keeps t k;
     named = λ answer job names. answered-call t answer None (plain-name answer names) k;
     reading = λ who q file block want inc rev body grant of is.
         let takes : K (takes_optional t file grant ticket.first) = taken t file grant ticket.first k in
         answered-call (then_caches (takes_optional t file grant ticket.first) file block body grant) (Answer.Ok (Value.Body body)) (Some number) refl
-        (then-caches-cases (takes_optional t file grant ticket.first) file block body grant K (λ caches. block-cached (takes_optional t file grant ticket.first) file block body takes) (λ none. takes));
+        (then-caches-cases (takes_optional t file grant ticket.first) file block body grant K
+        (λ caches. block-cached (takes_optional t file grant ticket.first) file block body takes) (λ none. takes));
     leasing = λ who file want inc grant of is.
         let takes : K (takes_optional t file grant ticket.first) = taken t file grant ticket.first k in
         lease-done-cases t file grant ticket.first K (λ caches. takes) (λ none. through (takes_optional t file grant ticket.first) true takes);
     writing = λ who seq file block first last body inc rev of is.
         answered-call (knows_revision (caches_write t file block body rev) file rev) (Answer.Ok Value.Nothing) None refl
-        (known (caches_write t file block body rev) file rev (caches-write-cases t file block body rev K (λ holds next. block-cached t file block body k) (purged t file k)));
+        (known (caches_write t file block body rev) file rev
+        (caches-write-cases t file block body rev K (λ holds next. block-cached t file block body k) (purged t file k)));
     resizing = λ who seq q file blocks inc rev of is. answered-call (knows_revision t file rev) (Answer.Ok Value.Nothing) None refl (known t file rev k);
     removing = λ who seq q file inc of is. answered-call t (Answer.Ok Value.Nothing) None refl k;
     renewing = λ who file want inc grant job asks is. taken t file grant ticket.first k;
@@ -264,13 +275,21 @@ module _ {P : Book → Type 0} (closed : Closed P) (j : List Entry) where
 
   -- ---- a step
 
-  pub hear-keeps : (c : Client) (number : ℕ) (m : Message) (t : ClientStep) → ((ticket : Ticket) → c.ticket ≡ Some ticket → fits_job ticket.job ticket.request ≡ true) → hear c number m ≡ Some t → P (book_at j c) → K t
+  pub hear-keeps : (c : Client) (number : ℕ) (m : Message) (t : ClientStep)
+      → ((ticket : Ticket) → c.ticket ≡ Some ticket → fits_job ticket.job ticket.request ≡ true) → hear c number m ≡ Some t → P (book_at j c) → K t
   hear-keeps c number m t fits hears k = heard-cases c number m t K hears (record {
-    answered = λ xid r ticket is has same inc counts. goes-on-keeps false (replied (begun c) number ticket r) (replied-keeps c number ticket r (fits ticket has) counts k);
+    answered =
+        λ xid r ticket is has same inc counts. goes-on-keeps false (replied (begun c) number ticket r)
+        (replied-keeps c number ticket r (fits ticket has) counts k);
     noticed = λ xid file tag is held.
         let other : K (cancels (begun c) file) = cancelled (begun c) file k in
         goes-on-keeps false (evicted (cancels (begun c) file) file tag)
-        (evicted-cases (cancels (begun c) file) file tag K (record { clean = λ clean. vacated-lease (cancels (begun c) file) file tag other; waiting = λ dirty. noted (cancels (begun c) file) file tag other }));
+        (evicted-cases (cancels (begun c) file) file tag K
+        (record {
+          clean = λ clean. vacated-lease (cancels (begun c) file) file tag other;
+          waiting = λ dirty. noted (cancels (begun c) file) file tag
+              other;
+        }));
   })
 
   timed : (c : Client) (now : ℕ) → P (book_at j c) → K (begun (at_time c now))
@@ -292,7 +311,8 @@ module _ {P : Book → Type 0} (closed : Closed P) (j : List Entry) where
   unfolding says_busy begins_call
   busy c op k = closed.busy (book_at j c) op k
 
-  told : (c : Client) (op : Call) (file : ℕ) → changed_file op ≡ Some file → P (book_at j c) → K (names_losses (begins_call c op) (begins_call c op).client.calls file)
+  told : (c : Client) (op : Call) (file : ℕ) → changed_file op ≡ Some file → P (book_at j c)
+      → K (names_losses (begins_call c op) (begins_call c op).client.calls file)
   unfolding begins_call answers
   told c op file is k = closed.names (book_at j c) op file is k
 

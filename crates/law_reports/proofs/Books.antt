@@ -88,9 +88,11 @@ tells_losses other = false
 -- what each small change of a client keeps
 pub record Closed (P : Book → Type 0) : Type 0 where
   pub marks : (b : Book) (u v : UnderWay) → b.call ≡ Some u → v.q ≡ u.q → v.call ≡ u.call → P b → P (record b { call = Some v })
-  pub answers : (b : Book) (u : UnderWay) (answer : Answer) (by : Option ℕ) → b.call ≡ Some u → tells_losses answer ≡ false → P b → P (record b { call = None; journal = Entry.A b.who u.q (said answer by) ∷ b.journal })
+  pub answers : (b : Book) (u : UnderWay) (answer : Answer) (by : Option ℕ) → b.call ≡ Some u → tells_losses answer ≡ false → P b
+      → P (record b { call = None; journal = Entry.A b.who u.q (said answer by) ∷ b.journal })
   pub loses : (b : Book) (file : ℕ) → P b → P (after_report (after_loss b file) file b.call)
-  pub takes : (b : Book) (file : ℕ) (p : Push) → first_dirty file b.dirty ≡ Some p → P b → P (record b { dirty = drop_dirty p.file p.block b.dirty; push = Some p })
+  pub takes : (b : Book) (file : ℕ) (p : Push) → first_dirty file b.dirty ≡ Some p → P b
+      → P (record b { dirty = drop_dirty p.file p.block b.dirty; push = Some p })
   pub ends : (b : Book) → P b → P (record b { push = None })
   pub writes : (b : Book) (file block value : ℕ) (body : List ℕ) → P b → P (record b {
     number = b.number + 1;
@@ -99,6 +101,8 @@ pub record Closed (P : Book → Type 0) : Type 0 where
   })
   pub numbers : (b : Book) → P b → P (record b { number = b.number + 1 })
   pub reads : (b : Book) (q file block value : ℕ) → P b → P (record b { journal = Entry.R b.who q file block value None ∷ b.journal })
-  pub busy : (b : Book) (op : Call) → P b → P (record (after_call b op) { journal = Entry.A b.who (b.calls + 1) Said.Busy ∷ Entry.C b.who (b.calls + 1) (told op) ∷ b.journal })
+  pub busy : (b : Book) (op : Call) → P b
+      → P (record (after_call b op) { journal = Entry.A b.who (b.calls + 1) Said.Busy ∷ Entry.C b.who (b.calls + 1) (told op) ∷ b.journal })
   pub names : (b : Book) (op : Call) (file : ℕ) → changed_file op ≡ Some file → P b → P (after_names (after_call b op) (b.calls + 1) file)
-  pub begins : (b : Book) (op : Call) → losses_for (changed_file op) b.losses ≡ [] → P b → P (record (after_call b op) { call = Some (record { q = b.calls + 1; call = op; through = false; written = false }) })
+  pub begins : (b : Book) (op : Call) → losses_for (changed_file op) b.losses ≡ [] → P b
+      → P (record (after_call b op) { call = Some (record { q = b.calls + 1; call = op; through = false; written = false }) })

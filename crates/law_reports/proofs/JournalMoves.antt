@@ -60,7 +60,8 @@ pub quiet-told : (e : Entry) (who : Who) (q : ℕ) → IsQuiet e → told_by e w
 quiet-told (C by n told) who q h = absurd h
 quiet-told other who q h = refl
 
-pub journals-quiet : {who : Who} {calls : ℕ} {losses : List Loss} {old : List Entry} (e : Entry) → IsQuiet e → Journals who calls losses old → Journals who calls losses (e ∷ old)
+pub journals-quiet : {who : Who} {calls : ℕ} {losses : List Loss} {old : List Entry} (e : Entry) → IsQuiet e → Journals who calls losses old
+    → Journals who calls losses (e ∷ old)
 journals-quiet {who = who} {calls = calls} {losses = losses} {old = old} e quiet h = journals-add calls losses (e ∷ []) (e ∷ []) (record {
   goes = λ by loss one. inr ((quiet-excused (e ∷ old) by loss.file e quiet, tt), one);
   placed = λ rest. (quiet-placed (e ∷ old) who losses e old quiet, rest);
@@ -81,7 +82,8 @@ abbrev pub is_lost : Said → Bool
 is_lost (Lost spans) = true
 is_lost other = false
 
-plain-placed : (whole : List Entry) (who by : Who) (losses : List Loss) (q : ℕ) (said : Said) (after old : List Entry) → is_lost said ≡ false → IsToldAt whole who losses after (A by q said) old
+plain-placed : (whole : List Entry) (who by : Who) (losses : List Loss) (q : ℕ) (said : Said) (after old : List Entry) → is_lost said ≡ false
+    → IsToldAt whole who losses after (A by q said) old
 plain-placed whole who by losses q (Lost spans) after old h = absurd (cc)
 plain-placed whole who by losses q other after old h = tt
 
@@ -89,19 +91,22 @@ plain-names : (whole : List Entry) (who by : Who) (loss : Loss) (q : ℕ) (said 
 plain-names whole who by loss q (Lost spans) h n = absurd (cc)
 plain-names whole who by loss q other h n = n
 
-answer-called : (who : Who) (q : ℕ) (said : Said) (old : List Entry) (told : Told) → call_of old who q ≡ Some told → call_of (A who q said ∷ old) who q ≡ Some told
+answer-called : (who : Who) (q : ℕ) (said : Said) (old : List Entry) (told : Told) → call_of old who q ≡ Some told
+    → call_of (A who q said ∷ old) who q ≡ Some told
 answer-called who q said old told is = rw is refl
 
-pub journals-answer : {who : Who} {calls : ℕ} {losses : List Loss} {old : List Entry} (q : ℕ) (said : Said) (told : Told) → call_of old who q ≡ Some told → is_lost said ≡ false → Journals who calls losses old → Journals who calls losses (A who q said ∷ old)
-journals-answer {who = who} {calls = calls} {losses = losses} {old = old} q said told is plain h = journals-add calls losses (A who q said ∷ []) (A who q said ∷ []) (record {
-  goes = λ by loss one. inr ((tt, tt), one);
-  placed = λ rest. (plain-placed (A who q said ∷ old) who who losses q said [] old plain, rest);
-  called = (ap is_some (answer-called who q said old told is), tt);
-  origin = λ loss one. inl one;
-  quiet = λ loss one n. none loss n;
-  numbered = λ n above. told-none (A who q said) old who n refl (h.numbered n above);
-  past = (λ e. omega arith, tt);
-}) h
+pub journals-answer : {who : Who} {calls : ℕ} {losses : List Loss} {old : List Entry} (q : ℕ) (said : Said) (told : Told)
+    → call_of old who q ≡ Some told → is_lost said ≡ false → Journals who calls losses old → Journals who calls losses (A who q said ∷ old)
+journals-answer {who = who} {calls = calls} {losses = losses} {old = old} q said told is plain h =
+    journals-add calls losses (A who q said ∷ []) (A who q said ∷ []) (record {
+      goes = λ by loss one. inr ((tt, tt), one);
+      placed = λ rest. (plain-placed (A who q said ∷ old) who who losses q said [] old plain, rest);
+      called = (ap is_some (answer-called who q said old told is), tt);
+      origin = λ loss one. inl one;
+      quiet = λ loss one n. none loss n;
+      numbered = λ n above. told-none (A who q said) old who n refl (h.numbered n above);
+      past = (λ e. omega arith, tt);
+    }) h
   where
     none : (loss : Loss) → Names (A who q said ∷ old) who loss (A who q said) ⊎ ⊥ → ⊥
     none loss (inl n) = plain-names (A who q said ∷ old) who who loss q said plain n
@@ -109,16 +114,23 @@ journals-answer {who = who} {calls = calls} {losses = losses} {old = old} q said
 
 -- ---- a call that is answered busy, and one that is under way
 
-pub journals-busy : {who : Who} {calls : ℕ} {losses : List Loss} {old : List Entry} (tells : Told) → Journals who calls losses old → Journals who (calls + 1) losses (A who (calls + 1) Said.Busy ∷ C who (calls + 1) tells ∷ old)
-journals-busy {who = who} {calls = calls} {losses = losses} {old = old} tells h = journals-add (calls + 1) losses (A who (calls + 1) Said.Busy ∷ C who (calls + 1) tells ∷ []) (C who (calls + 1) tells ∷ A who (calls + 1) Said.Busy ∷ []) (record {
-  goes = λ by loss one. inr ((λ same reports. inl (same, refl), (tt, tt)), one);
-  placed = λ rest. (tt, (tt, rest));
-  called = (ap is_some (answer-called who (calls + 1) Said.Busy (C who (calls + 1) tells ∷ old) tells (call-begun old who calls tells h.numbered)), (tt, tt));
-  origin = λ loss one. inl one;
-  quiet = λ loss one n. none loss n;
-  numbered = λ q above. told-none (A who (calls + 1) Said.Busy) (C who (calls + 1) tells ∷ old) who q refl (call-numbered old who calls q tells h.numbered above);
-  past = (λ e. omega arith, (λ e. omega arith, tt));
-}) h
+pub journals-busy : {who : Who} {calls : ℕ} {losses : List Loss} {old : List Entry} (tells : Told) → Journals who calls losses old
+    → Journals who (calls + 1) losses (A who (calls + 1) Said.Busy ∷ C who (calls + 1) tells ∷ old)
+journals-busy {who = who} {calls = calls} {losses = losses} {old = old} tells h =
+    journals-add (calls + 1) losses (A who (calls + 1) Said.Busy ∷ C who (calls + 1) tells ∷ [])
+    (C who (calls + 1) tells ∷ A who (calls + 1) Said.Busy ∷ []) (record {
+      goes = λ by loss one. inr ((λ same reports. inl (same, refl), (tt, tt)), one);
+      placed = λ rest. (tt, (tt, rest));
+      called = (
+        ap is_some (answer-called who (calls + 1) Said.Busy (C who (calls + 1) tells ∷ old) tells (call-begun old who calls tells h.numbered)),
+        (tt, tt),
+      );
+      origin = λ loss one. inl one;
+      quiet = λ loss one n. none loss n;
+      numbered =
+          λ q above. told-none (A who (calls + 1) Said.Busy) (C who (calls + 1) tells ∷ old) who q refl (call-numbered old who calls q tells h.numbered above);
+      past = (λ e. omega arith, (λ e. omega arith, tt));
+    }) h
   where
     none : (loss : Loss) → ⊥ ⊎ (⊥ ⊎ ⊥) → ⊥
     none loss (inl n) = n
@@ -169,16 +181,20 @@ none-waits losses loss (Some file) none is one =
     let passes : (loss.file == file) ≡ true = number-same loss.file file (sym same) in
     subst (λ ls. IsOne ls loss) none (one-passes (λ l. l.file == file) loss losses passes one)
 
-pub journals-begin : {who : Who} {calls : ℕ} {losses : List Loss} {old : List Entry} (op : Call) → losses_for (changed_file op) losses ≡ [] → Journals who calls losses old → Journals who (calls + 1) losses (C who (calls + 1) (told op) ∷ old)
-journals-begin {who = who} {calls = calls} {losses = losses} {old = old} op free h = journals-add (calls + 1) losses (C who (calls + 1) (told op) ∷ []) (C who (calls + 1) (told op) ∷ []) (record {
-  goes = λ by loss one. inr ((λ same reports. absurd (none-waits losses loss (changed_file op) free (reporting-changed op loss.file reports) (one (sym same))), tt), one);
-  placed = λ rest. (tt, rest);
-  called = (tt, tt);
-  origin = λ loss one. inl one;
-  quiet = λ loss one n. none loss n;
-  numbered = λ q above. call-numbered old who calls q (told op) h.numbered above;
-  past = (λ e. omega arith, tt);
-}) h
+pub journals-begin : {who : Who} {calls : ℕ} {losses : List Loss} {old : List Entry} (op : Call) → losses_for (changed_file op) losses ≡ []
+    → Journals who calls losses old → Journals who (calls + 1) losses (C who (calls + 1) (told op) ∷ old)
+journals-begin {who = who} {calls = calls} {losses = losses} {old = old} op free h =
+    journals-add (calls + 1) losses (C who (calls + 1) (told op) ∷ []) (C who (calls + 1) (told op) ∷ []) (record {
+      goes =
+          λ by loss one. inr
+          ((λ same reports. absurd (none-waits losses loss (changed_file op) free (reporting-changed op loss.file reports) (one (sym same))), tt), one);
+      placed = λ rest. (tt, rest);
+      called = (tt, tt);
+      origin = λ loss one. inl one;
+      quiet = λ loss one n. none loss n;
+      numbered = λ q above. call-numbered old who calls q (told op) h.numbered above;
+      past = (λ e. omega arith, tt);
+    }) h
   where
     none : (loss : Loss) → ⊥ ⊎ ⊥ → ⊥
     none loss (inl n) = n
@@ -203,7 +219,8 @@ pub record CanName (whole before : List Entry) (who : Who) (file : ℕ) (loss : 
   pub lost : Exists (IsLossOf who loss) before
   pub unnamed : ¬ Exists (Names whole who loss) before
 
-unnamed-of : (whole before : List Entry) (who : Who) (file : ℕ) (call : Option Told) (loss : Loss) → SpeaksOf file call → CanName whole before who file loss → (e : Entry) → IsLossOf who loss e → IsUnnamed whole before who call (span_of loss) e
+unnamed-of : (whole before : List Entry) (who : Who) (file : ℕ) (call : Option Told) (loss : Loss) → SpeaksOf file call
+    → CanName whole before who file loss → (e : Entry) → IsLossOf who loss e → IsUnnamed whole before who call (span_of loss) e
 unnamed-of whole before who file call loss speaks can (L by f block first last) h = (
   h.0,
   subst (λ g. SpeaksOf g call) (sym (ap (λ z. z.file) h.1 ∙ can.on)) speaks,
@@ -223,12 +240,16 @@ no-other n span (l ∷ losses) same none (inr h) =
     let split = tally-cons (loss_at n) l losses in
     no-other n span losses same (omega arith) h
 
-pub names-new : (whole before : List Entry) (who : Who) (file : ℕ) (call : Option Told) (losses : List Loss) → SpeaksOf file call → ((loss : Loss) → IsOne losses loss → CanName whole before who file loss) → ((n : ℕ) → tally (loss_at n) losses ≤ 1) → NameLosses whole before who call (map span_of losses)
+pub names-new : (whole before : List Entry) (who : Who) (file : ℕ) (call : Option Told) (losses : List Loss) → SpeaksOf file call
+    → ((loss : Loss) → IsOne losses loss → CanName whole before who file loss) → ((n : ℕ) → tally (loss_at n) losses ≤ 1)
+    → NameLosses whole before who call (map span_of losses)
 names-new whole before who file call [] speaks can apart = tt
 names-new whole before who file call (l ∷ losses) speaks can apart = (
-  exists-map (IsLossOf who l) (IsUnnamed whole before who call (span_of l)) before (λ e h. unnamed-of whole before who file call l speaks (can l (inl refl)) e h) (can l (inl refl)).lost,
+  exists-map (IsLossOf who l) (IsUnnamed whole before who call (span_of l)) before
+      (λ e h. unnamed-of whole before who file call l speaks (can l (inl refl)) e h) (can l (inl refl)).lost,
   (λ h. no-other l.first (span_of l) losses refl alone h),
-  names-new whole before who file call losses speaks (λ loss one. can loss (inr one)) (λ n. let split = tally-cons (loss_at n) l losses in let both = apart n in omega arith),
+  names-new whole before who file call losses speaks (λ loss one. can loss (inr one))
+      (λ n. let split = tally-cons (loss_at n) l losses in let both = apart n in omega arith),
 )
   where
     alone : tally (loss_at l.first) losses ≡ 0
@@ -251,10 +272,13 @@ fewer-on : (n file : ℕ) (losses : List Loss) → tally (loss_at n) losses ≤ 
 fewer-on n file losses h = let split = tally-split (loss_at n) (λ l. l.file == file) losses in omega arith
 
 -- of a loss that waits: the A names it, or it is not on the file
-names-or-not : (whole : List Entry) (who : Who) (q file : ℕ) (losses : List Loss) (op : Option Told) → call_of whole who q ≡ op → SpeaksOf file op → (by : Who) (loss : Loss) → (by ≡ who → IsOne losses loss) → Names whole by loss (NamesAll who q file losses) ⊎ ((by ≡ who → loss.file ≡ file → ⊥) × (by ≡ who → IsOne (other_losses file losses) loss))
+names-or-not : (whole : List Entry) (who : Who) (q file : ℕ) (losses : List Loss) (op : Option Told) → call_of whole who q ≡ op → SpeaksOf file op
+    → (by : Who) (loss : Loss) → (by ≡ who → IsOne losses loss)
+    → Names whole by loss (NamesAll who q file losses) ⊎ ((by ≡ who → loss.file ≡ file → ⊥) × (by ≡ who → IsOne (other_losses file losses) loss))
 names-or-not whole who q file losses op is speaks by loss one = step (same_who by who) (loss.file == file) refl refl
   where
-    step : (a b : Bool) → same_who by who ≡ a → (loss.file == file) ≡ b → Names whole by loss (NamesAll who q file losses) ⊎ ((by ≡ who → loss.file ≡ file → ⊥) × (by ≡ who → IsOne (other_losses file losses) loss))
+    step : (a b : Bool) → same_who by who ≡ a → (loss.file == file) ≡ b
+        → Names whole by loss (NamesAll who q file losses) ⊎ ((by ≡ who → loss.file ≡ file → ⊥) × (by ≡ who → IsOne (other_losses file losses) loss))
     step true true e f =
         let same : by ≡ who = who-same by who e in
         let on : loss.file ≡ file = same-number loss.file file f in
@@ -263,25 +287,39 @@ names-or-not whole who q file losses op is speaks by loss one = step (same_who b
           subst (λ o. SpeaksOf loss.file o) (sym is) (subst (λ g. SpeaksOf g op) (sym on) speaks),
           name-in (losses_of file losses) loss (one-passes (λ l. l.file == file) loss losses f (one same)),
         )
-    step true false e f = inr (λ same on. let yes : (loss.file == file) ≡ true = number-same loss.file file on in absurd (cc), λ same. one-passes (λ l. not (l.file == file)) loss losses (not_from_false (loss.file == file) f) (one same))
-    step false b e f = inr (λ same on. let yes : same_who by who ≡ true = same-who by who same in absurd (cc), λ same. let yes : same_who by who ≡ true = same-who by who same in absurd (cc))
+    step true false e f =
+        inr (
+          λ same on. let yes : (loss.file == file) ≡ true = number-same loss.file file on in
+              absurd (cc),
+          λ same. one-passes (λ l. not (l.file == file)) loss losses (not_from_false (loss.file == file) f) (one same),
+        )
+    step false b e f =
+        inr (
+          λ same on. let yes : same_who by who ≡ true = same-who by who same in
+              absurd (cc),
+          λ same. let yes : same_who by who ≡ true = same-who by who same in absurd (cc),
+        )
 
 -- what is left is not named by it
-others-unnamed : (whole : List Entry) (who : Who) (q file : ℕ) (losses : List Loss) (op : Option Told) → call_of whole who q ≡ op → SpeaksOf file op → (loss : Loss) → IsOne (other_losses file losses) loss → Names whole who loss (NamesAll who q file losses) → ⊥
+others-unnamed : (whole : List Entry) (who : Who) (q file : ℕ) (losses : List Loss) (op : Option Told) → call_of whole who q ≡ op → SpeaksOf file op
+    → (loss : Loss) → IsOne (other_losses file losses) loss → Names whole who loss (NamesAll who q file losses) → ⊥
 others-unnamed whole who q file losses op is speaks loss one n =
     (is-off losses file loss one).1 (speaks-one op loss.file file (subst (λ o. SpeaksOf loss.file o) is n.1) speaks)
 
 -- a call under way is told all losses of a file
-pub journals-names : {who : Who} {calls : ℕ} {losses : List Loss} {old : List Entry} (q file : ℕ) (tells : Told) → call_of old who q ≡ Some tells → SpeaksOf file (Some tells) → ((n : ℕ) → tally (loss_at n) losses ≤ 1) → Journals who calls losses old → Journals who calls (other_losses file losses) (NamesAll who q file losses ∷ old)
-journals-names {who = who} {calls = calls} {losses = losses} {old = old} q file tells is speaks apart h = journals-add calls (other_losses file losses) (e ∷ []) (e ∷ []) (record {
-  goes = λ by loss one. goes by loss (names-or-not (e ∷ old) who q file losses (Some tells) called speaks by loss one);
-  placed = λ rest. (placed, rest);
-  called = (ap is_some called, tt);
-  origin = λ loss one. inl (is-off losses file loss one).0;
-  quiet = λ loss one n. none loss one n;
-  numbered = λ n above. told-none e old who n refl (h.numbered n above);
-  past = (λ x. omega arith, tt);
-}) h
+pub journals-names : {who : Who} {calls : ℕ} {losses : List Loss} {old : List Entry} (q file : ℕ) (tells : Told) → call_of old who q ≡ Some tells
+    → SpeaksOf file (Some tells) → ((n : ℕ) → tally (loss_at n) losses ≤ 1) → Journals who calls losses old
+    → Journals who calls (other_losses file losses) (NamesAll who q file losses ∷ old)
+journals-names {who = who} {calls = calls} {losses = losses} {old = old} q file tells is speaks apart h =
+    journals-add calls (other_losses file losses) (e ∷ []) (e ∷ []) (record {
+      goes = λ by loss one. goes by loss (names-or-not (e ∷ old) who q file losses (Some tells) called speaks by loss one);
+      placed = λ rest. (placed, rest);
+      called = (ap is_some called, tt);
+      origin = λ loss one. inl (is-off losses file loss one).0;
+      quiet = λ loss one n. none loss one n;
+      numbered = λ n above. told-none e old who n refl (h.numbered n above);
+      past = (λ x. omega arith, tt);
+    }) h
   where
     e : Entry
     e = NamesAll who q file losses
@@ -289,7 +327,9 @@ journals-names {who = who} {calls = calls} {losses = losses} {old = old} q file 
     called : call_of (e ∷ old) who q ≡ Some tells
     called = answer-called who q (Lost (span_list (losses_of file losses))) old tells is
 
-    goes : (by : Who) (loss : Loss) → Names (e ∷ old) by loss e ⊎ ((by ≡ who → loss.file ≡ file → ⊥) × (by ≡ who → IsOne (other_losses file losses) loss)) → IsNamedIn (e ∷ old) by loss (e ∷ []) ⊎ (Each (IsExcused (e ∷ old) by loss.file) (e ∷ []) × (by ≡ who → IsOne (other_losses file losses) loss))
+    goes : (by : Who) (loss : Loss) → Names (e ∷ old) by loss e
+        ⊎ ((by ≡ who → loss.file ≡ file → ⊥) × (by ≡ who → IsOne (other_losses file losses) loss))
+        → IsNamedIn (e ∷ old) by loss (e ∷ []) ⊎ (Each (IsExcused (e ∷ old) by loss.file) (e ∷ []) × (by ≡ who → IsOne (other_losses file losses) loss))
     goes by loss (inl n) = inl (inl n)
     goes by loss (inr k) = inr ((tt, tt), k.1)
 
@@ -299,7 +339,8 @@ journals-names {who = who} {calls = calls} {losses = losses} {old = old} q file 
     placed : NameLosses (e ∷ old) old who (call_of (e ∷ old) who q) (map span_of (losses_of file losses))
     placed = subst (λ o. NameLosses (e ∷ old) old who o (map span_of (losses_of file losses))) (sym called)
         (names-new (e ∷ old) old who file (Some tells) (losses_of file losses) speaks
-        (λ loss one. let k = is-on losses file loss one in record { on = k.1; lost = h.lost loss k.0; unnamed = λ n. h.unnamed loss k.0 (some-names-back g who loss old h.called n) })
+        (λ loss one. let k = is-on losses file loss one in
+        record { on = k.1; lost = h.lost loss k.0; unnamed = λ n. h.unnamed loss k.0 (some-names-back g who loss old h.called n) })
         (λ n. fewer-on n file losses (apart n)))
 
     none : (loss : Loss) → IsOne (other_losses file losses) loss → Names (e ∷ old) who loss e ⊎ ⊥ → ⊥
@@ -307,16 +348,19 @@ journals-names {who = who} {calls = calls} {losses = losses} {old = old} q file 
     none loss one (inr n) = n
 
 -- a call is told all losses of its file at once
-pub journals-tell : {who : Who} {calls : ℕ} {losses : List Loss} {old : List Entry} (file : ℕ) (op : Call) → changed_file op ≡ Some file → ((n : ℕ) → tally (loss_at n) losses ≤ 1) → Journals who calls losses old → Journals who (calls + 1) (other_losses file losses) (NamesAll who (calls + 1) file losses ∷ C who (calls + 1) (told op) ∷ old)
-journals-tell {who = who} {calls = calls} {losses = losses} {old = old} file op changes apart h = journals-add (calls + 1) (other_losses file losses) (a ∷ c ∷ []) (c ∷ a ∷ []) (record {
-  goes = λ by loss one. goes by loss (names-or-not (a ∷ c ∷ old) who (calls + 1) file losses (Some (told op)) called speaks by loss one);
-  placed = λ rest. (placed, (tt, rest));
-  called = (ap is_some called, (tt, tt));
-  origin = λ loss one. inl (is-off losses file loss one).0;
-  quiet = λ loss one n. none loss one n;
-  numbered = λ n above. told-none a (c ∷ old) who n refl (call-numbered old who calls n (told op) h.numbered above);
-  past = (λ x. omega arith, (λ x. omega arith, tt));
-}) h
+pub journals-tell : {who : Who} {calls : ℕ} {losses : List Loss} {old : List Entry} (file : ℕ) (op : Call) → changed_file op ≡ Some file
+    → ((n : ℕ) → tally (loss_at n) losses ≤ 1) → Journals who calls losses old
+    → Journals who (calls + 1) (other_losses file losses) (NamesAll who (calls + 1) file losses ∷ C who (calls + 1) (told op) ∷ old)
+journals-tell {who = who} {calls = calls} {losses = losses} {old = old} file op changes apart h =
+    journals-add (calls + 1) (other_losses file losses) (a ∷ c ∷ []) (c ∷ a ∷ []) (record {
+      goes = λ by loss one. goes by loss (names-or-not (a ∷ c ∷ old) who (calls + 1) file losses (Some (told op)) called speaks by loss one);
+      placed = λ rest. (placed, (tt, rest));
+      called = (ap is_some called, (tt, tt));
+      origin = λ loss one. inl (is-off losses file loss one).0;
+      quiet = λ loss one n. none loss one n;
+      numbered = λ n above. told-none a (c ∷ old) who n refl (call-numbered old who calls n (told op) h.numbered above);
+      past = (λ x. omega arith, (λ x. omega arith, tt));
+    }) h
   where
     a : Entry
     a = NamesAll who (calls + 1) file losses
@@ -336,7 +380,10 @@ journals-tell {who = who} {calls = calls} {losses = losses} {old = old} file op 
         let one : loss.file ≡ file = cc in
         absurd (off (sym same) one)
 
-    goes : (by : Who) (loss : Loss) → Names (a ∷ c ∷ old) by loss a ⊎ ((by ≡ who → loss.file ≡ file → ⊥) × (by ≡ who → IsOne (other_losses file losses) loss)) → IsNamedIn (a ∷ c ∷ old) by loss (c ∷ a ∷ []) ⊎ (Each (IsExcused (a ∷ c ∷ old) by loss.file) (c ∷ a ∷ []) × (by ≡ who → IsOne (other_losses file losses) loss))
+    goes : (by : Who) (loss : Loss) → Names (a ∷ c ∷ old) by loss a
+        ⊎ ((by ≡ who → loss.file ≡ file → ⊥) × (by ≡ who → IsOne (other_losses file losses) loss))
+        → IsNamedIn (a ∷ c ∷ old) by loss (c ∷ a ∷ [])
+        ⊎ (Each (IsExcused (a ∷ c ∷ old) by loss.file) (c ∷ a ∷ []) × (by ≡ who → IsOne (other_losses file losses) loss))
     goes by loss (inl n) = inl (inr (inl ((refl, refl), n)))
     goes by loss (inr k) = inr ((not-on by loss k.0, (tt, tt)), k.1)
 

@@ -55,7 +55,8 @@ pub record Adds (who : Who) (later : ℕ) (losses fewer : List Loss) (new more o
   pub numbered : (q : ℕ) → later < q → call_of (new ++ old) who q ≡ None
   pub past : Each (IsPast who) new
 
-pub journals-add : {who : Who} {calls : ℕ} {losses : List Loss} {old : List Entry} (later : ℕ) (fewer : List Loss) (new more : List Entry) → Adds who later losses fewer new more old → Journals who calls losses old → Journals who later fewer (new ++ old)
+pub journals-add : {who : Who} {calls : ℕ} {losses : List Loss} {old : List Entry} (later : ℕ) (fewer : List Loss) (new more : List Entry)
+    → Adds who later losses fewer new more old → Journals who calls losses old → Journals who later fewer (new ++ old)
 journals-add {who = who} {calls = calls} {losses = losses} {old = old} later fewer new more a h = record {
   told = a.placed (told-more who losses fewer more g a.goes h.called h.told);
   called = each-append (IsCalled (new ++ old)) new old a.called (each-map (IsCalled old) (IsCalled (new ++ old)) old (λ e x. called-more g e x) h.called);
@@ -85,15 +86,18 @@ journals-add {who = who} {calls = calls} {losses = losses} {old = old} later few
 pub told-none : (e : Entry) (old : List Entry) (who : Who) (q : ℕ) → told_by e who q ≡ None → call_of old who q ≡ None → call_of (e ∷ old) who q ≡ None
 told-none e old who q none is = rw (is, none) refl
 
-pub call-numbered : (old : List Entry) (who : Who) (calls q : ℕ) (told : Told) → ((n : ℕ) → calls < n → call_of old who n ≡ None) → calls + 1 < q → call_of (Entry.C who (calls + 1) told ∷ old) who q ≡ None
+pub call-numbered : (old : List Entry) (who : Who) (calls q : ℕ) (told : Told) → ((n : ℕ) → calls < n → call_of old who n ≡ None) → calls + 1 < q
+    → call_of (Entry.C who (calls + 1) told ∷ old) who q ≡ None
 call-numbered old who calls q told numbered above =
     told-none (Entry.C who (calls + 1) told) old who q (step (same_who who who && (calls + 1 == q)) refl) (numbered q (omega arith))
   where
     step : (b : Bool) → (same_who who who && (calls + 1 == q)) ≡ b → (if b then Some told else None) ≡ None
-    step true e = let same : calls + 1 ≡ q = same-number (calls + 1) q (and_parts (same_who who who) (calls + 1 == q) e).1 in let bad : ⊥ = omega arith in absurd bad
+    step true e =
+        let same : calls + 1 ≡ q = same-number (calls + 1) q (and_parts (same_who who who) (calls + 1 == q) e).1 in let bad : ⊥ = omega arith in absurd bad
     step false e = refl
 
-pub call-begun : (old : List Entry) (who : Who) (calls : ℕ) (told : Told) → ((n : ℕ) → calls < n → call_of old who n ≡ None) → call_of (Entry.C who (calls + 1) told ∷ old) who (calls + 1) ≡ Some told
+pub call-begun : (old : List Entry) (who : Who) (calls : ℕ) (told : Told) → ((n : ℕ) → calls < n → call_of old who n ≡ None)
+    → call_of (Entry.C who (calls + 1) told ∷ old) who (calls + 1) ≡ Some told
 call-begun old who calls told numbered =
     let none : call_of old who (calls + 1) ≡ None = numbered (calls + 1) (omega arith) in
     let same : (same_who who who && (calls + 1 == calls + 1)) ≡ true = and_from _ _ (same-who who who refl) (number-same (calls + 1) (calls + 1) refl) in

@@ -48,41 +48,55 @@ foreign-call : (who : Who) (q : ℕ) (new old : List Entry) → Each (IsForeign 
 foreign-call who q [] old h none = none
 foreign-call who q (e ∷ new) old h none = told-none e (new ++ old) who q (foreign-told who q e h.0) (foreign-call who q new old h.1 none)
 
-foreign-counted : {who : Who} {number : ℕ} {dirty : List Push} {push : Option Push} {losses : List Loss} {old : List Entry} (new : List Entry) → Each (IsForeign who) new → Counted who number dirty push losses old → Counted who number dirty push losses (new ++ old)
+foreign-counted : {who : Who} {number : ℕ} {dirty : List Push} {push : Option Push} {losses : List Loss} {old : List Entry} (new : List Entry)
+    → Each (IsForeign who) new → Counted who number dirty push losses old → Counted who number dirty push losses (new ++ old)
 foreign-counted [] h c = c
 foreign-counted {who = who} (e ∷ new) h c = counted-entry e (λ n. foreign-lost who n e h.0) (foreign-counted new h.1 c)
 
 -- ---- places
 
 -- facts of each place in two journals, of which one goes on
-at-both : (F G H : List Entry → Entry → List Entry → Type 0) (more : List Entry) → ((after : List Entry) (e : Entry) (before : List Entry) → F after e before → G (after ++ more) e before → H (after ++ more) e before) → (after xs : List Entry) → AtEachPlace F after xs → AtEachPlace G (after ++ more) xs → AtEachPlace H (after ++ more) xs
+at-both : (F G H : List Entry → Entry → List Entry → Type 0) (more : List Entry)
+    → ((after : List Entry) (e : Entry) (before : List Entry) → F after e before → G (after ++ more) e before → H (after ++ more) e before)
+    → (after xs : List Entry) → AtEachPlace F after xs → AtEachPlace G (after ++ more) xs → AtEachPlace H (after ++ more) xs
 at-both F G H more step after [] f g = tt
 at-both F G H more step after (e ∷ xs) f g = (step after e xs f.0 g.0, at-both F G H more step (e ∷ after) xs f.1 g.1)
 
 -- a loss that the one who tells knows of is told, and another's waits as before
-told-both : {old new : List Entry} (who other : Who) (losses others : List Loss) (more : List Entry) → Grows old new → (after : List Entry) (e : Entry) (before : List Entry) → IsToldAt old who losses after e before → IsToldAt new other others (after ++ more) e before → IsToldAt new who losses (after ++ more) e before
+told-both : {old new : List Entry} (who other : Who) (losses others : List Loss) (more : List Entry) → Grows old new
+    → (after : List Entry) (e : Entry) (before : List Entry) → IsToldAt old who losses after e before
+    → IsToldAt new other others (after ++ more) e before → IsToldAt new who losses (after ++ more) e before
 told-both who other losses others more g after (L by file block first last) before f (inl n) = inl n
-told-both who other losses others more g after (L by file block first last) before (inl n) (inr k) = inl (named-more g by (loss_told file block first last) after more n)
+told-both who other losses others more g after (L by file block first last) before (inl n) (inr k) =
+    inl (named-more g by (loss_told file block first last) after more n)
 told-both who other losses others more g after (L by file block first last) before (inr f) (inr k) = inr (k.0, f.1)
 told-both who other losses others more g after (A by q (Lost spans)) before f k = k
 told-both who other losses others more g after e before f k = tt
 
-foreign-at : (whole : List Entry) (who other : Who) (losses others : List Loss) (after : List Entry) (e : Entry) (before : List Entry) → IsForeign who e → IsToldAt whole other others after e before → IsToldAt whole who losses after e before
+foreign-at : (whole : List Entry) (who other : Who) (losses others : List Loss) (after : List Entry) (e : Entry) (before : List Entry) → IsForeign who e
+    → IsToldAt whole other others after e before → IsToldAt whole who losses after e before
 foreign-at whole who other losses others after (L by file block first last) before h (inl n) = inl n
 foreign-at whole who other losses others after (L by file block first last) before h (inr k) = inr (k.0, λ same. absurd (h same))
 foreign-at whole who other losses others after (A by q (Lost spans)) before h k = k
 foreign-at whole who other losses others after e before h k = tt
 
-foreign-places : (whole : List Entry) (who other : Who) (losses others : List Loss) (new old after : List Entry) → Each (IsForeign who) new → ((later : List Entry) → AtEachPlace (IsToldAt whole other others) later old → AtEachPlace (IsToldAt whole who losses) later old) → AtEachPlace (IsToldAt whole other others) after (new ++ old) → AtEachPlace (IsToldAt whole who losses) after (new ++ old)
+foreign-places : (whole : List Entry) (who other : Who) (losses others : List Loss) (new old after : List Entry) → Each (IsForeign who) new
+    → ((later : List Entry) → AtEachPlace (IsToldAt whole other others) later old → AtEachPlace (IsToldAt whole who losses) later old)
+    → AtEachPlace (IsToldAt whole other others) after (new ++ old) → AtEachPlace (IsToldAt whole who losses) after (new ++ old)
 foreign-places whole who other losses others [] old after h rest k = rest after k
 foreign-places whole who other losses others (e ∷ new) old after h rest k =
     (foreign-at whole who other losses others after e (new ++ old) h.0 k.0, foreign-places whole who other losses others new old (e ∷ after) h.1 rest k.1)
 
 -- ---- another client's entries
 
-pub journals-foreign : {who : Who} {calls : ℕ} {losses : List Loss} {old : List Entry} (other : Who) (others : List Loss) (new : List Entry) → AtEachPlace (IsToldAt (new ++ old) other others) [] (new ++ old) → Each (IsCalled (new ++ old)) (new ++ old) → Each (IsForeign who) new → Each (IsPast who) new → Journals who calls losses old → Journals who calls losses (new ++ old)
+pub journals-foreign : {who : Who} {calls : ℕ} {losses : List Loss} {old : List Entry} (other : Who) (others : List Loss) (new : List Entry)
+    → AtEachPlace (IsToldAt (new ++ old) other others) [] (new ++ old) → Each (IsCalled (new ++ old)) (new ++ old) → Each (IsForeign who) new
+    → Each (IsPast who) new → Journals who calls losses old → Journals who calls losses (new ++ old)
 journals-foreign {who = who} {calls = calls} {losses = losses} {old = old} other others new told called foreign past h = record {
-  told = foreign-places (new ++ old) who other losses others new old [] foreign (λ later k. at-both (IsToldAt old who losses) (IsToldAt (new ++ old) other others) (IsToldAt (new ++ old) who losses) later (told-both who other losses others later g) [] old h.told k) told;
+  told =
+      foreign-places (new ++ old) who other losses others new old [] foreign
+      (λ later k. at-both (IsToldAt old who losses) (IsToldAt (new ++ old) other others) (IsToldAt (new ++ old) who losses) later
+      (told-both who other losses others later g) [] old h.told k) told;
   called = called;
   lost = λ loss one. exists-right (IsLossOf who loss) new old (h.lost loss one);
   unnamed = λ loss one named. split loss one (exists-append (Names (new ++ old) who loss) new old named);
@@ -96,7 +110,9 @@ journals-foreign {who = who} {calls = calls} {losses = losses} {old = old} other
   split loss one (inl n) = foreign-some (new ++ old) who loss new foreign n
   split loss one (inr n) = h.unnamed loss one (some-names-back g who loss old h.called n)
 
-pub fits-foreign : (b : Book) (other : Who) (others : List Loss) (new : List Entry) → AtEachPlace (IsToldAt (new ++ b.journal) other others) [] (new ++ b.journal) → Each (IsCalled (new ++ b.journal)) (new ++ b.journal) → Each (IsForeign b.who) new → Each (IsPast b.who) new → Fits b → Fits (record b { journal = new ++ b.journal })
+pub fits-foreign : (b : Book) (other : Who) (others : List Loss) (new : List Entry)
+    → AtEachPlace (IsToldAt (new ++ b.journal) other others) [] (new ++ b.journal) → Each (IsCalled (new ++ b.journal)) (new ++ b.journal)
+    → Each (IsForeign b.who) new → Each (IsPast b.who) new → Fits b → Fits (record b { journal = new ++ b.journal })
 fits-foreign b other others new told called foreign past f = record {
   journals = journals-foreign other others new told called foreign past f.journals;
   under_way = λ u is. still-called (grows new b.journal) b.who u.q _ (f.under_way u is);
@@ -116,9 +132,12 @@ by-past who other apart (A by q said) h = λ same. absurd (apart (ap (λ w. w.ho
 by-past who other apart (L by file block first last) h = λ same. absurd (apart (ap (λ w. w.host) (sym h) ∙ same))
 by-past who other apart e h = tt
 
-pub fits-other : (b : Book) (who other : Who) (others : List Loss) (new : List Entry) → who.host ≢ b.who.host → Each (IsBy who) new → AtEachPlace (IsToldAt (new ++ b.journal) other others) [] (new ++ b.journal) → Each (IsCalled (new ++ b.journal)) (new ++ b.journal) → Fits b → Fits (record b { journal = new ++ b.journal })
+pub fits-other : (b : Book) (who other : Who) (others : List Loss) (new : List Entry) → who.host ≢ b.who.host → Each (IsBy who) new
+    → AtEachPlace (IsToldAt (new ++ b.journal) other others) [] (new ++ b.journal) → Each (IsCalled (new ++ b.journal)) (new ++ b.journal) → Fits b
+    → Fits (record b { journal = new ++ b.journal })
 fits-other b who other others new apart by told called f =
-    fits-foreign b other others new told called (each-map (IsBy who) (IsForeign b.who) new (by-foreign who b.who apart) by) (each-map (IsBy who) (IsPast b.who) new (by-past who b.who apart) by) f
+    fits-foreign b other others new told called (each-map (IsBy who) (IsForeign b.who) new (by-foreign who b.who apart) by)
+    (each-map (IsBy who) (IsPast b.who) new (by-past who b.who apart) by) f
 
 -- ---- the server's entries
 
@@ -144,20 +163,28 @@ pub record Places (who : Who) (losses : List Loss) (j : List Entry) : Type 0 whe
 
 places-one : {who : Who} {losses : List Loss} {old : List Entry} (e : Entry) → IsQuiet e → Places who losses old → Places who losses (e ∷ old)
 places-one {who = who} {losses = losses} {old = old} e quiet h = record {
-  told = (quiet-placed (e ∷ old) who losses e old quiet, told-more who losses losses (e ∷ []) (grows (e ∷ []) old) (λ by loss one. inr ((quiet-excused (e ∷ old) by loss.file e quiet, tt), one)) h.called h.told);
+  told = (
+    quiet-placed (e ∷ old) who losses e old quiet,
+    told-more who losses losses (e ∷ []) (grows (e ∷ []) old)
+        (λ by loss one. inr ((quiet-excused (e ∷ old) by loss.file e quiet, tt), one)) h.called h.told,
+  );
   called = (quiet-called (e ∷ old) e quiet, each-map (IsCalled old) (IsCalled (e ∷ old)) old (λ x k. called-more (grows (e ∷ []) old) x k) h.called);
 }
 
-pub places-quiet : {who : Who} {losses : List Loss} {old : List Entry} (new : List Entry) → Each IsQuiet new → Places who losses old → Places who losses (new ++ old)
+pub places-quiet : {who : Who} {losses : List Loss} {old : List Entry} (new : List Entry) → Each IsQuiet new → Places who losses old
+    → Places who losses (new ++ old)
 places-quiet [] quiet h = h
 places-quiet (e ∷ new) quiet h = places-one e quiet.0 (places-quiet new quiet.1 h)
 
 -- ---- the next incarnation
 
 past-foreign : (who next : Who) → next.host ≡ who.host → who.inc < next.inc → (e : Entry) → IsPast who e → IsForeign next e
-past-foreign who next host later (C by q told) h = λ same. let below = h (ap (λ w. w.host) same ∙ host) in let inc : by.inc ≡ next.inc = ap (λ w. w.inc) same in omega arith
-past-foreign who next host later (A by q said) h = λ same. let below = h (ap (λ w. w.host) same ∙ host) in let inc : by.inc ≡ next.inc = ap (λ w. w.inc) same in omega arith
-past-foreign who next host later (L by file block first last) h = λ same. let below = h (ap (λ w. w.host) same ∙ host) in let inc : by.inc ≡ next.inc = ap (λ w. w.inc) same in omega arith
+past-foreign who next host later (C by q told) h =
+    λ same. let below = h (ap (λ w. w.host) same ∙ host) in let inc : by.inc ≡ next.inc = ap (λ w. w.inc) same in omega arith
+past-foreign who next host later (A by q said) h =
+    λ same. let below = h (ap (λ w. w.host) same ∙ host) in let inc : by.inc ≡ next.inc = ap (λ w. w.inc) same in omega arith
+past-foreign who next host later (L by file block first last) h =
+    λ same. let below = h (ap (λ w. w.host) same ∙ host) in let inc : by.inc ≡ next.inc = ap (λ w. w.inc) same in omega arith
 past-foreign who next host later e h = tt
 
 past-past : (who next : Who) → next.host ≡ who.host → who.inc < next.inc → (e : Entry) → IsPast who e → IsPast next e
@@ -166,9 +193,11 @@ past-past who next host later (A by q said) h = λ same. let below = h (same ∙
 past-past who next host later (L by file block first last) h = λ same. let below = h (same ∙ host) in omega arith
 past-past who next host later e h = tt
 
-at-foreign : (whole : List Entry) (who next : Who) (losses : List Loss) (after xs : List Entry) → Each (IsForeign next) xs → AtEachPlace (IsToldAt whole who losses) after xs → AtEachPlace (IsToldAt whole next []) after xs
+at-foreign : (whole : List Entry) (who next : Who) (losses : List Loss) (after xs : List Entry) → Each (IsForeign next) xs
+    → AtEachPlace (IsToldAt whole who losses) after xs → AtEachPlace (IsToldAt whole next []) after xs
 at-foreign whole who next losses after [] foreign h = tt
-at-foreign whole who next losses after (e ∷ xs) foreign h = (foreign-at whole next who [] losses after e xs foreign.0 h.0, at-foreign whole who next losses (e ∷ after) xs foreign.1 h.1)
+at-foreign whole who next losses after (e ∷ xs) foreign h =
+    (foreign-at whole next who [] losses after e xs foreign.0 h.0, at-foreign whole who next losses (e ∷ after) xs foreign.1 h.1)
 
 no-call : (who : Who) (q : ℕ) (j : List Entry) → Each (IsForeign who) j → call_of j who q ≡ None
 no-call who q [] h = refl

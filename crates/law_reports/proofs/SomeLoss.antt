@@ -9,19 +9,11 @@ use Rattle.walk_run.proofs.NoCrash.{no-crash-within}
 use Rattle.nq_promises.specs.LossesAreReported.{IsLossOf}
 use Rattle.law_reports.specs.Met.{untold, IsLostAndNamed}
 use Rattle.nq_model.proofs.SkewTest.{skew-test-is-sound}
-use Rattle.nq_model.specs.Ask.{grant_of, sharing_row, caching_row, shared_again, renewed_row, put_off, free, put_off_by_own, granted, no_lease}
-use Rattle.nq_model.specs.ClientStep.{begins_call, is_called, says_busy, at_time, sends_again, fresh_client, attached_client, starts}
-use Rattle.nq_model.specs.Decide.{decides, creates, writes_through, stores, wrote, stores_recovering, resizes, removes, puts_off, commits}
-use Rattle.nq_model.specs.Hear.{vacates_lease, loses, without_lease, granted_lease, holds, caches_block, purges, knows_revision, marks_through, ends_push, spends, attached, pauses, cancels, notes_notice}
 use Rattle.nq_model.specs.Journal.{Exists}
-use Rattle.nq_model.specs.Kept.{new_file, written_file, resized_file, fenced_file, with_row, with_files, with_new_file}
 use Rattle.nq_model.specs.Reported.{Names}
-use Rattle.nq_model.specs.Send.{sends_request, after_seq, after_number, takes_push, gives_up}
-use Rattle.nq_model.specs.Server.{quiet, drops, says, after_notices, keeping, keeping_with, with_table}
-use Rattle.nq_model.specs.ServerStep.{attaches, tells_later, serves, leases, vacates, ends_writing, opens, boot, crash, at_time as at_server_time}
-use Rattle.nq_model.specs.Settle.{answers, after_read, reads_cached, after_write, marks_written}
-use Rattle.nq_model.specs.Table.{empty_table, with_rows, after_draw}
-use Rattle.nq_model.specs.World.{Head, after_server, after_client, start, run}
+use Rattle.nq_model.specs.ServerStep.{at_time as at_server_time}
+use Rattle.nq_model.specs.World.{Head, run}
+use Rattle.walk_entries.proofs.GivenRuns.{given-run}
 
 -- one host that wants short leases, one file of one block
 abbrev pub one-host : Head
@@ -67,15 +59,16 @@ abbrev loss : Loss
 loss = record { file = 1; block = 0; first = 1; last = 1 }
 
 waits : untold (slice_get (run one-host one-loss).clients 0) ≡ loss ∷ []
-unfolding filled zeros grant_of sharing_row caching_row shared_again renewed_row put_off free put_off_by_own granted no_lease begins_call is_called says_busy at_time at_server_time sends_again fresh_client attached_client starts decides creates writes_through stores wrote stores_recovering resizes removes puts_off commits vacates_lease loses without_lease granted_lease holds caches_block purges knows_revision marks_through ends_push spends attached pauses cancels notes_notice new_file written_file resized_file fenced_file with_row with_files with_new_file sends_request after_seq after_number takes_push gives_up quiet drops says after_notices keeping keeping_with with_table attaches tells_later serves leases vacates ends_writing opens boot crash answers after_read reads_cached after_write marks_written empty_table with_rows after_draw after_server after_client start
+unfolding filled zeros given-run
 waits = refl
 
 has-lost : Exists (IsLossOf (record { host = 0; inc = 1 }) loss) (run one-host one-loss).journal
-unfolding filled zeros grant_of sharing_row caching_row shared_again renewed_row put_off free put_off_by_own granted no_lease begins_call is_called says_busy at_time at_server_time sends_again fresh_client attached_client starts decides creates writes_through stores wrote stores_recovering resizes removes puts_off commits vacates_lease loses without_lease granted_lease holds caches_block purges knows_revision marks_through ends_push spends attached pauses cancels notes_notice new_file written_file resized_file fenced_file with_row with_files with_new_file sends_request after_seq after_number takes_push gives_up quiet drops says after_notices keeping keeping_with with_table attaches tells_later serves leases vacates ends_writing opens boot crash answers after_read reads_cached after_write marks_written empty_table with_rows after_draw after_server after_client start
+unfolding filled zeros given-run
 has-lost = inl (refl, refl)
 
-is-named : Exists (Names (run one-host (Event.Call 0 (Call.Sync 1) ∷ one-loss)).journal (record { host = 0; inc = 1 }) loss) (run one-host (Event.Call 0 (Call.Sync 1) ∷ one-loss)).journal
-unfolding filled zeros grant_of sharing_row caching_row shared_again renewed_row put_off free put_off_by_own granted no_lease begins_call is_called says_busy at_time at_server_time sends_again fresh_client attached_client starts decides creates writes_through stores wrote stores_recovering resizes removes puts_off commits vacates_lease loses without_lease granted_lease holds caches_block purges knows_revision marks_through ends_push spends attached pauses cancels notes_notice new_file written_file resized_file fenced_file with_row with_files with_new_file sends_request after_seq after_number takes_push gives_up quiet drops says after_notices keeping keeping_with with_table attaches tells_later serves leases vacates ends_writing opens boot crash answers after_read reads_cached after_write marks_written empty_table with_rows after_draw after_server after_client start
+is-named : Exists (Names (run one-host (Event.Call 0 (Call.Sync 1) ∷ one-loss)).journal (record { host = 0; inc = 1 }) loss)
+    (run one-host (Event.Call 0 (Call.Sync 1) ∷ one-loss)).journal
+unfolding filled zeros given-run
 is-named = inl (refl, refl, inl (refl, refl, refl))
 
 pub lost-and-named : IsLostAndNamed

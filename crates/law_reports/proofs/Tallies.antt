@@ -39,7 +39,8 @@ tally-map f g h [] same = refl
 tally-map f g h (x ∷ xs) same = let here = same x in let rest = tally-map f g h xs same in omega arith
 
 -- what passes a test and what does not make up the whole
-split-step : {X : Type 0} (f : X → ℕ) (x : X) (b : Bool) (passes others xs : List X) → tally f passes + tally f others ≡ tally f xs → tally f (if b then x ∷ passes else passes) + tally f (if not b then x ∷ others else others) ≡ f x + tally f xs
+split-step : {X : Type 0} (f : X → ℕ) (x : X) (b : Bool) (passes others xs : List X) → tally f passes + tally f others ≡ tally f xs
+    → tally f (if b then x ∷ passes else passes) + tally f (if not b then x ∷ others else others) ≡ f x + tally f xs
 unfolding tally
 split-step f x true passes others xs rest = omega arith
 split-step f x false passes others xs rest = omega arith
@@ -61,17 +62,6 @@ tally-one f x [] h = absurd h
 tally-one f x (y ∷ xs) (inl e) = let same : f y ≡ f x = ap f e in omega arith
 tally-one f x (y ∷ xs) (inr h) = let rest = tally-one f x xs h in omega arith
 
-pub exists-reverse : {X : Type 0} (F : X → Type 0) (xs : List X) → Exists F xs → Exists F (reverse xs)
-exists-reverse F [] h = absurd h
-exists-reverse F (x ∷ xs) (inl h) = subst (Exists F) (sym (reverse_onto xs x [])) (exists-right F (reverse xs) (x ∷ []) (inl h))
-exists-reverse F (x ∷ xs) (inr h) = subst (Exists F) (sym (reverse_onto xs x [])) (exists-left F (reverse xs) (x ∷ []) (exists-reverse F xs h))
-
--- what is so of each is so of one that is there
-pub each-one : {X : Type 0} (F : X → Type 0) (xs : List X) (x : X) → Each F xs → IsOne xs x → F x
-each-one F [] x all h = absurd h
-each-one F (y ∷ xs) x all (inl e) = subst F e all.0
-each-one F (y ∷ xs) x all (inr h) = each-one F xs x all.1 h
-
 pub each-reverse : {X : Type 0} (F : X → Type 0) (xs : List X) → Each F xs → Each F (reverse xs)
 each-reverse F [] h = tt
 each-reverse F (x ∷ xs) h = subst (Each F) (sym (reverse_onto xs x [])) (each-append F (reverse xs) (x ∷ []) (each-reverse F xs h.1) (h.0, tt))
@@ -81,7 +71,8 @@ each-mapped F g [] f = tt
 each-mapped F g (x ∷ xs) f = (f x (inl refl), each-mapped F g xs (λ y h. f y (inr h)))
 
 -- the elements that pass a test
-filter-step : {X : Type 0} (p : X → Bool) (x y : X) (xs : List X) (b : Bool) → p y ≡ b → (IsOne (filter p xs) x → IsOne xs x × (p x ≡ true)) → IsOne (if b then y ∷ filter p xs else filter p xs) x → ((y ≡ x) ⊎ IsOne xs x) × (p x ≡ true)
+filter-step : {X : Type 0} (p : X → Bool) (x y : X) (xs : List X) (b : Bool) → p y ≡ b → (IsOne (filter p xs) x → IsOne xs x × (p x ≡ true))
+    → IsOne (if b then y ∷ filter p xs else filter p xs) x → ((y ≡ x) ⊎ IsOne xs x) × (p x ≡ true)
 filter-step p x y xs true e rest (inl same) = (inl same, subst (λ z. p z ≡ true) same e)
 filter-step p x y xs true e rest (inr h) = let k = rest h in (inr k.0, k.1)
 filter-step p x y xs false e rest h = let k = rest h in (inr k.0, k.1)
@@ -90,7 +81,8 @@ pub one-passed : {X : Type 0} (p : X → Bool) (x : X) (xs : List X) → IsOne (
 one-passed p x [] h = absurd h
 one-passed p x (y ∷ xs) h = filter-step p x y xs (p y) refl (one-passed p x xs) h
 
-passes-step : {X : Type 0} (p : X → Bool) (x y : X) (xs : List X) (b : Bool) → p y ≡ b → p x ≡ true → (IsOne xs x → IsOne (filter p xs) x) → (y ≡ x) ⊎ IsOne xs x → IsOne (if b then y ∷ filter p xs else filter p xs) x
+passes-step : {X : Type 0} (p : X → Bool) (x y : X) (xs : List X) (b : Bool) → p y ≡ b → p x ≡ true → (IsOne xs x → IsOne (filter p xs) x)
+    → (y ≡ x) ⊎ IsOne xs x → IsOne (if b then y ∷ filter p xs else filter p xs) x
 passes-step p x y xs true e pass rest (inl same) = inl same
 passes-step p x y xs true e pass rest (inr h) = inr (rest h)
 passes-step p x y xs false e pass rest (inl same) = let no : p x ≡ false = subst (λ z. p z ≡ false) same e in absurd (cc)
@@ -105,12 +97,8 @@ one-mapped g [] y h = absurd h
 one-mapped g (x ∷ xs) y (inl e) = (x, inl refl, e)
 one-mapped g (x ∷ xs) y (inr h) = let k = one-mapped g xs y h in (k.0, inr k.1, k.2)
 
-pub one-maps : {X Y : Type 0} (g : X → Y) (xs : List X) (x : X) → IsOne xs x → IsOne (map g xs) (g x)
-one-maps g [] x h = absurd h
-one-maps g (y ∷ xs) x (inl e) = inl (ap g e)
-one-maps g (y ∷ xs) x (inr h) = inr (one-maps g xs x h)
-
-found-step : {X : Type 0} (p : X → Bool) (x y : X) (xs : List X) (b : Bool) → (find p xs ≡ Some x → IsOne xs x) → (if b then Some y else find p xs) ≡ Some x → (y ≡ x) ⊎ IsOne xs x
+found-step : {X : Type 0} (p : X → Bool) (x y : X) (xs : List X) (b : Bool) → (find p xs ≡ Some x → IsOne xs x)
+    → (if b then Some y else find p xs) ≡ Some x → (y ≡ x) ⊎ IsOne xs x
 found-step p x y xs true rest e = inl cc
 found-step p x y xs false rest e = inr (rest e)
 
@@ -119,7 +107,8 @@ one-found p x [] e = absurd (cc)
 one-found p x (y ∷ xs) e = found-step p x y xs (p y) (one-found p x xs) e
 
 -- where an element is found and all that passes a test with it is taken away, the rest counts less by that element at least
-pub tally-taken : {X : Type 0} (f : X → ℕ) (p : X → Bool) (x : X) (xs : List X) → IsOne xs x → p x ≡ true → tally f (filter (λ y. not (p y)) xs) + f x ≤ tally f xs
+pub tally-taken : {X : Type 0} (f : X → ℕ) (p : X → Bool) (x : X) (xs : List X) → IsOne xs x → p x ≡ true
+    → tally f (filter (λ y. not (p y)) xs) + f x ≤ tally f xs
 tally-taken f p x xs there pass =
     let split = tally-split f p xs in
     let counts = tally-one f x (filter p xs) (one-passes p x xs pass there) in
@@ -153,7 +142,9 @@ added-one file_of file more xs x h = step (exists-append (λ y. y ≡ x) xs more
 
     sorted : (b : Bool) → nat_le (file_of x) file ≡ b → IsOne xs x → IsOne (add_by file_of file more xs) x
     sorted true e one = early (exists-left (λ y. y ≡ x) (up_to file_of file xs) more (one-passes (λ y. nat_le (file_of y) file) x xs e one))
-    sorted false e one = exists-right (λ y. y ≡ x) (up_to file_of file xs ++ more) (past file_of file xs) (one-passes (λ y. not (nat_le (file_of y) file)) x xs (ap not e) one)
+    sorted false e one =
+        exists-right (λ y. y ≡ x) (up_to file_of file xs ++ more) (past file_of file xs)
+        (one-passes (λ y. not (nat_le (file_of y) file)) x xs (ap not e) one)
 
     step : IsOne xs x ⊎ IsOne more x → IsOne (add_by file_of file more xs) x
     step (inl a) = sorted (nat_le (file_of x) file) refl a

@@ -20,7 +20,8 @@ IsExcused whole who file other = Unit {0}
 -- going on from an L, an A names it before a C has to, or just after the first C that has to
 abbrev pub IsNamedIn : (whole : List Entry) (who : Who) (loss : Loss) → List Entry → Type 0
 IsNamedIn whole who loss [] = ⊥
-IsNamedIn whole who loss (entry ∷ after) = Names whole who loss entry ⊎ (IsNamedNext whole who loss entry after ⊎ (IsExcused whole who loss.file entry × IsNamedIn whole who loss after))
+IsNamedIn whole who loss (entry ∷ after) =
+    Names whole who loss entry ⊎ (IsNamedNext whole who loss entry after ⊎ (IsExcused whole who loss.file entry × IsNamedIn whole who loss after))
 
 -- each L is named, or no C had to report it yet and, where its incarnation is the running one, it waits to be named; and an
 -- A names losses for the first time
@@ -82,7 +83,8 @@ pub names-back : {old new : List Entry} → Grows old new → (who : Who) (loss 
 names-back g who loss (A by q (Lost spans)) called h = (h.0, subst (λ o. SpeaksOf loss.file o) (g.calls by q called) h.1, h.2)
 names-back g who loss other called h = absurd h
 
-pub some-names-back : {old new : List Entry} → Grows old new → (who : Who) (loss : Loss) (xs : List Entry) → Each (IsCalled old) xs → Exists (Names new who loss) xs → Exists (Names old who loss) xs
+pub some-names-back : {old new : List Entry} → Grows old new → (who : Who) (loss : Loss) (xs : List Entry) → Each (IsCalled old) xs
+    → Exists (Names new who loss) xs → Exists (Names old who loss) xs
 some-names-back g who loss [] called h = h
 some-names-back g who loss (e ∷ xs) called (inl h) = inl (names-back g who loss e called.0 h)
 some-names-back g who loss (e ∷ xs) called (inr h) = inr (some-names-back g who loss xs called.1 h)
@@ -91,29 +93,36 @@ excused-more : {old new : List Entry} → Grows old new → (who : Who) (file : 
 excused-more g who file (C by q told) h = λ same reports. g.busy who q (h same reports)
 excused-more g who file other h = tt
 
-next-more : {old new : List Entry} → Grows old new → (who : Who) (loss : Loss) (e : Entry) (after more : List Entry) → IsNamedNext old who loss e after → IsNamedNext new who loss e (after ++ more)
+next-more : {old new : List Entry} → Grows old new → (who : Who) (loss : Loss) (e : Entry) (after more : List Entry) → IsNamedNext old who loss e after
+    → IsNamedNext new who loss e (after ++ more)
 next-more g who loss (C by q told) (next ∷ after) more h = (h.0, names-more g who loss next h.1)
 next-more g who loss e after more h = absurd h
 
-pub named-more : {old new : List Entry} → Grows old new → (who : Who) (loss : Loss) (after more : List Entry) → IsNamedIn old who loss after → IsNamedIn new who loss (after ++ more)
+pub named-more : {old new : List Entry} → Grows old new → (who : Who) (loss : Loss) (after more : List Entry) → IsNamedIn old who loss after
+    → IsNamedIn new who loss (after ++ more)
 named-more g who loss [] more h = absurd h
 named-more g who loss (e ∷ after) more (inl h) = inl (names-more g who loss e h)
 named-more g who loss (e ∷ after) more (inr (inl h)) = inr (inl (next-more g who loss e after more h))
 named-more g who loss (e ∷ after) more (inr (inr h)) = inr (inr (excused-more g who loss.file e h.0, named-more g who loss after more h.1))
 
-named-after : (whole : List Entry) (who : Who) (loss : Loss) (after more : List Entry) → Each (IsExcused whole who loss.file) after → IsNamedIn whole who loss more → IsNamedIn whole who loss (after ++ more)
+named-after : (whole : List Entry) (who : Who) (loss : Loss) (after more : List Entry) → Each (IsExcused whole who loss.file) after
+    → IsNamedIn whole who loss more → IsNamedIn whole who loss (after ++ more)
 named-after whole who loss [] more excused h = h
 named-after whole who loss (e ∷ after) more excused h = inr (inr (excused.0, named-after whole who loss after more excused.1 h))
 
-unnamed-more : {old new : List Entry} → Grows old new → (before : List Entry) → Each (IsCalled old) before → (who : Who) (call other : Option Told) → other ≡ call → (span : Span) (e : Entry) → IsUnnamed old before who call span e → IsUnnamed new before who other span e
+unnamed-more : {old new : List Entry} → Grows old new → (before : List Entry) → Each (IsCalled old) before → (who : Who) (call other : Option Told)
+    → other ≡ call → (span : Span) (e : Entry) → IsUnnamed old before who call span e → IsUnnamed new before who other span e
 unnamed-more g before called who call other same span (L by file block first last) h =
     (h.0, subst (λ o. SpeaksOf file o) (sym same) h.1, h.2, λ n. h.3 (some-names-back g who (loss_told file block first last) before called n))
 unnamed-more g before called who call other same span e h = absurd h
 
-pub names-new-more : {old new : List Entry} → Grows old new → (before : List Entry) → Each (IsCalled old) before → (who : Who) (call other : Option Told) → other ≡ call → (spans : List Span) → NameLosses old before who call spans → NameLosses new before who other spans
+pub names-new-more : {old new : List Entry} → Grows old new → (before : List Entry) → Each (IsCalled old) before
+    → (who : Who) (call other : Option Told) → other ≡ call → (spans : List Span) → NameLosses old before who call spans
+    → NameLosses new before who other spans
 names-new-more g before called who call other same [] h = tt
 names-new-more {old = old} {new = new} g before called who call other same (span ∷ spans) h = (
-  exists-map (IsUnnamed old before who call span) (IsUnnamed new before who other span) before (λ e u. unnamed-more g before called who call other same span e u) h.0,
+  exists-map (IsUnnamed old before who call span) (IsUnnamed new before who other span) before
+      (λ e u. unnamed-more g before called who call other same span e u) h.0,
   h.1,
   names-new-more g before called who call other same spans h.2,
 )
@@ -123,27 +132,37 @@ names-new-more {old = old} {new = new} g before called who call other same (span
 -- of what more entries do to a loss that no A named: one of them names it, or none has to and it waits as before
 abbrev pub GoesOn : (whole : List Entry) (who : Who) (losses fewer : List Loss) (more : List Entry) → Type 0
 GoesOn whole who losses fewer more =
-    (by : Who) (loss : Loss) → (by ≡ who → IsOne losses loss) → IsNamedIn whole by loss more ⊎ (Each (IsExcused whole by loss.file) more × (by ≡ who → IsOne fewer loss))
+    (by : Who) (loss : Loss) → (by ≡ who → IsOne losses loss)
+    → IsNamedIn whole by loss more ⊎ (Each (IsExcused whole by loss.file) more × (by ≡ who → IsOne fewer loss))
 
-pub at-more : (F G : List Entry → Entry → List Entry → Type 0) (X : Entry → Type 0) (more : List Entry) → ((after : List Entry) (e : Entry) (before : List Entry) → X e → Each X before → F after e before → G (after ++ more) e before) → (after xs : List Entry) → Each X xs → AtEachPlace F after xs → AtEachPlace G (after ++ more) xs
+pub at-more : (F G : List Entry → Entry → List Entry → Type 0) (X : Entry → Type 0) (more : List Entry)
+    → ((after : List Entry) (e : Entry) (before : List Entry) → X e → Each X before → F after e before → G (after ++ more) e before)
+    → (after xs : List Entry) → Each X xs → AtEachPlace F after xs → AtEachPlace G (after ++ more) xs
 at-more F G X more step after [] all h = tt
 at-more F G X more step after (e ∷ xs) all h = (step after e xs all.0 all.1 h.0, at-more F G X more step (e ∷ after) xs all.1 h.1)
 
-told-at-more : {old new : List Entry} (who : Who) (losses fewer : List Loss) (more : List Entry) → Grows old new → GoesOn new who losses fewer more → (after : List Entry) (e : Entry) (before : List Entry) → IsCalled old e → Each (IsCalled old) before → IsToldAt old who losses after e before → IsToldAt new who fewer (after ++ more) e before
-told-at-more who losses fewer more g goes after (L by file block first last) before called all (inl h) = inl (named-more g by (loss_told file block first last) after more h)
-told-at-more {old = old} {new = new} who losses fewer more g goes after (L by file block first last) before called all (inr h) = step (goes by (loss_told file block first last) h.1)
+told-at-more : {old new : List Entry} (who : Who) (losses fewer : List Loss) (more : List Entry) → Grows old new → GoesOn new who losses fewer more
+    → (after : List Entry) (e : Entry) (before : List Entry) → IsCalled old e → Each (IsCalled old) before → IsToldAt old who losses after e before
+    → IsToldAt new who fewer (after ++ more) e before
+told-at-more who losses fewer more g goes after (L by file block first last) before called all (inl h) =
+    inl (named-more g by (loss_told file block first last) after more h)
+told-at-more {old = old} {new = new} who losses fewer more g goes after (L by file block first last) before called all (inr h) = step
+    (goes by (loss_told file block first last) h.1)
   where
     excused : Each (IsExcused new by file) after
     excused = each-map (IsExcused old by file) (IsExcused new by file) after (λ e x. excused-more g by file e x) h.0
 
-    step : IsNamedIn new by (loss_told file block first last) more ⊎ (Each (IsExcused new by file) more × (by ≡ who → IsOne fewer (loss_told file block first last))) → IsToldAt new who fewer (after ++ more) (L by file block first last) before
+    step : IsNamedIn new by (loss_told file block first last) more
+        ⊎ (Each (IsExcused new by file) more × (by ≡ who → IsOne fewer (loss_told file block first last)))
+        → IsToldAt new who fewer (after ++ more) (L by file block first last) before
     step (inl n) = inl (named-after new by (loss_told file block first last) after more excused n)
     step (inr k) = inr (each-append (IsExcused new by file) after more excused k.0, k.1)
 told-at-more {old = old} {new = new} who losses fewer more g goes after (A by q (Lost spans)) before called all h =
     names-new-more g before all by (call_of old by q) (call_of new by q) (g.calls by q called) spans.items h
 told-at-more who losses fewer more g goes after other before called all h = tt
 
-pub told-more : {old new : List Entry} (who : Who) (losses fewer : List Loss) (more : List Entry) → Grows old new → GoesOn new who losses fewer more → Each (IsCalled old) old → AtEachPlace (IsToldAt old who losses) [] old → AtEachPlace (IsToldAt new who fewer) more old
+pub told-more : {old new : List Entry} (who : Who) (losses fewer : List Loss) (more : List Entry) → Grows old new → GoesOn new who losses fewer more
+    → Each (IsCalled old) old → AtEachPlace (IsToldAt old who losses) [] old → AtEachPlace (IsToldAt new who fewer) more old
 told-more {old = old} {new = new} who losses fewer more g goes called h =
     at-more (IsToldAt old who losses) (IsToldAt new who fewer) (IsCalled old) more (told-at-more who losses fewer more g goes) [] old called h
 
@@ -158,10 +177,12 @@ names-not whole who loss file (A by q said) h must = must
 names-not whole who loss file (C by q told) h must = h
 names-not whole who loss file other h must = must
 
-names-reported : (whole : List Entry) (who : Who) (loss : Loss) (e : Entry) (after : List Entry) → Names whole who loss e → IsReportedIn whole who loss (e ∷ after)
+names-reported : (whole : List Entry) (who : Who) (loss : Loss) (e : Entry) (after : List Entry) → Names whole who loss e
+    → IsReportedIn whole who loss (e ∷ after)
 names-reported whole who loss e after h = (λ must. absurd (names-not whole who loss loss.file e h must), λ not_must unnamed. absurd (unnamed h))
 
-next-reported : (whole : List Entry) (who : Who) (loss : Loss) (e : Entry) (after : List Entry) → IsNamedNext whole who loss e after → IsReportedIn whole who loss after
+next-reported : (whole : List Entry) (who : Who) (loss : Loss) (e : Entry) (after : List Entry) → IsNamedNext whole who loss e after
+    → IsReportedIn whole who loss after
 next-reported whole who loss (C by q told) (next ∷ after) h = names-reported whole who loss next after h.1
 next-reported whole who loss e after h = absurd h
 
@@ -169,19 +190,25 @@ named-reported : (whole : List Entry) (who : Who) (loss : Loss) (after : List En
 named-reported whole who loss [] h = tt
 named-reported whole who loss (e ∷ after) (inl h) = names-reported whole who loss e after h
 named-reported whole who loss (e ∷ after) (inr (inl h)) = (λ must. h, λ not_must unnamed. next-reported whole who loss e after h)
-named-reported whole who loss (e ∷ after) (inr (inr h)) = (λ must. absurd (excused-not whole who loss.file e h.0 must), λ not_must unnamed. named-reported whole who loss after h.1)
+named-reported whole who loss (e ∷ after) (inr (inr h)) =
+    (λ must. absurd (excused-not whole who loss.file e h.0 must), λ not_must unnamed. named-reported whole who loss after h.1)
 
-excused-reported : (whole : List Entry) (who : Who) (loss : Loss) (after : List Entry) → Each (IsExcused whole who loss.file) after → IsReportedIn whole who loss after
+excused-reported : (whole : List Entry) (who : Who) (loss : Loss) (after : List Entry) → Each (IsExcused whole who loss.file) after
+    → IsReportedIn whole who loss after
 excused-reported whole who loss [] h = tt
-excused-reported whole who loss (e ∷ after) h = (λ must. absurd (excused-not whole who loss.file e h.0 must), λ not_must unnamed. excused-reported whole who loss after h.1)
+excused-reported whole who loss (e ∷ after) h =
+    (λ must. absurd (excused-not whole who loss.file e h.0 must), λ not_must unnamed. excused-reported whole who loss after h.1)
 
-told-reported : (whole : List Entry) (who : Who) (losses : List Loss) (after : List Entry) (e : Entry) (before : List Entry) → IsToldAt whole who losses after e before → IsReportedAt whole after e before
+told-reported : (whole : List Entry) (who : Who) (losses : List Loss) (after : List Entry) (e : Entry) (before : List Entry)
+    → IsToldAt whole who losses after e before → IsReportedAt whole after e before
 told-reported whole who losses after (L by file block first last) before (inl h) = named-reported whole by (loss_told file block first last) after h
 told-reported whole who losses after (L by file block first last) before (inr h) = excused-reported whole by (loss_told file block first last) after h.0
 told-reported whole who losses after (A by q (Lost spans)) before h = h
 told-reported whole who losses after other before h = tt
 
-at-each : (F G : List Entry → Entry → List Entry → Type 0) → ((after : List Entry) (e : Entry) (before : List Entry) → F after e before → G after e before) → (after xs : List Entry) → AtEachPlace F after xs → AtEachPlace G after xs
+at-each : (F G : List Entry → Entry → List Entry → Type 0)
+    → ((after : List Entry) (e : Entry) (before : List Entry) → F after e before → G after e before) → (after xs : List Entry) → AtEachPlace F after xs
+    → AtEachPlace G after xs
 at-each F G step after [] h = tt
 at-each F G step after (e ∷ xs) h = (step after e xs h.0, at-each F G step (e ∷ after) xs h.1)
 

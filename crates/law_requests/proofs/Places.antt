@@ -36,10 +36,12 @@ abbrev pub Answers : List Packet → Type 0
 Answers ps = (place host xid : ℕ) (a : Reply) → slice_get ps place ≡ Some (to_host host (reply xid a)) → AnswersRequest ps place host xid a
 
 -- after more packets, of which each reply answers a request before them
-pub answers-more : (ps more : List Packet) → ((host xid : ℕ) (a : Reply) → In more (to_host host (reply xid a)) → IsReplyTo ps host xid a) → Answers ps → Answers (ps ++ more)
+pub answers-more : (ps more : List Packet) → ((host xid : ℕ) (a : Reply) → In more (to_host host (reply xid a)) → IsReplyTo ps host xid a) → Answers ps
+    → Answers (ps ++ more)
 answers-more ps more new h place host xid a at = step (get-append ps more place (to_host host (reply xid a)) at)
   where
-    step : (slice_get ps place ≡ Some (to_host host (reply xid a))) ⊎ ((length ps ≤ place) × In more (to_host host (reply xid a))) → AnswersRequest (ps ++ more) place host xid a
+    step : (slice_get ps place ≡ Some (to_host host (reply xid a))) ⊎ ((length ps ≤ place) × In more (to_host host (reply xid a)))
+        → AnswersRequest (ps ++ more) place host xid a
     step (inl old) = let k = h place host xid a old in record {
       earlier = k.earlier;
       before = k.before;

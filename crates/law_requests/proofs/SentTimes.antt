@@ -15,16 +15,20 @@ clock-goes-on head e earlier = let before = (run-clocked head earlier).server in
 sent-by-now : (head : Head) (events : List Event) (place : ℕ) → sent_time head events place ≤ (run head events).server.now
 sent-by-now head [] place = omega arith
 sent-by-now head (e ∷ earlier) place =
-    choice (λ time. time ≤ (run head (e ∷ earlier)).server.now) (nat_lt place (length (run head earlier).packets)) (sent_time head earlier place) (run head (e ∷ earlier)).server.now
+    choice (λ time. time ≤ (run head (e ∷ earlier)).server.now) (nat_lt place (length (run head earlier).packets)) (sent_time head earlier place)
+    (run head (e ∷ earlier)).server.now
     (λ there. let before = sent-by-now head earlier place in let on = clock-goes-on head e earlier in omega arith)
     (λ new. omega arith)
 
 pub sent-in-order : (head : Head) (events : List Event) (i j : ℕ) → i ≤ j → sent_time head events i ≤ sent_time head events j
 sent-in-order head [] i j order = omega arith
 sent-in-order head (e ∷ earlier) i j order =
-    choice (λ time. sent_time head (e ∷ earlier) i ≤ time) (nat_lt j (length (run head earlier).packets)) (sent_time head earlier j) (run head (e ∷ earlier)).server.now
+    choice (λ time. sent_time head (e ∷ earlier) i ≤ time) (nat_lt j (length (run head earlier).packets)) (sent_time head earlier j)
+    (run head (e ∷ earlier)).server.now
     (λ there.
-    choice (λ time. time ≤ sent_time head earlier j) (nat_lt i (length (run head earlier).packets)) (sent_time head earlier i) (run head (e ∷ earlier)).server.now
+    choice (λ time. time ≤ sent_time head earlier j) (nat_lt i (length (run head earlier).packets)) (sent_time head earlier i)
+    (run head (e ∷ earlier)).server.now
     (λ also. sent-in-order head earlier i j order)
-    (λ new. let below = is-below j (length (run head earlier).packets) there in let past = is-not-below i (length (run head earlier).packets) new in absurd (omega arith)))
+    (λ new. let below = is-below j (length (run head earlier).packets) there in let past = is-not-below i (length (run head earlier).packets) new in
+    absurd (omega arith)))
     (λ new. sent-by-now head (e ∷ earlier) i)

@@ -11,16 +11,11 @@ use Rattle.nq_promises.specs.OneRequestPerSequence.{IsOpenRequest}
 use Rattle.law_requests.specs.Met.{IsAskedTwice}
 use Rattle.nq_model.proofs.SkewTest.{skew-test-is-sound}
 use Rattle.nq_model.specs.Client.{Client, Job, Ticket}
-use Rattle.nq_model.specs.ClientStep.{begins_call, is_called, at_time, sends_again, fresh_client, attached_client, starts}
-use Rattle.nq_model.specs.Decide.{decides, creates, commits}
-use Rattle.nq_model.specs.Kept.{new_file, with_row, with_new_file}
+use Rattle.nq_model.specs.ClientStep.{fresh_client}
 use Rattle.nq_model.specs.Message.{reply}
-use Rattle.nq_model.specs.Send.{sends_request, after_seq, after_number}
-use Rattle.nq_model.specs.Server.{to_host, quiet, says, keeping, keeping_with}
-use Rattle.nq_model.specs.ServerStep.{boot}
-use Rattle.nq_model.specs.Settle.{answers}
-use Rattle.nq_model.specs.Table.{empty_table}
-use Rattle.nq_model.specs.World.{Head, after_server, after_client, start, run}
+use Rattle.nq_model.specs.Server.{to_host}
+use Rattle.nq_model.specs.World.{Head, run}
+use Rattle.walk_entries.proofs.GivenRuns.{given-run}
 
 -- two hosts, one file of one block
 abbrev two-hosts : Head
@@ -41,36 +36,36 @@ abbrev ticket : Ticket
 ticket = record { xid = 1; first = 0; last = 2; request = create; job = Job.for_call }
 
 runs : slice_get (run two-hosts one-create).clients 0 ≡ Some creator
-unfolding filled zeros begins_call is_called at_time sends_again fresh_client attached_client starts new_file sends_request after_seq after_number boot answers empty_table after_server after_client start
+unfolding filled zeros given-run
 runs = refl
 
 first-open : IsOpenRequest (run two-hosts one-create) 0 0 1 create creator.who 1
-unfolding filled zeros begins_call is_called at_time sends_again fresh_client attached_client starts new_file sends_request after_seq after_number boot answers empty_table after_server after_client start
+unfolding filled zeros given-run
 first-open = record { kept = refl; asks = record { sent = refl; by = refl; sequence = refl }; above = omega arith }
 
 again-open : IsOpenRequest (run two-hosts one-create) 0 1 1 create creator.who 1
-unfolding filled zeros begins_call is_called at_time sends_again fresh_client attached_client starts new_file sends_request after_seq after_number boot answers empty_table after_server after_client start
+unfolding filled zeros given-run
 again-open = record { kept = refl; asks = record { sent = refl; by = refl; sequence = refl }; above = omega arith }
 
 -- the client restarts: its request stays open
 outlives : IsOpenRequest (run two-hosts (Event.Restart 0 ∷ one-create)) 0 0 1 create creator.who 1
-unfolding filled zeros begins_call is_called at_time sends_again fresh_client attached_client starts new_file sends_request after_seq after_number boot answers empty_table after_server after_client start
+unfolding filled zeros given-run
 outlives = record { kept = refl; asks = record { sent = refl; by = refl; sequence = refl }; above = omega arith }
 
 stays : slice_get (run two-hosts (Event.Deliver 0 ∷ one-create)).clients 0 ≡ Some creator
-unfolding filled zeros decides creates commits begins_call is_called at_time sends_again fresh_client attached_client starts new_file with_row with_new_file sends_request after_seq after_number quiet says keeping keeping_with boot answers empty_table after_server after_client start
+unfolding filled zeros given-run
 stays = refl
 
 has : creator.ticket ≡ Some ticket
-unfolding filled zeros begins_call is_called at_time sends_again fresh_client attached_client starts new_file sends_request after_seq after_number boot answers empty_table after_server after_client start
+unfolding filled zeros given-run
 has = refl
 
 told : slice_get (run two-hosts (Event.Deliver 0 ∷ one-create)).packets 2 ≡ Some (to_host 0 (reply 1 (Reply.Create 1 2)))
-unfolding filled zeros decides creates commits begins_call is_called at_time sends_again fresh_client attached_client starts new_file with_row with_new_file sends_request after_seq after_number quiet says keeping keeping_with boot answers empty_table after_server after_client start
+unfolding filled zeros given-run
 told = refl
 
 inc : 1 ≡ creator.who.inc
-unfolding filled zeros begins_call is_called at_time sends_again fresh_client attached_client starts new_file sends_request after_seq after_number boot answers empty_table after_server after_client start
+unfolding filled zeros given-run
 inc = refl
 
 pub asked-twice : IsAskedTwice
@@ -90,7 +85,8 @@ asked-twice = record {
   runs = runs;
   first = first-open;
   again = again-open;
-  bounds_restarted = record { hosts = omega arith; first_long = omega arith; first_short = omega arith; boots = no-crash-within 60 (Event.Restart 0 ∷ one-create) refl };
+  bounds_restarted =
+      record { hosts = omega arith; first_long = omega arith; first_short = omega arith; boots = no-crash-within 60 (Event.Restart 0 ∷ one-create) refl };
   within_restarted = skew-test-is-sound 2 60 (Event.Restart 0 ∷ one-create) refl;
   outlives = outlives;
   stays = stays;

@@ -31,7 +31,8 @@ pub record Draws (w : World) : Type 0 where
 
 -- ---- a step of a client
 
-client-draws : (w : World) (host : ℕ) (c : Client) (t : ClientStep) → slice_get w.clients host ≡ Some c → Drew host w.packets t → Holds w → Draws w → Draws (after_client w host t)
+client-draws : (w : World) (host : ℕ) (c : Client) (t : ClientStep) → slice_get w.clients host ≡ Some c → Drew host w.packets t → Holds w → Draws w
+    → Draws (after_client w host t)
 unfolding after_client
 client-draws w host c t is new held h = record {
   clients = λ other d there. case other d (other == host) refl there;
@@ -41,7 +42,8 @@ client-draws w host c t is new held h = record {
   apart : (other : ℕ) → (other == host) ≡ false → other ≢ host
   apart other differs same = let yes : (other == host) ≡ true = number-same other host same in absurd (cc)
 
-  case : (other : ℕ) (d : Client) (b : Bool) → (other == host) ≡ b → slice_get (slice_set w.clients host t.client) other ≡ Some d → Seqs d.who d.seq (packets_with w.packets host t.sends)
+  case : (other : ℕ) (d : Client) (b : Bool) → (other == host) ≡ b → slice_get (slice_set w.clients host t.client) other ≡ Some d
+      → Seqs d.who d.seq (packets_with w.packets host t.sends)
   case other d true same there =
       let one : other ≡ host = same-number other host same in
       let is : d ≡ t.client = get-set-same w.clients host t.client d (subst (λ n. slice_get (slice_set w.clients host t.client) n ≡ Some d) one there) in
@@ -49,26 +51,34 @@ client-draws w host c t is new held h = record {
   case other d false differs there =
       let before : slice_get w.clients other ≡ Some d = sym (get-set-other w.clients host other t.client (apart other differs)) ∙ there in
       let here : d.who.host ≡ other = (held.clients other d before).here in
-      seqs-more (λ x r n sq asked. other-asked w.packets host d.who.host t.sends x r (λ same. apart other differs (sym here ∙ same)) asked) (h.clients other d before)
+      seqs-more (λ x r n sq asked. other-asked w.packets host d.who.host t.sends x r (λ same. apart other differs (sym here ∙ same)) asked)
+      (h.clients other d before)
 
-  lone : (other xid : ℕ) (r : Request) (b : Bool) → (other == host) ≡ b → Asked (packets_with w.packets host t.sends) other xid r → slice_get (slice_set w.clients host t.client) other ≡ None → ⊥
-  lone other xid r true same asked none = none-some t.client (sym (subst (λ n. slice_get (slice_set w.clients host t.client) n ≡ None) (same-number other host same) none) ∙ set-there w.clients host t.client c is)
+  lone : (other xid : ℕ) (r : Request) (b : Bool) → (other == host) ≡ b → Asked (packets_with w.packets host t.sends) other xid r
+      → slice_get (slice_set w.clients host t.client) other ≡ None → ⊥
+  lone other xid r true same asked none =
+      none-some t.client (sym (subst (λ n. slice_get (slice_set w.clients host t.client) n ≡ None) (same-number other host same) none)
+      ∙ set-there w.clients host t.client c is)
   lone other xid r false differs asked none =
       h.lone other xid r
       (other-asked w.packets host other t.sends xid r (apart other differs) asked)
       (sym (get-set-other w.clients host other t.client (apart other differs)) ∙ none)
 
-at-client-draws : (w : World) (host : ℕ) (f : Client → ClientStep) (o : Option Client) → slice_get w.clients host ≡ o → ((c : Client) → IsAt host c w.packets → Seqs c.who c.seq w.packets → Drew host w.packets (f c)) → Holds w → Draws w → Draws (at_client w host f o)
+at-client-draws : (w : World) (host : ℕ) (f : Client → ClientStep) (o : Option Client) → slice_get w.clients host ≡ o
+    → ((c : Client) → IsAt host c w.packets → Seqs c.who c.seq w.packets → Drew host w.packets (f c)) → Holds w → Draws w → Draws (at_client w host f o)
 at-client-draws w host f None is goes held h = h
 at-client-draws w host f (Some c) is goes held h = client-draws w host c (f c) is (goes c (held.clients host c is) (h.clients host c is)) held h
 
-hearing-draws : (w : World) (host : ℕ) (c : Client) (o : Option ClientStep) → slice_get w.clients host ≡ Some c → DrewIf host w.packets o → Holds w → Draws w → Draws (after_hearing w host o)
+hearing-draws : (w : World) (host : ℕ) (c : Client) (o : Option ClientStep) → slice_get w.clients host ≡ Some c → DrewIf host w.packets o → Holds w
+    → Draws w → Draws (after_hearing w host o)
 hearing-draws w host c None is new held h = h
 hearing-draws w host c (Some t) is new held h = client-draws w host c t is new held h
 
-to-client-draws : (w : World) (k host : ℕ) (m : Message) (o : Option Client) → slice_get w.clients host ≡ o → Told w.packets host m → Holds w → Draws w → Draws (deliver_to_client w k host m o)
+to-client-draws : (w : World) (k host : ℕ) (m : Message) (o : Option Client) → slice_get w.clients host ≡ o → Told w.packets host m → Holds w → Draws w
+    → Draws (deliver_to_client w k host m o)
 to-client-draws w k host m None is sent held h = h
-to-client-draws w k host m (Some c) is sent held h = hearing-draws w host c (hear c k m) is (hear-draws host c w.packets k m sent (held.clients host c is) (h.clients host c is)) held h
+to-client-draws w k host m (Some c) is sent held h =
+    hearing-draws w host c (hear c k m) is (hear-draws host c w.packets k m sent (held.clients host c is) (h.clients host c is)) held h
 
 -- ---- a step of the server
 
@@ -79,7 +89,8 @@ said-reply ps host xid a (said_reply other y b e k) =
     let p = reply-same xid y a b t.1 in
     subst (λ n. IsReplyTo ps n xid a) (sym t.0) (subst (λ n. IsReplyTo ps other n a) (sym p.0) (subst (λ z. IsReplyTo ps other y z) (sym p.1) k))
 said-reply ps host xid a (said_error other y er e) = let t = told-same host other (reply xid a) (error y er) e in absurd (cc)
-said-reply ps host xid a (said_notice y row e) = let t = told-same host row.who.host (reply xid a) (call y (Request.Evicted row.who row.file row.tag)) e in absurd (cc)
+said-reply ps host xid a (said_notice y row e) =
+    let t = told-same host row.who.host (reply xid a) (call y (Request.Evicted row.who row.file row.tag)) e in absurd (cc)
 
 server-draws : (w : World) (t : ServerStep) → AllSaid w.packets t.sends → Draws w → Draws (after_server w t)
 unfolding after_server
@@ -92,18 +103,22 @@ server-draws w t said h = record {
 -- ---- each event
 
 delivered-draws : (w : World) (k : ℕ) (p : Packet) (to : Party) → p.to ≡ to → In w.packets p → Holds w → Draws w → Draws (deliver_to w k p to)
-delivered-draws w k p Party.Server to i held h = server-draws w (receive w.server (sending_host p.sender) (length w.packets) (datagram_of p.message)) (received-said w p i to held) h
-delivered-draws w k p (Party.Client host) to i held h = to-client-draws w k host p.message (slice_get w.clients host) refl (to-told w.packets p host (held.sent p i) to i) held h
+delivered-draws w k p Party.Server to i held h =
+    server-draws w (receive w.server (sending_host p.sender) (length w.packets) (datagram_of p.message)) (received-said w p i to held) h
+delivered-draws w k p (Party.Client host) to i held h =
+    to-client-draws w k host p.message (slice_get w.clients host) refl (to-told w.packets p host (held.sent p i) to i) held h
 
 deliver-draws : (w : World) (k : ℕ) (o : Option Packet) → slice_get w.packets k ≡ o → Holds w → Draws w → Draws (deliver w k o)
 deliver-draws w k None is held h = h
 deliver-draws w k (Some p) is held h = delivered-draws w k p p.to refl (in-get w.packets k p is) held h
 
 step-draws : (w : World) (e : Event) → Holds w → Draws w → Draws (step w e)
-step-draws w (Event.Call host op) held h = at-client-draws w host (λ c. client_call c op) (slice_get w.clients host) refl (λ c a q. call-draws host c w.packets op a q) held h
+step-draws w (Event.Call host op) held h =
+    at-client-draws w host (λ c. client_call c op) (slice_get w.clients host) refl (λ c a q. call-draws host c w.packets op a q) held h
 step-draws w (Event.Deliver k) held h = deliver-draws w k (slice_get w.packets k) refl held h
 step-draws w Event.ServerTick held h = server-draws w (tick w.server (w.server.now + 1)) (tick-said w.packets w.server (w.server.now + 1)) h
-step-draws w (Event.ClientTick host) held h = at-client-draws w host (λ c. client_tick c (c.now + 1)) (slice_get w.clients host) refl (λ c a q. tick-draws host c w.packets a q) held h
+step-draws w (Event.ClientTick host) held h =
+    at-client-draws w host (λ c. client_tick c (c.now + 1)) (slice_get w.clients host) refl (λ c a q. tick-draws host c w.packets a q) held h
 step-draws w (Event.Restart host) held h = at-client-draws w host restart (slice_get w.clients host) refl (λ c a q. restart-draws host c w.packets a q) held h
 step-draws w (Event.Crash longest) held h = server-draws w (crash w.server longest) (crash-said w.packets w.server longest) h
 

@@ -1,5 +1,5 @@
 -- Each event changes one party, from what that party has and what the event brings.
-use Rattle.std.proofs.Common.{◌≡◌, ◌≢◌, ℕ, ◌+◌, List, [], ◌∷◌, ◌++◌, Option, Some, None, length, map, refl, sym, subst, ap, ◌∙◌, arith, append-nil}
+use Rattle.std.proofs.Common.{◌≡◌, ℕ, ◌+◌, List, [], ◌++◌, Option, Some, None, length, map, refl, sym, subst, ap, ◌∙◌, arith, append-nil}
 use Rattle.std.proofs.lemmas.List.{length-append}
 use Rattle.std.specs.Prelude.{slice_get, slice_set}
 use Rattle.nq_base.specs.declared.Call.{Call}
@@ -11,8 +11,8 @@ use Rattle.nq_model.specs.Hear.{hear}
 use Rattle.nq_model.specs.Message.{Message, Packet, datagram_of}
 use Rattle.nq_model.specs.Server.{Server, ServerStep}
 use Rattle.nq_model.specs.ServerStep.{receive, tick, crash}
-use Rattle.nq_model.specs.World.{World, from_host, after_server, after_client, at_client, after_hearing, sending_host, deliver_to_client, deliver_to, deliver, step}
-use Rattle.nq_promises.specs.StepsAreOfOneHost.{receiver_of, stepper, ChangesOnly, StepsAreOfOneHost, IsAlike, BringsSame, DoesSame, StepsRestOnTheirHost}
+use Rattle.nq_model.specs.World.{World, from_host, after_server, after_client, at_client, after_hearing, sending_host, deliver_to_client, deliver_to, deliver}
+use Rattle.nq_promises.specs.StepsAreOfOneHost.{receiver_of, ChangesOnly, StepsAreOfOneHost, IsAlike, DoesSame, StepsRestOnTheirHost}
 use Rattle.walk_run.proofs.Worlds.{set-there, get-set-other}
 
 -- ---- one party
@@ -22,7 +22,8 @@ nothing who w = record { clients = λ host apart. refl; server = λ apart. refl;
 
 server-only : (w : World) (t : ServerStep) → ChangesOnly Party.Server w (after_server w t)
 unfolding after_server
-server-only w t = record { clients = λ host apart. refl; server = λ apart. absurd (apart refl); sends = t.sends; packets = refl; entries = t.entries; journal = refl }
+server-only w t =
+    record { clients = λ host apart. refl; server = λ apart. absurd (apart refl); sends = t.sends; packets = refl; entries = t.entries; journal = refl }
 
 client-only : (w : World) (host : ℕ) (t : ClientStep) → ChangesOnly (Party.Client host) w (after_client w host t)
 unfolding after_client
@@ -69,7 +70,16 @@ as-many : (xs ys zs : List Packet) → length xs ≡ length ys → length (xs ++
 as-many xs ys zs same = omega (arith, length-append {A = Packet})
 
 still : (who : Party) (v w : World) → IsAlike who v w → DoesSame who v w v w
-still who v w a = record { alike = a; sends = []; v_packets = sym (append-nil v.packets); w_packets = sym (append-nil w.packets); entries = []; v_journal = refl; w_journal = refl }
+still who v w a =
+    record {
+      alike = a;
+      sends = [];
+      v_packets = sym (append-nil v.packets);
+      w_packets = sym (append-nil w.packets);
+      entries = [];
+      v_journal = refl;
+      w_journal = refl;
+    }
 
 server-same : (v w : World) (t : ServerStep) → IsAlike Party.Server v w → DoesSame Party.Server v w (after_server v t) (after_server w t)
 unfolding after_server
@@ -83,10 +93,17 @@ server-same v w t a = record {
   w_journal = refl;
 }
 
-client-same : (v w : World) (host : ℕ) (c d : Client) (t : ClientStep) → slice_get v.clients host ≡ Some c → slice_get w.clients host ≡ Some d → IsAlike (Party.Client host) v w → DoesSame (Party.Client host) v w (after_client v host t) (after_client w host t)
+client-same : (v w : World) (host : ℕ) (c d : Client) (t : ClientStep) → slice_get v.clients host ≡ Some c → slice_get w.clients host ≡ Some d
+    → IsAlike (Party.Client host) v w → DoesSame (Party.Client host) v w (after_client v host t) (after_client w host t)
 unfolding after_client
 client-same v w host c d t in_v in_w a = record {
-  alike = record { client = λ other same. at other same; server = λ same. absurd (cc); sent = as-many v.packets w.packets (map (from_host host) t.sends) a.sent };
+  alike =
+      record {
+        client = λ other same. at other same;
+        server = λ same. absurd (cc);
+        sent = as-many v.packets w.packets (map (from_host host) t.sends)
+            a.sent;
+      };
   sends = map (from_host host) t.sends;
   v_packets = refl;
   w_packets = refl;
@@ -94,27 +111,32 @@ client-same v w host c d t in_v in_w a = record {
   v_journal = refl;
   w_journal = refl;
 } where
-  at : (other : ℕ) → Party.Client other ≡ Party.Client host → slice_get (slice_set v.clients host t.client) other ≡ slice_get (slice_set w.clients host t.client) other
+  at : (other : ℕ) → Party.Client other ≡ Party.Client host
+      → slice_get (slice_set v.clients host t.client) other ≡ slice_get (slice_set w.clients host t.client) other
   at other same =
       let one : host ≡ other = cc in
       subst (λ n. slice_get (slice_set v.clients host t.client) n ≡ slice_get (slice_set w.clients host t.client) n) one
       (set-there v.clients host t.client c in_v ∙ sym (set-there w.clients host t.client d in_w))
 
-at-client-same : (v w : World) (host : ℕ) (f : Client → ClientStep) (o : Option Client) → slice_get v.clients host ≡ o → slice_get w.clients host ≡ o → IsAlike (Party.Client host) v w → DoesSame (Party.Client host) v w (at_client v host f o) (at_client w host f o)
+at-client-same : (v w : World) (host : ℕ) (f : Client → ClientStep) (o : Option Client) → slice_get v.clients host ≡ o → slice_get w.clients host ≡ o
+    → IsAlike (Party.Client host) v w → DoesSame (Party.Client host) v w (at_client v host f o) (at_client w host f o)
 at-client-same v w host f None in_v in_w a = still (Party.Client host) v w a
 at-client-same v w host f (Some c) in_v in_w a = client-same v w host c c (f c) in_v in_w a
 
-own-same : (v w : World) (host : ℕ) (f : Client → ClientStep) → IsAlike (Party.Client host) v w → DoesSame (Party.Client host) v w (at_client v host f (slice_get v.clients host)) (at_client w host f (slice_get w.clients host))
+own-same : (v w : World) (host : ℕ) (f : Client → ClientStep) → IsAlike (Party.Client host) v w
+    → DoesSame (Party.Client host) v w (at_client v host f (slice_get v.clients host)) (at_client w host f (slice_get w.clients host))
 own-same v w host f a =
     let same : slice_get v.clients host ≡ slice_get w.clients host = a.client host refl in
     subst (λ o. DoesSame (Party.Client host) v w (at_client v host f o) (at_client w host f (slice_get w.clients host))) (sym same)
     (at-client-same v w host f (slice_get w.clients host) same refl a)
 
-hearing-same : (v w : World) (host : ℕ) (c : Client) (o : Option ClientStep) → slice_get v.clients host ≡ Some c → slice_get w.clients host ≡ Some c → IsAlike (Party.Client host) v w → DoesSame (Party.Client host) v w (after_hearing v host o) (after_hearing w host o)
+hearing-same : (v w : World) (host : ℕ) (c : Client) (o : Option ClientStep) → slice_get v.clients host ≡ Some c → slice_get w.clients host ≡ Some c
+    → IsAlike (Party.Client host) v w → DoesSame (Party.Client host) v w (after_hearing v host o) (after_hearing w host o)
 hearing-same v w host c None in_v in_w a = still (Party.Client host) v w a
 hearing-same v w host c (Some t) in_v in_w a = client-same v w host c c t in_v in_w a
 
-told-same : (v w : World) (k host : ℕ) (m : Message) (o : Option Client) → slice_get v.clients host ≡ o → slice_get w.clients host ≡ o → IsAlike (Party.Client host) v w → DoesSame (Party.Client host) v w (deliver_to_client v k host m o) (deliver_to_client w k host m o)
+told-same : (v w : World) (k host : ℕ) (m : Message) (o : Option Client) → slice_get v.clients host ≡ o → slice_get w.clients host ≡ o
+    → IsAlike (Party.Client host) v w → DoesSame (Party.Client host) v w (deliver_to_client v k host m o) (deliver_to_client w k host m o)
 told-same v w k host m None in_v in_w a = still (Party.Client host) v w a
 told-same v w k host m (Some c) in_v in_w a = hearing-same v w host c (hear c k m) in_v in_w a
 
@@ -124,12 +146,14 @@ receives s p sent = receive s (sending_host p.sender) sent (datagram_of p.messag
 
 to-same : (v w : World) (k : ℕ) (p : Packet) (to : Party) → IsAlike to v w → DoesSame to v w (deliver_to v k p to) (deliver_to w k p to)
 to-same v w k p Party.Server a =
-    subst (λ s. DoesSame Party.Server v w (after_server v (receives s p (length v.packets))) (after_server w (receives w.server p (length w.packets)))) (sym (a.server refl))
+    subst (λ s. DoesSame Party.Server v w (after_server v (receives s p (length v.packets))) (after_server w (receives w.server p (length w.packets))))
+    (sym (a.server refl))
     (subst (λ n. DoesSame Party.Server v w (after_server v (receives w.server p n)) (after_server w (receives w.server p (length w.packets)))) (sym a.sent)
     (server-same v w (receives w.server p (length w.packets)) a))
 to-same v w k p (Party.Client host) a =
     let same : slice_get v.clients host ≡ slice_get w.clients host = a.client host refl in
-    subst (λ o. DoesSame (Party.Client host) v w (deliver_to_client v k host p.message o) (deliver_to_client w k host p.message (slice_get w.clients host))) (sym same)
+    subst (λ o. DoesSame (Party.Client host) v w (deliver_to_client v k host p.message o)
+    (deliver_to_client w k host p.message (slice_get w.clients host))) (sym same)
     (told-same v w k host p.message (slice_get w.clients host) same refl a)
 
 deliver-same : (v w : World) (k : ℕ) (o : Option Packet) → IsAlike (receiver_of o) v w → DoesSame (receiver_of o) v w (deliver v k o) (deliver w k o)
@@ -137,8 +161,10 @@ deliver-same v w k None a = still Party.Server v w a
 deliver-same v w k (Some p) a = to-same v w k p p.to a
 
 -- a step of the server's own
-serves-same : (v w : World) (f : Server → ServerStep) → IsAlike Party.Server v w → DoesSame Party.Server v w (after_server v (f v.server)) (after_server w (f w.server))
-serves-same v w f a = subst (λ s. DoesSame Party.Server v w (after_server v (f s)) (after_server w (f w.server))) (sym (a.server refl)) (server-same v w (f w.server) a)
+serves-same : (v w : World) (f : Server → ServerStep) → IsAlike Party.Server v w
+    → DoesSame Party.Server v w (after_server v (f v.server)) (after_server w (f w.server))
+serves-same v w f a =
+    subst (λ s. DoesSame Party.Server v w (after_server v (f s)) (after_server w (f w.server))) (sym (a.server refl)) (server-same v w (f w.server) a)
 
 pub rest-on-their-host : StepsRestOnTheirHost
 rest-on-their-host v w (Event.Call host op) a same = own-same v w host (λ c. client_call c op) a

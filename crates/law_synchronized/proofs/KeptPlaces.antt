@@ -19,14 +19,16 @@ use Rattle.nq_model.specs.Synchronized.{IsDelayedOn, IsNamedLoss, IsStoredOrTold
 
 -- ---- lists
 
-pub somewhere-more : (P Q : Entry → List Entry → Type 0) (xs : List Entry) → ((e : Entry) (before : List Entry) → P e before → Q e before) → Somewhere P xs → Somewhere Q xs
+pub somewhere-more : (P Q : Entry → List Entry → Type 0) (xs : List Entry) → ((e : Entry) (before : List Entry) → P e before → Q e before)
+    → Somewhere P xs → Somewhere Q xs
 somewhere-more P Q [] f h = h
 somewhere-more P Q (x ∷ xs) f (inl p) = inl (f x xs p)
 somewhere-more P Q (x ∷ xs) f (inr h) = inr (somewhere-more P Q xs f h)
 
 -- ---- what a call asks
 
-speaks-later : (later journal : List Entry) (file : ℕ) (who : Who) (q : ℕ) (o : Option Told) → call_of journal who q ≡ o → SpeaksOf file o → SpeaksOf file (call_of (later ++ journal) who q)
+speaks-later : (later journal : List Entry) (file : ℕ) (who : Who) (q : ℕ) (o : Option Told) → call_of journal who q ≡ o → SpeaksOf file o
+    → SpeaksOf file (call_of (later ++ journal) who q)
 speaks-later later journal file who q None e h = absurd h
 speaks-later later journal file who q (Some told) e h = subst (SpeaksOf file) (sym (call-later later journal who q told e)) h
 
@@ -37,37 +39,50 @@ names-later later journal who loss (A by q (Lost spans)) h = (h.0, speaks-later 
 names-later later journal who loss other h = absurd h
 
 named-later : (later journal answered : List Entry) (write e : Entry) → IsNamedLoss journal answered write e → IsNamedLoss (later ++ journal) answered write e
-named-later later journal answered write (L who file block first last) h = (h.0, exists-map _ _ answered (λ a n. names-later later journal who (loss_told file block first last) a n) h.1)
+named-later later journal answered write (L who file block first last) h =
+    (h.0, exists-map _ _ answered (λ a n. names-later later journal who (loss_told file block first last) a n) h.1)
 named-later later journal answered write other h = absurd h
 
-pub named-answered : (journal answered more : List Entry) (write e : Entry) → IsNamedLoss journal answered write e → IsNamedLoss journal (more ++ answered) write e
-named-answered journal answered more write (L who file block first last) h = (h.0, exists-right (Names journal who (loss_told file block first last)) more answered h.1)
+pub named-answered : (journal answered more : List Entry) (write e : Entry) → IsNamedLoss journal answered write e
+    → IsNamedLoss journal (more ++ answered) write e
+named-answered journal answered more write (L who file block first last) h =
+    (h.0, exists-right (Names journal who (loss_told file block first last)) more answered h.1)
 named-answered journal answered more write other h = absurd h
 
-pub settled-later : (later journal stores more answered : List Entry) (who : Who) (file : ℕ) (write : Entry) → (IsDelayedOn who file write → IsStoredOrTold journal stores answered write) → (IsDelayedOn who file write → IsStoredOrTold (later ++ journal) (more ++ stores) answered write)
+pub settled-later : (later journal stores more answered : List Entry) (who : Who) (file : ℕ) (write : Entry)
+    → (IsDelayedOn who file write → IsStoredOrTold journal stores answered write)
+    → (IsDelayedOn who file write → IsStoredOrTold (later ++ journal) (more ++ stores) answered write)
 settled-later later journal stores more answered who file write h d = case (h d)
   where
-    case : IsStored stores write ⊎ Exists (IsNamedLoss journal answered write) journal → IsStored (more ++ stores) write ⊎ Exists (IsNamedLoss (later ++ journal) answered write) (later ++ journal)
+    case : IsStored stores write ⊎ Exists (IsNamedLoss journal answered write) journal
+        → IsStored (more ++ stores) write ⊎ Exists (IsNamedLoss (later ++ journal) answered write) (later ++ journal)
     case (inl stored) = inl (exists-right _ more stores stored)
     case (inr named) = inr (exists-right _ later journal (exists-map _ _ journal (λ e n. named-later later journal answered write e n) named))
 
 -- and where more was answered
-pub settled-answered : (journal stores answered more : List Entry) (who : Who) (file : ℕ) (write : Entry) → (IsDelayedOn who file write → IsStoredOrTold journal stores answered write) → (IsDelayedOn who file write → IsStoredOrTold journal stores (more ++ answered) write)
+pub settled-answered : (journal stores answered more : List Entry) (who : Who) (file : ℕ) (write : Entry)
+    → (IsDelayedOn who file write → IsStoredOrTold journal stores answered write)
+    → (IsDelayedOn who file write → IsStoredOrTold journal stores (more ++ answered) write)
 settled-answered journal stores answered more who file write h d = case (h d)
   where
-    case : IsStored stores write ⊎ Exists (IsNamedLoss journal answered write) journal → IsStored stores write ⊎ Exists (IsNamedLoss journal (more ++ answered) write) journal
+    case : IsStored stores write ⊎ Exists (IsNamedLoss journal answered write) journal
+        → IsStored stores write ⊎ Exists (IsNamedLoss journal (more ++ answered) write) journal
     case (inl stored) = inl stored
     case (inr named) = inr (exists-map _ _ journal (λ e n. named-answered journal answered more write e n) named)
 
-pub resize-later : (later journal answered : List Entry) (who : Who) (q file : ℕ) (e : Entry) (before : List Entry) → IsSettledResize journal answered who q file e before → IsSettledResize (later ++ journal) answered who q file e before
-resize-later later journal answered who q file (Entry.Z by n f from to) before h = (h.0, h.1, each-map _ _ answered (λ write s. settled-later later journal before [] answered who file write s) h.2)
+pub resize-later : (later journal answered : List Entry) (who : Who) (q file : ℕ) (e : Entry) (before : List Entry)
+    → IsSettledResize journal answered who q file e before → IsSettledResize (later ++ journal) answered who q file e before
+resize-later later journal answered who q file (Entry.Z by n f from to) before h =
+    (h.0, h.1, each-map _ _ answered (λ write s. settled-later later journal before [] answered who file write s) h.2)
 resize-later later journal answered who q file other before h = absurd h
 
 -- ---- what is answered ok
 
-pub kept-later : (later journal before : List Entry) (who : Who) (q : ℕ) (o : Option Told) → IsKept journal before who q o → IsKept (later ++ journal) before who q o
+pub kept-later : (later journal before : List Entry) (who : Who) (q : ℕ) (o : Option Told) → IsKept journal before who q o
+    → IsKept (later ++ journal) before who q o
 kept-later later journal before who q (Some (WriteSync file block value)) h = h
-kept-later later journal before who q (Some (Sync file)) h = each-map _ _ before (λ write s. settled-later later journal journal later before who file write s) h
+kept-later later journal before who q (Some (Sync file)) h =
+    each-map _ _ before (λ write s. settled-later later journal journal later before who file write s) h
 kept-later later journal before who q (Some (Resize file blocks)) h = somewhere-more _ _ before (λ e b r. resize-later later journal before who q file e b r) h
 kept-later later journal before who q (Some (Remove file)) h = somewhere-more _ _ before (λ e b r. resize-later later journal before who q file e b r) h
 kept-later later journal before who q (Some (Create name blocks)) h = tt
@@ -107,9 +122,11 @@ KeptHere (A who q Busy) before = AnswersOpen before who q Busy × IsBusyCall who
 KeptHere (A who q said) before = AnswersOpen before who q said
 KeptHere other before = ⊤
 
-ok-later : (later before : List Entry) (entry : Entry) (who : Who) (q : ℕ) → OkAt entry before who q → IsKept (later ++ entry ∷ before) before who q (call_of (later ++ entry ∷ before) who q)
+ok-later : (later before : List Entry) (entry : Entry) (who : Who) (q : ℕ) → OkAt entry before who q
+    → IsKept (later ++ entry ∷ before) before who q (call_of (later ++ entry ∷ before) who q)
 ok-later later before entry who q h =
-    let asks : call_of (later ++ entry ∷ before) who q ≡ Some h.told = call-later later (entry ∷ before) who q h.told (call-told entry before who q h.told h.asks) in
+    let asks : call_of (later ++ entry ∷ before) who q ≡ Some h.told = call-later later (entry ∷ before) who q h.told
+    (call-told entry before who q h.told h.asks) in
     subst (IsKept (later ++ entry ∷ before) before who q) (sym asks) (kept-later later (entry ∷ before) before who q (Some h.told) h.kept)
 
 here-later : (later before : List Entry) (entry : Entry) → KeptHere entry before → IsKeptAt (later ++ entry ∷ before) entry before
@@ -120,7 +137,11 @@ here-later later before other h = tt
 
 all-later : (later journal whole : List Entry) → whole ≡ later ++ journal → Throughout KeptHere journal → Throughout (IsKeptAt whole) journal
 all-later later [] whole e h = tt
-all-later later (entry ∷ before) whole e h = (subst (λ w. IsKeptAt w entry before) (sym e) (here-later later before entry h.0), all-later (later ++ entry ∷ []) before whole (e ∙ sym (append_assoc later (entry ∷ []) before)) h.1)
+all-later later (entry ∷ before) whole e h = (
+  subst (λ w. IsKeptAt w entry before) (sym e) (here-later later before entry h.0),
+  all-later (later ++ entry ∷ []) before whole
+      (e ∙ sym (append_assoc later (entry ∷ []) before)) h.1,
+)
 
 -- a journal in which each ok is kept at its place is synchronized
 pub synchronized : (journal : List Entry) → Throughout KeptHere journal → IsSynchronized journal

@@ -51,15 +51,25 @@ plain-wrote before who q (Call.Fetch file block) e = tt
 plain-wrote before who q other e = absurd (cc)
 
 pub plain-ok : (entry : Entry) (who : Who) (u : UnderWay) (journal : List Entry) → IsOpenAs who u journal → is_plain u.call ≡ true → OkAt entry journal who u.q
-plain-ok entry who u journal h plain = record { told = told u.call; asks = h.tells; kept = plain-kept (entry ∷ journal) journal who u.q u.call plain; wrote = plain-wrote journal who u.q u.call plain }
+plain-ok entry who u journal h plain =
+    record {
+      told = told u.call;
+      asks = h.tells;
+      kept = plain-kept (entry ∷ journal) journal who u.q u.call plain;
+      wrote = plain-wrote journal who u.q
+          u.call plain;
+    }
 
 -- an ok to a `write`, which made a W
-pub write-ok : (who : Who) (u : UnderWay) (file block : ℕ) (body : List ℕ) (journal : List Entry) → IsOpenAs who u journal → u.call ≡ Call.Write file block body → Somewhere (IsMadeOpen who u.q) journal → OkAt (A who u.q Ok) journal who u.q
-write-ok who u file block body journal h is made = record { told = told (Call.Write file block body); asks = h.tells ∙ ap (λ op. Some (told op)) is; kept = tt; wrote = made }
+pub write-ok : (who : Who) (u : UnderWay) (file block : ℕ) (body : List ℕ) (journal : List Entry) → IsOpenAs who u journal
+    → u.call ≡ Call.Write file block body → Somewhere (IsMadeOpen who u.q) journal → OkAt (A who u.q Ok) journal who u.q
+write-ok who u file block body journal h is made =
+    record { told = told (Call.Write file block body); asks = h.tells ∙ ap (λ op. Some (told op)) is; kept = tt; wrote = made }
 
 -- ---- an answer at its place
 
-pub answers-open : (who : Who) (u : UnderWay) (said : Said) (journal : List Entry) → IsOpenAs who u journal → IsFormOf said (Some (told u.call)) → AnswersOpen journal who u.q said
+pub answers-open : (who : Who) (u : UnderWay) (said : Said) (journal : List Entry) → IsOpenAs who u journal → IsFormOf said (Some (told u.call))
+    → AnswersOpen journal who u.q said
 answers-open who u said journal h form = record { is_open = h.is_open; form = subst (IsFormOf said) (sym h.tells) form }
 
 -- ---- a clean file
@@ -92,7 +102,8 @@ unlosses : (file : ℕ) (losses : List Loss) (loss : Loss) → losses_of file lo
 unlosses file [] loss none of i = i
 unlosses file (x ∷ xs) loss none of i = step (x.file == file) refl none i (λ e k. unlosses file xs loss e of k)
   where
-    step : (b : Bool) → (x.file == file) ≡ b → (if b then x ∷ losses_of file xs else losses_of file xs) ≡ [] → (x ≡ loss) ⊎ IsOneOf xs loss → (losses_of file xs ≡ [] → IsOneOf xs loss → ⊥) → ⊥
+    step : (b : Bool) → (x.file == file) ≡ b → (if b then x ∷ losses_of file xs else losses_of file xs) ≡ [] → (x ≡ loss) ⊎ IsOneOf xs loss
+        → (losses_of file xs ≡ [] → IsOneOf xs loss → ⊥) → ⊥
     step true e n k rest = absurd (cc)
     step false e n (inl same) rest = let yes : (x.file == file) ≡ true = number-same x.file file (ap (λ z. z.file) same ∙ of) in absurd (cc)
     step false e n (inr k) rest = rest n k
@@ -108,36 +119,56 @@ pub record Known (whole base stores answered : List Entry) (who : Who) (file : �
   pub named : (loss : Loss) → Exists (IsLossOf who loss) base → IsOneOf losses loss ⊎ Exists (Names whole who loss) answered
   pub none : losses_of file losses ≡ []
 
-settles : (whole base stores answered : List Entry) (who : Who) (file : ℕ) (losses : List Loss) → Known whole base stores answered who file losses → (write : Entry) → In answered write → (IsDelayedOn who file write → IsStoredOrTold whole stores answered write)
+settles : (whole base stores answered : List Entry) (who : Who) (file : ℕ) (losses : List Loss) → Known whole base stores answered who file losses
+    → (write : Entry) → In answered write → (IsDelayedOn who file write → IsStoredOrTold whole stores answered write)
 settles whole base stores answered who file losses k (W by f block n value false) i d = case (k.covered block n value own)
   where
     own : In answered (W who file block n value false)
     own = subst (λ w. In answered (W w file block n value false)) d.0 (subst (λ g. In answered (W by g block n value false)) d.1 i)
 
-    named : (first last : ℕ) → In base (L who file block first last) → first ≤ n → n ≤ last → IsOneOf losses (loss_told file block first last) ⊎ Exists (Names whole who (loss_told file block first last)) answered → Exists (IsNamedLoss whole answered (W by f block n value false)) whole
+    named : (first last : ℕ) → In base (L who file block first last) → first ≤ n → n ≤ last
+        → IsOneOf losses (loss_told file block first last) ⊎ Exists (Names whole who (loss_told file block first last)) answered
+        → Exists (IsNamedLoss whole answered (W by f block n value false)) whole
     named first last at from to (inl one) = absurd (unlosses file losses (loss_told file block first last) k.none refl one)
-    named first last at from to (inr names) = in-exists (IsNamedLoss whole answered (W by f block n value false)) whole (L who file block first last) (k.lost block first last at) ((d.0, d.1, refl, from, to), names)
+    named first last at from to (inr names) =
+        in-exists (IsNamedLoss whole answered (W by f block n value false)) whole (L who file block first last) (k.lost block first last at)
+        ((d.0, d.1, refl, from, to), names)
 
-    case : CoversNumber base who file block n → IsStored stores (W by f block n value false) ⊎ Exists (IsNamedLoss whole answered (W by f block n value false)) whole
-    case (by_store first last now at from to) = inl (in-exists (λ e. Stores e (W by f block n value false)) stores (S who file block first last now) (k.stored block first last now at) (d.0, d.1, refl, from, to))
-    case (by_loss first last at from to) = inr (named first last at from to (k.named (loss_told file block first last) (in-exists (IsLossOf who (loss_told file block first last)) base (L who file block first last) at (refl, refl))))
+    case : CoversNumber base who file block n
+        → IsStored stores (W by f block n value false) ⊎ Exists (IsNamedLoss whole answered (W by f block n value false)) whole
+    case (by_store first last now at from to) =
+        inl (in-exists (λ e. Stores e (W by f block n value false)) stores (S who file block first last now) (k.stored block first last now at)
+        (d.0, d.1, refl, from, to))
+    case (by_loss first last at from to) =
+        inr (named first last at from to
+        (k.named (loss_told file block first last)
+        (in-exists (IsLossOf who (loss_told file block first last)) base (L who file block first last) at (refl, refl))))
 settles whole base stores answered who file losses k other i d = absurd d
 
 -- each delayed write of the file is settled
-pub all-settled : (whole base stores answered : List Entry) (who : Who) (file : ℕ) (losses : List Loss) → Known whole base stores answered who file losses → AreStoredOrTold whole stores answered who file
-all-settled whole base stores answered who file losses k = each-in (λ write. IsDelayedOn who file write → IsStoredOrTold whole stores answered write) answered (λ write i. settles whole base stores answered who file losses k write i)
+pub all-settled : (whole base stores answered : List Entry) (who : Who) (file : ℕ) (losses : List Loss)
+    → Known whole base stores answered who file losses → AreStoredOrTold whole stores answered who file
+all-settled whole base stores answered who file losses k =
+    each-in (λ write. IsDelayedOn who file write → IsStoredOrTold whole stores answered write) answered
+    (λ write i. settles whole base stores answered who file losses k write i)
 
 -- ---- a sync
 
 -- what an A ok brings to the journal covers and names nothing
-pub covers-before : (who by : Who) (q file block n : ℕ) (s : Said) (journal : List Entry) → CoversNumber (A by q s ∷ journal) who file block n → CoversNumber journal who file block n
+pub covers-before : (who by : Who) (q file block n : ℕ) (s : Said) (journal : List Entry) → CoversNumber (A by q s ∷ journal) who file block n
+    → CoversNumber journal who file block n
 covers-before who by q file block n s journal (by_store first last now (inl e) from to) = absurd (cc)
 covers-before who by q file block n s journal (by_store first last now (inr i) from to) = by_store first last now i from to
 covers-before who by q file block n s journal (by_loss first last (inl e) from to) = absurd (cc)
 covers-before who by q file block n s journal (by_loss first last (inr i) from to) = by_loss first last i from to
 
 -- a sync of a clean file without unnamed losses
-pub sync-ok : (who : Who) (u : UnderWay) (file : ℕ) (journal : List Entry) (dirty : List Push) (push : Option Push) (losses : List Loss) → IsOpenAs who u journal → u.call ≡ Call.Sync file → is_clean_in file dirty push ≡ true → losses_of file losses ≡ [] → ((block n value : ℕ) → In (A who u.q Ok ∷ journal) (W who file block n value false) → CoversNumber (A who u.q Ok ∷ journal) who file block n ⊎ LiesWithin dirty push file block n) → ((loss : Loss) → Exists (IsLossOf who loss) (A who u.q Ok ∷ journal) → IsOneOf losses loss ⊎ Exists (Names (A who u.q Ok ∷ journal) who loss) (A who u.q Ok ∷ journal)) → OkAt (A who u.q Ok) journal who u.q
+pub sync-ok : (who : Who) (u : UnderWay) (file : ℕ) (journal : List Entry) (dirty : List Push) (push : Option Push) (losses : List Loss)
+    → IsOpenAs who u journal → u.call ≡ Call.Sync file → is_clean_in file dirty push ≡ true → losses_of file losses ≡ []
+    → ((block n value : ℕ) → In (A who u.q Ok ∷ journal) (W who file block n value false)
+    → CoversNumber (A who u.q Ok ∷ journal) who file block n ⊎ LiesWithin dirty push file block n)
+    → ((loss : Loss) → Exists (IsLossOf who loss) (A who u.q Ok ∷ journal)
+    → IsOneOf losses loss ⊎ Exists (Names (A who u.q Ok ∷ journal) who loss) (A who u.q Ok ∷ journal)) → OkAt (A who u.q Ok) journal who u.q
 sync-ok who u file journal dirty push losses h is clean none unsaved named = record {
   told = Told.Sync file;
   wrote = tt;
@@ -153,36 +184,45 @@ sync-ok who u file journal dirty push losses h is clean none unsaved named = rec
   whole : List Entry
   whole = A who u.q Ok ∷ journal
 
-  covered : (block n : ℕ) → CoversNumber (A who u.q Ok ∷ journal) who file block n ⊎ LiesWithin dirty push file block n → CoversNumber (A who u.q Ok ∷ journal) who file block n
+  covered : (block n : ℕ) → CoversNumber (A who u.q Ok ∷ journal) who file block n ⊎ LiesWithin dirty push file block n
+      → CoversNumber (A who u.q Ok ∷ journal) who file block n
   covered block n (inl c) = c
   covered block n (inr l) = absurd (clean-none file block n dirty push clean l)
 
-  names : (loss : Loss) → IsOneOf losses loss ⊎ Exists (Names (A who u.q Ok ∷ journal) who loss) (A who u.q Ok ∷ journal) → IsOneOf losses loss ⊎ Exists (Names (A who u.q Ok ∷ journal) who loss) journal
+  names : (loss : Loss) → IsOneOf losses loss ⊎ Exists (Names (A who u.q Ok ∷ journal) who loss) (A who u.q Ok ∷ journal)
+      → IsOneOf losses loss ⊎ Exists (Names (A who u.q Ok ∷ journal) who loss) journal
   names loss (inl one) = inl one
   names loss (inr (inl bad)) = absurd bad
   names loss (inr (inr n)) = inr n
 
 -- ---- a put
 
-write-in : (who : Who) (q file block number value : ℕ) (journal : List Entry) → Somewhere (IsPutWrite who q file block number value) journal → In journal (W who file block number value false)
+write-in : (who : Who) (q file block number value : ℕ) (journal : List Entry) → Somewhere (IsPutWrite who q file block number value) journal
+    → In journal (W who file block number value false)
 write-in who q file block number value [] h = absurd h
 write-in who q file block number value (e ∷ before) (inl p) = inl p.0
 write-in who q file block number value (e ∷ before) (inr h) = inr (write-in who q file block number value before h)
 
 -- a put whose write was delayed, of a clean file
-pub put-ok : (who : Who) (u : UnderWay) (file block : ℕ) (body : List ℕ) (journal : List Entry) (dirty : List Push) (push : Option Push) → IsOpenAs who u journal → u.call ≡ Call.WriteSync file block body → PutWaits who u.q file block journal → is_clean_in file dirty push ≡ true → ((n value : ℕ) → In (A who u.q Ok ∷ journal) (W who file block n value false) → CoversNumber (A who u.q Ok ∷ journal) who file block n ⊎ LiesWithin dirty push file block n) → OkAt (A who u.q Ok) journal who u.q
+pub put-ok : (who : Who) (u : UnderWay) (file block : ℕ) (body : List ℕ) (journal : List Entry) (dirty : List Push) (push : Option Push)
+    → IsOpenAs who u journal → u.call ≡ Call.WriteSync file block body → PutWaits who u.q file block journal → is_clean_in file dirty push ≡ true
+    → ((n value : ℕ) → In (A who u.q Ok ∷ journal) (W who file block n value false)
+    → CoversNumber (A who u.q Ok ∷ journal) who file block n ⊎ LiesWithin dirty push file block n) → OkAt (A who u.q Ok) journal who u.q
 put-ok who u file block body journal dirty push h is waits clean unsaved = record {
   told = told (Call.WriteSync file block body);
   wrote = tt;
   asks = h.tells ∙ ap (λ op. Some (told op)) is;
   kept = somewhere-more (IsPutWrite who u.q file block waits.number waits.value) (IsPutKept journal who u.q) journal keeps waits.stands;
 } where
-  stored : CoversNumber (A who u.q Ok ∷ journal) who file block waits.number ⊎ LiesWithin dirty push file block waits.number → IsStored journal (W who file block waits.number waits.value false)
+  stored : CoversNumber (A who u.q Ok ∷ journal) who file block waits.number ⊎ LiesWithin dirty push file block waits.number
+      → IsStored journal (W who file block waits.number waits.value false)
   stored (inr l) = absurd (clean-none file block waits.number dirty push clean l)
   stored (inl c) = by (covers-before who who u.q file block waits.number Ok journal c)
     where
       by : CoversNumber journal who file block waits.number → IsStored journal (W who file block waits.number waits.value false)
-      by (by_store first last now at from to) = in-exists (λ e. Stores e (W who file block waits.number waits.value false)) journal (S who file block first last now) at (refl, refl, refl, from, to)
+      by (by_store first last now at from to) =
+          in-exists (λ e. Stores e (W who file block waits.number waits.value false)) journal (S who file block first last now) at
+          (refl, refl, refl, from, to)
       by (by_loss first last at from to) = absurd (waits.unlost first last at from to)
 
   is_stored : IsStored journal (W who file block waits.number waits.value false)

@@ -61,7 +61,9 @@ module _ {line : HostRow} {journal : List Entry} (t : ClientStep) (m : Mid All l
   mid-goes in_tick a = mid-sends (settle t) (mid-settles t m (after-before (settle t) journal in_tick a)) in_tick
 
   mid-unless-cached : After journal (book_of (sends_unless_cached (settle t))) → End line journal (book_of (sends_unless_cached (settle t)))
-  mid-unless-cached = unless-cached-cases (settle t) (λ s. After journal (book_of s) → End line journal (book_of s)) (λ e a. mid-end (book_of (settle t)) (mid-settles t m a)) (λ e a. mid-goes false a)
+  mid-unless-cached =
+      unless-cached-cases (settle t) (λ s. After journal (book_of s) → End line journal (book_of s))
+      (λ e a. mid-end (book_of (settle t)) (mid-settles t m a)) (λ e a. mid-goes false a)
 
 -- ---- a call
 
@@ -77,14 +79,16 @@ untold-by who q (C by n told) none = step (same_who by who && n == q) refl
     step true e = let a = and_parts (same_who by who) (n == q) e in absurd (none (ap Some (who-same by who a.0)) (ap Some (same-number n q a.1)))
 untold-by who q other none = refl
 
-untold : (who : Who) (q : ℕ) (journal : List Entry) → ((e : Entry) → In journal e → entry_who e ≡ Some who → entry_call e ≡ Some q → ⊥) → call_of journal who q ≡ None
+untold : (who : Who) (q : ℕ) (journal : List Entry) → ((e : Entry) → In journal e → entry_who e ≡ Some who → entry_call e ≡ Some q → ⊥)
+    → call_of journal who q ≡ None
 untold who q [] none = refl
 untold who q (e ∷ before) none =
     let a : call_of before who q ≡ None = untold who q before (λ x i. none x (inr i)) in
     let b : told_by e who q ≡ None = untold-by who q e (none e (inl refl)) in
     rw (a, b) refl
 
-unanswered : (who : Who) (q : ℕ) (journal : List Entry) → ((e : Entry) → In journal e → entry_who e ≡ Some who → entry_call e ≡ Some q → ⊥) → Exists (IsAnswer who q) journal → ⊥
+unanswered : (who : Who) (q : ℕ) (journal : List Entry) → ((e : Entry) → In journal e → entry_who e ≡ Some who → entry_call e ≡ Some q → ⊥)
+    → Exists (IsAnswer who q) journal → ⊥
 unanswered who q [] none h = h
 unanswered who q (A by n said ∷ before) none (inl h) = none (A by n said) (inl refl) (ap Some h.0) (ap Some h.1)
 unanswered who q (e ∷ before) none (inl h) = absurd h
@@ -107,7 +111,9 @@ has-open-call who q journal h = exists-map (IsCall who q) (IsOpenCall journal wh
 
 module _ (line : HostRow) (c : Client) (journal : List Entry) (h : Ready line c journal) where
   -- a C or A of a new call changes nothing for the call under way
-  one-more : (e : Entry) → ((u : UnderWay) → c.call ≡ Some u → IsAnswer c.who u.q e → ⊥) → ((file block first last : ℕ) → e ≡ L c.who file block first last → ⊥) → ((file block n value : ℕ) → e ≡ W c.who file block n value false → ⊥) → (before : List Entry) → KeepsOf line c before → KeepsOf line c (e ∷ before)
+  one-more : (e : Entry) → ((u : UnderWay) → c.call ≡ Some u → IsAnswer c.who u.q e → ⊥)
+      → ((file block first last : ℕ) → e ≡ L c.who file block first last → ⊥) → ((file block n value : ℕ) → e ≡ W c.who file block n value false → ⊥)
+      → (before : List Entry) → KeepsOf line c before → KeepsOf line c (e ∷ before)
   one-more e answers loss write before k = record {
     fits = k.fits;
     is_open = λ u is. open-more c.who u e before (answers u is) (k.is_open u is);
@@ -116,9 +122,6 @@ module _ (line : HostRow) (c : Client) (journal : List Entry) (h : Ready line c 
     made = λ t u n is job called draws done. made-more c.who u.q t.request e before write (k.made t u n is job called draws done);
     numbers = numbered-more e loss k.numbers;
   }
-
-  new_call : Call → Entry
-  new_call op = C c.who (c.calls + 1) (told op)
 
   called : (op : Call) → KeepsOf line c (C c.who (c.calls + 1) (told op) ∷ journal)
   called op = one-more (C c.who (c.calls + 1) (told op)) (λ u is a. a) (λ f b n l e. cc) (λ f b n v e. cc) journal h.keeps
@@ -138,7 +141,8 @@ module _ (line : HostRow) (c : Client) (journal : List Entry) (h : Ready line c 
   tells-new : (op : Call) → call_of (C c.who (c.calls + 1) (told op) ∷ journal) c.who (c.calls + 1) ≡ Some (told op)
   tells-new op =
       let a : call_of journal c.who (c.calls + 1) ≡ None = untold c.who (c.calls + 1) journal fresh in
-      let b : (same_who c.who c.who && (c.calls + 1) == (c.calls + 1)) ≡ true = and_from (same_who c.who c.who) ((c.calls + 1) == (c.calls + 1)) (same-self c.who) (number-same (c.calls + 1) (c.calls + 1) refl) in
+      let b : (same_who c.who c.who && (c.calls + 1) == (c.calls + 1)) ≡ true = and_from (same_who c.who c.who) ((c.calls + 1) == (c.calls + 1))
+      (same-self c.who) (number-same (c.calls + 1) (c.calls + 1) refl) in
       ap (λ o. option_or o (told_by (C c.who (c.calls + 1) (told op)) c.who (c.calls + 1))) a ∙ ap (λ x. if x then Some (told op) else None) b
 
   open-new : (op : Call) → IsOpen (C c.who (c.calls + 1) (told op) ∷ journal) c.who (c.calls + 1)
@@ -160,7 +164,9 @@ module _ (line : HostRow) (c : Client) (journal : List Entry) (h : Ready line c 
   busy : (op : Call) → (is_some c.call ≡ true) ⊎ (c.attached ≡ false) → End line journal (book_of (says_busy (begins_call c op)))
   unfolding says_busy begins_call
   busy op why = record {
-    keeps = one-more (A c.who (c.calls + 1) Said.Busy) (λ u is a. let few = h.counted u is in let same : c.calls + 1 ≡ u.q = a.1 in absurd (omega arith)) (λ f b n l e. cc) (λ f b n v e. cc) (C c.who (c.calls + 1) (told op) ∷ journal) (called op);
+    keeps =
+        one-more (A c.who (c.calls + 1) Said.Busy) (λ u is a. let few = h.counted u is in let same : c.calls + 1 ≡ u.q = a.1 in absurd (omega arith))
+        (λ f b n l e. cc) (λ f b n v e. cc) (C c.who (c.calls + 1) (told op) ∷ journal) (called op);
     kept = ((record { is_open = open-new op; form = tt }, (refl, refl, cause why)), (tt, h.kept));
     own = own-more c.who _ (C c.who (c.calls + 1) (told op) ∷ []) refl (own-more c.who (C c.who (c.calls + 1) (told op)) [] refl (λ e i. absurd i));
   }
@@ -174,19 +180,25 @@ module _ (line : HostRow) (c : Client) (journal : List Entry) (h : Ready line c 
   changed-changes file (Call.Remove f) e = tt
   changed-changes file other e = none-some file e
 
-  mid-tells : (op : Call) (file : ℕ) → changed_file op ≡ Some file → Mid All line journal (book_of (names_losses (begins_call c op) (begins_call c op).client.calls file))
+  mid-tells : (op : Call) (file : ℕ) → changed_file op ≡ Some file
+      → Mid All line journal (book_of (names_losses (begins_call c op) (begins_call c op).client.calls file))
   unfolding begins_call
-  mid-tells op file of = mid-names (begins_call c op) (begins_call c op).client.calls file (open-new op) (subst IsChanging (sym (tells-new op)) (changed-changes file op of)) (mid-begins op)
+  mid-tells op file of =
+      mid-names (begins_call c op) (begins_call c op).client.calls file (open-new op)
+      (subst IsChanging (sym (tells-new op)) (changed-changes file op of)) (mid-begins op)
 
   free-call : (t : Ticket) → c.call ≡ None → c.ticket ≡ Some t → t.job ≡ for_call → ⊥
-  free-call t none is job = let some : is_some c.call ≡ true = h.alone.asking.called t is job in let gone : is_some c.call ≡ false = ap is_some none in absurd (cc)
+  free-call t none is job =
+      let some : is_some c.call ≡ true = h.alone.asking.called t is job in let gone : is_some c.call ≡ false = ap is_some none in absurd (cc)
 
   mid-called : (op : Call) → c.call ≡ None → losses_for (changed_file op) c.losses ≡ [] → Mid All line journal (book_of (is_called (begins_call c op) op))
   unfolding is_called begins_call
   mid-called op none unlost = record {
     keeps = record {
       fits = λ t u is job. absurd (free-call t none is job);
-      is_open = λ u is. subst (λ v. IsOpenAs c.who v (C c.who (c.calls + 1) (told op) ∷ journal)) (some-same u_new u is) (record { is_open = open-new op; tells = tells-new op });
+      is_open =
+          λ u is. subst (λ v. IsOpenAs c.who v (C c.who (c.calls + 1) (told op) ∷ journal)) (some-same u_new u is)
+          (record { is_open = open-new op; tells = tells-new op });
       told = λ u file is s e. cleans-changed file op c.losses (ap (λ v. cleans file v.call) (some-same u_new u is) ∙ e) unlost;
       put = λ u file block body is s e written. let same : false ≡ true = ap (λ v. v.written) (some-same u_new u is) ∙ written in absurd (cc);
       made = λ t u n is job. absurd (free-call t none is job);
@@ -216,11 +228,15 @@ module _ (line : HostRow) (c : Client) (journal : List Entry) (h : Ready line c 
   unfolding sends_again at_time
   again now ticket is = record {
     keeps = record {
-      fits = λ t u e job called. subst (λ r. IsFor u c.dirty c.push r) (ap (λ z. z.request) (some-same _ t e)) (h.keeps.fits ticket u is (ap (λ z. z.job) (some-same _ t e) ∙ job) called);
+      fits =
+          λ t u e job called. subst (λ r. IsFor u c.dirty c.push r) (ap (λ z. z.request) (some-same _ t e))
+          (h.keeps.fits ticket u is (ap (λ z. z.job) (some-same _ t e) ∙ job) called);
       is_open = h.keeps.is_open;
       told = h.keeps.told;
       put = h.keeps.put;
-      made = λ t u n e job called draws done. subst (λ r. Made c.who u.q r journal) (ap (λ z. z.request) (some-same _ t e)) (h.keeps.made ticket u n is (ap (λ z. z.job) (some-same _ t e) ∙ job) called (ap (λ z. sequence_of z.request) (some-same _ t e) ∙ draws) done);
+      made =
+          λ t u n e job called draws done. subst (λ r. Made c.who u.q r journal) (ap (λ z. z.request) (some-same _ t e))
+          (h.keeps.made ticket u n is (ap (λ z. z.job) (some-same _ t e) ∙ job) called (ap (λ z. sequence_of z.request) (some-same _ t e) ∙ draws) done);
       numbers = h.keeps.numbers;
     };
     kept = h.kept;
@@ -236,10 +252,17 @@ module _ (line : HostRow) (c : Client) (journal : List Entry) (h : Ready line c 
 
   -- ---- a datagram
 
-  pub hear-end : (k : ℕ) (m : Message) (t : ClientStep) → ((xid : ℕ) (r : Reply) (ticket : Ticket) (n : ℕ) → m ≡ reply xid r → c.ticket ≡ Some ticket → xid ≡ ticket.xid → inc_of r ≡ c.who.inc → sequence_of ticket.request ≡ Some n → Tells line c.who n ticket.request r) → hear c k m ≡ Some t → After journal (book_of t) → End line journal (book_of t)
+  pub hear-end : (k : ℕ) (m : Message) (t : ClientStep)
+      → ((xid : ℕ) (r : Reply) (ticket : Ticket) (n : ℕ) → m ≡ reply xid r → c.ticket ≡ Some ticket → xid ≡ ticket.xid → inc_of r ≡ c.who.inc
+      → sequence_of ticket.request ≡ Some n → Tells line c.who n ticket.request r) → hear c k m ≡ Some t → After journal (book_of t)
+      → End line journal (book_of t)
   hear-end k m t tells hears = heard-cases c k m t (λ s. After journal (book_of s) → End line journal (book_of s)) hears (record {
-    answered = λ xid r ticket is has same inc counts a. mid-goes (replied (begun c) k ticket r) (mid-replied line journal c k ticket r has (begins line c journal h) (λ n draws. tells xid r ticket n is has same inc draws) (h.alone.asking.ticketed ticket has).fits counts) false a;
-    noticed = λ xid file tag is early a. mid-goes (evicted (cancels (begun c) file) file tag) (mid-evicted (begun c) file tag (begins line c journal h)) false a;
+    answered =
+        λ xid r ticket is has same inc counts a. mid-goes (replied (begun c) k ticket r)
+        (mid-replied line journal c k ticket r has (begins line c journal h) (λ n draws. tells xid r ticket n is has same inc draws)
+        (h.alone.asking.ticketed ticket has).fits counts) false a;
+    noticed =
+        λ xid file tag is early a. mid-goes (evicted (cancels (begun c) file) file tag) (mid-evicted (begun c) file tag (begins line c journal h)) false a;
   })
 
 -- ---- a restart
@@ -255,6 +278,10 @@ restart-end line other c journal h = record {
   kept = (tt, h.kept);
   own = own-more (next_incarnation c.who) (B (next_incarnation c.who)) [] refl (λ e i. absurd i);
 } where
-  case : (file block first last : ℕ) → (B (next_incarnation c.who) ≡ L (next_incarnation c.who) file block first last) ⊎ In journal (L (next_incarnation c.who) file block first last) → last < 1
+  case : (file block first last : ℕ)
+      → (B (next_incarnation c.who) ≡ L (next_incarnation c.who) file block first last) ⊎ In journal (L (next_incarnation c.who) file block first last)
+      → last < 1
   case file block first last (inl e) = absurd (cc)
-  case file block first last (inr i) = let few : c.who.inc + 1 ≤ c.who.inc = h.past (L (next_incarnation c.who) file block first last) (next_incarnation c.who) i refl refl in absurd (omega arith)
+  case file block first last (inr i) =
+      let few : c.who.inc + 1 ≤ c.who.inc = h.past (L (next_incarnation c.who) file block first last) (next_incarnation c.who) i refl refl in
+      absurd (omega arith)

@@ -89,7 +89,8 @@ pub record Numbered (who : Who) (number : ℕ) (dirty : List Push) (push : Optio
   pub lost : (file block first last : ℕ) → In journal (L who file block first last) → last < number
 
 -- what is kept of a client; the calls that are not spared are about to be told losses
-pub record KeepsOk (Spared : UnderWay → Type 0) (line : HostRow) (who : Who) (number : ℕ) (call : Option UnderWay) (ticket : Option Ticket) (losses : List Loss) (dirty : List Push) (push : Option Push) (journal : List Entry) : Type 0 where
+pub record KeepsOk (Spared : UnderWay → Type 0) (line : HostRow) (who : Who) (number : ℕ) (call : Option UnderWay) (ticket : Option Ticket)
+    (losses : List Loss) (dirty : List Push) (push : Option Push) (journal : List Entry) : Type 0 where
   -- the call's request is for the call
   pub fits : (t : Ticket) (u : UnderWay) → ticket ≡ Some t → t.job ≡ for_call → call ≡ Some u → IsFor u dirty push t.request
   -- the call under way is open
@@ -97,9 +98,11 @@ pub record KeepsOk (Spared : UnderWay → Type 0) (line : HostRow) (who : Who) (
   -- while a sync, resize or removal is under way, its file has no unnamed loss
   pub told : (u : UnderWay) (file : ℕ) → call ≡ Some u → Spared u → cleans file u.call ≡ true → losses_of file losses ≡ []
   -- the delayed write of a put stands, and is not lost
-  pub put : (u : UnderWay) (file block : ℕ) (body : List ℕ) → call ≡ Some u → Spared u → u.call ≡ Call.WriteSync file block body → u.written ≡ true → PutWaits who u.q file block journal
+  pub put : (u : UnderWay) (file block : ℕ) (body : List ℕ) → call ≡ Some u → Spared u → u.call ≡ Call.WriteSync file block body → u.written ≡ true
+      → PutWaits who u.q file block journal
   -- a call's request that was done has made what it asks
-  pub made : (t : Ticket) (u : UnderWay) (n : ℕ) → ticket ≡ Some t → t.job ≡ for_call → call ≡ Some u → sequence_of t.request ≡ Some n → IsDone line who n → Made who u.q t.request journal
+  pub made : (t : Ticket) (u : UnderWay) (n : ℕ) → ticket ≡ Some t → t.job ≡ for_call → call ≡ Some u → sequence_of t.request ≡ Some n
+      → IsDone line who n → Made who u.q t.request journal
   pub numbers : Numbered who number dirty push journal
 
 -- all calls
@@ -146,13 +149,17 @@ pub record Mid (Spared : UnderWay → Type 0) (line : HostRow) (journal : List E
 
 -- what is known of the delayed writes and losses of a client after the step
 pub record After (journal : List Entry) (b : Book) : Type 0 where
-  pub unsaved : (file block n value : ℕ) → In (b.entries ++ journal) (W b.who file block n value false) → CoversNumber (b.entries ++ journal) b.who file block n ⊎ LiesWithin b.dirty b.push file block n
-  pub named : (loss : Loss) → Exists (IsLossOf b.who loss) (b.entries ++ journal) → IsOneOf b.losses loss ⊎ Exists (Names (b.entries ++ journal) b.who loss) (b.entries ++ journal)
+  pub unsaved : (file block n value : ℕ) → In (b.entries ++ journal) (W b.who file block n value false)
+      → CoversNumber (b.entries ++ journal) b.who file block n ⊎ LiesWithin b.dirty b.push file block n
+  pub named : (loss : Loss) → Exists (IsLossOf b.who loss) (b.entries ++ journal)
+      → IsOneOf b.losses loss ⊎ Exists (Names (b.entries ++ journal) b.who loss) (b.entries ++ journal)
 
 -- ---- first consequences
 
 -- where no call is under way only numbers are to be shown
-pub ended : {Spared : UnderWay → Type 0} {line : HostRow} {who : Who} {number : ℕ} {ticket : Option Ticket} {losses : List Loss} {dirty : List Push} {push : Option Push} {journal : List Entry} → Numbered who number dirty push journal → KeepsOk Spared line who number None ticket losses dirty push journal
+pub ended : {Spared : UnderWay → Type 0} {line : HostRow} {who : Who} {number : ℕ} {ticket : Option Ticket} {losses : List Loss} {dirty : List Push}
+    {push : Option Push} {journal : List Entry} → Numbered who number dirty push journal
+    → KeepsOk Spared line who number None ticket losses dirty push journal
 ended n = record {
   fits = λ t u a j c. none-some u c;
   is_open = λ u c. none-some u c;

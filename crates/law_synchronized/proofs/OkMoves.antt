@@ -55,7 +55,8 @@ open-more who u e journal none h = record {
   answered (inl now) = none now
   answered (inr before) = h.is_open.1 before
 
-pub put-more : (who : Who) (q file block : ℕ) (e : Entry) (journal : List Entry) → ((first last : ℕ) → e ≡ L who file block first last → ⊥) → PutWaits who q file block journal → PutWaits who q file block (e ∷ journal)
+pub put-more : (who : Who) (q file block : ℕ) (e : Entry) (journal : List Entry) → ((first last : ℕ) → e ≡ L who file block first last → ⊥)
+    → PutWaits who q file block journal → PutWaits who q file block (e ∷ journal)
 put-more who q file block e journal none h = record {
   number = h.number;
   value = h.value;
@@ -68,17 +69,31 @@ put-more who q file block e journal none h = record {
 
 -- whether an entry is a delayed write of an incarnation on a file
 no-delayed : (who : Who) (file : ℕ) (e : Entry) → ((block n value : ℕ) → e ≡ W who file block n value false → ⊥) → IsDelayedOn who file e → ⊥
-no-delayed who file (W by f block n value false) none d = none block n value (subst (λ w. W by f block n value false ≡ W w file block n value false) d.0 (ap (λ g. W by g block n value false) d.1))
+no-delayed who file (W by f block n value false) none d =
+    none block n value (subst (λ w. W by f block n value false ≡ W w file block n value false) d.0 (ap (λ g. W by g block n value false) d.1))
 no-delayed who file other none d = d
 
-pub resize-more : (who : Who) (q file : ℕ) (e : Entry) (journal : List Entry) → ((block n value : ℕ) → e ≡ W who file block n value false → ⊥) → Somewhere (IsSettledResize journal journal who q file) journal → Somewhere (IsSettledResize (e ∷ journal) (e ∷ journal) who q file) (e ∷ journal)
-resize-more who q file e journal none h = inr (somewhere-more (IsSettledResize journal journal who q file) (IsSettledResize (e ∷ journal) (e ∷ journal) who q file) journal more h)
+pub resize-more : (who : Who) (q file : ℕ) (e : Entry) (journal : List Entry) → ((block n value : ℕ) → e ≡ W who file block n value false → ⊥)
+    → Somewhere (IsSettledResize journal journal who q file) journal → Somewhere (IsSettledResize (e ∷ journal) (e ∷ journal) who q file) (e ∷ journal)
+resize-more who q file e journal none h =
+    inr (somewhere-more (IsSettledResize journal journal who q file) (IsSettledResize (e ∷ journal) (e ∷ journal) who q file) journal more h)
   where
-    more : (z : Entry) (before : List Entry) → IsSettledResize journal journal who q file z before → IsSettledResize (e ∷ journal) (e ∷ journal) who q file z before
-    more (Entry.Z by n f from to) before r = (r.0, r.1, (λ d. absurd (no-delayed who file e none d), each-map _ _ journal (λ write s. settled-answered (e ∷ journal) before journal (e ∷ []) who file write (settled-later (e ∷ []) journal before [] journal who file write s)) r.2))
+    more : (z : Entry) (before : List Entry) → IsSettledResize journal journal who q file z before
+        → IsSettledResize (e ∷ journal) (e ∷ journal) who q file z before
+    more (Entry.Z by n f from to) before r = (
+      r.0,
+      r.1,
+      (
+        λ d. absurd (no-delayed who file e none d),
+        each-map _ _ journal
+            (λ write s. settled-answered (e ∷ journal) before journal (e ∷ []) who file write
+            (settled-later (e ∷ []) journal before [] journal who file write s)) r.2,
+      ),
+    )
     more other before r = absurd r
 
-pub made-more : (who : Who) (q : ℕ) (r : Request) (e : Entry) (journal : List Entry) → ((file block n value : ℕ) → e ≡ W who file block n value false → ⊥) → Made who q r journal → Made who q r (e ∷ journal)
+pub made-more : (who : Who) (q : ℕ) (r : Request) (e : Entry) (journal : List Entry)
+    → ((file block n value : ℕ) → e ≡ W who file block n value false → ⊥) → Made who q r journal → Made who q r (e ∷ journal)
 made-more who q (Request.Write w seq file block first last None body) e journal none h = inr h
 made-more who q (Request.Resize w seq n file blocks) e journal none h = resize-more who q file e journal (none file) h
 made-more who q (Request.Remove w seq n file) e journal none h = resize-more who q file e journal (none file) h
@@ -95,7 +110,9 @@ made-more who q (Request.Evicted w file tag) e journal none h = tt
 
 -- ---- numbers
 
-pub numbered-more : {who : Who} {number : ℕ} {dirty : List Push} {push : Option Push} {journal : List Entry} (e : Entry) → ((file block first last : ℕ) → e ≡ L who file block first last → ⊥) → Numbered who number dirty push journal → Numbered who number dirty push (e ∷ journal)
+pub numbered-more : {who : Who} {number : ℕ} {dirty : List Push} {push : Option Push} {journal : List Entry} (e : Entry)
+    → ((file block first last : ℕ) → e ≡ L who file block first last → ⊥) → Numbered who number dirty push journal
+    → Numbered who number dirty push (e ∷ journal)
 numbered-more {who = who} {number = number} {journal = journal} e none h = record {
   listed = h.listed;
   pushed = h.pushed;
@@ -105,14 +122,16 @@ numbered-more {who = who} {number = number} {journal = journal} e none h = recor
   case file block first last (inl same) = absurd (none file block first last same)
   case file block first last (inr i) = h.lost file block first last i
 
-pub numbered-raised : {who : Who} {number : ℕ} {dirty : List Push} {push : Option Push} {journal : List Entry} → Numbered who number dirty push journal → Numbered who (number + 1) dirty push journal
+pub numbered-raised : {who : Who} {number : ℕ} {dirty : List Push} {push : Option Push} {journal : List Entry} → Numbered who number dirty push journal
+    → Numbered who (number + 1) dirty push journal
 numbered-raised h = record {
   listed = λ p i. let k = h.listed p i in omega arith;
   pushed = λ p e. let k = h.pushed p e in omega arith;
   lost = λ file block first last i. let k = h.lost file block first last i in omega arith;
 }
 
-overwritten-in : (file block number : ℕ) (body : List ℕ) (dirty : List Push) (p : Push) → In (map (overwritten_at file block number body) dirty) p → In dirty p ⊎ (p.last ≡ number)
+overwritten-in : (file block number : ℕ) (body : List ℕ) (dirty : List Push) (p : Push) → In (map (overwritten_at file block number body) dirty) p
+    → In dirty p ⊎ (p.last ≡ number)
 overwritten-in file block number body [] p i = absurd i
 overwritten-in file block number body (x ∷ xs) p (inl e) = step (is_push_at file block x) e
   where
@@ -125,7 +144,8 @@ overwritten-in file block number body (x ∷ xs) p (inr i) = later (overwritten-
     later (inl there) = inl (inr there)
     later (inr new) = inr new
 
-written-in : (file block number : ℕ) (body : List ℕ) (dirty : List Push) (o : Option Push) (p : Push) → In (with_write file block number body dirty o) p → In dirty p ⊎ (p.last ≡ number)
+written-in : (file block number : ℕ) (body : List ℕ) (dirty : List Push) (o : Option Push) (p : Push) → In (with_write file block number body dirty o) p
+    → In dirty p ⊎ (p.last ≡ number)
 written-in file block number body dirty (Some x) p i = overwritten-in file block number body dirty p i
 written-in file block number body dirty None p i = case (in-last dirty (record { file = file; block = block; first = number; last = number; body = body }) p i)
   where
@@ -134,7 +154,9 @@ written-in file block number body dirty None p i = case (in-last dirty (record {
     case (inr same) = inr (ap (λ z. z.last) (sym same))
 
 -- a write is delayed
-pub numbered-written : {who : Who} {number : ℕ} {dirty : List Push} {push : Option Push} {journal : List Entry} (file block value : ℕ) (body : List ℕ) → Numbered who number dirty push journal → Numbered who (number + 1) (with_write file block number body dirty (dirty_at file block dirty)) push (W who file block number value false ∷ journal)
+pub numbered-written : {who : Who} {number : ℕ} {dirty : List Push} {push : Option Push} {journal : List Entry} (file block value : ℕ) (body : List ℕ)
+    → Numbered who number dirty push journal
+    → Numbered who (number + 1) (with_write file block number body dirty (dirty_at file block dirty)) push (W who file block number value false ∷ journal)
 numbered-written {who = who} {number = number} {dirty = dirty} {push = push} {journal = journal} file block value body h = record {
   listed = λ p i. listed p (written-in file block number body dirty (dirty_at file block dirty) p i);
   pushed = raised.pushed;
@@ -148,20 +170,23 @@ numbered-written {who = who} {number = number} {dirty = dirty} {push = push} {jo
   listed p (inr new) = omega arith
 
 -- delayed writes are under way
-pub numbered-taken : {who : Who} {number : ℕ} {dirty : List Push} {push : Option Push} {journal : List Entry} (file : ℕ) (p : Push) → first_dirty file dirty ≡ Some p → Numbered who number dirty push journal → Numbered who number (drop_dirty p.file p.block dirty) (Some p) journal
+pub numbered-taken : {who : Who} {number : ℕ} {dirty : List Push} {push : Option Push} {journal : List Entry} (file : ℕ) (p : Push)
+    → first_dirty file dirty ≡ Some p → Numbered who number dirty push journal → Numbered who number (drop_dirty p.file p.block dirty) (Some p) journal
 numbered-taken {number = number} {dirty = dirty} file p first h = record {
   listed = λ q i. h.listed q (in-filtered _ dirty q i);
   pushed = λ q e. subst (λ z. z.last < number) (some-same p q e) (h.listed p (find-in (is_push_of file) dirty p first));
   lost = h.lost;
 }
 
-pub numbered-stored : {who : Who} {number : ℕ} {dirty : List Push} {push : Option Push} {journal : List Entry} → Numbered who number dirty push journal → Numbered who number dirty None journal
+pub numbered-stored : {who : Who} {number : ℕ} {dirty : List Push} {push : Option Push} {journal : List Entry} → Numbered who number dirty push journal
+    → Numbered who number dirty None journal
 numbered-stored h = record { listed = h.listed; pushed = λ p e. none-some p e; lost = h.lost }
 
 -- ---- losses
 
 -- each is of the file, and was there
-pub writes-there : (file : ℕ) (push : Option Push) (dirty : List Push) (p : Push) → In (unsaved_on file push dirty) p → ((push ≡ Some p) ⊎ In dirty p) × (is_push_of file p ≡ true)
+pub writes-there : (file : ℕ) (push : Option Push) (dirty : List Push) (p : Push) → In (unsaved_on file push dirty) p
+    → ((push ≡ Some p) ⊎ In dirty p) × (is_push_of file p ≡ true)
 writes-there file push dirty p i = case (in-append (push_of file push) (filter (is_push_of file) dirty) p i)
   where
     under-way : (o : Option Push) → In (push_of file o) p → (o ≡ Some p) × (is_push_of file p ≡ true)

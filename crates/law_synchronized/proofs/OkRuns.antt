@@ -72,18 +72,20 @@ pub record Oks (w : World) : Type 0 where
 starts : (head : Head) → Oks (start head)
 unfolding start attached_client fresh_client
 starts head = record {
-  clients = λ host c is. subst (λ z. KeepsOf (host_row (start head).server.kept host) z []) (sym (first-client head.term 0 head.hosts host c is)) (ended (record {
-    listed = λ p i. absurd i;
-    pushed = λ p e. none-some p e;
-    lost = λ file block first last i. absurd i;
-  }));
+  clients =
+      λ host c is. subst (λ z. KeepsOf (host_row (start head).server.kept host) z []) (sym (first-client head.term 0 head.hosts host c is)) (ended (record {
+        listed = λ p i. absurd i;
+        pushed = λ p e. none-some p e;
+        lost = λ file block first last i. absurd i;
+      }));
   began = λ host c is off. let on : c.attached ≡ true = ap (λ z. z.attached) (first-client head.term 0 head.hosts host c is) in absurd (cc);
   kept = tt;
 }
 
 module _ (stands : StandingInEveryRun) (counts : CountedInEveryRun) (most : ℕ) (head : Head) where
   -- a client before its step
-  ready : (e : Event) (events : List Event) (host : ℕ) (c : Client) → During most head e events → client_at head events host ≡ Some c → Oks (run head events) → Ready (host_row (run head events).server.kept host) c (run head events).journal
+  ready : (e : Event) (events : List Event) (host : ℕ) (c : Client) → During most head e events → client_at head events host ≡ Some c
+      → Oks (run head events) → Ready (host_row (run head events).server.kept host) c (run head events).journal
   ready e events host c during is g =
       let n = counts most head events during.bounds during.within host c is in
       record {
@@ -98,7 +100,11 @@ module _ (stands : StandingInEveryRun) (counts : CountedInEveryRun) (most : ℕ)
       }
 
   -- a step of a client
-  client-step : (e : Event) (events : List Event) (host : ℕ) (c : Client) (t : ClientStep) → During most head e events → client_at head events host ≡ Some c → run head (e ∷ events) ≡ after_client (run head events) host t → (After (run head events).journal (book_of t) → End (host_row (run head events).server.kept host) (run head events).journal (book_of t)) → (t.client.attached ≡ false → Exists (IsStartOf t.client.who) (t.entries ++ (run head events).journal)) → Oks (run head events) → Oks (after_client (run head events) host t)
+  client-step : (e : Event) (events : List Event) (host : ℕ) (c : Client) (t : ClientStep) → During most head e events
+      → client_at head events host ≡ Some c → run head (e ∷ events) ≡ after_client (run head events) host t
+      → (After (run head events).journal (book_of t) → End (host_row (run head events).server.kept host) (run head events).journal (book_of t))
+      → (t.client.attached ≡ false → Exists (IsStartOf t.client.who) (t.entries ++ (run head events).journal)) → Oks (run head events)
+      → Oks (after_client (run head events) host t)
   unfolding after_client
   client-step e events host c t during is same goes began g = record {
     clients = clients-after OkOf w host t ended_here.keeps others;
@@ -128,10 +134,12 @@ module _ (stands : StandingInEveryRun) (counts : CountedInEveryRun) (most : ℕ)
 
     others : (other : ℕ) (d : Client) → other ≢ host → slice_get w.clients other ≡ Some d → KeepsOf (host_row w.server.kept other) d (t.entries ++ w.journal)
     others other d apart there =
-        all-mild d t.entries w.journal (λ x i. foreign-mild d.who t.client.who x (ended_here.own x i) (λ eq. apart (sym ((run-holds head events).clients other d there).here ∙ ap (λ z. z.host) (sym eq) ∙ here))) (g.clients other d there)
+        all-mild d t.entries w.journal (λ x i. foreign-mild d.who t.client.who x (ended_here.own x i)
+        (λ eq. apart (sym ((run-holds head events).clients other d there).here ∙ ap (λ z. z.host) (sym eq) ∙ here))) (g.clients other d there)
 
   -- a step of the server
-  server-step : (e : Event) (events : List Event) (t : ServerStep) → During most head e events → ServerMakes (run head events).packets (run head events).server t → Oks (run head events) → Oks (after_server (run head events) t)
+  server-step : (e : Event) (events : List Event) (t : ServerStep) → During most head e events
+      → ServerMakes (run head events).packets (run head events).server t → Oks (run head events) → Oks (after_server (run head events) t)
   unfolding after_server
   server-step e events t during makes g = record {
     clients = λ host c is. keeps host c is;
@@ -145,11 +153,13 @@ module _ (stands : StandingInEveryRun) (counts : CountedInEveryRun) (most : ℕ)
     keeps host c is =
         let a = (run-holds head events).clients host c is in
         let k = (run-runs most head events during.bounds during.within).known.clients host c is in
-        server-keeps c w.packets (host_row w.server.kept host) (host_row t.server.kept host) w.journal (g.clients host c is) k.lined a.mail a.alone (stands most head events during.bounds during.within host c is) t.entries makes.mild
+        server-keeps c w.packets (host_row w.server.kept host) (host_row t.server.kept host) w.journal (g.clients host c is) k.lined a.mail a.alone
+        (stands most head events during.bounds during.within host c is) t.entries makes.mild
         (subst (λ n. LineMoves w.packets (host_row w.server.kept host) (host_row t.server.kept host) n t.entries) (sym a.here) (makes.moves host))
 
   -- a client that is still not attached after its step was started by a B
-  still-began : (events : List Event) (host now : ℕ) (c : Client) (t : ClientStep) → client_at head events host ≡ Some c → StillOf now c t → Oks (run head events) → t.client.attached ≡ false → Exists (IsStartOf t.client.who) (t.entries ++ (run head events).journal)
+  still-began : (events : List Event) (host now : ℕ) (c : Client) (t : ClientStep) → client_at head events host ≡ Some c → StillOf now c t
+      → Oks (run head events) → t.client.attached ≡ false → Exists (IsStartOf t.client.who) (t.entries ++ (run head events).journal)
   still-began events host now c t is s g off =
       exists-right (IsStartOf t.client.who) t.entries (run head events).journal
       (subst (λ v. Exists (IsStartOf v) (run head events).journal) (sym s.same) (g.began host c is (s.stays off)))
@@ -159,7 +169,9 @@ module _ (stands : StandingInEveryRun) (counts : CountedInEveryRun) (most : ℕ)
   restart-began c journal = inl refl
 
   -- a delivery to a client
-  delivered : (events : List Event) (k : ℕ) (p : Packet) (host : ℕ) (c : Client) (t : ClientStep) → slice_get (run head events).packets k ≡ Some p → p.to ≡ Party.Client host → client_at head events host ≡ Some c → hear c k p.message ≡ Some t → run head (Event.Deliver k ∷ events) ≡ after_client (run head events) host t
+  delivered : (events : List Event) (k : ℕ) (p : Packet) (host : ℕ) (c : Client) (t : ClientStep) → slice_get (run head events).packets k ≡ Some p
+      → p.to ≡ Party.Client host → client_at head events host ≡ Some c → hear c k p.message ≡ Some t
+      → run head (Event.Deliver k ∷ events) ≡ after_client (run head events) host t
   delivered events k p host c t sent to is hears =
       let w = run head events in
       ap (deliver w k) sent ∙ ap (deliver_to w k p) to ∙ ap (deliver_to_client w k host p.message) is ∙ ap (after_hearing w host) hears
@@ -167,9 +179,19 @@ module _ (stands : StandingInEveryRun) (counts : CountedInEveryRun) (most : ℕ)
   oks-keep : Keeps most head Oks
   oks-keep = record {
     starts = λ b. starts head;
-    called = λ events host c op during is g. client-step (Event.Call host op) events host c (client_call c op) during is (ap (at_client (run head events) host (λ d. client_call d op)) is) (call-end _ c _ (ready (Event.Call host op) events host c during is g) op) (still-began events host c.now c (client_call c op) is (call-still host c _ op ((run-holds head events).clients host c is)) g) g;
-    ticked = λ events host c during is g. client-step (Event.ClientTick host) events host c (client_tick c (c.now + 1)) during is (ap (at_client (run head events) host (λ d. client_tick d (d.now + 1))) is) (tick-end _ c _ (ready (Event.ClientTick host) events host c during is g) (c.now + 1)) (still-began events host (c.now + 1) c (client_tick c (c.now + 1)) is (tick-still host c _ ((run-holds head events).clients host c is)) g) g;
-    restarted = λ events host c during is g. client-step (Event.Restart host) events host c (restart c) during is (ap (at_client (run head events) host restart) is) (λ a. restart-end _ _ c _ (ready (Event.Restart host) events host c during is g)) (λ off. restart-began c (run head events).journal) g;
+    called =
+        λ events host c op during is g. client-step (Event.Call host op) events host c (client_call c op) during is
+        (ap (at_client (run head events) host (λ d. client_call d op)) is) (call-end _ c _ (ready (Event.Call host op) events host c during is g) op)
+        (still-began events host c.now c (client_call c op) is (call-still host c _ op ((run-holds head events).clients host c is)) g) g;
+    ticked =
+        λ events host c during is g. client-step (Event.ClientTick host) events host c (client_tick c (c.now + 1)) during is
+        (ap (at_client (run head events) host (λ d. client_tick d (d.now + 1))) is)
+        (tick-end _ c _ (ready (Event.ClientTick host) events host c during is g) (c.now + 1))
+        (still-began events host (c.now + 1) c (client_tick c (c.now + 1)) is (tick-still host c _ ((run-holds head events).clients host c is)) g) g;
+    restarted =
+        λ events host c during is g. client-step (Event.Restart host) events host c (restart c) during is
+        (ap (at_client (run head events) host restart) is) (λ a. restart-end _ _ c _ (ready (Event.Restart host) events host c during is g))
+        (λ off. restart-began c (run head events).journal) g;
     heard = λ events k p host c t during sent to is hears g.
         let w = run head events in
         let held = run-holds head events in
@@ -179,7 +201,8 @@ module _ (stands : StandingInEveryRun) (counts : CountedInEveryRun) (most : ℕ)
         let answered = run-answered most head events during.bounds during.within host c is in
         client-step (Event.Deliver k) events host c t during is (delivered events k p host c t sent to is hears)
         (hear-end _ c _ (ready (Event.Deliver k) events host c during is g) k p.message t
-        (λ xid r ticket n m has same inc draws. answered.replies xid r (subst (λ z. Told w.packets z (reply xid r)) (sym at.here) (subst (Told w.packets host) m told)) inc ticket has (sym same) n draws)
+        (λ xid r ticket n m has same inc draws. answered.replies xid r
+        (subst (λ z. Told w.packets z (reply xid r)) (sym at.here) (subst (Told w.packets host) m told)) inc ticket has (sym same) n draws)
         hears)
         (still-began events host c.now c t is (subst (StillIf c) hears (hear-still host c w.packets k p.message told at)) g)
         g;
@@ -187,9 +210,15 @@ module _ (stands : StandingInEveryRun) (counts : CountedInEveryRun) (most : ℕ)
         let w = run head events in
         let held = run-holds head events in
         let i : In w.packets p = in-get w.packets k p sent in
-        server-step (Event.Deliver k) events _ during (hears-makes w.packets w.server (sending_host p.sender) (length w.packets) (datagram_of p.message) (λ xid r d. (to-server w.packets p (held.sent p i) to i xid r d).0) (run-runs most head events during.bounds during.within).served.lines) g;
-    server_ticked = λ events during g. server-step Event.ServerTick events _ during (tick-makes (run head events).packets (run head events).server ((run head events).server.now + 1)) g;
-    crashed = λ events longest during long few g. server-step (Event.Crash longest) events _ during (crash-makes (run head events).packets (run head events).server longest) g;
+        server-step (Event.Deliver k) events _ during
+        (hears-makes w.packets w.server (sending_host p.sender) (length w.packets) (datagram_of p.message)
+        (λ xid r d. (to-server w.packets p (held.sent p i) to i xid r d).0) (run-runs most head events during.bounds during.within).served.lines) g;
+    server_ticked =
+        λ events during g. server-step Event.ServerTick events _ during
+        (tick-makes (run head events).packets (run head events).server ((run head events).server.now + 1)) g;
+    crashed =
+        λ events longest during long few g. server-step (Event.Crash longest) events _ during
+        (crash-makes (run head events).packets (run head events).server longest) g;
   }
 
 -- what is kept of each client in every run
@@ -202,4 +231,5 @@ answered-runs stands counts most head events bounds within = (run-keeps (oks-kee
 
 -- the law
 pub synchronized-runs : StandingInEveryRun → CountedInEveryRun → SynchronizedInEveryRun
-synchronized-runs stands counts most head events bounds within = synchronized (run head events).journal (answered-runs stands counts most head events bounds within)
+synchronized-runs stands counts most head events bounds within =
+    synchronized (run head events).journal (answered-runs stands counts most head events bounds within)

@@ -36,7 +36,8 @@ one-mild c e journal q h = record {
   numbers = numbered-more e q.no_loss h.numbers;
 }
 
-pub all-mild : {line : HostRow} (c : Client) (es journal : List Entry) → ((e : Entry) → In es e → IsMild c.who e) → KeepsOf line c journal → KeepsOf line c (es ++ journal)
+pub all-mild : {line : HostRow} (c : Client) (es journal : List Entry) → ((e : Entry) → In es e → IsMild c.who e) → KeepsOf line c journal
+    → KeepsOf line c (es ++ journal)
 all-mild c [] journal each h = h
 all-mild c (e ∷ es) journal each h = one-mild c e (es ++ journal) (each e (inl refl)) (all-mild c es journal (λ x i. each x (inr i)) h)
 
@@ -53,12 +54,17 @@ all-kept (e ∷ es) journal mild h = (unanswered-here e (es ++ journal) (mild e 
 
 -- what is known of the delayed writes and losses of a client
 pub record Standing (c : Client) (journal : List Entry) : Type 0 where
-  pub unsaved : (file block n value : ℕ) → In journal (W c.who file block n value false) → CoversNumber journal c.who file block n ⊎ LiesWithin c.dirty c.push file block n
+  pub unsaved : (file block n value : ℕ) → In journal (W c.who file block n value false)
+      → CoversNumber journal c.who file block n ⊎ LiesWithin c.dirty c.push file block n
   pub named : (loss : Loss) → Exists (IsLossOf c.who loss) journal → IsOneOf c.losses loss ⊎ Exists (Names journal c.who loss) journal
 
-module _ (c : Client) (ps : List Packet) (old new : HostRow) (journal : List Entry) (h : KeepsOf old c journal) (lined : LineFits c.who c.attached c.ticket c.notices old ps) (mail : Mail c.who c.xid c.ticket ps) (alone : Alone c) (standing : Standing c journal) where
+module _ (c : Client) (ps : List Packet) (old new : HostRow) (journal : List Entry) (h : KeepsOf old c journal)
+    (lined : LineFits c.who c.attached c.ticket c.notices old ps) (mail : Mail c.who c.xid c.ticket ps) (alone : Alone c)
+    (standing : Standing c journal) where
   -- the Z of a resize or removal: each delayed write of its file is settled before it
-  resized : (u : UnderWay) (file from to : ℕ) → c.call ≡ Some u → cleans file u.call ≡ true → is_clean_in file c.dirty c.push ≡ true → Somewhere (IsSettledResize (Z c.who u.q file from to ∷ journal) (Z c.who u.q file from to ∷ journal) c.who u.q file) (Z c.who u.q file from to ∷ journal)
+  resized : (u : UnderWay) (file from to : ℕ) → c.call ≡ Some u → cleans file u.call ≡ true → is_clean_in file c.dirty c.push ≡ true
+      → Somewhere (IsSettledResize (Z c.who u.q file from to ∷ journal) (Z c.who u.q file from to ∷ journal) c.who u.q file)
+      (Z c.who u.q file from to ∷ journal)
   resized u file from to is waits clean = inl (
     refl,
     refl,
@@ -78,13 +84,17 @@ module _ (c : Client) (ps : List Packet) (old new : HostRow) (journal : List Ent
       within block n (inl covers) = covers
       within block n (inr l) = absurd (clean-none file block n c.dirty c.push clean l)
 
-      covered : (block n value : ℕ) → (Z c.who u.q file from to ≡ W c.who file block n value false) ⊎ In journal (W c.who file block n value false) → CoversNumber journal c.who file block n
+      covered : (block n value : ℕ) → (Z c.who u.q file from to ≡ W c.who file block n value false) ⊎ In journal (W c.who file block n value false)
+          → CoversNumber journal c.who file block n
       covered block n value (inl e) = absurd (cc)
       covered block n value (inr i) = within block n (standing.unsaved file block n value i)
 
       names : (loss : Loss) → IsOneOf c.losses loss ⊎ Exists (Names journal c.who loss) journal → IsOneOf c.losses loss ⊎ Exists (Names whole c.who loss) whole
       names loss (inl one) = inl one
-      names loss (inr n) = inr (inr (exists-map (Names journal c.who loss) (Names whole c.who loss) journal (λ e m. names-later (Z c.who u.q file from to ∷ []) journal c.who loss e m) n))
+      names loss (inr n) =
+          inr
+          (inr (exists-map (Names journal c.who loss) (Names whole c.who loss) journal
+          (λ e m. names-later (Z c.who u.q file from to ∷ []) journal c.who loss e m) n))
 
   -- what the call's request makes where it was done
   shaped : (u : UnderWay) (r : Request) (es : List Entry) → c.call ≡ Some u → IsFor u c.dirty c.push r → Shape c.who r es → Made c.who u.q r (es ++ journal)
@@ -92,10 +102,12 @@ module _ (c : Client) (ps : List Packet) (old new : HostRow) (journal : List Ent
       subst (λ xs. Somewhere (IsThroughWrite c.who u.q) (xs ++ journal)) (sym s.1) (inl (refl, tt, (h.is_open u is).is_open))
   shaped u (Request.Resize w seq q file blocks) es is for_it s =
       subst (λ xs. Somewhere (IsSettledResize (xs ++ journal) (xs ++ journal) c.who u.q file) (xs ++ journal)) (sym s.2)
-      (subst (λ n. Somewhere (IsSettledResize (Z c.who n file s.0 s.1 ∷ journal) (Z c.who n file s.0 s.1 ∷ journal) c.who u.q file) (Z c.who n file s.0 s.1 ∷ journal)) (sym for_it.1) (resized u file s.0 s.1 is (ap (cleans file) for_it.0 ∙ number-same file file refl) for_it.2))
+      (subst (λ n. Somewhere (IsSettledResize (Z c.who n file s.0 s.1 ∷ journal) (Z c.who n file s.0 s.1 ∷ journal) c.who u.q file)
+      (Z c.who n file s.0 s.1 ∷ journal)) (sym for_it.1) (resized u file s.0 s.1 is (ap (cleans file) for_it.0 ∙ number-same file file refl) for_it.2))
   shaped u (Request.Remove w seq q file) es is for_it s =
       subst (λ xs. Somewhere (IsSettledResize (xs ++ journal) (xs ++ journal) c.who u.q file) (xs ++ journal)) (sym s.2)
-      (subst (λ n. Somewhere (IsSettledResize (Z c.who n file s.0 s.1 ∷ journal) (Z c.who n file s.0 s.1 ∷ journal) c.who u.q file) (Z c.who n file s.0 s.1 ∷ journal)) (sym for_it.1) (resized u file s.0 s.1 is (ap (cleans file) for_it.0 ∙ number-same file file refl) for_it.2))
+      (subst (λ n. Somewhere (IsSettledResize (Z c.who n file s.0 s.1 ∷ journal) (Z c.who n file s.0 s.1 ∷ journal) c.who u.q file)
+      (Z c.who n file s.0 s.1 ∷ journal)) (sym for_it.1) (resized u file s.0 s.1 is (ap (cleans file) for_it.0 ∙ number-same file file refl) for_it.2))
   shaped u (Request.Write w seq file block first last (Some base) body) es is for_it s = tt
   shaped u Request.Null es is for_it s = tt
   shaped u (Request.Attach w) es is for_it s = tt
@@ -113,10 +125,13 @@ module _ (c : Client) (ps : List Packet) (old new : HostRow) (journal : List Ent
     where
       case : (b : Bool) → c.attached ≡ b → ⊥
       case true e = let cur = lined.current e in let up = a.above in let now = a.after in absurd (omega arith)
-      case false e = let w = alone.asking.waiting e in let one : w.request ≡ t = some-same w.request t (sym w.asks ∙ is) in let j : t.job ≡ attaching = subst (λ z. z.job ≡ attaching) one w.job in absurd (cc)
+      case false e =
+          let w = alone.asking.waiting e in let one : w.request ≡ t = some-same w.request t (sym w.asks ∙ is) in
+          let j : t.job ≡ attaching = subst (λ z. z.job ≡ attaching) one w.job in absurd (cc)
 
   -- the request under way was decided
-  own-decided : (t : Ticket) (u : UnderWay) (n : ℕ) (es : List Entry) → IsDecided ps old new c.who.host es → c.ticket ≡ Some t → t.job ≡ for_call → c.call ≡ Some u → sequence_of t.request ≡ Some n → IsDone new c.who n → Made c.who u.q t.request (es ++ journal)
+  own-decided : (t : Ticket) (u : UnderWay) (n : ℕ) (es : List Entry) → IsDecided ps old new c.who.host es → c.ticket ≡ Some t → t.job ≡ for_call
+      → c.call ≡ Some u → sequence_of t.request ≡ Some n → IsDone new c.who n → Made c.who u.q t.request (es ++ journal)
   own-decided t u n es k is job called draws done = from (lined.settled (k.inc ∙ inc) k.xid k.asks k.who k.seq k.sent k.by inc k.draws)
     where
       inc : k.who.inc ≡ c.who.inc
@@ -148,7 +163,8 @@ module _ (c : Client) (ps : List Packet) (old new : HostRow) (journal : List Ent
     k : KeepsOf old c (es ++ journal)
     k = all-mild c es journal (λ e i. mild e i c.who) h
 
-    made : (t : Ticket) (u : UnderWay) (n : ℕ) → c.ticket ≡ Some t → t.job ≡ for_call → c.call ≡ Some u → sequence_of t.request ≡ Some n → IsDone new c.who n → LineMoves ps old new c.who.host es → Made c.who u.q t.request (es ++ journal)
+    made : (t : Ticket) (u : UnderWay) (n : ℕ) → c.ticket ≡ Some t → t.job ≡ for_call → c.call ≡ Some u → sequence_of t.request ≡ Some n
+        → IsDone new c.who n → LineMoves ps old new c.who.host es → Made c.who u.q t.request (es ++ journal)
     made t u n is job called draws done (stays same) = k.made t u n is job called draws (subst (λ l. IsDone l c.who n) same done)
     made t u n is job called draws done (attached a) = absurd (none-attached t a is job done.inc)
     made t u n is job called draws done (decided d) = own-decided t u n es d is job called draws done

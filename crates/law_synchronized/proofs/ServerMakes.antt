@@ -82,10 +82,12 @@ pub record ServerMakes (ps : List Packet) (s : Server) (t : ServerStep) : Type 0
   pub moves : (host : ℕ) → LineMoves ps (host_row s.kept host) (host_row t.server.kept host) host t.entries
 
 -- what the server does where no line changes
-no-move : (ps : List Packet) (s : Server) (t : ServerStep) → ((host : ℕ) → host_row t.server.kept host ≡ host_row s.kept host) → AllMild t.entries → ServerMakes ps s t
+no-move : (ps : List Packet) (s : Server) (t : ServerStep) → ((host : ℕ) → host_row t.server.kept host ≡ host_row s.kept host) → AllMild t.entries
+    → ServerMakes ps s t
 no-move ps s t same mild = record { mild = mild; moves = λ host. stays (same host) }
 
-module _ (ps : List Packet) (s : Server) (sender next : ℕ) (d : Datagram) (was_sent : (xid : ℕ) (r : Request) → d ≡ request xid r → Asked ps sender xid r) (lines : LinesFitOf s) where
+module _ (ps : List Packet) (s : Server) (sender next : ℕ) (d : Datagram)
+    (was_sent : (xid : ℕ) (r : Request) → d ≡ request xid r → Asked ps sender xid r) (lines : LinesFitOf s) where
   quiet-makes : ServerMakes ps s (quiet s)
   unfolding quiet
   quiet-makes = no-move ps s (quiet s) (λ host. refl) none-mild
@@ -98,9 +100,12 @@ module _ (ps : List Packet) (s : Server) (sender next : ℕ) (d : Datagram) (was
   grants-mild w file None = none-mild
   grants-mild w file (Some g) = one-mild _ (λ who. record { no_answer = λ q a. a; no_loss = λ f b m n e. cc; no_write = λ f b n v e. cc })
 
-  reading : (xid : ℕ) (w : Who) (q block : ℕ) (f : File) (body : List ℕ) (table : Table) (grant : Option Grant) → ServerMakes ps s (serves s w xid next q f block body table grant)
+  reading : (xid : ℕ) (w : Who) (q block : ℕ) (f : File) (body : List ℕ) (table : Table) (grant : Option Grant)
+      → ServerMakes ps s (serves s w xid next q f block body table grant)
   unfolding serves with_table
-  reading xid w q block f body table grant = no-move ps s _ (λ h. refl) (more-mild _ (grants s w f.id grant) (λ who. record { no_answer = λ n a. a; no_loss = λ f b m n e. cc; no_write = λ f b n v e. cc }) (grants-mild w f.id grant))
+  reading xid w q block f body table grant =
+      no-move ps s _ (λ h. refl) (more-mild _ (grants s w f.id grant)
+      (λ who. record { no_answer = λ n a. a; no_loss = λ f b m n e. cc; no_write = λ f b n v e. cc }) (grants-mild w f.id grant))
 
   leasing : (xid : ℕ) (w : Who) (file : ℕ) (table : Table) (grant : Option Grant) → ServerMakes ps s (leases s w xid file table grant)
   unfolding leases with_table
@@ -119,10 +124,19 @@ module _ (ps : List Packet) (s : Server) (sender next : ℕ) (d : Datagram) (was
       move : (host : ℕ) (b : Bool) → (host == w.host) ≡ b → LineMoves ps (host_row s.kept host) (host_row (with_row s.kept w.host row) host) host []
       move host true e =
           let same : w.host ≡ host = sym (same-number host w.host e) in
-          attached (record { who = w; here = same; above = subst (λ n. (host_row s.kept n).inc < w.inc) same above; after = ap (λ n. (host_row (with_row s.kept w.host row) n).inc) (sym same) ∙ ap (λ l. l.inc) own })
+          attached
+          (record {
+            who = w;
+            here = same;
+            above = subst (λ n. (host_row s.kept n).inc < w.inc) same above;
+            after = ap
+                (λ n. (host_row (with_row s.kept w.host row) n).inc) (sym same) ∙ ap (λ l. l.inc) own;
+          })
       move host false e = stays (other-line s.kept w.host host row (λ same. let yes : (host == w.host) ≡ true = number-same host w.host same in absurd (cc)))
 
-  committed : (xid : ℕ) (w : Who) (seq : ℕ) (r : Request) (k : Decision) → d ≡ request xid r → asker r ≡ Some w → sequence_of r ≡ Some seq → IsFresh s sender w seq → k.server.kept.hosts ≡ s.kept.hosts → AllMild k.entries → (k.verdict ≡ Verdict.Done → Shape w r k.entries) → ServerMakes ps s (commits w seq xid r k)
+  committed : (xid : ℕ) (w : Who) (seq : ℕ) (r : Request) (k : Decision) → d ≡ request xid r → asker r ≡ Some w → sequence_of r ≡ Some seq
+      → IsFresh s sender w seq → k.server.kept.hosts ≡ s.kept.hosts → AllMild k.entries → (k.verdict ≡ Verdict.Done → Shape w r k.entries)
+      → ServerMakes ps s (commits w seq xid r k)
   unfolding commits keeping
   committed xid w seq r k e by sq fresh same mild made = record { mild = mild; moves = λ host. move host (host == w.host) refl }
     where
@@ -130,7 +144,9 @@ module _ (ps : List Packet) (s : Server) (sender next : ℕ) (d : Datagram) (was
       after = with_row k.server.kept w.host (row_after w seq k)
 
       own : host_row after w.host ≡ row_after w seq k
-      own = own-line k.server.kept w.host (row_after w seq k) (let few = fresh.current.from.possible in let all : length k.server.kept.hosts ≡ most_hosts = ap length same ∙ lines in omega arith)
+      own =
+          own-line k.server.kept w.host (row_after w seq k)
+          (let few = fresh.current.from.possible in let all : length k.server.kept.hosts ≡ most_hosts = ap length same ∙ lines in omega arith)
 
       here : IsDecided ps (host_row s.kept w.host) (host_row after w.host) w.host k.entries
       here = record {
@@ -150,14 +166,21 @@ module _ (ps : List Packet) (s : Server) (sender next : ℕ) (d : Datagram) (was
       }
 
       move : (host : ℕ) (b : Bool) → (host == w.host) ≡ b → LineMoves ps (host_row s.kept host) (host_row after host) host k.entries
-      move host true e = let same_host : w.host ≡ host = sym (same-number host w.host e) in subst (λ n. LineMoves ps (host_row s.kept n) (host_row after n) n k.entries) same_host (decided here)
-      move host false e = stays (other-line k.server.kept w.host host (row_after w seq k) (λ eq. let yes : (host == w.host) ≡ true = number-same host w.host eq in absurd (cc)) ∙ same-lines s.kept k.server.kept host same)
+      move host true e =
+          let same_host : w.host ≡ host = sym (same-number host w.host e) in
+          subst (λ n. LineMoves ps (host_row s.kept n) (host_row after n) n k.entries) same_host (decided here)
+      move host false e =
+          stays (other-line k.server.kept w.host host (row_after w seq k)
+          (λ eq. let yes : (host == w.host) ≡ true = number-same host w.host eq in absurd (cc)) ∙ same-lines s.kept k.server.kept host same)
 
-  declining : (xid : ℕ) (w : Who) (seq : ℕ) (r : Request) (v : Verdict) → d ≡ request xid r → asker r ≡ Some w → sequence_of r ≡ Some seq → IsFresh s sender w seq → IsDeclined s w r v → ServerMakes ps s (commits w seq xid r (decides s v))
+  declining : (xid : ℕ) (w : Who) (seq : ℕ) (r : Request) (v : Verdict) → d ≡ request xid r → asker r ≡ Some w → sequence_of r ≡ Some seq
+      → IsFresh s sender w seq → IsDeclined s w r v → ServerMakes ps s (commits w seq xid r (decides s v))
   unfolding decides
-  declining xid w seq r v e by sq fresh declined = committed xid w seq r (decides s v) e by sq fresh refl none-mild (λ done. absurd (declined-not s w r v declined done))
+  declining xid w seq r v e by sq fresh declined =
+      committed xid w seq r (decides s v) e by sq fresh refl none-mild (λ done. absurd (declined-not s w r v declined done))
 
-  putting-off-change : (xid : ℕ) (w : Who) (seq : ℕ) (r : Request) (file : ℕ) (table : Table) → d ≡ request xid r → asker r ≡ Some w → sequence_of r ≡ Some seq → IsFresh s sender w seq → ServerMakes ps s (commits w seq xid r (puts_off s w file table))
+  putting-off-change : (xid : ℕ) (w : Who) (seq : ℕ) (r : Request) (file : ℕ) (table : Table) → d ≡ request xid r → asker r ≡ Some w
+      → sequence_of r ≡ Some seq → IsFresh s sender w seq → ServerMakes ps s (commits w seq xid r (puts_off s w file table))
   unfolding puts_off after_notices
   putting-off-change xid w seq r file table e by sq fresh = committed xid w seq r (puts_off s w file table) e by sq fresh refl none-mild (λ done. absurd (cc))
 
@@ -173,39 +196,51 @@ module _ (ps : List Packet) (s : Server) (sender next : ℕ) (d : Datagram) (was
   unfolding drops
   drops-makes reason = no-move ps s _ (λ h. refl) none-mild
 
-  creating : (xid : ℕ) (w : Who) (seq blocks : ℕ) (name : List ℕ) → d ≡ request xid (Request.Create w seq name blocks) → IsFresh s sender w seq → ServerMakes ps s (commits w seq xid (Request.Create w seq name blocks) (creates s name blocks))
+  creating : (xid : ℕ) (w : Who) (seq blocks : ℕ) (name : List ℕ) → d ≡ request xid (Request.Create w seq name blocks) → IsFresh s sender w seq
+      → ServerMakes ps s (commits w seq xid (Request.Create w seq name blocks) (creates s name blocks))
   unfolding creates keeping with_new_file
-  creating xid w seq blocks name e fresh = committed xid w seq (Request.Create w seq name blocks) (creates s name blocks) e refl refl fresh refl none-mild (λ done. tt)
+  creating xid w seq blocks name e fresh =
+      committed xid w seq (Request.Create w seq name blocks) (creates s name blocks) e refl refl fresh refl none-mild (λ done. tt)
 
-  writing-through : (xid : ℕ) (w : Who) (seq block first last : ℕ) (body : List ℕ) (f : File) → d ≡ request xid (Request.Write w seq f.id block first last None body) → IsFresh s sender w seq → ServerMakes ps s (commits w seq xid (Request.Write w seq f.id block first last None body) (writes_through s w f block first body))
+  writing-through : (xid : ℕ) (w : Who) (seq block first last : ℕ) (body : List ℕ) (f : File)
+      → d ≡ request xid (Request.Write w seq f.id block first last None body) → IsFresh s sender w seq
+      → ServerMakes ps s (commits w seq xid (Request.Write w seq f.id block first last None body) (writes_through s w f block first body))
   unfolding writes_through keeping with_files
   writing-through xid w seq block first last body f e fresh =
       committed xid w seq (Request.Write w seq f.id block first last None body) (writes_through s w f block first body) e refl refl fresh refl
       (one-mild _ (λ who. record { no_answer = λ q a. a; no_loss = λ f b m n e. cc; no_write = λ f b n v e. cc }))
       (λ done. (value_of body, refl))
 
-  storing : (xid : ℕ) (w : Who) (seq block first last : ℕ) (base : PushBase) (body : List ℕ) (f : File) (row : Row) → d ≡ request xid (Request.Write w seq f.id block first last (Some base) body) → IsFresh s sender w seq → ServerMakes ps s (commits w seq xid (Request.Write w seq f.id block first last (Some base) body) (stores s w f row block first last body))
+  storing : (xid : ℕ) (w : Who) (seq block first last : ℕ) (base : PushBase) (body : List ℕ) (f : File) (row : Row)
+      → d ≡ request xid (Request.Write w seq f.id block first last (Some base) body) → IsFresh s sender w seq
+      → ServerMakes ps s (commits w seq xid (Request.Write w seq f.id block first last (Some base) body) (stores s w f row block first last body))
   unfolding stores keeping_with with_files with_rows
   storing xid w seq block first last base body f row e fresh =
       committed xid w seq (Request.Write w seq f.id block first last (Some base) body) (stores s w f row block first last body) e refl refl fresh refl
       (one-mild _ (λ who. record { no_answer = λ q a. a; no_loss = λ f b m n e. cc; no_write = λ f b n v e. cc }))
       (λ done. tt)
 
-  storing-recovering : (xid : ℕ) (w : Who) (seq block first final : ℕ) (base : PushBase) (body : List ℕ) (f : File) (until : ℕ) (last : Option Table) → d ≡ request xid (Request.Write w seq f.id block first final (Some base) body) → IsFresh s sender w seq → ServerMakes ps s (commits w seq xid (Request.Write w seq f.id block first final (Some base) body) (stores_recovering s until last w f block first final body))
+  storing-recovering : (xid : ℕ) (w : Who) (seq block first final : ℕ) (base : PushBase) (body : List ℕ) (f : File) (until : ℕ) (last : Option Table)
+      → d ≡ request xid (Request.Write w seq f.id block first final (Some base) body) → IsFresh s sender w seq
+      → ServerMakes ps s (commits w seq xid (Request.Write w seq f.id block first final (Some base) body)
+      (stores_recovering s until last w f block first final body))
   unfolding stores_recovering keeping wrote with_files
   storing-recovering xid w seq block first final base body f until last e fresh =
-      committed xid w seq (Request.Write w seq f.id block first final (Some base) body) (stores_recovering s until last w f block first final body) e refl refl fresh refl
+      committed xid w seq (Request.Write w seq f.id block first final (Some base) body) (stores_recovering s until last w f block first final body) e
+      refl refl fresh refl
       (one-mild _ (λ who. record { no_answer = λ q a. a; no_loss = λ f b m n e. cc; no_write = λ f b n v e. cc }))
       (λ done. tt)
 
-  resizing : (xid : ℕ) (w : Who) (seq q blocks : ℕ) (f : File) → d ≡ request xid (Request.Resize w seq q f.id blocks) → IsFresh s sender w seq → ServerMakes ps s (commits w seq xid (Request.Resize w seq q f.id blocks) (resizes s w q f blocks))
+  resizing : (xid : ℕ) (w : Who) (seq q blocks : ℕ) (f : File) → d ≡ request xid (Request.Resize w seq q f.id blocks) → IsFresh s sender w seq
+      → ServerMakes ps s (commits w seq xid (Request.Resize w seq q f.id blocks) (resizes s w q f blocks))
   unfolding resizes keeping with_files
   resizing xid w seq q blocks f e fresh =
       committed xid w seq (Request.Resize w seq q f.id blocks) (resizes s w q f blocks) e refl refl fresh refl
       (one-mild _ (λ who. record { no_answer = λ q a. a; no_loss = λ f b m n e. cc; no_write = λ f b n v e. cc }))
       (λ done. (_, _, refl))
 
-  removing : (xid : ℕ) (w : Who) (seq q : ℕ) (f : File) → d ≡ request xid (Request.Remove w seq q f.id) → IsFresh s sender w seq → ServerMakes ps s (commits w seq xid (Request.Remove w seq q f.id) (removes s w q f))
+  removing : (xid : ℕ) (w : Who) (seq q : ℕ) (f : File) → d ≡ request xid (Request.Remove w seq q f.id) → IsFresh s sender w seq
+      → ServerMakes ps s (commits w seq xid (Request.Remove w seq q f.id) (removes s w q f))
   unfolding removes keeping_with with_files with_rows
   removing xid w seq q f e fresh =
       committed xid w seq (Request.Remove w seq q f.id) (removes s w q f) e refl refl fresh refl
@@ -235,7 +270,9 @@ module _ (ps : List Packet) (s : Server) (sender next : ℕ) (d : Datagram) (was
     creating = λ xid w seq blocks name e fresh serves can. creating xid w seq blocks name e fresh;
     writing_through = λ xid w seq block first last body f e changing below c. writing-through xid w seq block first last body f e changing.fresh;
     storing = λ xid w seq block first last base body f row e changing below can. storing xid w seq block first last base body f row e changing.fresh;
-    storing_recovering = λ xid w seq block first final base body f until heard last e fresh p found below boot rev. storing-recovering xid w seq block first final base body f until last e fresh;
+    storing_recovering =
+        λ xid w seq block first final base body f until heard last e fresh p found below boot rev. storing-recovering xid w seq block first final base
+        body f until last e fresh;
     resizing = λ xid w seq q blocks f e changing can c. resizing xid w seq q blocks f e changing.fresh;
     removing = λ xid w seq q f e changing c. removing xid w seq q f e changing.fresh;
   })
@@ -248,7 +285,8 @@ waits-makes ps s now = no-move ps s _ (λ host. refl) none-mild
 
 opens-makes : (ps : List Packet) (s : Server) (now until heard : ℕ) → ServerMakes ps s (opens (at_time s now) until heard)
 unfolding opens at_time
-opens-makes ps s now until heard = no-move ps s _ (λ host. refl) (one-mild _ (λ who. record { no_answer = λ q a. a; no_loss = λ f b m n e. cc; no_write = λ f b n v e. cc }))
+opens-makes ps s now until heard =
+    no-move ps s _ (λ host. refl) (one-mild _ (λ who. record { no_answer = λ q a. a; no_loss = λ f b m n e. cc; no_write = λ f b n v e. cc }))
 
 ends-makes : (ps : List Packet) (s : Server) (now : ℕ) (rows : List Row) → ServerMakes ps s (quiet (with_table (at_time s now) (with_rows s.table rows)))
 unfolding quiet at_time with_table with_rows
@@ -256,7 +294,9 @@ ends-makes ps s now rows = no-move ps s _ (λ host. refl) none-mild
 
 ends-writing-makes : (ps : List Packet) (s : Server) (now : ℕ) (rows : List Row) (row : Row) → ServerMakes ps s (ends_writing (at_time s now) rows row)
 unfolding ends_writing at_time keeping_with with_rows
-ends-writing-makes ps s now rows row = no-move ps s _ (λ host. fence-lines s.kept (find_file row.file s.kept.files) host) (one-mild _ (λ who. record { no_answer = λ q a. a; no_loss = λ f b m n e. cc; no_write = λ f b n v e. cc }))
+ends-writing-makes ps s now rows row =
+    no-move ps s _ (λ host. fence-lines s.kept (find_file row.file s.kept.files) host)
+    (one-mild _ (λ who. record { no_answer = λ q a. a; no_loss = λ f b m n e. cc; no_write = λ f b n v e. cc }))
 
 pub tick-makes : (ps : List Packet) (s : Server) (now : ℕ) → ServerMakes ps s (tick s now)
 tick-makes ps s now = server-ticks s now (ServerMakes ps s) (record {
@@ -268,4 +308,6 @@ tick-makes ps s now = server-ticks s now (ServerMakes ps s) (record {
 
 pub crash-makes : (ps : List Packet) (s : Server) (longest : ℕ) → ServerMakes ps s (crash s longest)
 unfolding crash boot
-crash-makes ps s longest = no-move ps s _ (λ host. booted-line s.kept longest host (s.kept.opened == 0) refl) (one-mild _ (λ who. record { no_answer = λ q a. a; no_loss = λ f b m n e. cc; no_write = λ f b n v e. cc }))
+crash-makes ps s longest =
+    no-move ps s _ (λ host. booted-line s.kept longest host (s.kept.opened == 0) refl)
+    (one-mild _ (λ who. record { no_answer = λ q a. a; no_loss = λ f b m n e. cc; no_write = λ f b n v e. cc }))

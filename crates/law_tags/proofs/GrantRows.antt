@@ -78,9 +78,11 @@ error-backed t sender too_long m e = none-some m e
 error-backed t sender (no_message fault) m e = none-some m e
 error-backed t sender no_call m e = none-some m e
 error-backed t sender (other_rpc xid) m e = subst (λ z. IsBacked t (to_host sender z)) (some-same _ m e) (error-none t sender xid RpcError.rpc_mismatch)
-error-backed t sender (other_program xid) m e = subst (λ z. IsBacked t (to_host sender z)) (some-same _ m e) (error-none t sender xid RpcError.program_unavailable)
+error-backed t sender (other_program xid) m e =
+    subst (λ z. IsBacked t (to_host sender z)) (some-same _ m e) (error-none t sender xid RpcError.program_unavailable)
 error-backed t sender (other_version xid) m e = subst (λ z. IsBacked t (to_host sender z)) (some-same _ m e) (error-none t sender xid RpcError.program_mismatch)
-error-backed t sender (unknown_procedure xid) m e = subst (λ z. IsBacked t (to_host sender z)) (some-same _ m e) (error-none t sender xid RpcError.procedure_unavailable)
+error-backed t sender (unknown_procedure xid) m e =
+    subst (λ z. IsBacked t (to_host sender z)) (some-same _ m e) (error-none t sender xid RpcError.procedure_unavailable)
 error-backed t sender garbage_vacated m e = none-some m e
 error-backed t sender (garbage xid) m e = subst (λ z. IsBacked t (to_host sender z)) (some-same _ m e) (error-none t sender xid RpcError.garbage_arguments)
 error-backed t sender (request xid r) m e = none-some m e
@@ -91,7 +93,8 @@ module _ (s : Server) (sender next : ℕ) (d : Datagram) where
   committed xid who seq r c notes =
       let t : Server = (commits who seq xid r c).server in
       both t c.sends (to_host who.host (reply xid (verdict_reply who.inc c.verdict c.value r)) ∷ []) (notes t)
-      (one t (to_host who.host (reply xid (verdict_reply who.inc c.verdict c.value r))) (reply-none t who.host xid (verdict_reply who.inc c.verdict c.value r) (verdict-grant who.inc c.verdict c.value r)))
+      (one t (to_host who.host (reply xid (verdict_reply who.inc c.verdict c.value r)))
+      (reply-none t who.host xid (verdict_reply who.inc c.verdict c.value r) (verdict-grant who.inc c.verdict c.value r)))
 
   says-one : (host : ℕ) (m : Message) → ((t : Server) → IsBacked t (to_host host m)) → Backs (says s host m)
   unfolding says
@@ -107,15 +110,18 @@ module _ (s : Server) (sender next : ℕ) (d : Datagram) where
   serving-none : (xid : ℕ) (who : Who) (q : ℕ) (f : File) (block : ℕ) (body : List ℕ) (table : Table) → Backs (serves s who xid next q f block body table None)
   unfolding serves
   serving-none xid who q f block body table =
-      one (serves s who xid next q f block body table None).server (to_host who.host (reply xid (Reply.Read who.inc f.rev body None))) (reply-none _ who.host xid (Reply.Read who.inc f.rev body None) refl)
+      one (serves s who xid next q f block body table None).server (to_host who.host (reply xid (Reply.Read who.inc f.rev body None)))
+      (reply-none _ who.host xid (Reply.Read who.inc f.rev body None) refl)
 
   leasing-none : (xid : ℕ) (who : Who) (file : ℕ) (table : Table) → Backs (leases s who xid file table None)
   unfolding leases
   leasing-none xid who file table =
-      one (leases s who xid file table None).server (to_host who.host (reply xid (Reply.GetLease who.inc None))) (reply-none _ who.host xid (Reply.GetLease who.inc None) refl)
+      one (leases s who xid file table None).server (to_host who.host (reply xid (Reply.GetLease who.inc None)))
+      (reply-none _ who.host xid (Reply.GetLease who.inc None) refl)
 
   -- a grant of a row that was put into the table
-  for-row : (t : Server) (q : Question) (row : Row) (term : ℕ) (g : Grant) → t.phase ≡ serving → t.table.rows ≡ put_row row s.table.rows → grant_of q row term ≡ g → StandsFor t g
+  for-row : (t : Server) (q : Question) (row : Row) (term : ℕ) (g : Grant) → t.phase ≡ serving → t.table.rows ≡ put_row row s.table.rows
+      → grant_of q row term ≡ g → StandsFor t g
   unfolding grant_of
   for-row t q row term g serves put same = record {
     file = row.file;
@@ -127,25 +133,31 @@ module _ (s : Server) (sender next : ℕ) (d : Datagram) where
     since = ap (λ z. z.since) same;
   }
 
-  granted : (t : Server) (host xid : ℕ) (b : Reply) (q : Question) (row : Row) (term : ℕ) → t.phase ≡ serving → t.table.rows ≡ put_row row s.table.rows → grant_in b ≡ Some (grant_of q row term) → IsBacked t (to_host host (reply xid b))
+  granted : (t : Server) (host xid : ℕ) (b : Reply) (q : Question) (row : Row) (term : ℕ) → t.phase ≡ serving → t.table.rows ≡ put_row row s.table.rows
+      → grant_in b ≡ Some (grant_of q row term) → IsBacked t (to_host host (reply xid b))
   granted t host xid b q row term serves put brings x a g is gives =
       for-row t q row term g serves put (some-same (grant_of q row term) g (sym brings ∙ ap grant_in (reply-same xid x b a is).1 ∙ gives))
 
-  serving-granted : (xid : ℕ) (who : Who) (q : ℕ) (f : File) (block : ℕ) (body : List ℕ) (question : Question) (row : Row) (term : ℕ) → s.phase ≡ serving → Backs (serves s who xid next q f block body (after_draw s.table (put_row row s.table.rows)) (Some (grant_of question row term)))
+  serving-granted : (xid : ℕ) (who : Who) (q : ℕ) (f : File) (block : ℕ) (body : List ℕ) (question : Question) (row : Row) (term : ℕ)
+      → s.phase ≡ serving → Backs (serves s who xid next q f block body (after_draw s.table (put_row row s.table.rows)) (Some (grant_of question row term)))
   unfolding serves with_table after_draw
   serving-granted xid who q f block body question row term p =
       let t : Server = (serves s who xid next q f block body (after_draw s.table (put_row row s.table.rows)) (Some (grant_of question row term))).server in
-      one t (to_host who.host (reply xid (Reply.Read who.inc f.rev body (Some (grant_of question row term))))) (granted t who.host xid (Reply.Read who.inc f.rev body (Some (grant_of question row term))) question row term p refl refl)
+      one t (to_host who.host (reply xid (Reply.Read who.inc f.rev body (Some (grant_of question row term)))))
+      (granted t who.host xid (Reply.Read who.inc f.rev body (Some (grant_of question row term))) question row term p refl refl)
 
-  leasing-granted : (xid : ℕ) (who : Who) (file : ℕ) (question : Question) (row : Row) (term : ℕ) → s.phase ≡ serving → Backs (leases s who xid file (after_draw s.table (put_row row s.table.rows)) (Some (grant_of question row term)))
+  leasing-granted : (xid : ℕ) (who : Who) (file : ℕ) (question : Question) (row : Row) (term : ℕ) → s.phase ≡ serving
+      → Backs (leases s who xid file (after_draw s.table (put_row row s.table.rows)) (Some (grant_of question row term)))
   unfolding leases with_table after_draw
   leasing-granted xid who file question row term p =
       let t : Server = (leases s who xid file (after_draw s.table (put_row row s.table.rows)) (Some (grant_of question row term))).server in
-      one t (to_host who.host (reply xid (Reply.GetLease who.inc (Some (grant_of question row term))))) (granted t who.host xid (Reply.GetLease who.inc (Some (grant_of question row term))) question row term p refl refl)
+      one t (to_host who.host (reply xid (Reply.GetLease who.inc (Some (grant_of question row term)))))
+      (granted t who.host xid (Reply.GetLease who.inc (Some (grant_of question row term))) question row term p refl refl)
 
   attaching-none : (xid : ℕ) (who : Who) → Backs (attaches s who xid)
   unfolding attaches
-  attaching-none xid who = one (attaches s who xid).server (to_host who.host (reply xid (Reply.Attach who.inc))) (reply-none _ who.host xid (Reply.Attach who.inc) refl)
+  attaching-none xid who =
+      one (attaches s who xid).server (to_host who.host (reply xid (Reply.Attach who.inc))) (reply-none _ who.host xid (Reply.Attach who.inc) refl)
 
   silent : (t : ServerStep) → t.sends ≡ [] → Backs t
   silent t e = subst (AllBacked t.server) (sym e) (none t.server)
@@ -181,7 +193,8 @@ module _ (s : Server) (sender next : ℕ) (d : Datagram) where
   unfolding stores
   stores-sends who f row block first last body = refl
 
-  recovering-sends : (until : ℕ) (last : Option Table) (who : Who) (f : File) (block first final : ℕ) (body : List ℕ) → (stores_recovering s until last who f block first final body).sends ≡ []
+  recovering-sends : (until : ℕ) (last : Option Table) (who : Who) (f : File) (block first final : ℕ) (body : List ℕ)
+      → (stores_recovering s until last who f block first final body).sends ≡ []
   unfolding stores_recovering
   recovering-sends until last who f block first final body = refl
 
@@ -212,15 +225,25 @@ module _ (s : Server) (sender next : ℕ) (d : Datagram) where
     putting_off_by_own = λ xid who r f want own e by on w asking c o ev. later xid who _ _;
     reading = λ xid who q block f body e asking there c. serving-none xid who q f block body _;
     reading_full = λ xid who q block want f body e asking there c own room. serving-none xid who q f block body _;
-    reading_granted = λ xid who q block want f body row term e asking there c g. serving-granted xid who q f block body (to_read s who f (Some want)) row term asking.serves;
+    reading_granted =
+        λ xid who q block want f body row term e asking there c g. serving-granted xid who q f block body (to_read s who f (Some want)) row
+        term asking.serves;
     leasing_full = λ xid who want f e asking c own room. leasing-none xid who f.id _;
     leasing = λ xid who want f row term e asking c g. leasing-granted xid who f.id (to_read s who f (Some want)) row term asking.serves;
     declining = λ xid who seq r v e by sq fresh declined. committed xid who seq r (decides s v) (decided-silent (decides s v) (declines-sends v));
     putting_off_change = λ xid who seq r f clash e by sq changes base changing c. committed xid who seq r _ (puts-off-none who f.id _);
-    creating = λ xid who seq blocks name e fresh serves can. committed xid who seq _ (creates s name blocks) (decided-silent (creates s name blocks) (creates-sends name blocks));
-    writing_through = λ xid who seq block first last body f e changing below c. committed xid who seq _ _ (decided-silent (writes_through s who f block first body) (through-sends who f block first body));
-    storing = λ xid who seq block first last base body f row e changing below can. committed xid who seq _ _ (decided-silent (stores s who f row block first last body) (stores-sends who f row block first last body));
-    storing_recovering = λ xid who seq block first final base body f until heard last e fresh p found below boot rev. committed xid who seq _ _ (decided-silent (stores_recovering s until last who f block first final body) (recovering-sends until last who f block first final body));
+    creating =
+        λ xid who seq blocks name e fresh serves can. committed xid who seq _ (creates s name blocks)
+        (decided-silent (creates s name blocks) (creates-sends name blocks));
+    writing_through =
+        λ xid who seq block first last body f e changing below c. committed xid who seq _ _
+        (decided-silent (writes_through s who f block first body) (through-sends who f block first body));
+    storing =
+        λ xid who seq block first last base body f row e changing below can. committed xid who seq _ _
+        (decided-silent (stores s who f row block first last body) (stores-sends who f row block first last body));
+    storing_recovering =
+        λ xid who seq block first final base body f until heard last e fresh p found below boot rev. committed xid who seq _ _
+        (decided-silent (stores_recovering s until last who f block first final body) (recovering-sends until last who f block first final body));
     resizing = λ xid who seq q blocks f e changing can c. committed xid who seq _ _ (decided-silent (resizes s who q f blocks) (resizes-sends who q f blocks));
     removing = λ xid who seq q f e changing c. committed xid who seq _ _ (decided-silent (removes s who q f) (removes-sends who q f));
   })

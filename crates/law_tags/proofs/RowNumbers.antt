@@ -39,7 +39,8 @@ pub record Numbered (phase : Phase) (table : Table) : Type 0 where
 none-numbered : AllNumbered []
 none-numbered r i = absurd i
 
-in-insert-step : (row x r : Row) (rows more : List Row) (b : Bool) → (In more r → (row ≡ r) ⊎ In rows r) → In (if b then row ∷ x ∷ rows else x ∷ more) r → (row ≡ r) ⊎ ((x ≡ r) ⊎ In rows r)
+in-insert-step : (row x r : Row) (rows more : List Row) (b : Bool) → (In more r → (row ≡ r) ⊎ In rows r) → In (if b then row ∷ x ∷ rows else x ∷ more) r
+    → (row ≡ r) ⊎ ((x ≡ r) ⊎ In rows r)
 in-insert-step row x r rows more true rest (inl e) = inl e
 in-insert-step row x r rows more true rest (inr i) = inr i
 in-insert-step row x r rows more false rest (inl e) = inr (inl e)
@@ -94,11 +95,15 @@ renewed-numbered : (table : Table) (q : Question) (own : Row) (want : Want) (ter
 unfolding renewed_row
 renewed-numbered table q own want term h = (omega arith, h.1)
 
-granted-numbered : (table : Table) (q : Question) (want : Want) (row : Row) (term : ℕ) → IsGranted table q want row term → AllNumbered table.rows → IsNumbered row
+granted-numbered : (table : Table) (q : Question) (want : Want) (row : Row) (term : ℕ) → IsGranted table q want row term → AllNumbered table.rows
+    → IsNumbered row
 granted-numbered table q want row term (shares_again own found stays shares is lasts) h = subst (λ z. IsNumbered z) (sym is) (shared-numbered table own)
-granted-numbered table q want row term (begins_sharing none room shared is lasts) h = subst (λ z. IsNumbered z) (sym is) (sharing-numbered table q (term_of q want))
-granted-numbered table q want row term (begins_caching none room shared is lasts) h = subst (λ z. IsNumbered z) (sym is) (caching-numbered table q want (term_of q want))
-granted-numbered table q want row term (renews_row own found stays caching is lasts) h = subst (λ z. IsNumbered z) (sym is) (renewed-numbered table q own want (term_of q want) (found-numbered q.file q.who.host table.rows own found h))
+granted-numbered table q want row term (begins_sharing none room shared is lasts) h =
+    subst (λ z. IsNumbered z) (sym is) (sharing-numbered table q (term_of q want))
+granted-numbered table q want row term (begins_caching none room shared is lasts) h =
+    subst (λ z. IsNumbered z) (sym is) (caching-numbered table q want (term_of q want))
+granted-numbered table q want row term (renews_row own found stays caching is lasts) h =
+    subst (λ z. IsNumbered z) (sym is) (renewed-numbered table q own want (term_of q want) (found-numbered q.file q.who.host table.rows own found h))
 
 -- ---- each step of a server
 
@@ -106,7 +111,8 @@ numbered-after : (phase : Phase) (table after : Table) → AllNumbered after.row
 numbered-after serving table after rows h = record { own = rows; stands = rows }
 numbered-after (recovering until heard last) table after rows h = record { own = rows; stands = h.stands }
 
-numbered-receive : (s : Server) (sender next : ℕ) (d : Datagram) → Numbered s.phase s.table → Numbered (receive s sender next d).server.phase (receive s sender next d).server.table
+numbered-receive : (s : Server) (sender next : ℕ) (d : Datagram) → Numbered s.phase s.table
+    → Numbered (receive s sender next d).server.phase (receive s sender next d).server.table
 unfolding with_rows after_draw
 numbered-receive s sender next d h = server-moves s sender next d (λ kept phase table. Numbered phase table) (record {
   stays = h;
@@ -116,12 +122,18 @@ numbered-receive s sender next d h = server-moves s sender next d (λ kept phase
   marking = λ file host access serves. rows _ (marked-numbered file host access s.table.rows h.own);
   marking_waiting = λ xid r who f want e wants asking own room.
       let q : Question = to_read s who f (Some want) in
-      rows _ (put-numbered (sharing_row _ q (term_of q want)) (marked q.file q.who.host q.access s.table.rows) (sharing-numbered _ q (term_of q want)) (marked-numbered q.file q.who.host q.access s.table.rows h.own));
-  granting = λ xid r who f want row term e wants asking c g. rows _ (put-numbered row s.table.rows (granted-numbered s.table (to_read s who f (Some want)) want row term g h.own) h.own);
+      rows _ (put-numbered (sharing_row _ q (term_of q want)) (marked q.file q.who.host q.access s.table.rows) (sharing-numbered _ q (term_of q want))
+      (marked-numbered q.file q.who.host q.access s.table.rows h.own));
+  granting =
+      λ xid r who f want row term e wants asking c g. rows _
+      (put-numbered row s.table.rows (granted-numbered s.table (to_read s who f (Some want)) want row term g h.own) h.own);
   creating = λ name blocks serves can. h;
   changing = λ who f file serves current found same c. h;
-  storing = λ who f file base row serves current found same can. rows _ (put-numbered (record row { heard = s.now }) s.table.rows (found-numbered f.id who.host s.table.rows row can.row_found h.own) h.own);
-  storing_recovering = λ f file until heard last p found same. record { own = h.own; stands = subst (λ n. AllNumbered (standing_in n s.table).rows) p h.stands };
+  storing =
+      λ who f file base row serves current found same can. rows _
+      (put-numbered (record row { heard = s.now }) s.table.rows (found-numbered f.id who.host s.table.rows row can.row_found h.own) h.own);
+  storing_recovering =
+      λ f file until heard last p found same. record { own = h.own; stands = subst (λ n. AllNumbered (standing_in n s.table).rows) p h.stands };
   removing = λ who f serves current found c. filtered _;
 })
   where
@@ -137,10 +149,13 @@ numbered-tick s now h = tick-moves s now (λ kept phase table. Numbered phase ta
   waits = λ until heard last p goes_on. h;
   opening = λ until heard last p over. record { own = h.own; stands = h.own };
   ends_reading = λ p. numbered-after s.phase s.table _ (λ r i. h.own r (in-filtered (λ z. not (is_over now z)) s.table.rows r i)) h;
-  ending_writing = λ row p due. numbered-after s.phase s.table _ (λ r i. h.own r (in-filtered (λ z. not (is_over now z)) s.table.rows r (in-filtered (λ z. not (is_row_of row.file row.who.host z)) _ r i))) h;
+  ending_writing =
+      λ row p due. numbered-after s.phase s.table _
+      (λ r i. h.own r (in-filtered (λ z. not (is_over now z)) s.table.rows r (in-filtered (λ z. not (is_row_of row.file row.who.host z)) _ r i))) h;
 })
 
-numbered-boot : (kept : Kept) (longest now : ℕ) (last : Option Table) → AllNumbered (last_table last).rows → Numbered (boot kept longest now last).phase (boot kept longest now last).table
+numbered-boot : (kept : Kept) (longest now : ℕ) (last : Option Table) → AllNumbered (last_table last).rows
+    → Numbered (boot kept longest now last).phase (boot kept longest now last).table
 unfolding boot empty_table
 numbered-boot kept longest now last h = by (kept.opened == 0)
   where
@@ -170,5 +185,6 @@ run-numbered head (e ∷ earlier) =
     })
 
 -- a row that stands
-pub row-numbered : (head : Head) (events : List Event) (file host : ℕ) (row : Row) → find_row file host (standing (run head events).server).rows ≡ Some row → (0 < row.tag.number) × (0 < row.since.number)
+pub row-numbered : (head : Head) (events : List Event) (file host : ℕ) (row : Row)
+    → find_row file host (standing (run head events).server).rows ≡ Some row → (0 < row.tag.number) × (0 < row.since.number)
 row-numbered head events file host row found = found-numbered file host (standing (run head events).server).rows row found (run-numbered head events).stands

@@ -19,17 +19,12 @@ use Rattle.nq_model.proofs.SkewTest.{skew-test-is-sound}
 use Rattle.nq_model.specs.Client.{Client, Lease, Ticket, for_call, lease_on}
 use Rattle.nq_model.specs.Message.{call, reply}
 use Rattle.nq_model.specs.Skew.{is_within_skew}
-use Rattle.nq_model.specs.Server.{to_host, quiet, drops, says, after_notices, keeping, keeping_with, with_table}
-use Rattle.nq_model.specs.World.{from_host, after_server, after_client, start, run}
-use Rattle.nq_model.specs.Ask.{grant_of, sharing_row, caching_row, shared_again, renewed_row, put_off, free, put_off_by_own, granted, no_lease}
-use Rattle.nq_model.specs.ClientStep.{begins_call, is_called, says_busy, at_time, sends_again, fresh_client, attached_client, starts}
-use Rattle.nq_model.specs.Decide.{decides, creates, writes_through, stores, wrote, stores_recovering, resizes, removes, puts_off, commits}
-use Rattle.nq_model.specs.Hear.{is_reply_to, vacates_lease, loses, without_lease, granted_lease, holds, caches_block, purges, knows_revision, marks_through, ends_push, spends, attached, pauses, cancels, notes_notice}
-use Rattle.nq_model.specs.Kept.{new_file, written_file, resized_file, fenced_file, with_row, with_files, with_new_file}
-use Rattle.nq_model.specs.Send.{sends_request, after_seq, after_number, takes_push, gives_up}
-use Rattle.nq_model.specs.ServerStep.{attaches, tells_later, serves, leases, vacates, ends_writing, opens, boot, crash}
-use Rattle.nq_model.specs.Settle.{answers, after_read, reads_cached, after_write, marks_written}
-use Rattle.nq_model.specs.Table.{empty_table, with_rows, after_draw}
+use Rattle.nq_model.specs.Server.{to_host, says}
+use Rattle.nq_model.specs.World.{from_host, run}
+use Rattle.nq_model.specs.ClientStep.{attached_client}
+use Rattle.nq_model.specs.Hear.{is_reply_to}
+use Rattle.nq_model.specs.ServerStep.{leases, boot}
+use Rattle.walk_entries.proofs.GivenRuns.{given-run}
 
 -- host 0 reads; host 1 wants to cut the file, so host 0 is told to give its lease up, and does; it reads again, and then
 -- wants to write; the newest event first
@@ -72,7 +67,7 @@ abbrev asked : Ticket
 asked = record { xid = 4; first = 0; last = 0; request = Request.GetLease holder 1 (record { mode = Mode.Writing; term = 30 }); job = for_call }
 
 is-there : is_some (slice_get (run two-hosts again).clients 0) ≡ true
-unfolding again grant_of sharing_row caching_row shared_again renewed_row put_off free put_off_by_own granted no_lease begins_call is_called says_busy at_time sends_again fresh_client attached_client starts decides creates writes_through stores wrote stores_recovering resizes removes puts_off commits vacates_lease loses without_lease granted_lease holds caches_block purges knows_revision marks_through ends_push spends attached pauses cancels notes_notice new_file written_file resized_file fenced_file with_row with_files with_new_file sends_request after_seq after_number takes_push gives_up quiet drops says after_notices keeping keeping_with with_table attaches tells_later serves leases vacates ends_writing opens boot crash answers after_read reads_cached after_write marks_written empty_table with_rows after_draw after_server after_client start
+unfolding again given-run
 is-there = refl
 
 there : slice_get (run two-hosts again).clients 0 ≡ Some holder-client
@@ -84,27 +79,27 @@ unfolding again
 within = refl
 
 vacated-sent : slice_get (run two-hosts again).packets 5 ≡ Some (from_host 0 (call 2 (Request.Vacated holder 1 (drawn 1))))
-unfolding again grant_of sharing_row caching_row shared_again renewed_row put_off free put_off_by_own granted no_lease begins_call is_called says_busy at_time sends_again fresh_client attached_client starts decides creates writes_through stores wrote stores_recovering resizes removes puts_off commits vacates_lease loses without_lease granted_lease holds caches_block purges knows_revision marks_through ends_push spends attached pauses cancels notes_notice new_file written_file resized_file fenced_file with_row with_files with_new_file sends_request after_seq after_number takes_push gives_up quiet drops says after_notices keeping keeping_with with_table attaches tells_later serves leases vacates ends_writing opens boot crash answers after_read reads_cached after_write marks_written empty_table with_rows after_draw after_server after_client start
+unfolding again given-run
 vacated-sent = refl
 
 grant-sent : slice_get (run two-hosts again).packets 9 ≡ Some (to_host 0 (reply 4 (Reply.GetLease 1 (Some given))))
-unfolding again grant_of sharing_row caching_row shared_again renewed_row put_off free put_off_by_own granted no_lease begins_call is_called says_busy at_time sends_again fresh_client attached_client starts decides creates writes_through stores wrote stores_recovering resizes removes puts_off commits vacates_lease loses without_lease granted_lease holds caches_block purges knows_revision marks_through ends_push spends attached pauses cancels notes_notice new_file written_file resized_file fenced_file with_row with_files with_new_file sends_request after_seq after_number takes_push gives_up quiet drops says after_notices keeping keeping_with with_table attaches tells_later serves leases vacates ends_writing opens boot crash answers after_read reads_cached after_write marks_written empty_table with_rows after_draw after_server after_client start
+unfolding again given-run
 grant-sent = refl
 
 runs-on : 1 ≡ holder-client.who.inc
-unfolding again holder-client grant_of sharing_row caching_row shared_again renewed_row put_off free put_off_by_own granted no_lease begins_call is_called says_busy at_time sends_again fresh_client attached_client starts decides creates writes_through stores wrote stores_recovering resizes removes puts_off commits vacates_lease loses without_lease granted_lease holds caches_block purges knows_revision marks_through ends_push spends attached pauses cancels notes_notice new_file written_file resized_file fenced_file with_row with_files with_new_file sends_request after_seq after_number takes_push gives_up quiet drops says after_notices keeping keeping_with with_table attaches tells_later serves leases vacates ends_writing opens boot crash answers after_read reads_cached after_write marks_written empty_table with_rows after_draw after_server after_client start
+unfolding again holder-client given-run
 runs-on = refl
 
 held : lease_on 1 holder-client.leases ≡ Some held-lease
-unfolding again holder-client grant_of sharing_row caching_row shared_again renewed_row put_off free put_off_by_own granted no_lease begins_call is_called says_busy at_time sends_again fresh_client attached_client starts decides creates writes_through stores wrote stores_recovering resizes removes puts_off commits vacates_lease loses without_lease granted_lease holds caches_block purges knows_revision marks_through ends_push spends attached pauses cancels notes_notice new_file written_file resized_file fenced_file with_row with_files with_new_file sends_request after_seq after_number takes_push gives_up quiet drops says after_notices keeping keeping_with with_table attaches tells_later serves leases vacates ends_writing opens boot crash answers after_read reads_cached after_write marks_written empty_table with_rows after_draw after_server after_client start
+unfolding again holder-client given-run
 held = refl
 
 asks : holder-client.ticket ≡ Some asked
-unfolding again holder-client grant_of sharing_row caching_row shared_again renewed_row put_off free put_off_by_own granted no_lease begins_call is_called says_busy at_time sends_again fresh_client attached_client starts decides creates writes_through stores wrote stores_recovering resizes removes puts_off commits vacates_lease loses without_lease granted_lease holds caches_block purges knows_revision marks_through ends_push spends attached pauses cancels notes_notice new_file written_file resized_file fenced_file with_row with_files with_new_file sends_request after_seq after_number takes_push gives_up quiet drops says after_notices keeping keeping_with with_table attaches tells_later serves leases vacates ends_writing opens boot crash answers after_read reads_cached after_write marks_written empty_table with_rows after_draw after_server after_client start
+unfolding again holder-client given-run
 asks = refl
 
 counts : is_reply_to holder-client 4 (Reply.GetLease 1 (Some given)) asked ≡ true
-unfolding again holder-client grant_of sharing_row caching_row shared_again renewed_row put_off free put_off_by_own granted no_lease begins_call is_called says_busy at_time sends_again fresh_client attached_client starts decides creates writes_through stores wrote stores_recovering resizes removes puts_off commits vacates_lease loses without_lease granted_lease holds caches_block purges knows_revision marks_through ends_push spends attached pauses cancels notes_notice new_file written_file resized_file fenced_file with_row with_files with_new_file sends_request after_seq after_number takes_push gives_up quiet drops says after_notices keeping keeping_with with_table attaches tells_later serves leases vacates ends_writing opens boot crash answers after_read reads_cached after_write marks_written empty_table with_rows after_draw after_server after_client start
+unfolding again holder-client given-run
 counts = refl
 
 pub is-past-sometime : IsPastSometime
@@ -122,7 +117,30 @@ is-past-sometime = record {
   bounds = record { hosts = omega arith; first_long = omega arith; first_short = omega arith; boots = no-boots };
   within = skew-test-is-sound 2 60 again within;
   there = there;
-  gave = record { k = 5; packet = from_host 0 (call 2 (Request.Vacated holder 1 (drawn 1))); xid = 2; who = holder; sent = vacated-sent; by = refl; says = refl; running = runs-on };
+  gave =
+      record {
+        k = 5;
+        packet = from_host 0 (call 2 (Request.Vacated holder 1 (drawn 1)));
+        xid = 2;
+        who = holder;
+        sent = vacated-sent;
+        by = refl;
+        says = refl;
+        running = runs-on;
+      };
   held = held;
-  takeable = record { k = 9; packet = to_host 0 (reply 4 (Reply.GetLease 1 (Some given))); xid = 4; answer = Reply.GetLease 1 (Some given); sent = grant-sent; for_host = refl; brings = refl; asked = asks; counts = counts; grants = refl; on_file = refl };
+  takeable =
+      record {
+        k = 9;
+        packet = to_host 0 (reply 4 (Reply.GetLease 1 (Some given)));
+        xid = 4;
+        answer = Reply.GetLease 1 (Some given);
+        sent = grant-sent;
+        for_host = refl;
+        brings = refl;
+        asked = asks;
+        counts = counts;
+        grants = refl;
+        on_file = refl;
+      };
 }

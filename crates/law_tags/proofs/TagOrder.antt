@@ -30,7 +30,8 @@ no-earlier a b c (inr x) (inl y) = let e = x.0 in inl (omega arith)
 no-earlier a b c (inr x) (inr y) = let d = x.1 in let e = y.1 in inr (x.0 ∙ y.0, omega arith)
 
 -- a change of rows alone
-grows-rows : (t : Table) (phase : Phase) (table after : Table) → after.boot ≡ table.boot → table.drawn ≤ after.drawn → IsNoEarlier t (standing_in phase table) → IsNoEarlier t (standing_in phase after)
+grows-rows : (t : Table) (phase : Phase) (table after : Table) → after.boot ≡ table.boot → table.drawn ≤ after.drawn
+    → IsNoEarlier t (standing_in phase table) → IsNoEarlier t (standing_in phase after)
 grows-rows t serving table after same more h = no-earlier t table after h (inr (sym same, more))
 grows-rows t (recovering until heard last) table after same more h = h
 
@@ -47,7 +48,8 @@ grows-receive s sender next d = server-moves s sender next d (λ kept phase tabl
   creating = λ name blocks serves can. same-table (standing s);
   changing = λ who f file serves current found same c. same-table (standing s);
   storing = λ who f file base row serves current found same can. rows _ refl (omega arith);
-  storing_recovering = λ f file until heard last p found same. subst (λ n. IsNoEarlier (standing_in n s.table) (last_table last)) (sym p) (same-table (last_table last));
+  storing_recovering =
+      λ f file until heard last p found same. subst (λ n. IsNoEarlier (standing_in n s.table) (last_table last)) (sym p) (same-table (last_table last));
   removing = λ who f serves current found c. rows _ refl (omega arith);
 })
   where
@@ -57,7 +59,8 @@ grows-receive s sender next d = server-moves s sender next d (λ kept phase tabl
 opens-later : (s : Server) (until heard : ℕ) (last : Option Table) → s.phase ≡ recovering until heard last → BootsFitOf s → IsNoEarlier (standing s) s.table
 opens-later s until heard last p b =
     let r : RecoversBoot s.kept.boot s.kept.opened s.table last = subst (λ p. BootsFit s.kept.boot s.kept.opened p s.table) p b in
-    subst (λ n. IsNoEarlier (standing_in n s.table) s.table) (sym p) (let a = r.opened_before in let c = r.table_boot in let e = r.last_boot in inl (omega arith))
+    subst (λ n. IsNoEarlier (standing_in n s.table) s.table) (sym p)
+    (let a = r.opened_before in let c = r.table_boot in let e = r.last_boot in inl (omega arith))
 
 grows-tick : (s : Server) (now : ℕ) → BootsFitOf s → IsNoEarlier (standing s) (standing (tick s now).server)
 unfolding with_rows
@@ -68,11 +71,13 @@ grows-tick s now b = tick-moves s now (λ kept phase table. IsNoEarlier (standin
   ending_writing = λ row p due. grows-rows (standing s) s.phase s.table _ refl (omega arith) (same-table (standing s));
 })
 
-grows-boot : (kept : Kept) (longest now : ℕ) (last : Option Table) → kept.opened ≤ kept.boot → (last_table last).boot ≡ kept.opened → IsNoEarlier (last_table last) (standing (boot kept longest now last))
+grows-boot : (kept : Kept) (longest now : ℕ) (last : Option Table) → kept.opened ≤ kept.boot → (last_table last).boot ≡ kept.opened
+    → IsNoEarlier (last_table last) (standing (boot kept longest now last))
 unfolding boot empty_table
 grows-boot kept longest now last before same = by (kept.opened == 0)
   where
-    by : (b : Bool) → IsNoEarlier (last_table last) (standing_in (if b then serving else recovering (now + kept.longest + 8) now last) (empty_table (kept.boot + 1)))
+    by : (b : Bool) → IsNoEarlier (last_table last)
+        (standing_in (if b then serving else recovering (now + kept.longest + 8) now last) (empty_table (kept.boot + 1)))
     by true = inl (omega arith)
     by false = same-table (last_table last)
 
@@ -165,7 +170,8 @@ drawn-later a b tag (inr x) (inr y) = let d = x.1 in let e = y.1 in inr (y.0 ∙
 below-next : (table : Table) (tag : Tag) → IsUpTo table tag → tag_below tag (next_tag table) ≡ true
 below-next table tag h = above table.boot table.drawn tag h
   where
-    above : (boot drawn : ℕ) (v : Tag) → (v.boot < boot) ⊎ ((v.boot ≡ boot) × (v.number ≤ drawn)) → tag_below v (record { boot = boot; number = drawn + 1 }) ≡ true
+    above : (boot drawn : ℕ) (v : Tag) → (v.boot < boot) ⊎ ((v.boot ≡ boot) × (v.number ≤ drawn))
+        → tag_below v (record { boot = boot; number = drawn + 1 }) ≡ true
     above boot drawn v (inl e) = grind (arith, nat_tests)
     above boot drawn v (inr e) = let a = e.0 in let b = e.1 in grind (arith, nat_tests)
 
@@ -174,7 +180,8 @@ own-no-earlier : (boot opened : ℕ) (phase : Phase) (table : Table) → BootsFi
 own-no-earlier boot opened serving table b = same-table table
 own-no-earlier boot opened (recovering until heard last) table b = let a = b.opened_before in let c = b.table_boot in let e = b.last_boot in inl (omega arith)
 
-pub below-later : (head : Head) (events : List Event) (tag : Tag) → IsUpTo (standing (run head events).server) tag → (later : List Event) → tag_below tag (next_tag (run head (later ++ events)).server.table) ≡ true
+pub below-later : (head : Head) (events : List Event) (tag : Tag) → IsUpTo (standing (run head events).server) tag → (later : List Event)
+    → tag_below tag (next_tag (run head (later ++ events)).server.table) ≡ true
 below-later head events tag h later =
     let s : Server = (run head (later ++ events)).server in
     below-next s.table tag

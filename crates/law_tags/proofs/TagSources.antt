@@ -62,7 +62,8 @@ no-tags T x job r fits = record {
   not-evicted Job.renewing w file tag f = absurd (cc)
   not-evicted Job.pushing w file tag f = absurd (cc)
 
-one-more : (T : Tag → Type 0) (ms : List Message) (m : Message) → AllIn T m → ((n : Message) → In ms n → AllIn T n) → (n : Message) → In (ms ++ m ∷ []) n → AllIn T n
+one-more : (T : Tag → Type 0) (ms : List Message) (m : Message) → AllIn T m → ((n : Message) → In ms n → AllIn T n) → (n : Message)
+    → In (ms ++ m ∷ []) n → AllIn T n
 one-more T ms m new old n i = case (in-last ms m n i)
   where
     case : In ms n ⊎ (m ≡ n) → AllIn T n
@@ -78,8 +79,11 @@ vacated-in T x w file tag t = record {
   same : (y : ℕ) (v : Who) (f : ℕ) (u : Tag) → call x (Request.Vacated w file tag) ≡ call y (Request.Vacated v f u) → tag ≡ u
   same y v f u e = cc
 
-module _ (T : Tag → Type 0) (Heard : ℕ → Tag → Type 0) (Given : ℕ → Grant → ℕ → Type 0) (heard : (file : ℕ) (tag : Tag) → Heard file tag → T tag) (given : (file : ℕ) (g : Grant) (sent : ℕ) → Given file g sent → T g.tag) where
-  from-leases : (k : Core) (less : List Lease) → ((file : ℕ) (l : Lease) → lease_on file less ≡ Some l → (m : Lease) × (lease_on file k.leases ≡ Some m) × (l.tag ≡ m.tag)) → Tagged T k → Tagged T (record k { leases = less })
+module _ (T : Tag → Type 0) (Heard : ℕ → Tag → Type 0) (Given : ℕ → Grant → ℕ → Type 0) (heard : (file : ℕ) (tag : Tag) → Heard file tag → T tag)
+    (given : (file : ℕ) (g : Grant) (sent : ℕ) → Given file g sent → T g.tag) where
+  from-leases : (k : Core) (less : List Lease)
+      → ((file : ℕ) (l : Lease) → lease_on file less ≡ Some l → (m : Lease) × (lease_on file k.leases ≡ Some m) × (l.tag ≡ m.tag)) → Tagged T k
+      → Tagged T (record k { leases = less })
   from-leases k less from h = record {
     held = record {
       leased = λ file l e. let m = from file l e in subst T (sym m.2) (h.held.leased file m.0 m.1);
@@ -100,7 +104,8 @@ module _ (T : Tag → Type 0) (Heard : ℕ → Tag → Type 0) (Given : ℕ → 
   noting : (k : Core) (f : ℕ) (v : Tag) → Heard f v → Tagged T k → (file : ℕ) (n : Notice) → notice_on file (with_notice f v k.notices) ≡ Some n → T n.tag
   noting k f v e h file n is = case (notice-after-put (record { file = f; tag = noticed_tag v (notice_on f k.notices) }) file k.notices n is)
     where
-      case : ((file ≡ f) × (n ≡ record { file = f; tag = noticed_tag v (notice_on f k.notices) })) ⊎ ((file ≢ f) × (notice_on file k.notices ≡ Some n)) → T n.tag
+      case : ((file ≡ f) × (n ≡ record { file = f; tag = noticed_tag v (notice_on f k.notices) })) ⊎ ((file ≢ f) × (notice_on file k.notices ≡ Some n))
+          → T n.tag
       case (inl p) = subst (λ z. T z.tag) (sym p.1) (later k f v e h (notice_on f k.notices) refl)
       case (inr p) = h.held.noticed file n p.1
 
@@ -111,8 +116,11 @@ module _ (T : Tag → Type 0) (Heard : ℕ → Tag → Type 0) (Given : ℕ → 
       case (inl p) = subst (λ z. T z.tag) (sym p.1) t
       case (inr p) = h.held.leased file l p.1
 
-  asking : (k : Core) (job : Job) (request : Request) → CanSend k job request → Tagged T k → (t : Ticket) → Some (record { xid = k.xid; first = k.now; last = k.now; request = request; job = job }) ≡ Some t → AllIn T (call t.xid t.request)
-  asking k job request can h t e = subst (λ z. AllIn T (call z.xid z.request)) (some-same (record { xid = k.xid; first = k.now; last = k.now; request = request; job = job }) t e) (no-tags T k.xid job request can.fits)
+  asking : (k : Core) (job : Job) (request : Request) → CanSend k job request → Tagged T k → (t : Ticket)
+      → Some (record { xid = k.xid; first = k.now; last = k.now; request = request; job = job }) ≡ Some t → AllIn T (call t.xid t.request)
+  asking k job request can h t e =
+      subst (λ z. AllIn T (call z.xid z.request)) (some-same (record { xid = k.xid; first = k.now; last = k.now; request = request; job = job }) t e)
+      (no-tags T k.xid job request can.fits)
 
   granting : (file : ℕ) (g : Grant) (sent : ℕ) → T g.tag → T (granted_lease file g sent).tag
   unfolding granted_lease
@@ -130,14 +138,31 @@ module _ (T : Tag → Type 0) (Heard : ℕ → Tag → Type 0) (Given : ℕ → 
       asks = h.asks;
       sends = one-more T k.sends (call k.xid (Request.Vacated k.who file tag)) (vacated-in T k.xid k.who file tag (vacating k file tag can.source h)) h.sends;
     };
-    asks = λ k job request no_seq can h. record { held = h.held; asks = asking k job request can h; sends = one-more T k.sends (call k.xid request) (no-tags T k.xid job request can.fits) h.sends };
-    decides = λ k job request seq can h. record { held = h.held; asks = asking k job request can h; sends = one-more T k.sends (call k.xid request) (no-tags T k.xid job request can.fits) h.sends };
+    asks =
+        λ k job request no_seq can h. record {
+          held = h.held;
+          asks = asking k job request can h;
+          sends = one-more T k.sends (call k.xid request) (no-tags T k.xid job request can.fits)
+              h.sends;
+        };
+    decides =
+        λ k job request seq can h. record {
+          held = h.held;
+          asks = asking k job request can h;
+          sends = one-more T k.sends (call k.xid request) (no-tags T k.xid job request can.fits)
+              h.sends;
+        };
     again = λ k t is h. record {
       held = h.held;
       asks = λ u e. subst (λ z. AllIn T (call z.xid z.request)) (some-same (record t { last = k.now }) u e) (h.asks t is);
       sends = one-more T k.sends (call t.xid t.request) (h.asks t is) h.sends;
     };
-    holds = λ k file g sent e free unnoticed h. record { held = record { leased = holding k (granted_lease file g sent) (granting file g sent (given file g sent e)) h; noticed = h.held.noticed }; asks = h.asks; sends = h.sends };
+    holds =
+        λ k file g sent e free unnoticed h. record {
+          held = record { leased = holding k (granted_lease file g sent) (granting file g sent (given file g sent e)) h; noticed = h.held.noticed };
+          asks = h.asks;
+          sends = h.sends;
+        };
     cancels = λ k file h. record { held = h.held; asks = λ t e. h.asks t (keeps-or-cancels file k.ticket t e).0; sends = h.sends };
     notes = λ k file tag e h. record { held = record { leased = h.held.leased; noticed = noting k file tag e h }; asks = h.asks; sends = h.sends };
   }
@@ -170,10 +195,15 @@ abbrev no-given : ℕ → Grant → ℕ → Type 0
 no-given file g sent = ⊥
 
 pub call-told : (T : Tag → Type 0) (c : Client) (op : Call) → Alone c → AllHeld T c.leases c.notices → Leaves T (client_call c op)
-call-told T c op a h = ends T (client_call c op) (call-keeps (tagged-closed T no-heard no-given (λ file tag bad. absurd bad) (λ file g sent bad. absurd bad)) c op a (begins-now T c h a))
+call-told T c op a h =
+    ends T (client_call c op) (call-keeps (tagged-closed T no-heard no-given (λ file tag bad. absurd bad) (λ file g sent bad. absurd bad)) c op a
+    (begins-now T c h a))
 
 pub tick-told : (T : Tag → Type 0) (c : Client) → Alone c → AllHeld T c.leases c.notices → Leaves T (client_tick c (c.now + 1))
-tick-told T c a h = ends T (client_tick c (c.now + 1)) (tick-keeps (tagged-closed T no-heard no-given (λ file tag bad. absurd bad) (λ file g sent bad. absurd bad)) c (c.now + 1) (omega arith) a (begins T 0 c (c.now + 1) h a))
+tick-told T c a h =
+    ends T (client_tick c (c.now + 1))
+    (tick-keeps (tagged-closed T no-heard no-given (λ file tag bad. absurd bad) (λ file g sent bad. absurd bad)) c (c.now + 1) (omega arith) a
+    (begins T 0 c (c.now + 1) h a))
 
 pub restart-told : (T : Tag → Type 0) (c : Client) → Leaves T (restart c)
 unfolding starts fresh_client
@@ -188,7 +218,8 @@ restart-told T c = record {
 abbrev given-in : (T : Tag → Type 0) → Ticket → ℕ → Grant → ℕ → Type 0
 given-in T t file g sent = (requested_file t.request ≡ Some file) × T g.tag
 
-reply-told : (T : Tag → Type 0) (host : ℕ) (c : Client) (ps : List Packet) (number xid : ℕ) (r : Reply) (o : Option Ticket) → c.ticket ≡ o → AllIn T (reply xid r) → IsAt host c ps → Told ps host (reply xid r) → AllHeld T c.leases c.notices → LeavesIf T (hear_reply c number xid r o)
+reply-told : (T : Tag → Type 0) (host : ℕ) (c : Client) (ps : List Packet) (number xid : ℕ) (r : Reply) (o : Option Ticket) → c.ticket ≡ o
+    → AllIn T (reply xid r) → IsAt host c ps → Told ps host (reply xid r) → AllHeld T c.leases c.notices → LeavesIf T (hear_reply c number xid r o)
 reply-told T host c ps number xid r None is names a sent h = tt
 reply-told T host c ps number xid r (Some t) is names a sent h =
     choice (LeavesIf T) (is_reply_to c xid r t) (Some (goes_on (replied (begun c) number t r))) None
@@ -196,7 +227,8 @@ reply-told T host c ps number xid r (Some t) is names a sent h =
     let k = and_parts _ _ e in
     let l = and_parts _ _ k.0 in
     ends T (goes_on (replied (begun c) number t r))
-    (reply-keeps (tagged-closed T no-heard (given-in T t) (λ file tag bad. absurd bad) (λ file g at given. given.1)) c number t r (replying k.1 (same-number _ _ l.0) (same-number _ _ l.1))))
+    (reply-keeps (tagged-closed T no-heard (given-in T t) (λ file tag bad. absurd bad) (λ file g at given. given.1)) c number t r
+    (replying k.1 (same-number _ _ l.0) (same-number _ _ l.1))))
     (λ e. tt)
   where
     core : Tagged T (core_of (begun c))
@@ -209,24 +241,32 @@ reply-told T host c ps number xid r (Some t) is names a sent h =
       alone = a.alone;
       spent = λ other. record { held = h; asks = λ u e. none-some u e; sends = core.sends };
       attached = λ job. record { held = h; asks = λ u e. none-some u e; sends = core.sends };
-      brings = λ file on g grants. ((on, (names.granted xid r g refl grants).0), (a.mail.replied xid r (subst (λ n. Told ps n (reply xid r)) (sym a.here) sent) inc).wants t is (sym same) g grants file on);
+      brings =
+          λ file on g grants. (
+            (on, (names.granted xid r g refl grants).0),
+            (a.mail.replied xid r (subst (λ n. Told ps n (reply xid r)) (sym a.here) sent) inc).wants t is (sym same) g grants file on,
+          );
       only = λ file g at given. given.0;
     }
 
 abbrev heard-in : (T : Tag → Type 0) → ℕ → Tag → Type 0
 heard-in T file tag = T tag
 
-notice-told : (T : Tag → Type 0) (c : Client) (w : Who) (file : ℕ) (tag : Tag) → T tag → Alone c → AllHeld T c.leases c.notices → LeavesIf T (hear_notice c w file tag)
+notice-told : (T : Tag → Type 0) (c : Client) (w : Who) (file : ℕ) (tag : Tag) → T tag → Alone c → AllHeld T c.leases c.notices
+    → LeavesIf T (hear_notice c w file tag)
 notice-told T c w file tag t a h =
     choice (LeavesIf T) (same_who w c.who && not (holds_later tag (lease_on file c.leases))) (Some (goes_on (evicted (cancels (begun c) file) file tag))) None
-    (λ e. ends T (goes_on (evicted (cancels (begun c) file) file tag)) (notice-keeps (tagged-closed T (heard-in T) no-given (λ f v x. x) (λ f g sent bad. absurd bad)) c file tag t (λ g sent bad. bad) a (begins-now T c h a)))
+    (λ e. ends T (goes_on (evicted (cancels (begun c) file) file tag))
+    (notice-keeps (tagged-closed T (heard-in T) no-given (λ f v x. x) (λ f g sent bad. absurd bad)) c file tag t (λ g sent bad. bad) a
+    (begins-now T c h a)))
     (λ e. tt)
 
 called-told : (T : Tag → Type 0) (c : Client) (x : ℕ) (r : Request) → AllIn T (call x r) → Alone c → AllHeld T c.leases c.notices → LeavesIf T (hear_call c r)
 called-told T c x (Request.Evicted w file tag) names a h = notice-told T c w file tag (names.evicted x w file tag refl) a h
 called-told T c x other names a h = tt
 
-pub hear-told : (T : Tag → Type 0) (host : ℕ) (c : Client) (ps : List Packet) (number : ℕ) (m : Message) → AllIn T m → IsAt host c ps → Told ps host m → AllHeld T c.leases c.notices → LeavesIf T (hear c number m)
+pub hear-told : (T : Tag → Type 0) (host : ℕ) (c : Client) (ps : List Packet) (number : ℕ) (m : Message) → AllIn T m → IsAt host c ps → Told ps host m
+    → AllHeld T c.leases c.notices → LeavesIf T (hear c number m)
 hear-told T host c ps number (reply xid r) names a sent h = reply-told T host c ps number xid r c.ticket refl names a sent h
 hear-told T host c ps number (call xid r) names a sent h = called-told T c xid r names a.alone h
 hear-told T host c ps number (error xid e) names a sent h = tt

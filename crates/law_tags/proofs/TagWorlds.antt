@@ -57,7 +57,9 @@ more-in T U more m h = record {
 
 more-told : (T U : Tag → Type 0) → ((tag : Tag) → T tag → U tag) → (w : World) → AllTold T w → AllTold U w
 more-told T U more w h = record {
-  clients = λ host c is. let k = h.clients host c is in record { leased = λ file l e. more l.tag (k.leased file l e); noticed = λ file n e. more n.tag (k.noticed file n e) };
+  clients =
+      λ host c is. let k = h.clients host c is in
+      record { leased = λ file l e. more l.tag (k.leased file l e); noticed = λ file n e. more n.tag (k.noticed file n e) };
   packets = λ p i. more-in T U more p.message (h.packets p i);
   senders = h.senders;
 }
@@ -70,12 +72,14 @@ stays-there (c ∷ xs) zero (suc j) x y e = (y, e)
 stays-there (c ∷ xs) (suc i) zero x y e = (c, refl)
 stays-there (c ∷ xs) (suc i) (suc j) x y e = stays-there xs i j x y e
 
-mapped : (T : Tag → Type 0) (host : ℕ) (ms : List Message) → ((m : Message) → In ms m → AllIn T m) → (p : Packet) → In (map (from_host host) ms) p → AllIn T p.message
+mapped : (T : Tag → Type 0) (host : ℕ) (ms : List Message) → ((m : Message) → In ms m → AllIn T m) → (p : Packet) → In (map (from_host host) ms) p
+    → AllIn T p.message
 mapped T host [] all p i = absurd i
 mapped T host (m ∷ ms) all p (inl e) = subst (λ q. AllIn T q.message) e (all m (inl refl))
 mapped T host (m ∷ ms) all p (inr i) = mapped T host ms (λ n j. all n (inr j)) p i
 
-client-told : (T : Tag → Type 0) (w : World) (host : ℕ) (c : Client) (t : ClientStep) → slice_get w.clients host ≡ Some c → Leaves T t → AllTold T w → AllTold T (after_client w host t)
+client-told : (T : Tag → Type 0) (w : World) (host : ℕ) (c : Client) (t : ClientStep) → slice_get w.clients host ≡ Some c → Leaves T t → AllTold T w
+    → AllTold T (after_client w host t)
 unfolding after_client
 client-told T w host c t is l h = record {
   clients = λ other d e. case other d (other == host) refl e;
@@ -95,25 +99,31 @@ client-told T w host c t is l h = record {
   from p (inl old) = h.packets p old
   from p (inr new) = mapped T host t.sends l.sends p new
 
-  sender : (other : ℕ) (m : Message) → In w.packets (from_host other m) ⊎ In (map (from_host host) t.sends) (from_host other m) → (d : Client) × (slice_get (slice_set w.clients host t.client) other ≡ Some d)
+  sender : (other : ℕ) (m : Message) → In w.packets (from_host other m) ⊎ In (map (from_host host) t.sends) (from_host other m)
+      → (d : Client) × (slice_get (slice_set w.clients host t.client) other ≡ Some d)
   sender other m (inl old) = let k = h.senders other m old in stays-there w.clients host other t.client k.0 k.1
   sender other m (inr new) = stays-there w.clients host other t.client c (subst (λ n. slice_get w.clients n ≡ Some c) (sent-host host other t.sends m new) is)
 
-at-told : (T : Tag → Type 0) (w : World) (host : ℕ) (f : Client → ClientStep) (o : Option Client) → slice_get w.clients host ≡ o → ((c : Client) → IsAt host c w.packets → AllHeld T c.leases c.notices → Leaves T (f c)) → Holds w → AllTold T w → AllTold T (at_client w host f o)
+at-told : (T : Tag → Type 0) (w : World) (host : ℕ) (f : Client → ClientStep) (o : Option Client) → slice_get w.clients host ≡ o
+    → ((c : Client) → IsAt host c w.packets → AllHeld T c.leases c.notices → Leaves T (f c)) → Holds w → AllTold T w → AllTold T (at_client w host f o)
 at-told T w host f None is leaves held h = h
 at-told T w host f (Some c) is leaves held h = client-told T w host c (f c) is (leaves c (held.clients host c is) (h.clients host c is)) h
 
-hearing-told : (T : Tag → Type 0) (w : World) (host : ℕ) (c : Client) (o : Option ClientStep) → slice_get w.clients host ≡ Some c → LeavesIf T o → AllTold T w → AllTold T (after_hearing w host o)
+hearing-told : (T : Tag → Type 0) (w : World) (host : ℕ) (c : Client) (o : Option ClientStep) → slice_get w.clients host ≡ Some c → LeavesIf T o
+    → AllTold T w → AllTold T (after_hearing w host o)
 hearing-told T w host c None is l h = h
 hearing-told T w host c (Some t) is l h = client-told T w host c t is l h
 
-to-client-told : (T : Tag → Type 0) (w : World) (k host : ℕ) (m : Message) (o : Option Client) → slice_get w.clients host ≡ o → Told w.packets host m → AllIn T m → Holds w → AllTold T w → AllTold T (deliver_to_client w k host m o)
+to-client-told : (T : Tag → Type 0) (w : World) (k host : ℕ) (m : Message) (o : Option Client) → slice_get w.clients host ≡ o → Told w.packets host m
+    → AllIn T m → Holds w → AllTold T w → AllTold T (deliver_to_client w k host m o)
 to-client-told T w k host m None is sent names held h = h
-to-client-told T w k host m (Some c) is sent names held h = hearing-told T w host c (hear c k m) is (hear-told T host c w.packets k m names (held.clients host c is) sent (h.clients host c is)) h
+to-client-told T w k host m (Some c) is sent names held h =
+    hearing-told T w host c (hear c k m) is (hear-told T host c w.packets k m names (held.clients host c is) sent (h.clients host c is)) h
 
 -- ---- a step of the server
 
-server-told : (T : Tag → Type 0) (w : World) (t : ServerStep) → ((q : Packet) → In t.sends q → AllIn T q.message × ((host : ℕ) (m : Message) → q ≡ from_host host m → ⊥)) → AllTold T w → AllTold T (after_server w t)
+server-told : (T : Tag → Type 0) (w : World) (t : ServerStep)
+    → ((q : Packet) → In t.sends q → AllIn T q.message × ((host : ℕ) (m : Message) → q ≡ from_host host m → ⊥)) → AllTold T w → AllTold T (after_server w t)
 unfolding after_server
 server-told T w t said h = record {
   clients = h.clients;
@@ -136,24 +146,30 @@ IsOf table tag = (table.boot ≡ tag.boot) × (1 ≤ tag.number) × (tag.number 
 abbrev AreNumbered : Server → Type 0
 AreNumbered s = (file host : ℕ) (row : Row) → find_row file host (standing s).rows ≡ Some row → (0 < row.tag.number) × (0 < row.since.number)
 
-row-of : (s : Server) → StandingFitsOf s → AreNumbered s → (file host : ℕ) (row : Row) → find_row file host (standing s).rows ≡ Some row → IsOf (standing s) row.tag
+row-of : (s : Server) → StandingFitsOf s → AreNumbered s → (file host : ℕ) (row : Row) → find_row file host (standing s).rows ≡ Some row
+    → IsOf (standing s) row.tag
 row-of s stood numbered file host row found =
     let r = stood.fits file host row found in
     let n = (numbered file host row found).0 in
     (sym r.tag_boot, omega arith, r.drawn_before)
 
-since-of : (s : Server) → StandingFitsOf s → AreNumbered s → (file host : ℕ) (row : Row) → find_row file host (standing s).rows ≡ Some row → IsOf (standing s) row.since
+since-of : (s : Server) → StandingFitsOf s → AreNumbered s → (file host : ℕ) (row : Row) → find_row file host (standing s).rows ≡ Some row
+    → IsOf (standing s) row.since
 since-of s stood numbered file host row found =
     let r = stood.fits file host row found in
     let n = (numbered file host row found).1 in
     (sym r.since_boot, omega arith, let a = r.in_order in let c = r.drawn_before in omega arith)
 
 -- a row of the server's own table stands
-own-stands : (s : Server) (phase : Phase) → NoneRecovering phase s.table → (file host : ℕ) (row : Row) → find_row file host s.table.rows ≡ Some row → find_row file host (standing_in phase s.table).rows ≡ Some row
+own-stands : (s : Server) (phase : Phase) → NoneRecovering phase s.table → (file host : ℕ) (row : Row) → find_row file host s.table.rows ≡ Some row
+    → find_row file host (standing_in phase s.table).rows ≡ Some row
 own-stands s serving none file host row found = found
 own-stands s (recovering until heard last) none file host row found = none-some row (ap (find_row file host) (sym none) ∙ found)
 
-new-told : (U : Tag → Type 0) (ps : List Packet) (s t : Server) (q : Packet) → ((file host : ℕ) (row : Row) → find_row file host s.table.rows ≡ Some row → U row.tag) → ((file host : ℕ) (row : Row) → t.phase ≡ serving → find_row file host t.table.rows ≡ Some row → U row.tag × U row.since) → IsBacked t q → IsNew ps s t q → AllIn U q.message × ((host : ℕ) (m : Message) → q ≡ from_host host m → ⊥)
+new-told : (U : Tag → Type 0) (ps : List Packet) (s t : Server) (q : Packet)
+    → ((file host : ℕ) (row : Row) → find_row file host s.table.rows ≡ Some row → U row.tag)
+    → ((file host : ℕ) (row : Row) → t.phase ≡ serving → find_row file host t.table.rows ≡ Some row → U row.tag × U row.since) → IsBacked t q
+    → IsNew ps s t q → AllIn U q.message × ((host : ℕ) (m : Message) → q ≡ from_host host m → ⊥)
 new-told U ps s t q before after backed (new_reply host x a e k) = (
   subst (λ z. AllIn U z.message) (sym e) (record {
     vacated = λ y w file tag bad. absurd (cc);
@@ -188,7 +204,8 @@ new-told U ps s t q before after backed (new_notice x row e stands inc drawn) = 
   λ h m bad. absurd (not-both h row.who.host m (call x (Request.Evicted row.who row.file row.tag)) (sym bad ∙ e)),
 )
   where
-    same-tag : (y : ℕ) (w : Who) (file : ℕ) (tag : Tag) → call x (Request.Evicted row.who row.file row.tag) ≡ call y (Request.Evicted w file tag) → row.tag ≡ tag
+    same-tag : (y : ℕ) (w : Who) (file : ℕ) (tag : Tag) → call x (Request.Evicted row.who row.file row.tag) ≡ call y (Request.Evicted w file tag)
+        → row.tag ≡ tag
     same-tag y w file tag same = cc
 
 -- ---- each event
@@ -202,10 +219,15 @@ record Grows (T U : Tag → Type 0) (s t : Server) : Type 0 where
   numbered_before : AreNumbered s
   numbered : AreNumbered t
 
-received-told : (T U : Tag → Type 0) (hosts most : ℕ) (w : World) (events : List Event) (p : Packet) → In w.packets p → p.to ≡ Party.Server → IsSent p → Holds w → Runs hosts most w events → Grows T U w.server (receive w.server (sending_host p.sender) (length w.packets) (datagram_of p.message)).server → AllTold T w → AllTold U (after_server w (receive w.server (sending_host p.sender) (length w.packets) (datagram_of p.message)))
-received-told T U hosts most w events p i to (by_server host m e) held r g h = let other : Party.Client host ≡ Party.Server = ap (λ q. q.to) (sym e) ∙ to in absurd (cc)
+received-told : (T U : Tag → Type 0) (hosts most : ℕ) (w : World) (events : List Event) (p : Packet) → In w.packets p → p.to ≡ Party.Server → IsSent p
+    → Holds w → Runs hosts most w events
+    → Grows T U w.server (receive w.server (sending_host p.sender) (length w.packets) (datagram_of p.message)).server → AllTold T w
+    → AllTold U (after_server w (receive w.server (sending_host p.sender) (length w.packets) (datagram_of p.message)))
+received-told T U hosts most w events p i to (by_server host m e) held r g h =
+    let other : Party.Client host ≡ Party.Server = ap (λ q. q.to) (sym e) ∙ to in absurd (cc)
 received-told T U hosts most w events p i to (by_host host xid q who e asks) held r g h =
-    server-told U w t (λ q new. new-told U w.packets w.server t.server q before after (all-backed w.server (sending_host p.sender) (length w.packets) (datagram_of p.message) q new) (effect.said q new)) (more-told T U g.more w h)
+    server-told U w t (λ q new. new-told U w.packets w.server t.server q before after
+    (all-backed w.server (sending_host p.sender) (length w.packets) (datagram_of p.message) q new) (effect.said q new)) (more-told T U g.more w h)
   where
     t : ServerStep
     t = receive w.server (sending_host p.sender) (length w.packets) (datagram_of p.message)
@@ -214,7 +236,9 @@ received-told T U hosts most w events p i to (by_host host xid q who e asks) hel
     there = h.senders host (call xid q) (subst (λ z. In w.packets z) e i)
 
     before : (file host : ℕ) (row : Row) → find_row file host w.server.table.rows ≡ Some row → U row.tag
-    before file host row found = g.before row.tag (row-of w.server r.served.stood g.numbered_before file host row (own-stands w.server w.server.phase (none-served most w.server r.served) file host row found))
+    before file host row found =
+        g.before row.tag (row-of w.server r.served.stood g.numbered_before file host row
+        (own-stands w.server w.server.phase (none-served most w.server r.served) file host row found))
 
     after : (file host : ℕ) (row : Row) → t.server.phase ≡ serving → find_row file host t.server.table.rows ≡ Some row → U row.tag × U row.since
     after file host row serves found =
@@ -222,28 +246,39 @@ received-told T U hosts most w events p i to (by_host host xid q who e asks) hel
         (g.now row.tag (row-of t.server g.stood g.numbered file host row stands), g.now row.since (since-of t.server g.stood g.numbered file host row stands))
 
     effect : Effect w.packets w.server t there.0.who there.0.ticket there.0.leases
-    effect = hears-effect w.packets w.server most (sending_host p.sender) (length w.packets) (datagram_of p.message) events there.0.who there.0.now there.0.xid there.0.attached there.0.ticket there.0.leases there.0.notices (hearing hosts most w events p host there.0 there.1 i to held r)
+    effect =
+        hears-effect w.packets w.server most (sending_host p.sender) (length w.packets) (datagram_of p.message) events there.0.who there.0.now
+        there.0.xid there.0.attached there.0.ticket there.0.leases there.0.notices (hearing hosts most w events p host there.0 there.1 i to held r)
 
-delivered-told : (T U : Tag → Type 0) (hosts most : ℕ) (w : World) (events : List Event) (k : ℕ) (p : Packet) (to : Party) → p.to ≡ to → In w.packets p → Holds w → Runs hosts most w events → Grows T U w.server (deliver_to w k p to).server → AllTold T w → AllTold U (deliver_to w k p to)
+delivered-told : (T U : Tag → Type 0) (hosts most : ℕ) (w : World) (events : List Event) (k : ℕ) (p : Packet) (to : Party) → p.to ≡ to → In w.packets p
+    → Holds w → Runs hosts most w events → Grows T U w.server (deliver_to w k p to).server → AllTold T w → AllTold U (deliver_to w k p to)
 unfolding after_server
 delivered-told T U hosts most w events k p Party.Server to i held r g h = received-told T U hosts most w events p i to (held.sent p i) held r g h
 delivered-told T U hosts most w events k p (Party.Client host) to i held r g h =
-    more-told T U g.more (deliver_to_client w k host p.message (slice_get w.clients host)) (to-client-told T w k host p.message (slice_get w.clients host) refl (to-told w.packets p host (held.sent p i) to i) (h.packets p i) held h)
+    more-told T U g.more (deliver_to_client w k host p.message (slice_get w.clients host))
+    (to-client-told T w k host p.message (slice_get w.clients host) refl (to-told w.packets p host (held.sent p i) to i) (h.packets p i) held h)
 
-deliver-told : (T U : Tag → Type 0) (hosts most : ℕ) (w : World) (events : List Event) (k : ℕ) (o : Option Packet) → slice_get w.packets k ≡ o → Holds w → Runs hosts most w events → Grows T U w.server (deliver w k o).server → AllTold T w → AllTold U (deliver w k o)
+deliver-told : (T U : Tag → Type 0) (hosts most : ℕ) (w : World) (events : List Event) (k : ℕ) (o : Option Packet) → slice_get w.packets k ≡ o → Holds w
+    → Runs hosts most w events → Grows T U w.server (deliver w k o).server → AllTold T w → AllTold U (deliver w k o)
 deliver-told T U hosts most w events k None is held r g h = more-told T U g.more w h
 deliver-told T U hosts most w events k (Some p) is held r g h = delivered-told T U hosts most w events k p p.to refl (in-get w.packets k p is) held r g h
 
 silent-told : (U : Tag → Type 0) (w : World) (t : ServerStep) → t.sends ≡ [] → AllTold U w → AllTold U (after_server w t)
 silent-told U w t silent h = server-told U w t (λ q i. absurd (subst (λ qs. In qs q) silent i)) h
 
-step-told : (T U : Tag → Type 0) (hosts most : ℕ) (w : World) (e : Event) (events : List Event) → Holds w → Runs hosts most w events → Grows T U w.server (step w e).server → AllTold T w → AllTold U (step w e)
-step-told T U hosts most w (Event.Call host op) events held r g h = more-told T U g.more _ (at-told T w host (λ c. client_call c op) (slice_get w.clients host) refl (λ c a k. call-told T c op a.alone k) held h)
+step-told : (T U : Tag → Type 0) (hosts most : ℕ) (w : World) (e : Event) (events : List Event) → Holds w → Runs hosts most w events
+    → Grows T U w.server (step w e).server → AllTold T w → AllTold U (step w e)
+step-told T U hosts most w (Event.Call host op) events held r g h =
+    more-told T U g.more _ (at-told T w host (λ c. client_call c op) (slice_get w.clients host) refl (λ c a k. call-told T c op a.alone k) held h)
 step-told T U hosts most w (Event.Deliver k) events held r g h = deliver-told T U hosts most w events k (slice_get w.packets k) refl held r g h
-step-told T U hosts most w Event.ServerTick events held r g h = silent-told U w (tick w.server (w.server.now + 1)) (tick-sends w.server (w.server.now + 1)) (more-told T U g.more w h)
-step-told T U hosts most w (Event.ClientTick host) events held r g h = more-told T U g.more _ (at-told T w host (λ c. client_tick c (c.now + 1)) (slice_get w.clients host) refl (λ c a k. tick-told T c a.alone k) held h)
-step-told T U hosts most w (Event.Restart host) events held r g h = more-told T U g.more _ (at-told T w host restart (slice_get w.clients host) refl (λ c a k. restart-told T c) held h)
-step-told T U hosts most w (Event.Crash longest) events held r g h = silent-told U w (crash w.server longest) (crash-sends w.server longest) (more-told T U g.more w h)
+step-told T U hosts most w Event.ServerTick events held r g h =
+    silent-told U w (tick w.server (w.server.now + 1)) (tick-sends w.server (w.server.now + 1)) (more-told T U g.more w h)
+step-told T U hosts most w (Event.ClientTick host) events held r g h =
+    more-told T U g.more _ (at-told T w host (λ c. client_tick c (c.now + 1)) (slice_get w.clients host) refl (λ c a k. tick-told T c a.alone k) held h)
+step-told T U hosts most w (Event.Restart host) events held r g h =
+    more-told T U g.more _ (at-told T w host restart (slice_get w.clients host) refl (λ c a k. restart-told T c) held h)
+step-told T U hosts most w (Event.Crash longest) events held r g h =
+    silent-told U w (crash w.server longest) (crash-sends w.server longest) (more-told T U g.more w h)
 
 -- ---- every run
 
@@ -263,14 +298,17 @@ drawn-now : (head : Head) (events : List Event) (tag : Tag) → IsOf (standing (
 drawn-now head events tag h = record { later = []; earlier = events; moment = refl; by_boot = h.0; counted = h.1; among = h.2 }
 
 drawn-before : (head : Head) (e : Event) (events : List Event) (tag : Tag) → WasDrawn head events tag → WasDrawn head (e ∷ events) tag
-drawn-before head e events tag h = record { later = e ∷ h.later; earlier = h.earlier; moment = ap (λ es. e ∷ es) h.moment; by_boot = h.by_boot; counted = h.counted; among = h.among }
+drawn-before head e events tag h =
+    record { later = e ∷ h.later; earlier = h.earlier; moment = ap (λ es. e ∷ es) h.moment; by_boot = h.by_boot; counted = h.counted; among = h.among }
 
-run-told : (most : ℕ) (head : Head) (events : List Event) → KeepsBounds most head events → IsWithinSkew head.hosts most events → AllTold (WasDrawn head events) (run head events)
+run-told : (most : ℕ) (head : Head) (events : List Event) → KeepsBounds most head events → IsWithinSkew head.hosts most events
+    → AllTold (WasDrawn head events) (run head events)
 run-told most head [] b within = start-told (WasDrawn head []) head
 run-told most head (e ∷ earlier) b within =
     let b' = bounds-before most head e earlier b in
     let within' : IsWithinSkew head.hosts most earlier = within-before head.hosts most e earlier within in
-    step-told (WasDrawn head earlier) (WasDrawn head (e ∷ earlier)) head.hosts most (run head earlier) e earlier (run-holds head earlier) (run-runs most head earlier b' within')
+    step-told (WasDrawn head earlier) (WasDrawn head (e ∷ earlier)) head.hosts most (run head earlier) e earlier (run-holds head earlier)
+    (run-runs most head earlier b' within')
     (record {
       more = drawn-before head e earlier;
       before = λ tag h. drawn-before head e earlier tag (drawn-now head earlier tag h);
@@ -281,7 +319,8 @@ run-told most head (e ∷ earlier) b within =
     })
     (run-told most head earlier b' within')
 
-known-drawn : (most : ℕ) (head : Head) (events : List Event) (tag : Tag) → KeepsBounds most head events → IsWithinSkew head.hosts most events → IsKnown (run head events) tag → WasDrawn head events tag
+known-drawn : (most : ℕ) (head : Head) (events : List Event) (tag : Tag) → KeepsBounds most head events → IsWithinSkew head.hosts most events
+    → IsKnown (run head events) tag → WasDrawn head events tag
 known-drawn most head events tag b within known = case known
   where
     told : AllTold (WasDrawn head events) (run head events)
@@ -295,16 +334,23 @@ known-drawn most head events tag b within known = case known
     case (of_notice host file c n is waits same) = subst (WasDrawn head events) same ((told.clients host c is).noticed file n waits)
     case (of_vacated k p xid who file sent says) = (told.packets p (in-get (run head events).packets k p sent)).vacated xid who file tag says
     case (of_evicted k p xid who file sent says) = (told.packets p (in-get (run head events).packets k p sent)).evicted xid who file tag says
-    case (of_grant k p xid answer g sent says gives same) = subst (WasDrawn head events) same ((told.packets p (in-get (run head events).packets k p sent)).granted xid answer g says gives).0
-    case (of_grant_chain k p xid answer g sent says gives same) = subst (WasDrawn head events) same ((told.packets p (in-get (run head events).packets k p sent)).granted xid answer g says gives).1
-    case (of_row file host row stands same) = subst (WasDrawn head events) same (drawn-now head events row.tag (row-of (run head events).server stood (row-numbered head events) file host row stands))
-    case (of_chain file host row stands same) = subst (WasDrawn head events) same (drawn-now head events row.since (since-of (run head events).server stood (row-numbered head events) file host row stands))
+    case (of_grant k p xid answer g sent says gives same) =
+        subst (WasDrawn head events) same ((told.packets p (in-get (run head events).packets k p sent)).granted xid answer g says gives).0
+    case (of_grant_chain k p xid answer g sent says gives same) =
+        subst (WasDrawn head events) same ((told.packets p (in-get (run head events).packets k p sent)).granted xid answer g says gives).1
+    case (of_row file host row stands same) =
+        subst (WasDrawn head events) same
+        (drawn-now head events row.tag (row-of (run head events).server stood (row-numbered head events) file host row stands))
+    case (of_chain file host row stands same) =
+        subst (WasDrawn head events) same
+        (drawn-now head events row.since (since-of (run head events).server stood (row-numbered head events) file host row stands))
 
 -- what was drawn is no later than the table that stands
 up-to-now : (head : Head) (events : List Event) (tag : Tag) → WasDrawn head events tag → IsUpTo (standing (run head events).server) tag
 up-to-now head events tag d =
     subst (λ es. IsUpTo (standing (run head es).server) tag) (sym d.moment)
-    (drawn-later (standing (run head d.earlier).server) (standing (run head (d.later ++ d.earlier)).server) tag (standing-grows head d.later d.earlier) (inr (sym d.by_boot, d.among)))
+    (drawn-later (standing (run head d.earlier).server) (standing (run head (d.later ++ d.earlier)).server) tag (standing-grows head d.later d.earlier)
+    (inr (sym d.by_boot, d.among)))
 
 -- in every run within skew
 pub drawn-in-order : TagsAreDrawnInOrder

@@ -1,6 +1,6 @@
 -- In every run what an answer tells of files was so at the server.
-use Rattle.std.proofs.Common.{◌≡◌, ◌⊎◌, ℕ, ◌+◌, List, [], ◌∷◌, ◌++◌, Option, Some, None, length, refl, sym, subst, ap, ◌∙◌, inl, inr, arith}
-use Rattle.std.specs.Prelude.{⊤, slice_get}
+use Rattle.std.proofs.Common.{◌≡◌, ℕ, ◌+◌, List, [], ◌∷◌, ◌++◌, Option, Some, None, length, refl, sym, subst, ◌∙◌, inl, inr}
+use Rattle.std.specs.Prelude.{slice_get}
 use Rattle.nq_base.specs.declared.Answer.{Answer}
 use Rattle.nq_base.specs.declared.Call.{Call}
 use Rattle.nq_base.specs.declared.Entry.{Entry}
@@ -16,7 +16,7 @@ use Rattle.nq_model.specs.ClientStep.{told, client_call, client_tick, restart}
 use Rattle.nq_model.specs.Hear.{hear, inc_of}
 use Rattle.nq_model.specs.Journal.{Throughout, call_of}
 use Rattle.nq_model.specs.Kept.{host_row}
-use Rattle.nq_model.specs.Message.{Message, Packet, reply, datagram_of}
+use Rattle.nq_model.specs.Message.{Packet, reply, datagram_of}
 use Rattle.nq_model.specs.OfTheirCall.{Reads}
 use Rattle.nq_model.specs.Server.{ServerStep}
 use Rattle.nq_model.specs.ServerStep.{receive, tick, crash}
@@ -27,7 +27,6 @@ use Rattle.nq_promises.specs.AnswersTellWhatWas.{HasNamed, HasLength, ToldSo, Te
 use Rattle.nq_promises.specs.Bounds.{KeepsBounds}
 use Rattle.nq_promises.specs.RepliesTellWhatWas.{Once, KeepsNamed, KeepsAt}
 use Rattle.walk_calls.proofs.Placed.{Placed, call-told, call-later}
-use Rattle.walk_client.proofs.ClientFacts.{fits_job}
 use Rattle.walk_client.proofs.RepliedCases.{IsNamed, looked_up, created, attributes}
 use Rattle.walk_run.proofs.Clocks.{within-before}
 use Rattle.walk_run.proofs.NoCrash.{bounds-before}
@@ -43,17 +42,20 @@ use Rattle.law_told.proofs.ServerEntries.{IsNoAnswer, NoneAnswers, receive-answe
 
 -- ---- facts of later schedules
 
-later-so : (head : Head) (event : Event) (earlier : List Event) (value : ℕ) (o : Option Told) → ToldSo head earlier value o → ToldSo head (event ∷ earlier) value o
+later-so : (head : Head) (event : Event) (earlier : List Event) (value : ℕ) (o : Option Told) → ToldSo head earlier value o
+    → ToldSo head (event ∷ earlier) value o
 later-so head event earlier value (Some (Told.Lookup name)) so = inr so
 later-so head event earlier value (Some (Told.Create name blocks)) so = inr so
 later-so head event earlier value (Some (Told.Attr file)) so = inr so
 later-so head event earlier value other so = tt
 
-later-at : (head : Head) (event : Event) (earlier : List Event) (e : Entry) (before : List Entry) → TellsSoAt head earlier e before → TellsSoAt head (event ∷ earlier) e before
+later-at : (head : Head) (event : Event) (earlier : List Event) (e : Entry) (before : List Entry) → TellsSoAt head earlier e before
+    → TellsSoAt head (event ∷ earlier) e before
 later-at head event earlier (Entry.A who q (Said.OkValue value)) before so = later-so head event earlier value (call_of before who q) so
 later-at head event earlier other before so = tt
 
-later-all : (head : Head) (event : Event) (earlier : List Event) (journal : List Entry) → Throughout (TellsSoAt head earlier) journal → Throughout (TellsSoAt head (event ∷ earlier)) journal
+later-all : (head : Head) (event : Event) (earlier : List Event) (journal : List Entry) → Throughout (TellsSoAt head earlier) journal
+    → Throughout (TellsSoAt head (event ∷ earlier)) journal
 later-all head event earlier [] all = tt
 later-all head event earlier (e ∷ before) all = (later-at head event earlier e before all.0, later-all head event earlier before all.1)
 
@@ -63,9 +65,11 @@ no-answer-so : (head : Head) (events : List Event) (e : Entry) (before : List En
 no-answer-so head events (Entry.A who q said) before none = absurd none
 no-answer-so head events other before none = tt
 
-server-so : (head : Head) (events : List Event) (entries journal : List Entry) → NoneAnswers entries → Throughout (TellsSoAt head events) journal → Throughout (TellsSoAt head events) (entries ++ journal)
+server-so : (head : Head) (events : List Event) (entries journal : List Entry) → NoneAnswers entries → Throughout (TellsSoAt head events) journal
+    → Throughout (TellsSoAt head events) (entries ++ journal)
 server-so head events [] journal none all = all
-server-so head events (e ∷ entries) journal none all = (no-answer-so head events e (entries ++ journal) none.0, server-so head events entries journal none.1 all)
+server-so head events (e ∷ entries) journal none all =
+    (no-answer-so head events e (entries ++ journal) none.0, server-so head events entries journal none.1 all)
 
 -- a call that read tells of no file
 reads-so : (head : Head) (events : List Event) (value file block : ℕ) (o : Option Told) → Reads file block o → ToldSo head events value o
@@ -73,7 +77,8 @@ reads-so head events value file block (Some (Told.Read f b)) reads = tt
 reads-so head events value file block (Some (Told.Fetch f b)) reads = tt
 reads-so head events value file block other reads = absurd reads
 
-reads-more : (file block : ℕ) (e : Entry) (before : List Entry) (who : Who) (q : ℕ) → Reads file block (call_of before who q) → Reads file block (call_of (e ∷ before) who q)
+reads-more : (file block : ℕ) (e : Entry) (before : List Entry) (who : Who) (q : ℕ) → Reads file block (call_of before who q)
+    → Reads file block (call_of (e ∷ before) who q)
 reads-more file block e before who q reads = case (call_of before who q) refl reads
   where
     case : (o : Option Told) → call_of before who q ≡ o → Reads file block o → Reads file block (call_of (e ∷ before) who q)
@@ -86,27 +91,34 @@ record TellsOf (head : Head) (events : List Event) (journal : List Entry) (who :
   call : call_of journal who q ≡ Some asks
   so : ToldSo head events value (Some asks)
 
-cached-so : (head : Head) (events : List Event) (who : Who) (q value : ℕ) (entries journal : List Entry) → IsCachedNext who q entries → Throughout Placed (entries ++ journal) → ToldSo head events value (call_of (entries ++ journal) who q)
+cached-so : (head : Head) (events : List Event) (who : Who) (q value : ℕ) (entries journal : List Entry) → IsCachedNext who q entries
+    → Throughout Placed (entries ++ journal) → ToldSo head events value (call_of (entries ++ journal) who q)
 cached-so head events who q value (Entry.R by n file block v None ∷ before) journal next placed =
     let reads = placed.0.reads in
-    let mine : Reads file block (call_of (before ++ journal) who q) = subst (λ m. Reads file block (call_of (before ++ journal) who m)) next.1 (subst (λ w. Reads file block (call_of (before ++ journal) w n)) next.0 reads) in
-    reads-so head events value file block (call_of (Entry.R by n file block v None ∷ (before ++ journal)) who q) (reads-more file block (Entry.R by n file block v None) (before ++ journal) who q mine)
+    let mine : Reads file block (call_of (before ++ journal) who q) = subst (λ m. Reads file block (call_of (before ++ journal) who m)) next.1
+    (subst (λ w. Reads file block (call_of (before ++ journal) w n)) next.0 reads) in
+    reads-so head events value file block (call_of (Entry.R by n file block v None ∷ (before ++ journal)) who q)
+    (reads-more file block (Entry.R by n file block v None) (before ++ journal) who q mine)
 cached-so head events who q value other journal next placed = absurd next
 
-rests-so : (head : Head) (events : List Event) (e : Entry) (entries journal : List Entry) → Rests (TellsOf head events journal) e entries → Throughout Placed (entries ++ journal) → TellsSoAt head events e (entries ++ journal)
+rests-so : (head : Head) (events : List Event) (e : Entry) (entries journal : List Entry) → Rests (TellsOf head events journal) e entries
+    → Throughout Placed (entries ++ journal) → TellsSoAt head events e (entries ++ journal)
 rests-so head events (Entry.A who q (Said.OkValue value)) entries journal (inl next) placed = cached-so head events who q value entries journal next placed
 rests-so head events (Entry.A who q (Said.OkValue value)) entries journal (inr cause) placed =
     subst (ToldSo head events value) (sym (call-later entries journal who q cause.asks cause.call)) cause.so
 rests-so head events other entries journal rests placed = tt
 
-client-so : (head : Head) (events : List Event) (entries journal : List Entry) → AllRest (TellsOf head events journal) entries → Throughout Placed (entries ++ journal) → Throughout (TellsSoAt head events) journal → Throughout (TellsSoAt head events) (entries ++ journal)
+client-so : (head : Head) (events : List Event) (entries journal : List Entry) → AllRest (TellsOf head events journal) entries
+    → Throughout Placed (entries ++ journal) → Throughout (TellsSoAt head events) journal → Throughout (TellsSoAt head events) (entries ++ journal)
 client-so head events [] journal rest placed all = all
 client-so head events (e ∷ entries) journal rest placed all =
     (rests-so head events e entries journal rest.0 placed.1, client-so head events entries journal rest.1 placed.1 all)
 
 -- ---- the reply that is answered with
 
-module _ (most : ℕ) (head : Head) (event : Event) (earlier : List Event) (bounds : KeepsBounds most head earlier) (within : IsWithinSkew head.hosts most earlier) (placed : Throughout Placed (run head (event ∷ earlier)).journal) (all : Throughout (TellsSoAt head earlier) (run head earlier).journal) where
+module _ (most : ℕ) (head : Head) (event : Event) (earlier : List Event) (bounds : KeepsBounds most head earlier)
+    (within : IsWithinSkew head.hosts most earlier) (placed : Throughout Placed (run head (event ∷ earlier)).journal)
+    (all : Throughout (TellsSoAt head earlier) (run head earlier).journal) where
   abbrev w : World
   w = run head earlier
 
@@ -117,14 +129,16 @@ module _ (most : ℕ) (head : Head) (event : Event) (earlier : List Event) (boun
   unmoved is = subst (λ v. Throughout (TellsSoAt head (event ∷ earlier)) v.journal) (sym is) before
 
   -- a step of a client
-  stepped : (host : ℕ) (t : ClientStep) → run head (event ∷ earlier) ≡ after_client w host t → AllRest (TellsOf head (event ∷ earlier) w.journal) t.entries → Throughout (TellsSoAt head (event ∷ earlier)) (run head (event ∷ earlier)).journal
+  stepped : (host : ℕ) (t : ClientStep) → run head (event ∷ earlier) ≡ after_client w host t
+      → AllRest (TellsOf head (event ∷ earlier) w.journal) t.entries → Throughout (TellsSoAt head (event ∷ earlier)) (run head (event ∷ earlier)).journal
   unfolding after_client
   stepped host t is rest =
       subst (λ v. Throughout (TellsSoAt head (event ∷ earlier)) v.journal) (sym is)
       (client-so head (event ∷ earlier) t.entries w.journal rest (subst (λ v. Throughout Placed v.journal) is placed) before)
 
   -- a step of the server
-  served : (t : ServerStep) → run head (event ∷ earlier) ≡ after_server w t → NoneAnswers t.entries → Throughout (TellsSoAt head (event ∷ earlier)) (run head (event ∷ earlier)).journal
+  served : (t : ServerStep) → run head (event ∷ earlier) ≡ after_server w t → NoneAnswers t.entries
+      → Throughout (TellsSoAt head (event ∷ earlier)) (run head (event ∷ earlier)).journal
   unfolding after_server
   served t is none =
       subst (λ v. Throughout (TellsSoAt head (event ∷ earlier)) v.journal) (sym is)
@@ -132,7 +146,9 @@ module _ (most : ℕ) (head : Head) (event : Event) (earlier : List Event) (boun
 
   -- the answer to a call is what its reply tells
   module _ (host : ℕ) (c : Client) (is : client_at head earlier host ≡ Some c) where
-    told-so : (xid : ℕ) (r : Reply) (ticket : Ticket) (u : UnderWay) (answer : Answer) (value : ℕ) → ToldTo w.packets host (reply xid r) → c.ticket ≡ Some ticket → xid ≡ ticket.xid → inc_of r ≡ c.who.inc → c.call ≡ Some u → ticket.job ≡ for_call → IsNamed ticket.request r answer → said answer None ≡ Said.OkValue value → TellsOf head (event ∷ earlier) w.journal c.who u.q value
+    told-so : (xid : ℕ) (r : Reply) (ticket : Ticket) (u : UnderWay) (answer : Answer) (value : ℕ) → ToldTo w.packets host (reply xid r)
+        → c.ticket ≡ Some ticket → xid ≡ ticket.xid → inc_of r ≡ c.who.inc → c.call ≡ Some u → ticket.job ≡ for_call → IsNamed ticket.request r answer
+        → said answer None ≡ Said.OkValue value → TellsOf head (event ∷ earlier) w.journal c.who u.q value
     told-so xid r ticket u answer value sent has same inc call job named gives = record {
       asks = told u.call;
       call = (keeps.is_open u call).tells;
@@ -148,7 +164,9 @@ module _ (most : ℕ) (head : Head) (event : Event) (earlier : List Event) (boun
       true_reply = (all-true head earlier).replies host xid r sent
 
       own : ticket.request ≡ true_reply.asks
-      own = (at.mail.asked xid true_reply.asks true_reply.who (subst (λ h. Asked w.packets h xid true_reply.asks) (sym at.here) true_reply.sent) true_reply.by).same (sym true_reply.inc ∙ inc) ticket has (sym same)
+      own =
+          (at.mail.asked xid true_reply.asks true_reply.who (subst (λ h. Asked w.packets h xid true_reply.asks) (sym at.here) true_reply.sent)
+          true_reply.by).same (sym true_reply.inc ∙ inc) ticket has (sym same)
 
       was : Once (HadSo host xid r ticket.request) head earlier
       was = subst (λ q. Once (HadSo host xid r q) head earlier) (sym own) true_reply.was
@@ -169,9 +187,11 @@ module _ (most : ℕ) (head : Head) (event : Event) (earlier : List Event) (boun
           let same_value : file ≡ value = cc in
           let is_call : u.call ≡ Call.Create name blocks = subst (IsFor u c.dirty c.push) asks for in
           let had : Once (HadSo host xid (Reply.Create i file) (Request.Create who seq name blocks)) head earlier =
-          subst (λ b. Once (HadSo host xid b (Request.Create who seq name blocks)) head earlier) e (subst (λ q. Once (HadSo host xid r q) head earlier) asks was) in
+          subst (λ b. Once (HadSo host xid b (Request.Create who seq name blocks)) head earlier) e
+          (subst (λ q. Once (HadSo host xid r q) head earlier) asks was) in
           subst (λ k. ToldSo head earlier value (Some (told k))) (sym is_call)
-          (once-map (HadSo host xid (Reply.Create i file) (Request.Create who seq name blocks)) (λ v. KeepsNamed v.server.kept.files name value blocks) head earlier
+          (once-map (HadSo host xid (Reply.Create i file) (Request.Create who seq name blocks)) (λ v. KeepsNamed v.server.kept.files name value blocks)
+          head earlier
           (λ v so. subst (λ n. KeepsNamed v.server.kept.files name n blocks) same_value so.1) had)
       by a (attributes who file i blocks rev asks e) g =
           let same_value : blocks ≡ value = cc in
@@ -184,11 +204,15 @@ module _ (most : ℕ) (head : Head) (event : Event) (earlier : List Event) (boun
 
   -- ---- each event
 
-  at-host : (host : ℕ) (f : Client → ClientStep) → ((c : Client) → AllRest (TellsOf head (event ∷ earlier) w.journal) (f c).entries) → (o : Option Client) → run head (event ∷ earlier) ≡ at_client w host f o → Throughout (TellsSoAt head (event ∷ earlier)) (run head (event ∷ earlier)).journal
+  at-host : (host : ℕ) (f : Client → ClientStep) → ((c : Client) → AllRest (TellsOf head (event ∷ earlier) w.journal) (f c).entries)
+      → (o : Option Client) → run head (event ∷ earlier) ≡ at_client w host f o
+      → Throughout (TellsSoAt head (event ∷ earlier)) (run head (event ∷ earlier)).journal
   at-host host f rest None is = unmoved is
   at-host host f rest (Some c) is = stepped host (f c) is (rest c)
 
-  hearing : (k : ℕ) (p : Packet) (host : ℕ) (c : Client) → In w.packets p → p.to ≡ Party.Client host → client_at head earlier host ≡ Some c → (o : Option ClientStep) → hear c k p.message ≡ o → run head (event ∷ earlier) ≡ after_hearing w host o → Throughout (TellsSoAt head (event ∷ earlier)) (run head (event ∷ earlier)).journal
+  hearing : (k : ℕ) (p : Packet) (host : ℕ) (c : Client) → In w.packets p → p.to ≡ Party.Client host → client_at head earlier host ≡ Some c
+      → (o : Option ClientStep) → hear c k p.message ≡ o → run head (event ∷ earlier) ≡ after_hearing w host o
+      → Throughout (TellsSoAt head (event ∷ earlier)) (run head (event ∷ earlier)).journal
   hearing k p host c i to there None hears is = unmoved is
   hearing k p host c i to there (Some t) hears is =
       let held : Holds w = run-holds head earlier in
@@ -196,35 +220,48 @@ module _ (most : ℕ) (head : Head) (event : Event) (earlier : List Event) (boun
       stepped host t is
       (hear-rests (TellsOf head (event ∷ earlier) w.journal) c k p.message t hears
       (λ ticket has. ((held.clients host c there).alone.asking.ticketed ticket has).fits)
-      (λ xid r ticket u answer value m has same inc call job named gives. told-so host c there xid r ticket u answer value (subst (ToldTo w.packets host) m sent) has same inc call job named gives))
+      (λ xid r ticket u answer value m has same inc call job named gives. told-so host c there xid r ticket u answer value
+      (subst (ToldTo w.packets host) m sent) has same inc call job named gives))
 
-  to-client : (k : ℕ) (p : Packet) (host : ℕ) → In w.packets p → p.to ≡ Party.Client host → (o : Option Client) → client_at head earlier host ≡ o → run head (event ∷ earlier) ≡ deliver_to_client w k host p.message o → Throughout (TellsSoAt head (event ∷ earlier)) (run head (event ∷ earlier)).journal
+  to-client : (k : ℕ) (p : Packet) (host : ℕ) → In w.packets p → p.to ≡ Party.Client host → (o : Option Client) → client_at head earlier host ≡ o
+      → run head (event ∷ earlier) ≡ deliver_to_client w k host p.message o
+      → Throughout (TellsSoAt head (event ∷ earlier)) (run head (event ∷ earlier)).journal
   to-client k p host i to None there is = unmoved is
   to-client k p host i to (Some c) there is = hearing k p host c i to there (hear c k p.message) refl is
 
-  to-party : (k : ℕ) (p : Packet) (party : Party) → In w.packets p → p.to ≡ party → run head (event ∷ earlier) ≡ deliver_to w k p party → Throughout (TellsSoAt head (event ∷ earlier)) (run head (event ∷ earlier)).journal
+  to-party : (k : ℕ) (p : Packet) (party : Party) → In w.packets p → p.to ≡ party → run head (event ∷ earlier) ≡ deliver_to w k p party
+      → Throughout (TellsSoAt head (event ∷ earlier)) (run head (event ∷ earlier)).journal
   to-party k p Party.Server i to is =
       served (receive w.server (sending_host p.sender) (length w.packets) (datagram_of p.message)) is
       (receive-answers-none w.server (sending_host p.sender) (length w.packets) (datagram_of p.message))
   to-party k p (Party.Client host) i to is = to-client k p host i to (client_at head earlier host) refl is
 
-  delivered : (k : ℕ) (o : Option Packet) → slice_get w.packets k ≡ o → run head (event ∷ earlier) ≡ deliver w k o → Throughout (TellsSoAt head (event ∷ earlier)) (run head (event ∷ earlier)).journal
+  delivered : (k : ℕ) (o : Option Packet) → slice_get w.packets k ≡ o → run head (event ∷ earlier) ≡ deliver w k o
+      → Throughout (TellsSoAt head (event ∷ earlier)) (run head (event ∷ earlier)).journal
   delivered k None there is = unmoved is
   delivered k (Some p) there is = to-party k p p.to (in-get w.packets k p there) refl is
 
-by-event : (most : ℕ) (head : Head) (event : Event) (earlier : List Event) → KeepsBounds most head earlier → IsWithinSkew head.hosts most earlier → Throughout Placed (run head (event ∷ earlier)).journal → Throughout (TellsSoAt head earlier) (run head earlier).journal → Throughout (TellsSoAt head (event ∷ earlier)) (run head (event ∷ earlier)).journal
+by-event : (most : ℕ) (head : Head) (event : Event) (earlier : List Event) → KeepsBounds most head earlier → IsWithinSkew head.hosts most earlier
+    → Throughout Placed (run head (event ∷ earlier)).journal → Throughout (TellsSoAt head earlier) (run head earlier).journal
+    → Throughout (TellsSoAt head (event ∷ earlier)) (run head (event ∷ earlier)).journal
 by-event most head (Event.Call host op) earlier bounds within placed all =
-    at-host most head (Event.Call host op) earlier bounds within placed all host (λ c. client_call c op) (λ c. call-rests (TellsOf head (Event.Call host op ∷ earlier) (run head earlier).journal) c op) (slice_get (run head earlier).clients host) refl
+    at-host most head (Event.Call host op) earlier bounds within placed all host (λ c. client_call c op)
+    (λ c. call-rests (TellsOf head (Event.Call host op ∷ earlier) (run head earlier).journal) c op) (slice_get (run head earlier).clients host) refl
 by-event most head (Event.Deliver k) earlier bounds within placed all =
     delivered most head (Event.Deliver k) earlier bounds within placed all k (slice_get (run head earlier).packets k) refl refl
 by-event most head Event.ServerTick earlier bounds within placed all =
-    served most head Event.ServerTick earlier bounds within placed all (tick (run head earlier).server ((run head earlier).server.now + 1)) refl (tick-answers-none (run head earlier).server ((run head earlier).server.now + 1))
+    served most head Event.ServerTick earlier bounds within placed all (tick (run head earlier).server ((run head earlier).server.now + 1)) refl
+    (tick-answers-none (run head earlier).server ((run head earlier).server.now + 1))
 by-event most head (Event.ClientTick host) earlier bounds within placed all =
-    at-host most head (Event.ClientTick host) earlier bounds within placed all host (λ c. client_tick c (c.now + 1)) (λ c. tick-rests (TellsOf head (Event.ClientTick host ∷ earlier) (run head earlier).journal) c (c.now + 1)) (slice_get (run head earlier).clients host) refl
+    at-host most head (Event.ClientTick host) earlier bounds within placed all host (λ c. client_tick c (c.now + 1))
+    (λ c. tick-rests (TellsOf head (Event.ClientTick host ∷ earlier) (run head earlier).journal) c (c.now + 1))
+    (slice_get (run head earlier).clients host) refl
 by-event most head (Event.Restart host) earlier bounds within placed all =
-    at-host most head (Event.Restart host) earlier bounds within placed all host restart (λ c. restart-rests (TellsOf head (Event.Restart host ∷ earlier) (run head earlier).journal) c) (slice_get (run head earlier).clients host) refl
+    at-host most head (Event.Restart host) earlier bounds within placed all host restart
+    (λ c. restart-rests (TellsOf head (Event.Restart host ∷ earlier) (run head earlier).journal) c) (slice_get (run head earlier).clients host) refl
 by-event most head (Event.Crash longest) earlier bounds within placed all =
-    served most head (Event.Crash longest) earlier bounds within placed all (crash (run head earlier).server longest) refl (crash-answers-none (run head earlier).server longest)
+    served most head (Event.Crash longest) earlier bounds within placed all (crash (run head earlier).server longest) refl
+    (crash-answers-none (run head earlier).server longest)
 
 starts-so : (head : Head) → Throughout (TellsSoAt head []) (start head).journal
 unfolding start

@@ -1,5 +1,5 @@
 -- In every run what a reply tells of files was so at the server.
-use Rattle.std.proofs.Common.{◌≡◌, ◌⊎◌, ◌≤◌, ◌<◌, ℕ, ◌+◌, ◌==◌, Bool, true, false, List, [], ◌∷◌, ◌++◌, Option, Some, None, if◌then◌else◌, map, length, refl, sym, subst, ap, ◌∙◌, inl, inr, arith}
+use Rattle.std.proofs.Common.{◌≡◌, ◌⊎◌, ◌≤◌, ◌<◌, ℕ, ◌+◌, ◌==◌, List, [], ◌∷◌, ◌++◌, Option, Some, None, map, length, refl, sym, subst, ap, ◌∙◌, inl, inr, arith}
 use Rattle.std.specs.Prelude.{◌-◌, slice_get, replicate, unwrap_or, zero, suc}
 use Rattle.nq_base.specs.declared.Event.{Event}
 use Rattle.nq_base.specs.declared.HostRow.{HostRow}
@@ -18,11 +18,10 @@ use Rattle.nq_model.specs.Profile.{most_hosts}
 use Rattle.nq_model.specs.Server.{Server, ServerStep, quiet, with_table, keeping_with, to_host}
 use Rattle.nq_model.specs.ServerStep.{receive, tick, crash, boot, fence, at_time, opens, ends_writing}
 use Rattle.nq_model.specs.World.{Head, World, from_host, after_server, after_client, at_client, after_hearing, sending_host, deliver_to_client, deliver_to, deliver, first_row, start, run}
-use Rattle.nq_promises.specs.OneRequestPerSequence.{Asks}
-use Rattle.nq_promises.specs.RepliesTellWhatWas.{Once, IsSo, WasSo, TellsWhatWas, RepliesTellWhatWas}
+use Rattle.nq_promises.specs.RepliesTellWhatWas.{Once, IsSo, WasSo, RepliesTellWhatWas}
 use Rattle.walk_run.proofs.Mail.{none-to-host}
 use Rattle.walk_run.proofs.Packets.{In, in-append, in-left, in-get, Asked, Told}
-use Rattle.walk_run.proofs.Worlds.{Holds, to-server, run-holds}
+use Rattle.walk_run.proofs.Worlds.{to-server, run-holds}
 use Rattle.walk_server.proofs.Incarnations.{one-who}
 use Rattle.walk_server.proofs.KeptChanges.{booted-line}
 use Rattle.walk_server.proofs.ServerCases.{server-ticks}
@@ -75,10 +74,15 @@ pub record AllTrue (head : Head) (events : List Event) : Type 0 where
   pub replies : (host xid : ℕ) (a : Reply) → Told (run head events).packets host (reply xid a) → IsTrue head events host xid a
   rows : (k : ℕ) → RowTrue head events k (host_row (run head events).server.kept k)
 
-later-true : (head : Head) (event : Event) (earlier : List Event) (host xid : ℕ) (a : Reply) → ((h x : ℕ) (r : Request) → Asked (run head earlier).packets h x r → Asked (run head (event ∷ earlier)).packets h x r) → IsTrue head earlier host xid a → IsTrue head (event ∷ earlier) host xid a
-later-true head event earlier host xid a more t = record { asks = t.asks; who = t.who; by = t.by; inc = t.inc; sent = more host xid t.asks t.sent; was = inr t.was }
+later-true : (head : Head) (event : Event) (earlier : List Event) (host xid : ℕ) (a : Reply)
+    → ((h x : ℕ) (r : Request) → Asked (run head earlier).packets h x r → Asked (run head (event ∷ earlier)).packets h x r)
+    → IsTrue head earlier host xid a → IsTrue head (event ∷ earlier) host xid a
+later-true head event earlier host xid a more t =
+    record { asks = t.asks; who = t.who; by = t.by; inc = t.inc; sent = more host xid t.asks t.sent; was = inr t.was }
 
-later-deed : (head : Head) (event : Event) (earlier : List Event) (k : ℕ) (line : HostRow) → ((host xid : ℕ) (r : Request) → Asked (run head earlier).packets host xid r → Asked (run head (event ∷ earlier)).packets host xid r) → IsDeed head earlier k line → IsDeed head (event ∷ earlier) k line
+later-deed : (head : Head) (event : Event) (earlier : List Event) (k : ℕ) (line : HostRow)
+    → ((host xid : ℕ) (r : Request) → Asked (run head earlier).packets host xid r → Asked (run head (event ∷ earlier)).packets host xid r)
+    → IsDeed head earlier k line → IsDeed head (event ∷ earlier) k line
 later-deed head event earlier k line more d = record {
   xid = d.xid;
   asks = d.asks;
@@ -94,20 +98,29 @@ later-deed head event earlier k line more d = record {
 -- ---- steps that tell nothing
 
 -- after an event that tells no host anything new and leaves the rows
-same-true : (head : Head) (event : Event) (earlier : List Event) (w : World) → run head (event ∷ earlier) ≡ w → ((host xid : ℕ) (a : Reply) → Told w.packets host (reply xid a) → Told (run head earlier).packets host (reply xid a)) → ((host xid : ℕ) (r : Request) → Asked (run head earlier).packets host xid r → Asked w.packets host xid r) → ((k : ℕ) → host_row w.server.kept k ≡ host_row (run head earlier).server.kept k) → AllTrue head earlier → AllTrue head (event ∷ earlier)
+same-true : (head : Head) (event : Event) (earlier : List Event) (w : World) → run head (event ∷ earlier) ≡ w
+    → ((host xid : ℕ) (a : Reply) → Told w.packets host (reply xid a) → Told (run head earlier).packets host (reply xid a))
+    → ((host xid : ℕ) (r : Request) → Asked (run head earlier).packets host xid r → Asked w.packets host xid r)
+    → ((k : ℕ) → host_row w.server.kept k ≡ host_row (run head earlier).server.kept k) → AllTrue head earlier → AllTrue head (event ∷ earlier)
 same-true head event earlier w is old more rows t = record {
-  replies = λ host xid a told. later-true head event earlier host xid a (λ h x r asked. subst (λ v. Asked v.packets h x r) (sym is) (more h x r asked)) (t.replies host xid a (old host xid a (subst (λ v. Told v.packets host (reply xid a)) is told)));
+  replies =
+      λ host xid a told. later-true head event earlier host xid a (λ h x r asked. subst (λ v. Asked v.packets h x r) (sym is) (more h x r asked))
+      (t.replies host xid a (old host xid a (subst (λ v. Told v.packets host (reply xid a)) is told)));
   rows = λ k done one.
-      let same : host_row (run head (event ∷ earlier)).server.kept k ≡ host_row (run head earlier).server.kept k = ap (λ v. host_row v.server.kept k) is ∙ rows k in
+      let same : host_row (run head (event ∷ earlier)).server.kept k ≡ host_row (run head earlier).server.kept k = ap (λ v. host_row v.server.kept k) is
+      ∙ rows k in
       subst (IsDeed head (event ∷ earlier) k) (sym same)
-      (later-deed head event earlier k (host_row (run head earlier).server.kept k) (λ host xid r asked. subst (λ v. Asked v.packets host xid r) (sym is) (more host xid r asked))
+      (later-deed head event earlier k (host_row (run head earlier).server.kept k)
+      (λ host xid r asked. subst (λ v. Asked v.packets host xid r) (sym is) (more host xid r asked))
       (t.rows k (ap (λ l. l.verdict) (sym same) ∙ done) (subst (λ l. 1 ≤ l.seq) same one)));
 }
 
-unmoved : (head : Head) (event : Event) (earlier : List Event) → run head (event ∷ earlier) ≡ run head earlier → AllTrue head earlier → AllTrue head (event ∷ earlier)
+unmoved : (head : Head) (event : Event) (earlier : List Event) → run head (event ∷ earlier) ≡ run head earlier → AllTrue head earlier
+    → AllTrue head (event ∷ earlier)
 unmoved head event earlier is t = same-true head event earlier (run head earlier) is (λ host xid a told. told) (λ host xid r asked. asked) (λ k. refl) t
 
-client-true : (head : Head) (event : Event) (earlier : List Event) (host : ℕ) (t : ClientStep) → run head (event ∷ earlier) ≡ after_client (run head earlier) host t → AllTrue head earlier → AllTrue head (event ∷ earlier)
+client-true : (head : Head) (event : Event) (earlier : List Event) (host : ℕ) (t : ClientStep)
+    → run head (event ∷ earlier) ≡ after_client (run head earlier) host t → AllTrue head earlier → AllTrue head (event ∷ earlier)
 unfolding after_client
 client-true head event earlier host t is all =
     same-true head event earlier (after_client (run head earlier) host t) is
@@ -116,24 +129,31 @@ client-true head event earlier host t is all =
     (λ k. refl)
     all
   where
-    before : (other xid : ℕ) (a : Reply) → In (run head earlier).packets (to_host other (reply xid a)) ⊎ In (map (from_host host) t.sends) (to_host other (reply xid a)) → In (run head earlier).packets (to_host other (reply xid a))
+    before : (other xid : ℕ) (a : Reply)
+        → In (run head earlier).packets (to_host other (reply xid a)) ⊎ In (map (from_host host) t.sends) (to_host other (reply xid a))
+        → In (run head earlier).packets (to_host other (reply xid a))
     before other xid a (inl old) = old
     before other xid a (inr new) = absurd (none-to-host host other t.sends (reply xid a) new)
 
-at-true : (head : Head) (event : Event) (earlier : List Event) (host : ℕ) (f : Client → ClientStep) (o : Option Client) → run head (event ∷ earlier) ≡ at_client (run head earlier) host f o → AllTrue head earlier → AllTrue head (event ∷ earlier)
+at-true : (head : Head) (event : Event) (earlier : List Event) (host : ℕ) (f : Client → ClientStep) (o : Option Client)
+    → run head (event ∷ earlier) ≡ at_client (run head earlier) host f o → AllTrue head earlier → AllTrue head (event ∷ earlier)
 at-true head event earlier host f None is t = unmoved head event earlier is t
 at-true head event earlier host f (Some c) is t = client-true head event earlier host (f c) is t
 
-hearing-true : (head : Head) (event : Event) (earlier : List Event) (host : ℕ) (o : Option ClientStep) → run head (event ∷ earlier) ≡ after_hearing (run head earlier) host o → AllTrue head earlier → AllTrue head (event ∷ earlier)
+hearing-true : (head : Head) (event : Event) (earlier : List Event) (host : ℕ) (o : Option ClientStep)
+    → run head (event ∷ earlier) ≡ after_hearing (run head earlier) host o → AllTrue head earlier → AllTrue head (event ∷ earlier)
 hearing-true head event earlier host None is t = unmoved head event earlier is t
 hearing-true head event earlier host (Some h) is t = client-true head event earlier host h is t
 
-to-client-true : (head : Head) (event : Event) (earlier : List Event) (k host : ℕ) (m : Message) (o : Option Client) → run head (event ∷ earlier) ≡ deliver_to_client (run head earlier) k host m o → AllTrue head earlier → AllTrue head (event ∷ earlier)
+to-client-true : (head : Head) (event : Event) (earlier : List Event) (k host : ℕ) (m : Message) (o : Option Client)
+    → run head (event ∷ earlier) ≡ deliver_to_client (run head earlier) k host m o → AllTrue head earlier → AllTrue head (event ∷ earlier)
 to-client-true head event earlier k host m None is t = unmoved head event earlier is t
 to-client-true head event earlier k host m (Some c) is t = hearing-true head event earlier host (hear c k m) is t
 
 -- a step of the server that sends nothing and leaves the rows
-silent-true : (head : Head) (event : Event) (earlier : List Event) (t : ServerStep) → run head (event ∷ earlier) ≡ after_server (run head earlier) t → t.sends ≡ [] → ((k : ℕ) → host_row t.server.kept k ≡ host_row (run head earlier).server.kept k) → AllTrue head earlier → AllTrue head (event ∷ earlier)
+silent-true : (head : Head) (event : Event) (earlier : List Event) (t : ServerStep) → run head (event ∷ earlier) ≡ after_server (run head earlier) t
+    → t.sends ≡ [] → ((k : ℕ) → host_row t.server.kept k ≡ host_row (run head earlier).server.kept k) → AllTrue head earlier
+    → AllTrue head (event ∷ earlier)
 unfolding after_server
 silent-true head event earlier t is none rows all =
     same-true head event earlier (after_server (run head earlier) t) is
@@ -142,7 +162,8 @@ silent-true head event earlier t is none rows all =
     rows
     all
   where
-    before : (host xid : ℕ) (a : Reply) → In (run head earlier).packets (to_host host (reply xid a)) ⊎ In t.sends (to_host host (reply xid a)) → In (run head earlier).packets (to_host host (reply xid a))
+    before : (host xid : ℕ) (a : Reply) → In (run head earlier).packets (to_host host (reply xid a)) ⊎ In t.sends (to_host host (reply xid a))
+        → In (run head earlier).packets (to_host host (reply xid a))
     before host xid a (inl old) = old
     before host xid a (inr new) = absurd (subst (λ xs. In xs (to_host host (reply xid a))) none new)
 
@@ -171,7 +192,9 @@ crash-silent s longest = (refl, λ k. booted-line s.kept longest k (s.kept.opene
 -- ---- a datagram at the server
 
 -- a kept row of a done request tells what was so of each request with its sequence
-repeats : (head : Head) (earlier : List Event) (host xid seq : ℕ) (r : Request) (who : Who) (line : HostRow) → IsDeed head earlier who.host line → Asked (run head earlier).packets host xid r → host ≡ who.host → asker r ≡ Some who → sequence_of r ≡ Some seq → line.inc ≡ who.inc → line.seq ≡ seq → Once (HadSo host xid (done_reply who.inc line.value r) r) head earlier
+repeats : (head : Head) (earlier : List Event) (host xid seq : ℕ) (r : Request) (who : Who) (line : HostRow) → IsDeed head earlier who.host line
+    → Asked (run head earlier).packets host xid r → host ≡ who.host → asker r ≡ Some who → sequence_of r ≡ Some seq → line.inc ≡ who.inc
+    → line.seq ≡ seq → Once (HadSo host xid (done_reply who.inc line.value r) r) head earlier
 repeats head earlier host xid seq r who line deed asked home by sq inc same =
     once-map (HadSo who.host deed.xid (done_reply line.inc line.value deed.asks) deed.asks) (HadSo host xid (done_reply who.inc line.value r) r) head earlier
     (λ v had.
@@ -197,7 +220,8 @@ repeats head earlier host xid seq r who line deed asked home by sq inc same =
         (record { sent = second.2; by = by; sequence = sq }) in
         (both.2, both.3)
 
-module _ (head : Head) (event : Event) (earlier : List Event) (p : Packet) (i : In (run head earlier).packets p) (to : p.to ≡ Party.Server) (t : AllTrue head earlier) where
+module _ (head : Head) (event : Event) (earlier : List Event) (p : Packet) (i : In (run head earlier).packets p) (to : p.to ≡ Party.Server)
+    (t : AllTrue head earlier) where
   abbrev w : World
   w = run head earlier
 
@@ -220,10 +244,12 @@ module _ (head : Head) (event : Event) (earlier : List Event) (p : Packet) (i : 
     unfolding after_server
     so-later a r so = subst (λ v. IsSo v.server.kept.files a r) (sym is) so
 
-    why-true : (host xid : ℕ) (a : Reply) (r : Request) (who : Who) → Asked w.packets host xid r → host ≡ who.host → asker r ≡ Some who → Reason w.server step_of.server.kept.files who r a → Once (HadSo host xid a r) head (event ∷ earlier)
+    why-true : (host xid : ℕ) (a : Reply) (r : Request) (who : Who) → Asked w.packets host xid r → host ≡ who.host → asker r ≡ Some who
+        → Reason w.server step_of.server.kept.files who r a → Once (HadSo host xid a r) head (event ∷ earlier)
     why-true host xid a r who asked home by (so_before so) = inr (once-now (HadSo host xid a r) head earlier (asked, so))
     why-true host xid a r who asked home by (so_after so) = inl (asked-later host xid r asked, so-later a r so)
-    why-true host xid a r who asked home by (again seq sq inc same e) = inr (subst (λ b. Once (HadSo host xid b r) head earlier) (sym e) (by-verdict line.verdict refl))
+    why-true host xid a r who asked home by (again seq sq inc same e) =
+        inr (subst (λ b. Once (HadSo host xid b r) head earlier) (sym e) (by-verdict line.verdict refl))
       where
         line : HostRow
         line = host_row w.server.kept who.host
@@ -239,15 +265,26 @@ module _ (head : Head) (event : Event) (earlier : List Event) (p : Packet) (i : 
         by-verdict Verdict.Stale other = once-now (HadSo host xid (verdict_reply who.inc Verdict.Stale line.value r) r) head earlier (asked, tt)
         by-verdict Verdict.TryLater other = once-now (HadSo host xid (verdict_reply who.inc Verdict.TryLater line.value r) r) head earlier (asked, tt)
 
-    new-reply : (host xid : ℕ) (a : Reply) → Tells w.server step_of.server.kept.files (datagram_of p.message) (sending_host p.sender) host xid a → IsTrue head (event ∷ earlier) host xid a
+    new-reply : (host xid : ℕ) (a : Reply) → Tells w.server step_of.server.kept.files (datagram_of p.message) (sending_host p.sender) host xid a
+        → IsTrue head (event ∷ earlier) host xid a
     new-reply host xid a k =
         let asked : Asked w.packets host xid k.asks = subst (λ h. Asked w.packets h xid k.asks) (sym k.to) (asked-of xid k.asks k.is) in
-        record { asks = k.asks; who = k.who; by = k.by; inc = k.inc; sent = asked-later host xid k.asks asked; was = why-true host xid a k.asks k.who asked k.home k.by k.why }
+        record {
+          asks = k.asks;
+          who = k.who;
+          by = k.by;
+          inc = k.inc;
+          sent = asked-later host xid k.asks asked;
+          was = why-true host xid a k.asks
+              k.who asked k.home k.by k.why;
+        }
 
-    row-true : (k : ℕ) (line : HostRow) → RowMove w.server step_of.server.kept.files (datagram_of p.message) (sending_host p.sender) k line → RowTrue head (event ∷ earlier) k line
+    row-true : (k : ℕ) (line : HostRow) → RowMove w.server step_of.server.kept.files (datagram_of p.message) (sending_host p.sender) k line
+        → RowTrue head (event ∷ earlier) k line
     row-true k line (row_stays same) done one =
         subst (IsDeed head (event ∷ earlier) k) (sym same)
-        (later-deed head event earlier k (host_row w.server.kept k) asked-later (t.rows k (ap (λ l. l.verdict) (sym same) ∙ done) (subst (λ l. 1 ≤ l.seq) same one)))
+        (later-deed head event earlier k (host_row w.server.kept k) asked-later
+        (t.rows k (ap (λ l. l.verdict) (sym same) ∙ done) (subst (λ l. 1 ≤ l.seq) same one)))
     row-true k line (row_begins none) done one = absurd (omega arith)
     row-true k line (row_decided xid r who is_it by from here inc sq so) done one =
         let asked : Asked w.packets k xid r = subst (λ h. Asked w.packets h xid r) (sym from ∙ sym here) (asked-of xid r is_it) in
@@ -268,26 +305,37 @@ module _ (head : Head) (event : Event) (earlier : List Event) (p : Packet) (i : 
     received-true =
         let both = receive-tells w.server (sending_host p.sender) (length w.packets) (datagram_of p.message) no-null in
         record {
-          replies = λ host xid a told. by host xid a both.0 (in-append w.packets step_of.sends (to_host host (reply xid a)) (subst (λ v. Told v.packets host (reply xid a)) is told));
-          rows = λ k. subst (λ v. RowTrue head (event ∷ earlier) k (host_row v.server.kept k)) (sym is) (row-true k (host_row step_of.server.kept k) (both.1 k));
+          replies =
+              λ host xid a told. by host xid a both.0
+              (in-append w.packets step_of.sends (to_host host (reply xid a)) (subst (λ v. Told v.packets host (reply xid a)) is told));
+          rows =
+              λ k. subst (λ v. RowTrue head (event ∷ earlier) k (host_row v.server.kept k)) (sym is)
+              (row-true k (host_row step_of.server.kept k) (both.1 k));
         }
       where
-        by : (host xid : ℕ) (a : Reply) → ((h x : ℕ) (b : Reply) → In step_of.sends (to_host h (reply x b)) → Tells w.server step_of.server.kept.files (datagram_of p.message) (sending_host p.sender) h x b) → In w.packets (to_host host (reply xid a)) ⊎ In step_of.sends (to_host host (reply xid a)) → IsTrue head (event ∷ earlier) host xid a
+        by : (host xid : ℕ) (a : Reply)
+            → ((h x : ℕ) (b : Reply) → In step_of.sends (to_host h (reply x b))
+            → Tells w.server step_of.server.kept.files (datagram_of p.message) (sending_host p.sender) h x b)
+            → In w.packets (to_host host (reply xid a)) ⊎ In step_of.sends (to_host host (reply xid a)) → IsTrue head (event ∷ earlier) host xid a
         by host xid a tells (inl old) = later-true head event earlier host xid a asked-later (t.replies host xid a old)
         by host xid a tells (inr new) = new-reply host xid a (tells host xid a new)
 
 -- ---- runs
 
-packet-true : (head : Head) (event : Event) (earlier : List Event) (k : ℕ) (p : Packet) (party : Party) → In (run head earlier).packets p → p.to ≡ party → run head (event ∷ earlier) ≡ deliver_to (run head earlier) k p party → AllTrue head earlier → AllTrue head (event ∷ earlier)
+packet-true : (head : Head) (event : Event) (earlier : List Event) (k : ℕ) (p : Packet) (party : Party) → In (run head earlier).packets p → p.to ≡ party
+    → run head (event ∷ earlier) ≡ deliver_to (run head earlier) k p party → AllTrue head earlier → AllTrue head (event ∷ earlier)
 packet-true head event earlier k p Party.Server i to is t = received-true head event earlier p i to t is
-packet-true head event earlier k p (Party.Client host) i to is t = to-client-true head event earlier k host p.message (slice_get (run head earlier).clients host) is t
+packet-true head event earlier k p (Party.Client host) i to is t =
+    to-client-true head event earlier k host p.message (slice_get (run head earlier).clients host) is t
 
-deliver-true : (head : Head) (event : Event) (earlier : List Event) (k : ℕ) (o : Option Packet) → slice_get (run head earlier).packets k ≡ o → run head (event ∷ earlier) ≡ deliver (run head earlier) k o → AllTrue head earlier → AllTrue head (event ∷ earlier)
+deliver-true : (head : Head) (event : Event) (earlier : List Event) (k : ℕ) (o : Option Packet) → slice_get (run head earlier).packets k ≡ o
+    → run head (event ∷ earlier) ≡ deliver (run head earlier) k o → AllTrue head earlier → AllTrue head (event ∷ earlier)
 deliver-true head event earlier k None there is t = unmoved head event earlier is t
 deliver-true head event earlier k (Some p) there is t = packet-true head event earlier k p p.to (in-get (run head earlier).packets k p there) refl is t
 
 step-true : (head : Head) (event : Event) (earlier : List Event) → AllTrue head earlier → AllTrue head (event ∷ earlier)
-step-true head (Event.Call host op) earlier t = at-true head (Event.Call host op) earlier host (λ c. client_call c op) (slice_get (run head earlier).clients host) refl t
+step-true head (Event.Call host op) earlier t =
+    at-true head (Event.Call host op) earlier host (λ c. client_call c op) (slice_get (run head earlier).clients host) refl t
 step-true head (Event.Deliver k) earlier t = deliver-true head (Event.Deliver k) earlier k (slice_get (run head earlier).packets k) refl refl t
 step-true head Event.ServerTick earlier t =
     let silent = tick-silent (run head earlier).server ((run head earlier).server.now + 1) in
@@ -305,7 +353,8 @@ unasked zero k = refl
 unasked (suc m) zero = refl
 unasked (suc m) (suc k) = unasked m k
 
-unasked-both : (m : ℕ) (rest : List HostRow) → ((k : ℕ) → (unwrap_or (slice_get rest k) fresh_row).seq ≡ 0) → (k : ℕ) → (unwrap_or (slice_get (replicate m first_row ++ rest) k) fresh_row).seq ≡ 0
+unasked-both : (m : ℕ) (rest : List HostRow) → ((k : ℕ) → (unwrap_or (slice_get rest k) fresh_row).seq ≡ 0) → (k : ℕ)
+    → (unwrap_or (slice_get (replicate m first_row ++ rest) k) fresh_row).seq ≡ 0
 unasked-both zero rest none k = none k
 unasked-both (suc m) rest none zero = refl
 unasked-both (suc m) rest none (suc k) = unasked-both m rest none k

@@ -1,6 +1,5 @@
 -- What the server tells of files in a step, and what it keeps of the request that it decided.
-use Rattle.std.proofs.Common.{◌≡◌, ◌⊎◌, ◌<◌, ℕ, ◌+◌, ◌%◌, ◌==◌, Bool, true, false, ◌&&◌, List, [], ◌∷◌, ◌++◌, Option, Some, None, length, refl, sym, subst, ap, ◌∙◌, inl, inr, arith}
-use Rattle.std.specs.List.{find}
+use Rattle.std.proofs.Common.{◌≡◌, ◌⊎◌, ◌<◌, ℕ, ◌%◌, true, List, [], ◌∷◌, ◌++◌, Some, None, refl, sym, subst, ap, ◌∙◌, inl, inr, arith}
 use Rattle.std.specs.Prelude.{replicate}
 use Rattle.std.proofs.lemmas.List.{length-replicate}
 use Rattle.std.proofs.lemmas.List.Folds.{find-append}
@@ -21,7 +20,7 @@ use Rattle.nq_model.specs.Profile.{same_bytes}
 use Rattle.nq_model.specs.Server.{Server, ServerStep, to_host, says, quiet, drops, notices, keeping, keeping_with, with_table, after_notices}
 use Rattle.nq_model.specs.ServerStep.{attaches, vacates, tells_later, serves, leases, receive}
 use Rattle.nq_model.specs.Table.{Table}
-use Rattle.nq_promises.specs.RepliesTellWhatWas.{KeepsNamed, KeepsAt, IsSo}
+use Rattle.nq_promises.specs.RepliesTellWhatWas.{KeepsNamed, IsSo}
 use Rattle.walk_run.proofs.Packets.{In, in-append, told-same, reply-same}
 use Rattle.walk_run.proofs.ServerSays.{notices-no-reply, verdict-inc, plain-inc}
 use Rattle.walk_server.proofs.KeptChanges.{line-as}
@@ -35,12 +34,14 @@ same-bytes-self : (name : List ℕ) → same_bytes name name ≡ true
 same-bytes-self [] = refl
 same-bytes-self (x ∷ xs) = rw (number-same x x refl) (same-bytes-self xs)
 
-find-named-added : (name : List ℕ) (file : File) (files : List File) → file.name ≡ name → find_name name files ≡ None → find_name name (files ++ file ∷ []) ≡ Some file
+find-named-added : (name : List ℕ) (file : File) (files : List File) → file.name ≡ name → find_name name files ≡ None
+    → find_name name (files ++ file ∷ []) ≡ Some file
 find-named-added name file files is free =
     let own : same_bytes file.name name ≡ true = subst (λ n. same_bytes file.name n ≡ true) is (same-bytes-self file.name) in
     find-append (λ f. same_bytes f.name name) files (file ∷ []) ∙ rw (free, own) refl
 
-made-named : (kept : Kept) (name : List ℕ) (blocks : ℕ) → find_name name kept.files ≡ None → kept.next < 2147483648 → KeepsNamed (kept.files ++ new_file kept.next name blocks ∷ []) name (kept.next % 4294967296) blocks
+made-named : (kept : Kept) (name : List ℕ) (blocks : ℕ) → find_name name kept.files ≡ None → kept.next < 2147483648
+    → KeepsNamed (kept.files ++ new_file kept.next name blocks ∷ []) name (kept.next % 4294967296) blocks
 unfolding new_file
 made-named kept name blocks free low = record {
   file = record { id = kept.next; name = name; rev = 0; bodies = replicate blocks zeros };
@@ -55,7 +56,8 @@ made-named kept name blocks free low = record {
 pub data Reason (s : Server) (after : List File) (who : Who) (r : Request) (a : Reply) : Type 0 where
   so_before : IsSo s.kept.files a r → Reason s after who r a
   so_after : IsSo after a r → Reason s after who r a
-  again : (seq : ℕ) → sequence_of r ≡ Some seq → (line_of s who).inc ≡ who.inc → (line_of s who).seq ≡ seq → a ≡ verdict_reply who.inc (line_of s who).verdict (line_of s who).value r → Reason s after who r a
+  again : (seq : ℕ) → sequence_of r ≡ Some seq → (line_of s who).inc ≡ who.inc → (line_of s who).seq ≡ seq
+      → a ≡ verdict_reply who.inc (line_of s who).verdict (line_of s who).value r → Reason s after who r a
 
 -- a reply to a host answers the request of this datagram, and is true
 pub record Tells (s : Server) (after : List File) (d : Datagram) (sender host xid : ℕ) (a : Reply) : Type 0 where
@@ -72,7 +74,8 @@ pub record Tells (s : Server) (after : List File) (d : Datagram) (sender host xi
 pub data RowMove (s : Server) (after : List File) (d : Datagram) (sender k : ℕ) (line : HostRow) : Type 0 where
   row_stays : line ≡ host_row s.kept k → RowMove s after d sender k line
   row_begins : line.seq ≡ 0 → RowMove s after d sender k line
-  row_decided : (xid : ℕ) (r : Request) (who : Who) → d ≡ request xid r → asker r ≡ Some who → who.host ≡ sender → k ≡ who.host → line.inc ≡ who.inc → sequence_of r ≡ Some line.seq → (line.verdict ≡ Verdict.Done → IsSo after (done_reply line.inc line.value r) r) → RowMove s after d sender k line
+  row_decided : (xid : ℕ) (r : Request) (who : Who) → d ≡ request xid r → asker r ≡ Some who → who.host ≡ sender → k ≡ who.host → line.inc ≡ who.inc
+      → sequence_of r ≡ Some line.seq → (line.verdict ≡ Verdict.Done → IsSo after (done_reply line.inc line.value r) r) → RowMove s after d sender k line
 
 refused-so : (files : List File) (r : Request) (a : Reply) (inc : ℕ) (status : Refusal) → a ≡ Reply.Refused inc status → IsSo files a r
 refused-so files r a inc status e = subst (λ b. IsSo files b r) (sym e) tt
@@ -87,7 +90,8 @@ undone-so files inc Verdict.Invalid value r other = tt
 undone-so files inc Verdict.Stale value r other = tt
 undone-so files inc Verdict.TryLater value r other = tt
 
-done-so : (files : List File) (inc : ℕ) (v : Verdict) (value : ℕ) (r : Request) → v ≡ Verdict.Done → IsSo files (verdict_reply inc v value r) r → IsSo files (done_reply inc value r) r
+done-so : (files : List File) (inc : ℕ) (v : Verdict) (value : ℕ) (r : Request) → v ≡ Verdict.Done → IsSo files (verdict_reply inc v value r) r
+    → IsSo files (done_reply inc value r) r
 done-so files inc v value r done so = subst (λ w. IsSo files (verdict_reply inc w value r) r) done so
 
 plain-so : (s : Server) (after : List File) (who : Who) (r : Request) (a : Reply) → IsPlain s who r a → Reason s after who r a
@@ -96,10 +100,14 @@ plain-so s after who r a (attached_again is same e) = so_before (subst (λ b. Is
 plain-so s after who r a (not_yet same rec only e) = so_before (refused-so s.kept.files r a _ _ e)
 plain-so s after who r a (no_entry name same p is none e) = so_before (refused-so s.kept.files r a _ _ e)
 plain-so s after who r a (entry name f same p is some e) =
-    so_before (subst (λ b. IsSo s.kept.files b r) (sym e) (subst (λ q. IsSo s.kept.files (Reply.Lookup who.inc f.id (blocks_of f)) q) (sym is) (record { file = f; found = some; has_id = refl; has_length = refl })))
+    so_before (subst (λ b. IsSo s.kept.files b r) (sym e)
+    (subst (λ q. IsSo s.kept.files (Reply.Lookup who.inc f.id (blocks_of f)) q) (sym is)
+    (record { file = f; found = some; has_id = refl; has_length = refl })))
 plain-so s after who r a (no_attributes file same p is none e) = so_before (refused-so s.kept.files r a _ _ e)
 plain-so s after who r a (attributes file f same p is some e) =
-    so_before (subst (λ b. IsSo s.kept.files b r) (sym e) (subst (λ q. IsSo s.kept.files (Reply.GetAttr who.inc (blocks_of f) f.rev) q) (sym is) (record { file = f; found = some; has_length = refl; has_rev = refl })))
+    so_before (subst (λ b. IsSo s.kept.files b r) (sym e)
+    (subst (λ q. IsSo s.kept.files (Reply.GetAttr who.inc (blocks_of f) f.rev) q) (sym is)
+    (record { file = f; found = some; has_length = refl; has_rev = refl })))
 plain-so s after who r a (no_file file same p on none e) = so_before (refused-so s.kept.files r a _ _ e)
 plain-so s after who r a (no_block q file block want f same p is some none e) = so_before (refused-so s.kept.files r a _ _ e)
 plain-so s after who r a (decided_again seq same sq eq e) = again seq sq (sym same) (sym eq) e
@@ -129,56 +137,70 @@ module _ (s : Server) (sender next : ℕ) (d : Datagram) (no_null : (xid : ℕ) 
   one-reply after h x b t host xid a (inl e) =
       let same = told-same h host (reply x b) (reply xid a) e in
       let parts = reply-same x xid b a same.1 in
-      subst (λ k. Tells s after d sender k xid a) same.0 (subst (λ k. Tells s after d sender h k a) parts.0 (subst (λ k. Tells s after d sender h x k) parts.1 t))
+      subst (λ k. Tells s after d sender k xid a) same.0
+      (subst (λ k. Tells s after d sender h k a) parts.0 (subst (λ k. Tells s after d sender h x k) parts.1 t))
 
-  behind-notices : (after : List File) (number : ℕ) (rows : List Row) (h x : ℕ) (b : Reply) → Tells s after d sender h x b → Tell after (notices number rows ++ to_host h (reply x b) ∷ [])
+  behind-notices : (after : List File) (number : ℕ) (rows : List Row) (h x : ℕ) (b : Reply) → Tells s after d sender h x b
+      → Tell after (notices number rows ++ to_host h (reply x b) ∷ [])
   behind-notices after number rows h x b t host xid a i = by (in-append (notices number rows) (to_host h (reply x b) ∷ []) (to_host host (reply xid a)) i)
     where
-      by : In (notices number rows) (to_host host (reply xid a)) ⊎ In (to_host h (reply x b) ∷ []) (to_host host (reply xid a)) → Tells s after d sender host xid a
+      by : In (notices number rows) (to_host host (reply xid a)) ⊎ In (to_host h (reply x b) ∷ []) (to_host host (reply xid a))
+          → Tells s after d sender host xid a
       by (inl note) = absurd (notices-no-reply number rows host xid a note)
       by (inr own) = one-reply after h x b t host xid a own
 
-  answers : (after : List File) (xid : ℕ) (who : Who) (r : Request) (a : Reply) → d ≡ request xid r → asker r ≡ Some who → IsFrom sender who → inc_of a ≡ who.inc → Reason s after who r a → Tells s after d sender who.host xid a
+  answers : (after : List File) (xid : ℕ) (who : Who) (r : Request) (a : Reply) → d ≡ request xid r → asker r ≡ Some who → IsFrom sender who
+      → inc_of a ≡ who.inc → Reason s after who r a → Tells s after d sender who.host xid a
   answers after xid who r a e by from inc why = record { asks = r; who = who; is = e; by = by; to = from.host; home = refl; inc = inc; why = why }
 
-  -- a step that keeps what is kept
-  plainly : (t : ServerStep) → t.server.kept ≡ s.kept → Tell s.kept.files t.sends → Both t
-  plainly t same told = (subst (λ kept. Tell kept.files t.sends) (sym same) told, subst Rows (sym same) same-rows)
-
-  later : (xid : ℕ) (who : Who) (r : Request) (table : Table) (rows : List Row) → d ≡ request xid r → asker r ≡ Some who → IsFrom sender who → Both (tells_later s who xid table rows)
+  later : (xid : ℕ) (who : Who) (r : Request) (table : Table) (rows : List Row) → d ≡ request xid r → asker r ≡ Some who → IsFrom sender who
+      → Both (tells_later s who xid table rows)
   unfolding tells_later after_notices
-  later xid who r table rows e by from =
-      (behind-notices s.kept.files s.notice rows who.host xid (Reply.Refused who.inc Refusal.TryLater) (answers s.kept.files xid who r (Reply.Refused who.inc Refusal.TryLater) e by from refl (so_before tt)), same-rows)
+  later xid who r table rows e by from = (
+    behind-notices s.kept.files s.notice rows who.host xid (Reply.Refused who.inc Refusal.TryLater)
+        (answers s.kept.files xid who r (Reply.Refused who.inc Refusal.TryLater) e by from refl (so_before tt)),
+    same-rows,
+  )
 
   -- what is told without a file's id, length and revision
-  replied : (xid : ℕ) (who : Who) (r : Request) (a : Reply) → d ≡ request xid r → asker r ≡ Some who → IsFrom sender who → inc_of a ≡ who.inc → IsSo s.kept.files a r → Tell s.kept.files (to_host who.host (reply xid a) ∷ [])
+  replied : (xid : ℕ) (who : Who) (r : Request) (a : Reply) → d ≡ request xid r → asker r ≡ Some who → IsFrom sender who → inc_of a ≡ who.inc
+      → IsSo s.kept.files a r → Tell s.kept.files (to_host who.host (reply xid a) ∷ [])
   replied xid who r a e by from inc so = one-reply s.kept.files who.host xid a (answers s.kept.files xid who r a e by from inc (so_before so))
 
   -- a request that is decided now
-  committed : (xid : ℕ) (who : Who) (seq : ℕ) (r : Request) (c : Decision) (number : ℕ) (rows : List Row) → d ≡ request xid r → asker r ≡ Some who → sequence_of r ≡ Some seq → IsFrom sender who → c.server.kept.hosts ≡ s.kept.hosts → c.sends ≡ notices number rows → IsSo c.server.kept.files (verdict_reply who.inc c.verdict c.value r) r → Both (commits who seq xid r c)
+  committed : (xid : ℕ) (who : Who) (seq : ℕ) (r : Request) (c : Decision) (number : ℕ) (rows : List Row) → d ≡ request xid r → asker r ≡ Some who
+      → sequence_of r ≡ Some seq → IsFrom sender who → c.server.kept.hosts ≡ s.kept.hosts → c.sends ≡ notices number rows
+      → IsSo c.server.kept.files (verdict_reply who.inc c.verdict c.value r) r → Both (commits who seq xid r c)
   unfolding commits keeping with_row
   committed xid who seq r c number rows e by sq from hosts sent so =
       let answer : Reply = verdict_reply who.inc c.verdict c.value r in
       let after : List File = c.server.kept.files in (
         subst (λ xs. Tell after (xs ++ to_host who.host (reply xid answer) ∷ [])) (sym sent)
-            (behind-notices after number rows who.host xid answer (answers after xid who r answer e by from (verdict-inc who.inc c.verdict c.value r seq sq) (so_after so))),
+            (behind-notices after number rows who.host xid answer
+            (answers after xid who r answer e by from (verdict-inc who.inc c.verdict c.value r seq sq) (so_after so))),
         λ k. line-as c.server.kept who.host k (row_after who seq c) (RowMove s after d sender k)
             (row_stays (ap (λ hs. host_row (record s.kept { hosts = hs }) k) hosts))
             (λ here. row_decided xid r who e by from.host here refl sq (λ done. done-so after who.inc c.verdict c.value r done so)),
       )
 
-  declined : (xid : ℕ) (who : Who) (seq : ℕ) (r : Request) (v : Verdict) → d ≡ request xid r → asker r ≡ Some who → sequence_of r ≡ Some seq → IsFrom sender who → IsDeclined s who r v → Both (commits who seq xid r (decides s v))
+  declined : (xid : ℕ) (who : Who) (seq : ℕ) (r : Request) (v : Verdict) → d ≡ request xid r → asker r ≡ Some who → sequence_of r ≡ Some seq
+      → IsFrom sender who → IsDeclined s who r v → Both (commits who seq xid r (decides s v))
   unfolding decides
-  declined xid who seq r v e by sq from declines = committed xid who seq r (decides s v) 0 [] e by sq from refl refl (undone-so s.kept.files who.inc v 0 r (declined-not s who r v declines))
+  declined xid who seq r v e by sq from declines =
+      committed xid who seq r (decides s v) 0 [] e by sq from refl refl (undone-so s.kept.files who.inc v 0 r (declined-not s who r v declines))
 
-  put-off : (xid : ℕ) (who : Who) (seq : ℕ) (r : Request) (file : ℕ) (table : Table) → d ≡ request xid r → asker r ≡ Some who → sequence_of r ≡ Some seq → IsFrom sender who → Both (commits who seq xid r (puts_off s who file table))
+  put-off : (xid : ℕ) (who : Who) (seq : ℕ) (r : Request) (file : ℕ) (table : Table) → d ≡ request xid r → asker r ≡ Some who → sequence_of r ≡ Some seq
+      → IsFrom sender who → Both (commits who seq xid r (puts_off s who file table))
   unfolding puts_off after_notices
-  put-off xid who seq r file table e by sq from = committed xid who seq r (puts_off s who file table) s.notice (in_the_way s file who.host Access.Write) e by sq from refl refl tt
+  put-off xid who seq r file table e by sq from =
+      committed xid who seq r (puts_off s who file table) s.notice (in_the_way s file who.host Access.Write) e by sq from refl refl tt
 
-  created : (xid : ℕ) (who : Who) (seq blocks : ℕ) (name : List ℕ) → d ≡ request xid (Request.Create who seq name blocks) → IsFrom sender who → CanCreate s name blocks → Both (commits who seq xid (Request.Create who seq name blocks) (creates s name blocks))
+  created : (xid : ℕ) (who : Who) (seq blocks : ℕ) (name : List ℕ) → d ≡ request xid (Request.Create who seq name blocks) → IsFrom sender who
+      → CanCreate s name blocks → Both (commits who seq xid (Request.Create who seq name blocks) (creates s name blocks))
   unfolding creates keeping with_new_file
   created xid who seq blocks name e from can =
-      committed xid who seq (Request.Create who seq name blocks) (creates s name blocks) 0 [] e refl refl from refl refl (made-named s.kept name blocks can.free can.id_room)
+      committed xid who seq (Request.Create who seq name blocks) (creates s name blocks) 0 [] e refl refl from refl refl
+      (made-named s.kept name blocks can.free can.id_room)
 
   error-tells : (m : Message) → ((x : ℕ) (a : Reply) → m ≡ reply x a → ⊥) → Tell s.kept.files (to_host sender m ∷ [])
   error-tells m none host xid a (inr i) = absurd i
@@ -187,8 +209,10 @@ module _ (s : Server) (sender next : ℕ) (d : Datagram) (no_null : (xid : ℕ) 
   attached : (xid : ℕ) (who : Who) → d ≡ request xid (Request.Attach who) → IsFrom sender who → Both (attaches s who xid)
   unfolding attaches keeping_with with_row
   attached xid who e from = (
-    one-reply s.kept.files who.host xid (Reply.Attach who.inc) (answers s.kept.files xid who (Request.Attach who) (Reply.Attach who.inc) e refl from refl (so_before tt)),
-    λ k. line-as s.kept who.host k (record { inc = who.inc; seq = 0; verdict = Verdict.Done; value = 0 }) (RowMove s s.kept.files d sender k) (row_stays refl) (λ here. row_begins refl),
+    one-reply s.kept.files who.host xid (Reply.Attach who.inc)
+        (answers s.kept.files xid who (Request.Attach who) (Reply.Attach who.inc) e refl from refl (so_before tt)),
+    λ k. line-as s.kept who.host k (record { inc = who.inc; seq = 0; verdict = Verdict.Done; value = 0 }) (RowMove s s.kept.files d sender k)
+        (row_stays refl) (λ here. row_begins refl),
   )
 
   pub receive-tells : Both (receive s sender next d)
@@ -198,23 +222,46 @@ module _ (s : Server) (sender next : ℕ) (d : Datagram) (no_null : (xid : ℕ) 
     dropping = λ reason. (no-packets s.kept.files, same-rows);
     erring = λ m e. (error-tells m (λ x a is. error-no-reply d m x a e is), same-rows);
     answers_null = λ xid e. absurd (no_null xid e);
-    replying = λ xid who r a e by from plain. (one-reply s.kept.files who.host xid a (answers s.kept.files xid who r a e by from (plain-inc s who r a plain) (plain-so s s.kept.files who r a plain)), same-rows);
+    replying =
+        λ xid who r a e by from plain. (
+          one-reply s.kept.files who.host xid a
+              (answers s.kept.files xid who r a e by from (plain-inc s who r a plain) (plain-so s s.kept.files who r a plain)),
+          same-rows,
+        );
     attaching = λ xid who e from above. attached xid who e from;
     vacating = λ xid who file tag e current. (no-packets s.kept.files, same-rows);
     putting_off = λ xid who r f clash e by file asking c. later xid who r _ _ e by asking.current.from;
     putting_off_waiting = λ xid who r f clash want e by file wants asking c own room. later xid who r _ _ e by asking.current.from;
     putting_off_by_own = λ xid who r f want own e by file wants asking c o evicting. later xid who r _ _ e by asking.current.from;
-    reading = λ xid who q block f body e asking there c. (replied xid who (Request.Read who q f.id block None) (Reply.Read who.inc f.rev body None) e refl asking.current.from refl tt, same-rows);
-    reading_full = λ xid who q block want f body e asking there c own room. (replied xid who (Request.Read who q f.id block (Some want)) (Reply.Read who.inc f.rev body None) e refl asking.current.from refl tt, same-rows);
-    reading_granted = λ xid who q block want f body row term e asking there c g. (replied xid who (Request.Read who q f.id block (Some want)) (Reply.Read who.inc f.rev body _) e refl asking.current.from refl tt, same-rows);
-    leasing_full = λ xid who want f e asking c own room. (replied xid who (Request.GetLease who f.id want) (Reply.GetLease who.inc None) e refl asking.current.from refl tt, same-rows);
-    leasing = λ xid who want f row term e asking c g. (replied xid who (Request.GetLease who f.id want) (Reply.GetLease who.inc _) e refl asking.current.from refl tt, same-rows);
+    reading =
+        λ xid who q block f body e asking there c.
+        (replied xid who (Request.Read who q f.id block None) (Reply.Read who.inc f.rev body None) e refl asking.current.from refl tt, same-rows);
+    reading_full =
+        λ xid who q block want f body e asking there c own room.
+        (replied xid who (Request.Read who q f.id block (Some want)) (Reply.Read who.inc f.rev body None) e refl asking.current.from refl tt, same-rows);
+    reading_granted =
+        λ xid who q block want f body row term e asking there c g.
+        (replied xid who (Request.Read who q f.id block (Some want)) (Reply.Read who.inc f.rev body _) e refl asking.current.from refl tt, same-rows);
+    leasing_full =
+        λ xid who want f e asking c own room.
+        (replied xid who (Request.GetLease who f.id want) (Reply.GetLease who.inc None) e refl asking.current.from refl tt, same-rows);
+    leasing =
+        λ xid who want f row term e asking c g.
+        (replied xid who (Request.GetLease who f.id want) (Reply.GetLease who.inc _) e refl asking.current.from refl tt, same-rows);
     declining = λ xid who seq r verdict e by sq fresh declines. declined xid who seq r verdict e by sq fresh.current.from declines;
     putting_off_change = λ xid who seq r f clash e by sq file base changing c. put-off xid who seq r f.id _ e by sq changing.fresh.current.from;
     creating = λ xid who seq blocks name e fresh serves can. created xid who seq blocks name e fresh.current.from can;
-    writing_through = λ xid who seq block first last body f e changing below c. committed xid who seq _ (writes_through s who f block first body) 0 [] e refl refl changing.fresh.current.from refl refl tt;
-    storing = λ xid who seq block first last base body f row e changing below can. committed xid who seq _ (stores s who f row block first last body) 0 [] e refl refl changing.fresh.current.from refl refl tt;
-    storing_recovering = λ xid who seq block first final base body f until heard last e fresh recovers found below boot rev. committed xid who seq _ (stores_recovering s until last who f block first final body) 0 [] e refl refl fresh.current.from refl refl tt;
-    resizing = λ xid who seq q blocks f e changing can c. committed xid who seq _ (resizes s who q f blocks) 0 [] e refl refl changing.fresh.current.from refl refl tt;
+    writing_through =
+        λ xid who seq block first last body f e changing below c. committed xid who seq _ (writes_through s who f block first body) 0 [] e refl refl
+        changing.fresh.current.from refl refl tt;
+    storing =
+        λ xid who seq block first last base body f row e changing below can. committed xid who seq _ (stores s who f row block first last body) 0 [] e
+        refl refl changing.fresh.current.from refl refl tt;
+    storing_recovering =
+        λ xid who seq block first final base body f until heard last e fresh recovers found below boot rev. committed xid who seq _
+        (stores_recovering s until last who f block first final body) 0 [] e refl refl fresh.current.from refl refl tt;
+    resizing =
+        λ xid who seq q blocks f e changing can c. committed xid who seq _ (resizes s who q f blocks) 0 [] e refl refl changing.fresh.current.from refl
+        refl tt;
     removing = λ xid who seq q f e changing c. committed xid who seq _ (removes s who q f) 0 [] e refl refl changing.fresh.current.from refl refl tt;
   })

@@ -36,7 +36,8 @@ fenced-for kept file boot rev (gone none) = law.IsFencedFor.gone none
 fenced-for kept file boot rev (ahead f found above) = law.IsFencedFor.ahead f found above
 fenced-for kept file boot rev (earlier below) = law.IsFencedFor.earlier below
 
-module _ (hosts most : ℕ) (w : World) (events : List Event) (k : KnownOf hosts most w events) (host : ℕ) (c : Client) (is : slice_get w.clients host ≡ Some c) (file : ℕ) (unclean : is_clean c file ≡ false) where
+module _ (hosts most : ℕ) (w : World) (events : List Event) (k : KnownOf hosts most w events) (host : ℕ) (c : Client)
+    (is : slice_get w.clients host ≡ Some c) (file : ℕ) (unclean : is_clean c file ≡ false) where
   f : ChainFits w.server c w.packets
   f = k.chains host c is
 
@@ -72,7 +73,9 @@ module _ (hosts most : ℕ) (w : World) (events : List Event) (k : KnownOf hosts
         known = revision.1;
         f = knows.f;
         found = knows.found;
-        is_due = subst (λ n. knows.f.rev ≡ due (has_done_write (host_row w.server.kept n) c.who.inc file c.ticket) revision.0.rev) here (subst (λ n. knows.f.rev ≡ due (done_at w.server.kept c.who c.ticket file) n) known-rev knows.revision);
+        is_due =
+            subst (λ n. knows.f.rev ≡ due (has_done_write (host_row w.server.kept n) c.who.inc file c.ticket) revision.0.rev) here
+            (subst (λ n. knows.f.rev ≡ due (done_at w.server.kept c.who c.ticket file) n) known-rev knows.revision);
       }
 
   -- no file is both
@@ -89,36 +92,50 @@ module _ (hosts most : ℕ) (w : World) (events : List Event) (k : KnownOf hosts
       early a since opened x e below = grind (arith, nat_tests)
 
       case : IsFenced w.server.kept file held.0.tag.boot (due (done_at w.server.kept c.who c.ticket file) (rev_at c.revisions file)) → ⊥
-      case (earlier below) = early held.0.tag b.row.since w.server.kept.opened z.began ((k.runs.served.stood.fits file c.who.host b.row b.stands).since_boot ∙ standing-boot w.server w.server.phase k.runs.served.boots) below
+      case (earlier below) =
+          early held.0.tag b.row.since w.server.kept.opened z.began
+          ((k.runs.served.stood.fits file c.who.host b.row b.stands).since_boot ∙ standing-boot w.server w.server.phase k.runs.served.boots) below
       case (gone none) = let knows = f.held.chained file held.0 b.row held.1 (writing-caches held.0.mode held.2) z in none-some knows.f (sym none ∙ knows.found)
       case (ahead g found above) =
           let knows = f.held.chained file held.0 b.row held.1 (writing-caches held.0.mode held.2) z in
           let same : g ≡ knows.f = some-same g knows.f (sym found ∙ knows.found) in
-          let less : due (done_at w.server.kept c.who c.ticket file) (rev_at c.revisions file) < knows.f.rev = subst (λ x. due (done_at w.server.kept c.who c.ticket file) (rev_at c.revisions file) < x.rev) same above in
+          let less : due (done_at w.server.kept c.who c.ticket file) (rev_at c.revisions file) < knows.f.rev = subst
+          (λ x. due (done_at w.server.kept c.who c.ticket file) (rev_at c.revisions file) < x.rev) same above in
           let at = knows.revision in
           absurd (omega arith)
 
-  fenced-at : IsFenced w.server.kept file held.0.tag.boot (due (done_at w.server.kept c.who c.ticket file) (rev_at c.revisions file)) → ((p : Push) → IsUnsaved c p → p.file ≡ file → IsExcusedLoss w.journal c.who p) → law.IsFencedAt w host c file
+  fenced-at : IsFenced w.server.kept file held.0.tag.boot (due (done_at w.server.kept c.who c.ticket file) (rev_at c.revisions file))
+      → ((p : Push) → IsUnsaved c p → p.file ≡ file → IsExcusedLoss w.journal c.who p) → law.IsFencedAt w host c file
   fenced-at h by = record {
     lease = held.0;
     held = held.1;
     for_writing = held.2;
     revision = revision.0;
     known = revision.1;
-    fenced = subst (λ n. law.IsFencedFor w.server.kept file held.0.tag.boot (due (has_done_write (host_row w.server.kept n) c.who.inc file c.ticket) revision.0.rev)) here (subst (λ n. law.IsFencedFor w.server.kept file held.0.tag.boot (due (done_at w.server.kept c.who c.ticket file) n)) known-rev (fenced-for w.server.kept file held.0.tag.boot _ h));
+    fenced =
+        subst (λ n. law.IsFencedFor w.server.kept file held.0.tag.boot
+        (due (has_done_write (host_row w.server.kept n) c.who.inc file c.ticket) revision.0.rev)) here
+        (subst (λ n. law.IsFencedFor w.server.kept file held.0.tag.boot (due (done_at w.server.kept c.who c.ticket file) n)) known-rev
+        (fenced-for w.server.kept file held.0.tag.boot _ h));
     by = by;
   }
 
-  either : (IsBoundAt w c file ⊎ ((p : Push) → IsUnsaved c p → p.file ≡ file → IsExcusedLoss w.journal c.who p)) → law.IsBoundAndDue w host c file ⊎ law.IsFencedAt w host c file
+  either : (IsBoundAt w c file ⊎ ((p : Push) → IsUnsaved c p → p.file ≡ file → IsExcusedLoss w.journal c.who p))
+      → law.IsBoundAndDue w host c file ⊎ law.IsFencedAt w host c file
   either excused = case (f.writes.bound file held.0 unclean held.1) excused
     where
-      case : IsBoundOrFenced (standing w.server) w.server.kept c.who file held.0.tag (due (done_at w.server.kept c.who c.ticket file) (rev_at c.revisions file)) → (IsBoundAt w c file ⊎ ((p : Push) → IsUnsaved c p → p.file ≡ file → IsExcusedLoss w.journal c.who p)) → law.IsBoundAndDue w host c file ⊎ law.IsFencedAt w host c file
+      case : IsBoundOrFenced (standing w.server) w.server.kept c.who file held.0.tag
+          (due (done_at w.server.kept c.who c.ticket file) (rev_at c.revisions file))
+          → (IsBoundAt w c file ⊎ ((p : Push) → IsUnsaved c p → p.file ≡ file → IsExcusedLoss w.journal c.who p))
+          → law.IsBoundAndDue w host c file ⊎ law.IsFencedAt w host c file
       case (bound row z) e = inl (chained-due row z)
       case (fenced h) (inl b) = absurd (not-both b h)
       case (fenced h) (inr by) = inr (fenced-at h by)
 
 bound-or-fenced : UnsavedFilesAreBoundOrExcused → law.UnsavedFilesAreBoundOrFenced
-bound-or-fenced excused most head events host c file bounds within is unclean = either head.hosts most (run head events) events (run-known most head events bounds within) host c is file unclean (excused most head events host c file bounds within is unclean)
+bound-or-fenced excused most head events host c file bounds within is unclean =
+    either head.hosts most (run head events) events (run-known most head events bounds within) host c is file unclean
+    (excused most head events host c file bounds within is unclean)
 
 pub bound-or-fenced-in-every-run : law.UnsavedFilesAreBoundOrFenced
 bound-or-fenced-in-every-run = bound-or-fenced (bound-or-excused chain-fits)
@@ -139,13 +156,16 @@ writes-undisturbed most head events bounds within = (bound-writes, open-pushes)
     still = still-fits most head events bounds within
 
     bound-writes : law.BoundWritesAreUndisturbed w
-    bound-writes host c p is unsaved uncovered b = (still.fits host c is).unsaved p (entry-of c p unsaved) uncovered b.lease b.row b.held (record { own = record { stands = b.stands; holder = b.holder }; began = b.began })
+    bound-writes host c p is unsaved uncovered b =
+        (still.fits host c is).unsaved p (entry-of c p unsaved) uncovered b.lease b.row b.held
+        (record { own = record { stands = b.stands; holder = b.holder }; began = b.began })
 
     open-pushes : law.OpenPushesAreUndisturbed w
     open-pushes host place xid c who seq file block first last base body is o =
         let here : c.who.host ≡ host = ((run-known most head events bounds within).holds.clients host c is).here in
         (still.fits host c is).sent xid who seq file block first last base body
-        (subst (λ h. In w.packets (from_host h (call xid (Request.Write who seq file block first last (Some base) body)))) (sym here) (in-get w.packets place _ o.sent))
+        (subst (λ h. In w.packets (from_host h (call xid (Request.Write who seq file block first last (Some base) body)))) (sym here)
+        (in-get w.packets place _ o.sent))
         (o.of_host ∙ sym here)
         (subst (λ h. who.inc ≡ (host_row w.server.kept h).inc) (sym here) o.kept)
         (subst (λ h. (host_row w.server.kept h).seq < seq) (sym here) o.above)

@@ -12,7 +12,8 @@ use Rattle.walk_run.proofs.Worlds.{run-holds}
 use Rattle.walk_undisturbed.proofs.Holders.{KnownOf}
 use Rattle.law_undisturbed.proofs.UndisturbedRuns.{Still, run-still}
 
-pub run-known : (most : ℕ) (head : Head) (events : List Event) → KeepsBounds most head events → IsWithinSkew head.hosts most events → KnownOf head.hosts most (run head events) events
+pub run-known : (most : ℕ) (head : Head) (events : List Event) → KeepsBounds most head events → IsWithinSkew head.hosts most events
+    → KnownOf head.hosts most (run head events) events
 run-known most head events bounds within =
     let writes = writes-fit most head events bounds within in
     record {

@@ -11,25 +11,18 @@ use Rattle.walk_run.proofs.NoCrash.{no-crash-within}
 use Rattle.nq_promises.specs.Bounds.{BootsWithin}
 use Rattle.nq_model.proofs.JournalTests.{tells_exists, tells_covers}
 use Rattle.nq_model.proofs.SkewTest.{skew-test-is-sound}
-use Rattle.nq_model.specs.Ask.{grant_of, sharing_row, caching_row, shared_again, renewed_row, put_off, free, put_off_by_own, granted, no_lease}
 use Rattle.nq_model.specs.Client.{Client, is_clean}
-use Rattle.nq_model.specs.ClientStep.{begins_call, is_called, says_busy, at_time, sends_again, fresh_client, attached_client, starts}
-use Rattle.nq_model.specs.Decide.{decides, creates, writes_through, stores, wrote, stores_recovering, resizes, removes, puts_off, commits}
-use Rattle.nq_model.specs.Hear.{vacates_lease, loses, without_lease, granted_lease, holds, caches_block, purges, knows_revision, marks_through, ends_push, spends, attached, pauses, cancels, notes_notice}
+use Rattle.nq_model.specs.ClientStep.{attached_client}
 use Rattle.nq_model.specs.JournalTest.{exists, covers}
-use Rattle.nq_model.specs.Kept.{new_file, written_file, resized_file, fenced_file, with_row, with_files, with_new_file}
-use Rattle.nq_model.specs.Send.{sends_request, after_seq, after_number, takes_push, gives_up}
-use Rattle.nq_model.specs.Server.{quiet, drops, says, after_notices, keeping, keeping_with, with_table, standing}
-use Rattle.nq_model.specs.ServerStep.{attaches, tells_later, serves, leases, vacates, ends_writing, opens, boot, crash}
-use Rattle.nq_model.specs.ServerStep as server
-use Rattle.nq_model.specs.Settle.{answers, after_read, reads_cached, after_write, marks_written}
+use Rattle.nq_model.specs.Server.{standing}
 use Rattle.nq_model.specs.Skew.{is_within_skew}
-use Rattle.nq_model.specs.Table.{empty_table, with_rows, after_draw, find_row}
-use Rattle.nq_model.specs.World.{after_server, after_client, start, run}
+use Rattle.nq_model.specs.Table.{find_row}
+use Rattle.nq_model.specs.World.{run}
 use Rattle.walk_server.proofs.Tests.{some-is}
 use Rattle.law_undisturbed.proofs.BoundOrFenced.{bound-or-fenced-in-every-run}
 use Rattle.nq_promises.specs.WritesAreUndisturbed.{IsBoundAndDue, IsFencedAt, IsUncovered}
 use Rattle.law_undisturbed.specs.Met.{BoundAndFencedAreMet}
+use Rattle.walk_entries.proofs.GivenRuns.{given-run}
 
 -- the delayed write
 abbrev push : Push
@@ -38,21 +31,23 @@ push = record { file = 1; block = 0; first = 1; last = 1; body = zeros }
 -- ---- bound
 
 listed-first : slice_get writer.dirty 0 ≡ Some push
-unfolding delayed writer grant_of sharing_row caching_row shared_again renewed_row put_off free put_off_by_own granted no_lease begins_call is_called says_busy at_time sends_again fresh_client attached_client starts decides creates writes_through stores wrote stores_recovering resizes removes puts_off commits vacates_lease loses without_lease granted_lease holds caches_block purges knows_revision marks_through ends_push spends attached pauses cancels notes_notice new_file written_file resized_file fenced_file with_row with_files with_new_file sends_request after_seq after_number takes_push gives_up quiet drops says after_notices keeping keeping_with with_table attaches tells_later serves leases vacates ends_writing opens boot crash answers after_read reads_cached after_write marks_written empty_table with_rows after_draw after_server after_client start
+unfolding delayed writer given-run
 listed-first = refl
 
 none-covers : (n : ℕ) → exists (λ e. covers e (W writer.who 1 0 n 0 false)) (run one-host delayed).journal ≡ false
-unfolding delayed writer grant_of sharing_row caching_row shared_again renewed_row put_off free put_off_by_own granted no_lease begins_call is_called says_busy at_time sends_again fresh_client attached_client starts decides creates writes_through stores wrote stores_recovering resizes removes puts_off commits vacates_lease loses without_lease granted_lease holds caches_block purges knows_revision marks_through ends_push spends attached pauses cancels notes_notice new_file written_file resized_file fenced_file with_row with_files with_new_file sends_request after_seq after_number takes_push gives_up quiet drops says after_notices keeping keeping_with with_table attaches tells_later serves leases vacates ends_writing opens boot crash answers after_read reads_cached after_write marks_written empty_table with_rows after_draw after_server after_client start
+unfolding delayed writer given-run
 none-covers n = refl
 
 uncovered : IsUncovered (run one-host delayed).journal writer.who push
 uncovered n above below covered =
-    let yes : exists (λ e. covers e (W writer.who 1 0 n 0 false)) (run one-host delayed).journal ≡ true = (tells_exists (λ e. tells_covers e (W writer.who 1 0 n 0 false)) (run one-host delayed).journal).complete covered in
+    let yes : exists (λ e. covers e (W writer.who 1 0 n 0 false))
+    (run one-host delayed).journal ≡ true =
+    (tells_exists (λ e. tells_covers e (W writer.who 1 0 n 0 false)) (run one-host delayed).journal).complete covered in
     let no = none-covers n in
     cc
 
 is-bound : IsBoundAndDue (run one-host delayed) 0 writer 1
-unfolding delayed writer grant_of sharing_row caching_row shared_again renewed_row put_off free put_off_by_own granted no_lease begins_call is_called says_busy at_time sends_again fresh_client attached_client starts decides creates writes_through stores wrote stores_recovering resizes removes puts_off commits vacates_lease loses without_lease granted_lease holds caches_block purges knows_revision marks_through ends_push spends attached pauses cancels notes_notice new_file written_file resized_file fenced_file with_row with_files with_new_file sends_request after_seq after_number takes_push gives_up quiet drops says after_notices keeping keeping_with with_table attaches tells_later serves leases vacates ends_writing opens boot crash answers after_read reads_cached after_write marks_written empty_table with_rows after_draw after_server after_client start
+unfolding delayed writer given-run
 is-bound = record {
   bound = record { lease = _; held = refl; for_writing = refl; row = _; stands = refl; holder = refl; lets_write = refl; began = refl; goes_on = refl };
   revision = _;
@@ -68,7 +63,7 @@ later-writer : Client
 later-writer = unwrap_or (slice_get (run one-host (rounds ++ delayed)).clients 0) (attached_client (record { host = 0; inc = 1 }) 5 0)
 
 is-later : is_some (slice_get (run one-host (rounds ++ delayed)).clients 0) ≡ true
-unfolding delayed rounds server.at_time grant_of sharing_row caching_row shared_again renewed_row put_off free put_off_by_own granted no_lease begins_call is_called says_busy at_time sends_again fresh_client attached_client starts decides creates writes_through stores wrote stores_recovering resizes removes puts_off commits vacates_lease loses without_lease granted_lease holds caches_block purges knows_revision marks_through ends_push spends attached pauses cancels notes_notice new_file written_file resized_file fenced_file with_row with_files with_new_file sends_request after_seq after_number takes_push gives_up quiet drops says after_notices keeping keeping_with with_table attaches tells_later serves leases vacates ends_writing opens boot crash answers after_read reads_cached after_write marks_written empty_table with_rows after_draw after_server after_client start
+unfolding delayed rounds given-run
 is-later = refl
 
 there-later : slice_get (run one-host (rounds ++ delayed)).clients 0 ≡ Some later-writer
@@ -76,15 +71,15 @@ unfolding later-writer
 there-later = some-is (slice_get (run one-host (rounds ++ delayed)).clients 0) (attached_client (record { host = 0; inc = 1 }) 5 0) is-later
 
 unclean-later : is_clean later-writer 1 ≡ false
-unfolding delayed rounds later-writer server.at_time grant_of sharing_row caching_row shared_again renewed_row put_off free put_off_by_own granted no_lease begins_call is_called says_busy at_time sends_again fresh_client attached_client starts decides creates writes_through stores wrote stores_recovering resizes removes puts_off commits vacates_lease loses without_lease granted_lease holds caches_block purges knows_revision marks_through ends_push spends attached pauses cancels notes_notice new_file written_file resized_file fenced_file with_row with_files with_new_file sends_request after_seq after_number takes_push gives_up quiet drops says after_notices keeping keeping_with with_table attaches tells_later serves leases vacates ends_writing opens boot crash answers after_read reads_cached after_write marks_written empty_table with_rows after_draw after_server after_client start
+unfolding delayed rounds later-writer given-run
 unclean-later = refl
 
 pushed-later : later-writer.push ≡ Some push
-unfolding delayed rounds later-writer server.at_time grant_of sharing_row caching_row shared_again renewed_row put_off free put_off_by_own granted no_lease begins_call is_called says_busy at_time sends_again fresh_client attached_client starts decides creates writes_through stores wrote stores_recovering resizes removes puts_off commits vacates_lease loses without_lease granted_lease holds caches_block purges knows_revision marks_through ends_push spends attached pauses cancels notes_notice new_file written_file resized_file fenced_file with_row with_files with_new_file sends_request after_seq after_number takes_push gives_up quiet drops says after_notices keeping keeping_with with_table attaches tells_later serves leases vacates ends_writing opens boot crash answers after_read reads_cached after_write marks_written empty_table with_rows after_draw after_server after_client start
+unfolding delayed rounds later-writer given-run
 pushed-later = refl
 
 no-row : find_row 1 later-writer.who.host (standing (run one-host (rounds ++ delayed)).server).rows ≡ None
-unfolding delayed rounds later-writer server.at_time grant_of sharing_row caching_row shared_again renewed_row put_off free put_off_by_own granted no_lease begins_call is_called says_busy at_time sends_again fresh_client attached_client starts decides creates writes_through stores wrote stores_recovering resizes removes puts_off commits vacates_lease loses without_lease granted_lease holds caches_block purges knows_revision marks_through ends_push spends attached pauses cancels notes_notice new_file written_file resized_file fenced_file with_row with_files with_new_file sends_request after_seq after_number takes_push gives_up quiet drops says after_notices keeping keeping_with with_table attaches tells_later serves leases vacates ends_writing opens boot crash answers after_read reads_cached after_write marks_written empty_table with_rows after_draw after_server after_client start
+unfolding delayed rounds later-writer given-run
 no-row = refl
 
 bounds-later : All (BootsWithin 60) (rounds ++ delayed)
@@ -96,9 +91,13 @@ unfolding delayed rounds
 within-later = refl
 
 is-fenced : IsFencedAt (run one-host (rounds ++ delayed)) 0 later-writer 1
-is-fenced = case (bound-or-fenced-in-every-run 60 one-host (rounds ++ delayed) 0 later-writer 1 (record { hosts = omega arith; first_long = omega arith; first_short = omega arith; boots = bounds-later }) (skew-test-is-sound 1 60 (rounds ++ delayed) within-later) there-later unclean-later)
+is-fenced =
+    case (bound-or-fenced-in-every-run 60 one-host (rounds ++ delayed) 0 later-writer 1
+    (record { hosts = omega arith; first_long = omega arith; first_short = omega arith; boots = bounds-later })
+    (skew-test-is-sound 1 60 (rounds ++ delayed) within-later) there-later unclean-later)
   where
-    case : IsBoundAndDue (run one-host (rounds ++ delayed)) 0 later-writer 1 ⊎ IsFencedAt (run one-host (rounds ++ delayed)) 0 later-writer 1 → IsFencedAt (run one-host (rounds ++ delayed)) 0 later-writer 1
+    case : IsBoundAndDue (run one-host (rounds ++ delayed)) 0 later-writer 1 ⊎ IsFencedAt (run one-host (rounds ++ delayed)) 0 later-writer 1
+        → IsFencedAt (run one-host (rounds ++ delayed)) 0 later-writer 1
     case (inl b) = none-some b.bound.row (sym no-row ∙ b.bound.stands)
     case (inr f) = f
 

@@ -9,9 +9,7 @@ use Rattle.nq_base.specs.declared.Party.{Party}
 use Rattle.nq_base.specs.declared.Told.{Told}
 use Rattle.nq_base.specs.declared.Who.{Who}
 use Rattle.law_calls.proofs.OrderedCalls.{ordered-in-every-run}
-use Rattle.law_versions.proofs.ClientTells.{call-tells, tick-tells, hear-tells, restart-tells}
-use Rattle.law_versions.proofs.ServerTells.{received-tells, server-tick-tells}
-use Rattle.law_versions.proofs.Tells.{AllTell, Tells, tell-more}
+use Rattle.law_versions.proofs.Tells.{AllTell, Tells, tell-more, server-tells, client-tells}
 use Rattle.law_versions.specs.Versions.{FirstTellsItsRuns, IsOfFirst}
 use Rattle.nq_words.specs.Forms.{HasTold}
 use Rattle.nq_journal.specs.Text.{Has}
@@ -27,6 +25,8 @@ use Rattle.nq_model.specs.ServerStep.{boot, booted, crash, receive, tick}
 use Rattle.nq_model.specs.Table.{same_who}
 use Rattle.nq_model.specs.World.{Head, World, after_client, after_hearing, after_server, at_client, deliver, deliver_to, deliver_to_client, run, sending_host, start, step}
 use Rattle.walk_client.proofs.ClientFacts.{fits_job}
+use Rattle.walk_entries.proofs.ClientEntries.{call-keeps, tick-keeps as client-tick-keeps, hear-keeps, restart-keeps}
+use Rattle.walk_entries.proofs.ServerEntries.{receive-each, tick-each}
 use Rattle.walk_run.proofs.Worlds.{Holds, run-holds}
 use Rattle.walk_server.proofs.ServerMoves.{phase-moves, receive-keeps, server-moves, tick-keeps, tick-moves}
 use Rattle.walk_tables.proofs.ServerNumbers.{fence-longest}
@@ -47,7 +47,8 @@ kept-stays s sender next d =
 booted-longest : (kept : Kept) (longest : ℕ) → kept.longest ≡ 60 → longest ≡ 60 → (booted kept longest).longest ≡ 60
 booted-longest kept longest k l = by (kept.opened == 0)
   where
-    by : (b : Bool) → (if b then record kept { boot = kept.boot + 1; opened = kept.boot + 1; longest = longest } else record kept { boot = kept.boot + 1 }).longest ≡ 60
+    by : (b : Bool)
+        → (if b then record kept { boot = kept.boot + 1; opened = kept.boot + 1; longest = longest } else record kept { boot = kept.boot + 1 }).longest ≡ 60
     by true = l
     by false = k
 
@@ -68,16 +69,19 @@ module _ (w : World) (g : Good w) where
   heard host None tells = g
   heard host (Some t) tells = client-step host t (tells t refl)
 
-  fits : Holds w → (host : ℕ) (c : Client) → slice_get w.clients host ≡ Some c → (ticket : Ticket) → c.ticket ≡ Some ticket → fits_job ticket.job ticket.request ≡ true
+  fits : Holds w → (host : ℕ) (c : Client) → slice_get w.clients host ≡ Some c → (ticket : Ticket) → c.ticket ≡ Some ticket
+      → fits_job ticket.job ticket.request ≡ true
   fits h host c is ticket e = ((h.clients host c is).alone.asking.ticketed ticket e).fits
 
   to-client : Holds w → (k host : ℕ) (m : Message) (o : Option Client) → slice_get w.clients host ≡ o → Good (deliver_to_client w k host m o)
   to-client h k host m None is = g
-  to-client h k host m (Some c) is = heard host (hear c k m) (λ t hears. hear-tells c k m t hears (fits h host c is))
+  to-client h k host m (Some c) is =
+      heard host (hear c k m) (λ t hears. hear-keeps AllTell client-tells c k m t hears (fits h host c is)
+      (λ xid r ticket u answer is_reply asked same inc called job named. (tt, tt)))
 
   to-server : (sender next : ℕ) (d : Datagram) → Good (after_server w (receive w.server sender next d))
   to-server sender next d =
-      server-step (receive w.server sender next d) (received-tells w.server sender next d)
+      server-step (receive w.server sender next d) (receive-each Tells server-tells w.server sender next d)
       (kept-stays w.server sender next d ∙ g.kept)
       ((receive-keeps w.server sender next d).0 ∙ g.longest)
 
@@ -91,7 +95,7 @@ module _ (w : World) (g : Good w) where
 
   ticked : (now : ℕ) → Good (after_server w (tick w.server now))
   ticked now =
-      server-step (tick w.server now) (server-tick-tells w.server now)
+      server-step (tick w.server now) (tick-each Tells server-tells w.server now)
       (tick-moves w.server now (λ kept phase table. kept.longest ≡ 60) (record {
         waits = λ until heard_at last p on. g.kept;
         opening = λ until heard_at last p over. g.longest;
@@ -113,11 +117,13 @@ unfolding start boot
 starts head is = record { journal = tt; kept = is; longest = is }
 
 stepped : (w : World) (e : Event) → Holds w → IsOfFirst e → Good w → Good (step w e)
-stepped w (Event.Call host op) h first g = at-client-good w g host (λ c. client_call c op) (slice_get w.clients host) (λ c. call-tells c op first)
+stepped w (Event.Call host op) h first g =
+    at-client-good w g host (λ c. client_call c op) (slice_get w.clients host) (λ c. call-keeps AllTell client-tells c op (λ q. (first, tt)))
 stepped w (Event.Deliver k) h first g = delivered w g h k (slice_get w.packets k)
 stepped w Event.ServerTick h first g = ticked w g (w.server.now + 1)
-stepped w (Event.ClientTick host) h first g = at-client-good w g host (λ c. client_tick c (c.now + 1)) (slice_get w.clients host) (λ c. tick-tells c (c.now + 1))
-stepped w (Event.Restart host) h first g = at-client-good w g host restart (slice_get w.clients host) restart-tells
+stepped w (Event.ClientTick host) h first g =
+    at-client-good w g host (λ c. client_tick c (c.now + 1)) (slice_get w.clients host) (λ c. client-tick-keeps AllTell client-tells c (c.now + 1))
+stepped w (Event.Restart host) h first g = at-client-good w g host restart (slice_get w.clients host) (restart-keeps AllTell client-tells)
 stepped w (Event.Crash longest) h first g = crashed w g longest first
 
 runs : (head : Head) (events : List Event) → head.longest ≡ 60 → AllByRecursion IsOfFirst events → Good (run head events)

@@ -1,4 +1,2 @@
 pub mod Tells
-pub mod ClientTells
-pub mod ServerTells
 pub mod FirstRuns

@@ -3,6 +3,8 @@ use Rattle.std.proofs.Common.{◌≡◌, List, [], ◌∷◌, ◌++◌}
 use Rattle.nq_base.specs.declared.Entry.{Entry}
 use Rattle.nq_words.specs.Forms.{HasTold}
 use Rattle.nq_model.specs.Journal.{Each}
+use Rattle.walk_entries.proofs.ClientEntries.{OfClient}
+use Rattle.walk_entries.proofs.ServerEntries.{OfServer}
 
 -- where the entry is a call or a boot, version 1 has it
 abbrev pub Tells : Entry → Type 0
@@ -16,3 +18,26 @@ AllTell entries = Each Tells entries
 pub tell-more : (entries journal : List Entry) → AllTell entries → AllTell journal → AllTell (entries ++ journal)
 tell-more [] journal h k = k
 tell-more (e ∷ entries) journal h k = (h.0, tell-more entries journal h.1 k)
+
+-- a server makes none of them, but where it boots
+pub server-tells : OfServer Tells
+server-tells = record {
+  served = λ who q file block value packet. tt;
+  granted = λ who file mode tag term now. tt;
+  wrote = λ who file block number value. tt;
+  stored = λ who file block first last now. tt;
+  resized = λ who q file before after. tt;
+  fenced = λ who file until heard now. tt;
+  opened = λ boot until heard now. tt;
+}
+
+-- nor a client, but the call that is made
+pub client-tells : OfClient AllTell
+client-tells = record {
+  nothing = tt;
+  answered = λ who q said before plain h. (tt, h);
+  read = λ who q file block value before h. (tt, (tt, h));
+  delayed = λ who file block number value before h. (tt, h);
+  lost = λ who file block first last before h. (tt, h);
+  started = λ who. (tt, tt);
+}

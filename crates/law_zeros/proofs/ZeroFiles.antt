@@ -28,7 +28,8 @@ or-none true b h = absurd (cc)
 or-none false b h = (refl, h)
 
 -- an entry that does not cut a block stands before what came earlier
-pub before-this : (e : Entry) (j : List Entry) (file block : ℕ) → cuts e file block ≡ false → Untouched (e ∷ j) file block → (touches file block e ≡ false) × Untouched j file block
+pub before-this : (e : Entry) (j : List Entry) (file block : ℕ) → cuts e file block ≡ false → Untouched (e ∷ j) file block
+    → (touches file block e ≡ false) × Untouched j file block
 before-this e j file block whole h = or-none _ _ (subst (λ c. exists (touches file block) (if c then [] else e ∷ since_cut j file block) ≡ false) whole h)
 
 before-these : (es j : List Entry) (file block : ℕ) → Each NoCut es → Untouched (es ++ j) file block → Untouched j file block
@@ -40,7 +41,8 @@ zeros-idle files es j none h id f block body found there untouched = h id f bloc
 
 -- ---- a block is written
 
-pub zeros-written : (files : List File) (j : List Entry) (e : Entry) (f : File) (block : ℕ) (body : List ℕ) → NoCut e → touches f.id block e ≡ true → find_file f.id files ≡ Some f → AreZeros files j → AreZeros (replace_file (written_file f block body) files) (e ∷ j)
+pub zeros-written : (files : List File) (j : List Entry) (e : Entry) (f : File) (block : ℕ) (body : List ℕ) → NoCut e → touches f.id block e ≡ true
+    → find_file f.id files ≡ Some f → AreZeros files j → AreZeros (replace_file (written_file f block body) files) (e ∷ j)
 unfolding written_file
 zeros-written files j e f block body none writes found h id g b is there has untouched = case (found-replaced id (written_file f block body) g files there)
   where
@@ -54,7 +56,8 @@ zeros-written files j e f block body none writes found h id g b is there has unt
         absurd (cc)
     at false other own new =
         let apart : b ≢ block = is-other b block other in
-        h f.id f b is found (sym (get-set-other f.bodies block b body apart) ∙ ap (λ z. slice_get z.bodies b) (sym new) ∙ has) (subst (λ n. Untouched j n b) own earlier.1)
+        h f.id f b is found (sym (get-set-other f.bodies block b body apart) ∙ ap (λ z. slice_get z.bodies b) (sym new) ∙ has)
+        (subst (λ n. Untouched j n b) own earlier.1)
 
     case : ((id ≡ f.id) × (g ≡ written_file f block body)) ⊎ ((id ≢ f.id) × (find_file id files ≡ Some g)) → is ≡ zeros
     case (inl k) = at (b == block) refl k.0 k.1
@@ -62,7 +65,8 @@ zeros-written files j e f block body none writes found h id g b is there has unt
 
 -- ---- a file is fenced
 
-pub zeros-fenced : (files : List File) (j : List Entry) (e : Entry) (f : File) → NoCut e → find_file f.id files ≡ Some f → AreZeros files j → AreZeros (replace_file (fenced_file f) files) (e ∷ j)
+pub zeros-fenced : (files : List File) (j : List Entry) (e : Entry) (f : File) → NoCut e → find_file f.id files ≡ Some f → AreZeros files j
+    → AreZeros (replace_file (fenced_file f) files) (e ∷ j)
 unfolding fenced_file
 zeros-fenced files j e f none found h id g b is there has untouched = case (found-replaced id (fenced_file f) g files there)
   where
@@ -92,7 +96,8 @@ get-append (y ∷ xs) ys zero x h = inl h
 get-append (y ∷ xs) ys (suc i) x h = get-append xs ys i x h
 
 -- a block of the new length was there, or is zeros
-get-resized : (blocks : ℕ) (bodies : List (List ℕ)) (b : ℕ) (body : List ℕ) → slice_get (resized blocks bodies) b ≡ Some body → (b < blocks) × ((slice_get bodies b ≡ Some body) ⊎ (body ≡ zeros))
+get-resized : (blocks : ℕ) (bodies : List (List ℕ)) (b : ℕ) (body : List ℕ) → slice_get (resized blocks bodies) b ≡ Some body
+    → (b < blocks) × ((slice_get bodies b ≡ Some body) ⊎ (body ≡ zeros))
 get-resized blocks bodies b body h = (k.0, case (get-append bodies (replicate blocks zeros) b body k.1))
   where
     k : (b < blocks) × (slice_get (bodies ++ replicate blocks zeros) b ≡ Some body)
@@ -111,7 +116,8 @@ not-cut who q on from to file b (inl below) = let no : nat_le to b ≡ false = g
     last false y e = refl
 not-cut who q on from to file b (inr apart) = let no : (on == file) ≡ false = number-other on file (λ e. apart (sym e)) in ap (λ x. x && nat_le to b) no
 
-pub zeros-resized : (files : List File) (j : List Entry) (who : Who) (q from blocks : ℕ) (f : File) → find_file f.id files ≡ Some f → AreZeros files j → AreZeros (replace_file (resized_file f blocks) files) (Z who q f.id from blocks ∷ j)
+pub zeros-resized : (files : List File) (j : List Entry) (who : Who) (q from blocks : ℕ) (f : File) → find_file f.id files ≡ Some f → AreZeros files j
+    → AreZeros (replace_file (resized_file f blocks) files) (Z who q f.id from blocks ∷ j)
 unfolding resized_file
 zeros-resized files j who q from blocks f found h id g b is there has untouched = case (found-replaced id (resized_file f blocks) g files there)
   where
@@ -128,7 +134,8 @@ zeros-resized files j who q from blocks f found h id g b is there has untouched 
 
 -- ---- a file is made, and taken away
 
-pub zeros-made : (files : List File) (j : List Entry) (next : ℕ) (name : List ℕ) (blocks : ℕ) → AreZeros files j → AreZeros (files ++ new_file next name blocks ∷ []) j
+pub zeros-made : (files : List File) (j : List Entry) (next : ℕ) (name : List ℕ) (blocks : ℕ) → AreZeros files j
+    → AreZeros (files ++ new_file next name blocks ∷ []) j
 unfolding new_file
 zeros-made files j next name blocks h id g b is there has untouched = case (found-added id (new_file next name blocks) g files there)
   where
@@ -136,11 +143,13 @@ zeros-made files j next name blocks h id g b is there has untouched = case (foun
     case (inl k) = h id g b is k has untouched
     case (inr k) = get-replicate blocks zeros b is (ap (λ z. slice_get z.bodies b) (sym k.1) ∙ has)
 
-pub zeros-removed : (files : List File) (j : List Entry) (who : Who) (q from file : ℕ) → AreZeros files j → AreZeros (drop_file file files) (Z who q file from 0 ∷ j)
+pub zeros-removed : (files : List File) (j : List Entry) (who : Who) (q from file : ℕ) → AreZeros files j
+    → AreZeros (drop_file file files) (Z who q file from 0 ∷ j)
 zeros-removed files j who q from file h id g b is there has untouched = case (id == file) refl
   where
     case : (x : Bool) → (id == file) ≡ x → is ≡ zeros
     case true same = none-some g (sym (find-removed file files) ∙ ap (λ n. find_file n (drop_file file files)) (sym (same-number id file same)) ∙ there)
     case false other =
         let apart : id ≢ file = is-other id file other in
-        h id g b is (sym (find-not-removed file id files apart) ∙ there) has (before-this (Z who q file from 0) j id b (not-cut who q file from 0 id b (inr apart)) untouched).1
+        h id g b is (sym (find-not-removed file id files apart) ∙ there) has
+        (before-this (Z who q file from 0) j id b (not-cut who q file from 0 id b (inr apart)) untouched).1

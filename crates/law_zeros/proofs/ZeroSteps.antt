@@ -60,9 +60,11 @@ module _ (j : List Entry) (s : Server) (h : AreZeros s.kept.files j) where
   granting who file None = tt
   granting who file (Some g) = ((λ f b. refl), tt)
 
-  serving : (who : Who) (xid next q : ℕ) (f : File) (block : ℕ) (body : List ℕ) (table : Table) (o : Option Grant) → Keeps (serves s who xid next q f block body table o)
+  serving : (who : Who) (xid next q : ℕ) (f : File) (block : ℕ) (body : List ℕ) (table : Table) (o : Option Grant)
+      → Keeps (serves s who xid next q f block body table o)
   unfolding serves with_table
-  serving who xid next q f block body table o = zeros-idle s.kept.files (Entry.R who q f.id block (value_of body) (Some next) ∷ grants s who f.id o) j ((λ g b. refl), granting who f.id o) h
+  serving who xid next q f block body table o =
+      zeros-idle s.kept.files (Entry.R who q f.id block (value_of body) (Some next) ∷ grants s who f.id o) j ((λ g b. refl), granting who f.id o) h
 
   leasing : (who : Who) (xid file : ℕ) (table : Table) (o : Option Grant) → Keeps (leases s who xid file table o)
   unfolding leases with_table
@@ -84,19 +86,30 @@ module _ (j : List Entry) (s : Server) (h : AreZeros s.kept.files j) where
   unfolding creates keeping with_new_file
   creating name blocks = zeros-made s.kept.files j s.kept.next name blocks h
 
-  writing-through : (who : Who) (f : File) (block number : ℕ) (body : List ℕ) → find_file f.id s.kept.files ≡ Some f → AreZeros (writes_through s who f block number body).server.kept.files ((writes_through s who f block number body).entries ++ j)
+  writing-through : (who : Who) (f : File) (block number : ℕ) (body : List ℕ) → find_file f.id s.kept.files ≡ Some f
+      → AreZeros (writes_through s who f block number body).server.kept.files ((writes_through s who f block number body).entries ++ j)
   unfolding writes_through keeping with_files
-  writing-through who f block number body found = zeros-written s.kept.files j (Entry.W who f.id block number (value_of body) true) f block body (λ g b. refl) (rw (number-same f.id f.id refl, number-same block block refl) refl) found h
+  writing-through who f block number body found =
+      zeros-written s.kept.files j (Entry.W who f.id block number (value_of body) true) f block body (λ g b. refl)
+      (rw (number-same f.id f.id refl, number-same block block refl) refl) found h
 
-  storing : (who : Who) (f : File) (row : Row) (block a b : ℕ) (body : List ℕ) → find_file f.id s.kept.files ≡ Some f → AreZeros (stores s who f row block a b body).server.kept.files ((stores s who f row block a b body).entries ++ j)
+  storing : (who : Who) (f : File) (row : Row) (block a b : ℕ) (body : List ℕ) → find_file f.id s.kept.files ≡ Some f
+      → AreZeros (stores s who f row block a b body).server.kept.files ((stores s who f row block a b body).entries ++ j)
   unfolding stores keeping_with with_files
-  storing who f row block a b body found = zeros-written s.kept.files j (Entry.S who f.id block a b s.now) f block body (λ g n. refl) (rw (number-same f.id f.id refl, number-same block block refl) refl) found h
+  storing who f row block a b body found =
+      zeros-written s.kept.files j (Entry.S who f.id block a b s.now) f block body (λ g n. refl)
+      (rw (number-same f.id f.id refl, number-same block block refl) refl) found h
 
-  storing-recovering : (until : ℕ) (last : Option Table) (who : Who) (f : File) (block a b : ℕ) (body : List ℕ) → find_file f.id s.kept.files ≡ Some f → AreZeros (stores_recovering s until last who f block a b body).server.kept.files ((stores_recovering s until last who f block a b body).entries ++ j)
+  storing-recovering : (until : ℕ) (last : Option Table) (who : Who) (f : File) (block a b : ℕ) (body : List ℕ) → find_file f.id s.kept.files ≡ Some f
+      → AreZeros (stores_recovering s until last who f block a b body).server.kept.files
+      ((stores_recovering s until last who f block a b body).entries ++ j)
   unfolding stores_recovering wrote keeping with_files
-  storing-recovering until last who f block a b body found = zeros-written s.kept.files j (Entry.S who f.id block a b s.now) f block body (λ g n. refl) (rw (number-same f.id f.id refl, number-same block block refl) refl) found h
+  storing-recovering until last who f block a b body found =
+      zeros-written s.kept.files j (Entry.S who f.id block a b s.now) f block body (λ g n. refl)
+      (rw (number-same f.id f.id refl, number-same block block refl) refl) found h
 
-  resizing : (who : Who) (q : ℕ) (f : File) (blocks : ℕ) → find_file f.id s.kept.files ≡ Some f → AreZeros (resizes s who q f blocks).server.kept.files ((resizes s who q f blocks).entries ++ j)
+  resizing : (who : Who) (q : ℕ) (f : File) (blocks : ℕ) → find_file f.id s.kept.files ≡ Some f
+      → AreZeros (resizes s who q f blocks).server.kept.files ((resizes s who q f blocks).entries ++ j)
   unfolding resizes keeping with_files
   resizing who q f blocks found = zeros-resized s.kept.files j who q _ blocks f found h
 
@@ -124,9 +137,14 @@ module _ (j : List Entry) (s : Server) (h : AreZeros s.kept.files j) where
     declining = λ xid who seq r v e by sq fresh declined. committing who seq xid r (decides s v) (declining v);
     putting_off_change = λ xid who seq r f clash e by sq changes base changing c. committing who seq xid r _ (putting-off who f.id _);
     creating = λ xid who seq blocks name e fresh serves can. committing who seq xid _ (creates s name blocks) (creating name blocks);
-    writing_through = λ xid who seq block first last body f e changing below c. committing who seq xid _ _ (writing-through who f block first body changing.found);
-    storing = λ xid who seq block first last base body f row e changing below can. committing who seq xid _ _ (storing who f row block first last body changing.found);
-    storing_recovering = λ xid who seq block first final base body f until heard last e fresh p found below boot rev. committing who seq xid _ _ (storing-recovering until last who f block first final body found);
+    writing_through =
+        λ xid who seq block first last body f e changing below c. committing who seq xid _ _ (writing-through who f block first body changing.found);
+    storing =
+        λ xid who seq block first last base body f row e changing below can. committing who seq xid _ _
+        (storing who f row block first last body changing.found);
+    storing_recovering =
+        λ xid who seq block first final base body f until heard last e fresh p found below boot rev. committing who seq xid _ _
+        (storing-recovering until last who f block first final body found);
     resizing = λ xid who seq q blocks f e changing can c. committing who seq xid _ _ (resizing who q f blocks changing.found);
     removing = λ xid who seq q f e changing c. committing who seq xid _ _ (removing who q f);
   })
@@ -152,7 +170,8 @@ module _ (j : List Entry) (s : Server) (h : AreZeros s.kept.files j) where
       (zeros-idle s.kept.files (Entry.F row.who row.file row.until row.heard now ∷ []) j ((λ f b. refl), tt) h)
   ending now rows row (Some f) found =
       subst (λ k. AreZeros k.files (Entry.F row.who row.file row.until row.heard now ∷ j)) (sym (ap (fence s.kept) found))
-      (zeros-fenced s.kept.files j (Entry.F row.who row.file row.until row.heard now) f (λ g b. refl) (ap (λ n. find_file n s.kept.files) (found-file row.file s.kept.files f found) ∙ found) h)
+      (zeros-fenced s.kept.files j (Entry.F row.who row.file row.until row.heard now) f (λ g b. refl)
+      (ap (λ n. find_file n s.kept.files) (found-file row.file s.kept.files f found) ∙ found) h)
 
   pub ticked : (now : ℕ) → Keeps (tick s now)
   ticked now = server-ticks s now Keeps (record {
@@ -179,12 +198,15 @@ module _ (old : List Entry) (file block : ℕ) where
   abbrev pub Was : Book → Type 0
   Was b = Untouched b.journal file block → Untouched old file block
 
-  was-lost : (who : Who) (ps : List Push) (j : List Entry) → (Untouched j file block → Untouched old file block) → Untouched (reverse (map (loss_entry who) ps) ++ j) file block → Untouched old file block
+  was-lost : (who : Who) (ps : List Push) (j : List Entry) → (Untouched j file block → Untouched old file block)
+      → Untouched (reverse (map (loss_entry who) ps) ++ j) file block → Untouched old file block
   was-lost who [] j was none = was none
   was-lost who (p ∷ ps) j was none = was-lost who ps (loss_entry who p ∷ j) was (subst (λ es. Untouched es file block) turned none)
     where
       turned : reverse (map (loss_entry who) (p ∷ ps)) ++ j ≡ reverse (map (loss_entry who) ps) ++ (loss_entry who p ∷ j)
-      turned = ap (λ z. z ++ j) (reverse_onto (map (loss_entry who) ps) (loss_entry who p) []) ∙ append_assoc (reverse (map (loss_entry who) ps)) (loss_entry who p ∷ []) j
+      turned =
+          ap (λ z. z ++ j) (reverse_onto (map (loss_entry who) ps) (loss_entry who p) [])
+          ∙ append_assoc (reverse (map (loss_entry who) ps)) (loss_entry who p ∷ []) j
 
   was-report : (b : Book) (on : ℕ) (o : Option UnderWay) → Was b → Was (after_report b on o)
   was-report b on None h = h

@@ -20,7 +20,8 @@ use Rattle.nq_model.proofs.Finding.{number-other}
 -- ---- the clean blocks
 
 -- what is sought is found in front, or behind the one that was moved there
-front : (other b file block : ℕ) (k : Clean) (clean : List Clean) → clean_at file block clean ≡ Some k → clean_at other b (k ∷ drop_clean file block clean) ≡ clean_at other b clean
+front : (other b file block : ℕ) (k : Clean) (clean : List Clean) → clean_at file block clean ≡ Some k
+    → clean_at other b (k ∷ drop_clean file block clean) ≡ clean_at other b clean
 front other b file block k clean found = case (is_clean_at other b k) refl
   where
     at : is_clean_at file block k ≡ true
@@ -50,7 +51,8 @@ front other b file block k clean found = case (is_clean_at other b k) refl
     case true e = let s = both e in sym (ap (λ n. clean_at n b clean) s.0 ∙ ap (λ n. clean_at file n clean) s.1 ∙ found)
     case false e = find-filter (is_clean_at other b) (λ z. not (is_clean_at file block z)) clean (spared e)
 
-touched-finds : (other b file block : ℕ) (clean : List Clean) (o : Option Clean) → clean_at file block clean ≡ o → clean_at other b (touched file block o clean) ≡ clean_at other b clean
+touched-finds : (other b file block : ℕ) (clean : List Clean) (o : Option Clean) → clean_at file block clean ≡ o
+    → clean_at other b (touched file block o clean) ≡ clean_at other b clean
 touched-finds other b file block clean None found = refl
 touched-finds other b file block clean (Some k) found = front other b file block k clean found
 
@@ -63,25 +65,43 @@ marks file l false e same = let yes : (l.file == file) ≡ true = number-same l.
 spares : (file : ℕ) (l : Lease) → (l.file == file) ≡ false → marked_used file l ≡ l
 spares file l e = rw e refl
 
-used-found : (file : ℕ) (leases : List Lease) (l : Lease) → lease_on file leases ≡ Some l → lease_on file (used_lease file leases) ≡ Some (record l { used = true })
-used-found file leases l e = used-lease-found file file leases ∙ ap (option_map (marked_used file)) e ∙ ap Some (marks file l (l.file == file) refl (lease-file file leases l e))
+used-found : (file : ℕ) (leases : List Lease) (l : Lease) → lease_on file leases ≡ Some l
+    → lease_on file (used_lease file leases) ≡ Some (record l { used = true })
+used-found file leases l e =
+    used-lease-found file file leases ∙ ap (option_map (marked_used file)) e ∙ ap Some (marks file l (l.file == file) refl (lease-file file leases l e))
 
 other-found : (file other : ℕ) (leases : List Lease) (o : Option Lease) → other ≢ file → lease_on other leases ≡ o → lease_on other (used_lease file leases) ≡ o
 other-found file other leases None apart e = used-lease-found other file leases ∙ ap (option_map (marked_used file)) e
-other-found file other leases (Some l) apart e = used-lease-found other file leases ∙ ap (option_map (marked_used file)) e ∙ ap Some (spares file l (number-other l.file file (λ same. apart (sym (lease-file other leases l e) ∙ same))))
+other-found file other leases (Some l) apart e =
+    used-lease-found other file leases ∙ ap (option_map (marked_used file)) e
+    ∙ ap Some (spares file l (number-other l.file file (λ same. apart (sym (lease-file other leases l e) ∙ same))))
 
 -- ---- the client, and the world
 
-as-it-was : (c : Client) (file block : ℕ) (lease : Lease) → c.call ≡ None → lease_on file c.leases ≡ Some lease → IsAsItWas c (after_cached c file block) file lease
+as-it-was : (c : Client) (file block : ℕ) (lease : Lease) → c.call ≡ None → lease_on file c.leases ≡ Some lease
+    → IsAsItWas c (after_cached c file block) file lease
 unfolding after_read
 as-it-was c file block lease free held = record {
-  rest = ap (λ o. record c { calls = c.calls + 1; leases = used_lease file c.leases; clean = if reads_clean c file block then touched file block (clean_at file block c.clean) c.clean else c.clean; call = o }) (sym free);
+  rest =
+      ap
+      (λ o. record c {
+        calls = c.calls + 1;
+        leases = used_lease file c.leases;
+        clean = if reads_clean c file block then touched file block
+            (clean_at file block c.clean) c.clean else c.clean;
+        call = o;
+      }) (sym free);
   used = used-found file c.leases lease held;
   other_leases = λ other apart. other-found file other c.leases (lease_on other c.leases) apart refl;
-  clean = λ other b. choice (λ z. clean_at other b z ≡ clean_at other b c.clean) (reads_clean c file block) (touched file block (clean_at file block c.clean) c.clean) c.clean (λ reads. touched-finds other b file block c.clean (clean_at file block c.clean) refl) (λ dirty. refl);
+  clean =
+      λ other b. choice (λ z. clean_at other b z ≡ clean_at other b c.clean) (reads_clean c file block)
+      (touched file block (clean_at file block c.clean) c.clean) c.clean
+      (λ reads. touched-finds other b file block c.clean (clean_at file block c.clean) refl) (λ dirty. refl);
 }
 
-changes : (w : World) (host : ℕ) (c : Client) (op : Call) (file block : ℕ) (lease : Lease) (body : List ℕ) → slice_get w.clients host ≡ Some c → HasCached c file block lease body → AnswersAtOnce c op file block body (client_call c op) → ChangesNothingElse w (after_client w host (client_call c op)) host c op file block lease body
+changes : (w : World) (host : ℕ) (c : Client) (op : Call) (file block : ℕ) (lease : Lease) (body : List ℕ) → slice_get w.clients host ≡ Some c
+    → HasCached c file block lease body → AnswersAtOnce c op file block body (client_call c op)
+    → ChangesNothingElse w (after_client w host (client_call c op)) host c op file block lease body
 unfolding after_client
 changes w host c op file block lease body is ready a = record {
   client = (client_call c op).client;
@@ -99,7 +119,8 @@ changes-nothing-else head events host c op file block lease body is ready reads 
     subst (λ z. ChangesNothingElse w z host c op file block lease body) (sym (ap (at_client w host (λ d. client_call d op)) is))
     (changes w host c op file block lease body is ready (answered reads))
   where
-    at-once : AnswersAtOnce c (Call.Read file block) file block body (client_call c (Call.Read file block)) × AnswersAtOnce c (Call.Fetch file block) file block body (client_call c (Call.Fetch file block))
+    at-once : AnswersAtOnce c (Call.Read file block) file block body (client_call c (Call.Read file block))
+        × AnswersAtOnce c (Call.Fetch file block) file block body (client_call c (Call.Fetch file block))
     at-once = cached-in-every-run head events host c file block lease body is ready
 
     answered : ReadsBlock op file block → AnswersAtOnce c op file block body (client_call c op)

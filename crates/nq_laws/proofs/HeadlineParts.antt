@@ -97,7 +97,9 @@ run-grows : (head : Head) (later earlier : List Event) → Grows (run head earli
 run-grows head [] earlier = same-grows (run head earlier).journal
 run-grows head (e ∷ later) earlier = further (run-grows head later earlier) (step-grows (run head (later ++ earlier)) e)
   where
-    further : Grows (run head earlier).journal (run head (later ++ earlier)).journal → Grows (run head (later ++ earlier)).journal (step (run head (later ++ earlier)) e).journal → Grows (run head earlier).journal (step (run head (later ++ earlier)) e).journal
+    further : Grows (run head earlier).journal (run head (later ++ earlier)).journal
+        → Grows (run head (later ++ earlier)).journal (step (run head (later ++ earlier)) e).journal
+        → Grows (run head earlier).journal (step (run head (later ++ earlier)) e).journal
     further a b = record { more = b.more ++ a.more; is = b.is ∙ ap (λ j. b.more ++ j) a.is ∙ sym (append_assoc b.more a.more (run head earlier).journal) }
 
 -- a beginning of a schedule keeps to bounds, and is within skew

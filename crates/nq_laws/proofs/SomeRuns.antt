@@ -10,20 +10,13 @@ use Rattle.nq_laws.specs.LawsAreMet.{is_refusal, LosesAfterSilence, LosesAfterRe
 use Rattle.walk_run.proofs.NoCrash.{one-first, no-crash-within, no-crash-after}
 use Rattle.nq_promises.specs.Bounds.{BootsWithin, KeepsBounds}
 use Rattle.nq_model.proofs.SkewTest.{skew-test-is-sound}
-use Rattle.nq_model.specs.Ask.{grant_of, sharing_row, caching_row, shared_again, renewed_row, put_off, free, put_off_by_own, granted, no_lease}
-use Rattle.nq_model.specs.ClientStep.{begins_call, is_called, says_busy, at_time, sends_again, fresh_client, attached_client, starts, next_incarnation}
-use Rattle.nq_model.specs.Decide.{decides, creates, writes_through, stores, wrote, stores_recovering, resizes, removes, puts_off, commits}
-use Rattle.nq_model.specs.Hear.{vacates_lease, loses, without_lease, granted_lease, holds, caches_block, purges, knows_revision, marks_through, ends_push, spends, attached, pauses, cancels, notes_notice}
+use Rattle.nq_model.specs.ClientStep.{next_incarnation}
 use Rattle.nq_model.specs.JournalTest.{exists}
-use Rattle.nq_model.specs.Kept.{new_file, written_file, resized_file, fenced_file, with_row, with_files, with_new_file}
 use Rattle.nq_model.specs.ReportedTest.{names}
-use Rattle.nq_model.specs.Send.{sends_request, after_seq, after_number, takes_push, gives_up}
-use Rattle.nq_model.specs.Server.{quiet, drops, says, after_notices, keeping, keeping_with, with_table}
-use Rattle.nq_model.specs.ServerStep.{attaches, tells_later, serves, leases, vacates, ends_writing, opens, boot, crash, at_time as at_server_time}
-use Rattle.nq_model.specs.Settle.{answers, after_read, reads_cached, after_write, marks_written}
-use Rattle.nq_model.specs.Table.{empty_table, with_rows, after_draw}
-use Rattle.nq_model.specs.World.{Head, after_server, after_client, start, run}
+use Rattle.nq_model.specs.ServerStep.{boot, at_time as at_server_time}
+use Rattle.nq_model.specs.World.{Head, run}
 use Rattle.nq_promises.specs.Witnesses.{in_order, is_delayed_write, is_lost_write, is_loss, is_store, is_silence, is_silence_of, is_crash, is_opening, is_start, is_read, is_cut, is_growth, is_write}
+use Rattle.walk_entries.proofs.GivenRuns.{given-run}
 
 -- one host that wants short leases, and one file
 abbrev one-host : Head
@@ -97,31 +90,34 @@ bounded events boots = record { hosts = omega arith; first_long = omega arith; f
 -- ---- what came of them
 
 silent-refused : exists (is_refusal first-one) (run one-host silent).packets ≡ true
-unfolding filled zeros grant_of sharing_row caching_row shared_again renewed_row put_off free put_off_by_own granted no_lease begins_call is_called says_busy at_time at_server_time sends_again fresh_client attached_client starts decides creates writes_through stores wrote stores_recovering resizes removes puts_off commits vacates_lease loses without_lease granted_lease holds caches_block purges knows_revision marks_through ends_push spends attached pauses cancels notes_notice new_file written_file resized_file fenced_file with_row with_files with_new_file sends_request after_seq after_number takes_push gives_up quiet drops says after_notices keeping keeping_with with_table attaches tells_later serves leases vacates ends_writing opens boot crash answers after_read reads_cached after_write marks_written empty_table with_rows after_draw after_server after_client start
+unfolding filled zeros given-run
 silent-refused = refl
 
-silent-lost : in_order (names (run one-host silent).journal first-one lost-one ∷ is_loss first-one lost-one ∷ is_silence_of first-one 1 ∷ is_lost_write first-one lost-one ∷ []) (run one-host silent).journal ≡ true
-unfolding filled zeros grant_of sharing_row caching_row shared_again renewed_row put_off free put_off_by_own granted no_lease begins_call is_called says_busy at_time at_server_time sends_again fresh_client attached_client starts decides creates writes_through stores wrote stores_recovering resizes removes puts_off commits vacates_lease loses without_lease granted_lease holds caches_block purges knows_revision marks_through ends_push spends attached pauses cancels notes_notice new_file written_file resized_file fenced_file with_row with_files with_new_file sends_request after_seq after_number takes_push gives_up quiet drops says after_notices keeping keeping_with with_table attaches tells_later serves leases vacates ends_writing opens boot crash answers after_read reads_cached after_write marks_written empty_table with_rows after_draw after_server after_client start
+silent-lost : in_order (names (run one-host silent).journal first-one lost-one ∷ is_loss first-one lost-one ∷ is_silence_of first-one 1 ∷ is_lost_write
+    first-one lost-one ∷ []) (run one-host silent).journal ≡ true
+unfolding filled zeros given-run
 silent-lost = refl
 
 crashed-refused : exists (is_refusal first-one) (run one-host crashed).packets ≡ true
-unfolding filled zeros grant_of sharing_row caching_row shared_again renewed_row put_off free put_off_by_own granted no_lease begins_call is_called says_busy at_time at_server_time sends_again fresh_client attached_client starts decides creates writes_through stores wrote stores_recovering resizes removes puts_off commits vacates_lease loses without_lease granted_lease holds caches_block purges knows_revision marks_through ends_push spends attached pauses cancels notes_notice new_file written_file resized_file fenced_file with_row with_files with_new_file sends_request after_seq after_number takes_push gives_up quiet drops says after_notices keeping keeping_with with_table attaches tells_later serves leases vacates ends_writing opens boot crash answers after_read reads_cached after_write marks_written empty_table with_rows after_draw after_server after_client start
+unfolding filled zeros given-run
 crashed-refused = refl
 
 crashed-lost : in_order (is_loss first-one lost-one ∷ is_opening 2 ∷ is_crash 2 ∷ is_lost_write first-one lost-one ∷ []) (run one-host crashed).journal ≡ true
-unfolding filled zeros grant_of sharing_row caching_row shared_again renewed_row put_off free put_off_by_own granted no_lease begins_call is_called says_busy at_time at_server_time sends_again fresh_client attached_client starts decides creates writes_through stores wrote stores_recovering resizes removes puts_off commits vacates_lease loses without_lease granted_lease holds caches_block purges knows_revision marks_through ends_push spends attached pauses cancels notes_notice new_file written_file resized_file fenced_file with_row with_files with_new_file sends_request after_seq after_number takes_push gives_up quiet drops says after_notices keeping keeping_with with_table attaches tells_later serves leases vacates ends_writing opens boot crash answers after_read reads_cached after_write marks_written empty_table with_rows after_draw after_server after_client start
+unfolding filled zeros given-run
 crashed-lost = refl
 
 crashed-none-silent : exists is_silence (run one-host crashed).journal ≡ false
-unfolding filled zeros grant_of sharing_row caching_row shared_again renewed_row put_off free put_off_by_own granted no_lease begins_call is_called says_busy at_time at_server_time sends_again fresh_client attached_client starts decides creates writes_through stores wrote stores_recovering resizes removes puts_off commits vacates_lease loses without_lease granted_lease holds caches_block purges knows_revision marks_through ends_push spends attached pauses cancels notes_notice new_file written_file resized_file fenced_file with_row with_files with_new_file sends_request after_seq after_number takes_push gives_up quiet drops says after_notices keeping keeping_with with_table attaches tells_later serves leases vacates ends_writing opens boot crash answers after_read reads_cached after_write marks_written empty_table with_rows after_draw after_server after_client start
+unfolding filled zeros given-run
 crashed-none-silent = refl
 
-restarted-late : in_order (is_read (run one-host restarted).journal (next_incarnation first-one) 1 0 5 ∷ is_store first-one 1 0 1 ∷ is_start (next_incarnation first-one) ∷ is_delayed_write first-one 1 0 1 5 ∷ []) (run one-host restarted).journal ≡ true
-unfolding filled zeros grant_of sharing_row caching_row shared_again renewed_row put_off free put_off_by_own granted no_lease begins_call is_called says_busy at_time at_server_time sends_again fresh_client attached_client starts decides creates writes_through stores wrote stores_recovering resizes removes puts_off commits vacates_lease loses without_lease granted_lease holds caches_block purges knows_revision marks_through ends_push spends attached pauses cancels notes_notice new_file written_file resized_file fenced_file with_row with_files with_new_file sends_request after_seq after_number takes_push gives_up quiet drops says after_notices keeping keeping_with with_table attaches tells_later serves leases vacates ends_writing opens boot crash answers after_read reads_cached after_write marks_written empty_table with_rows after_draw after_server after_client start
+restarted-late : in_order (is_read (run one-host restarted).journal (next_incarnation first-one) 1 0 5 ∷ is_store first-one 1 0 1 ∷ is_start
+    (next_incarnation first-one) ∷ is_delayed_write first-one 1 0 1 5 ∷ []) (run one-host restarted).journal ≡ true
+unfolding filled zeros given-run
 restarted-late = refl
 
-resized-cut : in_order (is_read (run one-host resized).journal first-one 1 1 0 ∷ is_growth 1 1 ∷ is_cut 1 1 ∷ is_write 1 1 ∷ []) (run one-host resized).journal ≡ true
-unfolding filled zeros grant_of sharing_row caching_row shared_again renewed_row put_off free put_off_by_own granted no_lease begins_call is_called says_busy at_time at_server_time sends_again fresh_client attached_client starts decides creates writes_through stores wrote stores_recovering resizes removes puts_off commits vacates_lease loses without_lease granted_lease holds caches_block purges knows_revision marks_through ends_push spends attached pauses cancels notes_notice new_file written_file resized_file fenced_file with_row with_files with_new_file sends_request after_seq after_number takes_push gives_up quiet drops says after_notices keeping keeping_with with_table attaches tells_later serves leases vacates ends_writing opens boot crash answers after_read reads_cached after_write marks_written empty_table with_rows after_draw after_server after_client start
+resized-cut : in_order (is_read (run one-host resized).journal first-one 1 1 0 ∷ is_growth 1 1 ∷ is_cut 1 1 ∷ is_write 1 1 ∷ [])
+    (run one-host resized).journal ≡ true
+unfolding filled zeros given-run
 resized-cut = refl
 
 after-silence : LosesAfterSilence
@@ -142,7 +138,9 @@ after-recovery = record {
   most = 60;
   head = one-host;
   events = crashed;
-  bounds = bounded crashed (no-crash-after 60 silence (Event.Crash 5 ∷ delays) refl (one-first 60 (Event.Crash 5) delays (omega arith, omega arith) (no-crash-within 60 delays refl)));
+  bounds =
+      bounded crashed (no-crash-after 60 silence (Event.Crash 5 ∷ delays) refl
+      (one-first 60 (Event.Crash 5) delays (omega arith, omega arith) (no-crash-within 60 delays refl)));
   within = skew-test-is-sound 1 60 crashed refl;
   who = first-one;
   loss = lost-one;

@@ -79,7 +79,8 @@ pub record TicketFits (line : HostRow) (Refused : ℕ → Type 0) (who : Who) (n
   pub opens : (n : ℕ) → t.job ≡ for_call → sequence_of t.request ≡ Some n → (line.inc ≡ who.inc → line.seq < n) → OpenFits t.request journal
   pub refused : Refused t.xid → IsDone line who t → ⊥
 
-pub record Requesting (line : HostRow) (Refused : ℕ → Type 0) (who : Who) (number seq : ℕ) (ticket : Option Ticket) (sends : List Message) (journal : List Entry) : Type 0 where
+pub record Requesting (line : HostRow) (Refused : ℕ → Type 0) (who : Who) (number seq : ℕ) (ticket : Option Ticket) (sends : List Message)
+    (journal : List Entry) : Type 0 where
   pub positive : 0 < seq
   pub line_drawn : line.inc ≡ who.inc → line.seq < seq
   pub ticketed : (t : Ticket) → ticket ≡ Some t → TicketFits line Refused who number seq journal t
@@ -101,7 +102,8 @@ spaced-more after more [] h = tt
 spaced-more after more (e ∷ before) h = (spaced-at after more e before h.0, spaced-more (e ∷ after) more before h.1)
 
 -- an entry that is no cached read
-pub journal-more : (e : Entry) (journal : List Entry) → Placed e journal → Spaced [] e journal → ((who : Who) (q : ℕ) → IsCachedBy who q e → ⊥) → JournalFits journal → JournalFits (e ∷ journal)
+pub journal-more : (e : Entry) (journal : List Entry) → Placed e journal → Spaced [] e journal → ((who : Who) (q : ℕ) → IsCachedBy who q e → ⊥)
+    → JournalFits journal → JournalFits (e ∷ journal)
 journal-more e journal placed spaced uncached h = record {
   placed = (placed, h.placed);
   spaced = (spaced, spaced-more [] (e ∷ []) journal h.spaced);
@@ -112,18 +114,30 @@ journal-more e journal placed spaced uncached h = record {
   read who q (inr before) = inr (h.read who q before)
 
 -- an answer to a call that is not answered and did not read from the cache
-pub placed-answer : (who : Who) (q : ℕ) (said : Said) (before : List Entry) → ¬ Exists (IsAnswer who q) before → ¬ Exists (IsCachedBy who q) before → Placed (A who q said) before
+pub placed-answer : (who : Who) (q : ℕ) (said : Said) (before : List Entry) → ¬ Exists (IsAnswer who q) before → ¬ Exists (IsCachedBy who q) before
+    → Placed (A who q said) before
 placed-answer who q (OkBy value packet) before first uncached = (first, uncached)
 placed-answer who q said before first uncached = first
 
-pub journal-answer : (who : Who) (q : ℕ) (said : Said) (journal : List Entry) → IsOpen journal who q → JournalFits journal → JournalFits (A who q said ∷ journal)
-journal-answer who q said journal is_open h = journal-more (A who q said) journal (placed-answer who q said journal is_open.1 (λ c. is_open.1 (h.read who q c))) tt (λ w n c. c) h
+pub journal-answer : (who : Who) (q : ℕ) (said : Said) (journal : List Entry) → IsOpen journal who q → JournalFits journal
+    → JournalFits (A who q said ∷ journal)
+journal-answer who q said journal is_open h =
+    journal-more (A who q said) journal (placed-answer who q said journal is_open.1 (λ c. is_open.1 (h.read who q c))) tt (λ w n c. c) h
 
 -- a call, and its answer in the same step
-pub journal-busy : (who : Who) (q : ℕ) (told : Told) (said : Said) (journal : List Entry) → Each (IsCallBelow who q) journal → (HasOpen journal who → said ≡ Busy) → ¬ Exists (IsAnswer who q) journal → ¬ Exists (IsCachedBy who q) journal → JournalFits journal → JournalFits (A who q said ∷ C who q told ∷ journal)
+pub journal-busy : (who : Who) (q : ℕ) (told : Told) (said : Said) (journal : List Entry) → Each (IsCallBelow who q) journal
+    → (HasOpen journal who → said ≡ Busy) → ¬ Exists (IsAnswer who q) journal → ¬ Exists (IsCachedBy who q) journal → JournalFits journal
+    → JournalFits (A who q said ∷ C who q told ∷ journal)
 journal-busy who q told said journal rises busy first uncached h = record {
   placed = (placed-answer who q said (C who q told ∷ journal) (λ a. none a) (λ c. cached c), (rises, h.placed));
-  spaced = (tt, ((λ is_open none. subst (λ s. IsBusyNext who q (A who q s ∷ [])) (sym (busy is_open)) (refl, refl)), spaced-more [] (C who q told ∷ A who q said ∷ []) journal h.spaced));
+  spaced = (
+    tt,
+    (
+      (λ is_open none. subst (λ s. IsBusyNext who q (A who q s ∷ [])) (sym (busy is_open)) (refl, refl)),
+      spaced-more []
+          (C who q told ∷ A who q said ∷ []) journal h.spaced,
+    ),
+  );
   read = λ w n c. read w n c;
 } where
   none : ⊥ ⊎ Exists (IsAnswer who q) journal → ⊥
@@ -178,7 +192,8 @@ module _ (who : Who) (calls number : ℕ) (under : Option UnderWay) (journal : L
   written-below n some = let r = exists-in (IsNumbered who n) journal some in let e = write-entry who n r.0 r.2 in h.writes r.0 n r.1 e.0 e.1
 
 -- calls rise
-rises-from : (who : Who) (calls : ℕ) (journal : List Entry) → ((e : Entry) (q : ℕ) → In journal e → entry_who e ≡ Some who → entry_call e ≡ Some q → q ≤ calls) → Each (IsCallBelow who (calls + 1)) journal
+rises-from : (who : Who) (calls : ℕ) (journal : List Entry)
+    → ((e : Entry) (q : ℕ) → In journal e → entry_who e ≡ Some who → entry_call e ≡ Some q → q ≤ calls) → Each (IsCallBelow who (calls + 1)) journal
 rises-from who calls [] h = tt
 rises-from who calls (e ∷ journal) h = (at e (λ q. h e q (inl refl)), rises-from who calls journal (λ f q i. h f q (inr i)))
   where
@@ -186,7 +201,8 @@ rises-from who calls (e ∷ journal) h = (at e (λ q. h e q (inl refl)), rises-f
     at (C by n told) g = λ same. let below = g n (ap (λ w. Some w) same) refl in omega arith
     at other g = tt
 
-pub rises : (who : Who) (calls number : ℕ) (under : Option UnderWay) (journal : List Entry) → CallsAt who calls number under journal → Each (IsCallBelow who (calls + 1)) journal
+pub rises : (who : Who) (calls number : ℕ) (under : Option UnderWay) (journal : List Entry) → CallsAt who calls number under journal
+    → Each (IsCallBelow who (calls + 1)) journal
 rises who calls number under journal h = rises-from who calls journal h.numbers
 
 -- ---- what a call asks
@@ -230,7 +246,8 @@ pub record Bounds (who : Who) (calls number : ℕ) (journal : List Entry) : Type
   pub numbers : (e : Entry) (q : ℕ) → In journal e → entry_who e ≡ Some who → entry_call e ≡ Some q → q ≤ calls
   pub writes : (e : Entry) (n : ℕ) → In journal e → entry_who e ≡ Some who → entry_number e ≡ Some n → n < number
 
-pub bounds-more : (who : Who) (calls number : ℕ) (e : Entry) (journal : List Entry) → IsBounded who calls number e → Bounds who calls number journal → Bounds who calls number (e ∷ journal)
+pub bounds-more : (who : Who) (calls number : ℕ) (e : Entry) (journal : List Entry) → IsBounded who calls number e → Bounds who calls number journal
+    → Bounds who calls number (e ∷ journal)
 bounds-more who calls number e journal b h = record { past = λ f w i. past f w i; numbers = λ f q i. numbers f q i; writes = λ f n i. writes f n i } where
   past : (f : Entry) (w : Who) → (e ≡ f) ⊎ In journal f → entry_who f ≡ Some w → w.host ≡ who.host → w.inc ≤ who.inc
   past f w (inl same) by = b.past w (ap entry_who same ∙ by)
@@ -244,10 +261,13 @@ bounds-more who calls number e journal b h = record { past = λ f w i. past f w 
   writes f n (inl same) by of = b.writes n (ap entry_who same ∙ by) (ap entry_number same ∙ of)
   writes f n (inr i) by of = h.writes f n i by of
 
-told-still : (who : Who) (calls : ℕ) (u : UnderWay) (e : Entry) (journal : List Entry) → IsNoCall who e → IsOpenAsTold who calls u journal → IsOpenAsTold who calls u (e ∷ journal)
-told-still who calls u e journal quiet h = record { is_open = open-more journal u.q quiet h.is_open; tells = call-told e journal who u.q (told u.call) h.tells; counted = h.counted }
+told-still : (who : Who) (calls : ℕ) (u : UnderWay) (e : Entry) (journal : List Entry) → IsNoCall who e → IsOpenAsTold who calls u journal
+    → IsOpenAsTold who calls u (e ∷ journal)
+told-still who calls u e journal quiet h =
+    record { is_open = open-more journal u.q quiet h.is_open; tells = call-told e journal who u.q (told u.call) h.tells; counted = h.counted }
 
-pub calls-more : (who : Who) (calls number : ℕ) (under : Option UnderWay) (e : Entry) (journal : List Entry) → IsNoCall who e → IsBounded who calls number e → CallsAt who calls number under journal → CallsAt who calls number under (e ∷ journal)
+pub calls-more : (who : Who) (calls number : ℕ) (under : Option UnderWay) (e : Entry) (journal : List Entry) → IsNoCall who e
+    → IsBounded who calls number e → CallsAt who calls number under journal → CallsAt who calls number under (e ∷ journal)
 calls-more who calls number under e journal quiet b h =
     let more = bounds-more who calls number e journal b (record { past = h.past; numbers = h.numbers; writes = h.writes }) in
     record {
@@ -259,7 +279,8 @@ calls-more who calls number under e journal quiet b h =
     }
 
 -- more calls and write numbers were drawn
-pub calls-raised : (who : Who) (calls number more after : ℕ) (under : Option UnderWay) (journal : List Entry) → calls ≤ more → number ≤ after → CallsAt who calls number under journal → CallsAt who more after under journal
+pub calls-raised : (who : Who) (calls number more after : ℕ) (under : Option UnderWay) (journal : List Entry) → calls ≤ more → number ≤ after
+    → CallsAt who calls number under journal → CallsAt who more after under journal
 calls-raised who calls number more after under journal a b h = record {
   past = h.past;
   numbers = λ e q i by of. let below = h.numbers e q i by of in omega arith;
@@ -269,7 +290,10 @@ calls-raised who calls number more after under journal a b h = record {
 }
 
 -- the call under way got other marks
-pub calls-marked : (who : Who) (calls number : ℕ) (under after : Option UnderWay) (journal : List Entry) → ((u : UnderWay) → after ≡ Some u → (v : UnderWay) × (under ≡ Some v) × (v.q ≡ u.q) × (v.call ≡ u.call)) → ((v : UnderWay) → under ≡ Some v → (u : UnderWay) × (after ≡ Some u) × (u.q ≡ v.q)) → CallsAt who calls number under journal → CallsAt who calls number after journal
+pub calls-marked : (who : Who) (calls number : ℕ) (under after : Option UnderWay) (journal : List Entry)
+    → ((u : UnderWay) → after ≡ Some u → (v : UnderWay) × (under ≡ Some v) × (v.q ≡ u.q) × (v.call ≡ u.call))
+    → ((v : UnderWay) → under ≡ Some v → (u : UnderWay) × (after ≡ Some u) × (u.q ≡ v.q)) → CallsAt who calls number under journal
+    → CallsAt who calls number after journal
 calls-marked who calls number under after journal back forth h = record {
   past = h.past;
   numbers = h.numbers;

@@ -49,7 +49,8 @@ pub record CallsKnown (w : World) : Type 0 where
   -- each READ is of what its call reads
   pub reads : (host x : ℕ) (r : Request) → Asked w.packets host x r → ReadFits r w.journal
   -- the open request of an incarnation that is over
-  pub ended : (host : ℕ) (c : Client) → slice_get w.clients host ≡ Some c → (host_row w.server.kept host).inc < c.who.inc → (x : ℕ) (r : Request) → IsOpenAt (host_row w.server.kept host) w.packets host x r → OpenFits r w.journal
+  pub ended : (host : ℕ) (c : Client) → slice_get w.clients host ≡ Some c → (host_row w.server.kept host).inc < c.who.inc → (x : ℕ) (r : Request)
+      → IsOpenAt (host_row w.server.kept host) w.packets host x r → OpenFits r w.journal
 
 -- ---- more entries
 
@@ -67,7 +68,9 @@ each-append P [] ys h k = k
 each-append P (x ∷ xs) ys h k = (h x (inl refl), each-append P xs ys (λ e i. h e (inr i)) k)
 
 -- entries that are none of the client's calls and changes
-pub calls-of-more : (line : HostRow) (Refused : ℕ → Type 0) (c : Client) (entries journal : List Entry) → ((e : Entry) → In entries e → IsQuiet c.who e × IsBounded c.who c.calls c.number e) → CallsOf line Refused c journal → CallsOf line Refused c (entries ++ journal)
+pub calls-of-more : (line : HostRow) (Refused : ℕ → Type 0) (c : Client) (entries journal : List Entry)
+    → ((e : Entry) → In entries e → IsQuiet c.who e × IsBounded c.who c.calls c.number e) → CallsOf line Refused c journal
+    → CallsOf line Refused c (entries ++ journal)
 calls-of-more line Refused c [] journal quiet h = h
 calls-of-more line Refused c (e ∷ entries) journal quiet h =
     let k = calls-of-more line Refused c entries journal (λ f i. quiet f (inr i)) h in
@@ -89,26 +92,32 @@ foreign who calls number e other = (
 )
 
 -- fewer requests were refused
-pub calls-of-refused : (line : HostRow) (Refused Less : ℕ → Type 0) (c : Client) (journal : List Entry) → ((x : ℕ) → Less x → Refused x) → CallsOf line Refused c journal → CallsOf line Less c journal
+pub calls-of-refused : (line : HostRow) (Refused Less : ℕ → Type 0) (c : Client) (journal : List Entry) → ((x : ℕ) → Less x → Refused x)
+    → CallsOf line Refused c journal → CallsOf line Less c journal
 calls-of-refused line Refused Less c journal less h = record {
   calls_fit = h.calls_fit;
   pending = h.pending;
   asks = record {
     positive = h.asks.positive;
     line_drawn = h.asks.line_drawn;
-    ticketed = λ t is. let k = h.asks.ticketed t is in record { asks = k.asks; drawn = k.drawn; reads = k.reads; numbered = k.numbered; opens = k.opens; refused = λ r d. k.refused (less t.xid r) d };
+    ticketed =
+        λ t is. let k = h.asks.ticketed t is in
+        record { asks = k.asks; drawn = k.drawn; reads = k.reads; numbered = k.numbered; opens = k.opens; refused = λ r d. k.refused (less t.xid r) d };
     sent = h.asks.sent;
   };
 }
 
-pub open-fits-later : (r : Request) (who : Who) (entries journal : List Entry) → asker r ≡ Some who → ((e : Entry) → In entries e → IsQuiet who e) → OpenFits r journal → OpenFits r (entries ++ journal)
+pub open-fits-later : (r : Request) (who : Who) (entries journal : List Entry) → asker r ≡ Some who → ((e : Entry) → In entries e → IsQuiet who e)
+    → OpenFits r journal → OpenFits r (entries ++ journal)
 open-fits-later r who [] journal by quiet h = h
-open-fits-later r who (e ∷ entries) journal by quiet h = open-fits-more r who e (entries ++ journal) by (quiet e (inl refl)) (open-fits-later r who entries journal by (λ f i. quiet f (inr i)) h)
+open-fits-later r who (e ∷ entries) journal by quiet h =
+    open-fits-more r who e (entries ++ journal) by (quiet e (inl refl)) (open-fits-later r who entries journal by (λ f i. quiet f (inr i)) h)
 
 -- ---- open requests
 
 -- a request of the running incarnation that is open is the one under way
-open-for-any : (t : Ticket) (journal : List Entry) → fits_job t.job t.request ≡ true → (t.job ≡ for_call → OpenFits t.request journal) → OpenFits t.request journal
+open-for-any : (t : Ticket) (journal : List Entry) → fits_job t.job t.request ≡ true → (t.job ≡ for_call → OpenFits t.request journal)
+    → OpenFits t.request journal
 open-for-any t journal fits for = case t.job refl t.request fits for
   where
     push-fits : (r : Request) → is_some (push_in r) ≡ true → OpenFits r journal
@@ -133,7 +142,9 @@ open-for-any t journal fits for = case t.job refl t.request fits for
     case attaching e r f h = attach-fits r (subst (λ j. fits_job j r ≡ true) e f)
 
 -- the request under way of a client whose incarnation is the kept one, where it is open
-pub open-ticket : (w : World) (events : List Event) → Holds w → Known w events → (host : ℕ) (c : Client) → slice_get w.clients host ≡ Some c → (host_row w.server.kept host).inc ≡ c.who.inc → (x : ℕ) (r : Request) → IsOpenAt (host_row w.server.kept host) w.packets host x r → (t : Ticket) × (c.ticket ≡ Some t) × (t.xid ≡ x) × (t.request ≡ r)
+pub open-ticket : (w : World) (events : List Event) → Holds w → Known w events → (host : ℕ) (c : Client) → slice_get w.clients host ≡ Some c
+    → (host_row w.server.kept host).inc ≡ c.who.inc → (x : ℕ) (r : Request) → IsOpenAt (host_row w.server.kept host) w.packets host x r
+    → (t : Ticket) × (c.ticket ≡ Some t) × (t.xid ≡ x) × (t.request ≡ r)
 open-ticket w events held known host c is kept x r o =
     let t = ticket ((known.clients host c is).lined.settled kept x r o.who o.seq asked o.by (sym o.kept ∙ kept) o.draws) in
     (t.0, t.1, t.2, ((held.clients host c is).mail.asked x r o.who asked o.by).same (sym o.kept ∙ kept) t.0 t.1 t.2)
@@ -146,7 +157,8 @@ open-ticket w events held known host c is kept x r o =
     ticket (inr t) = t
 
 -- an open request fits the journal, whether its incarnation runs or not
-pub open-known : (w : World) (events : List Event) → Holds w → Known w events → CallsKnown w → (host : ℕ) (c : Client) → slice_get w.clients host ≡ Some c → (x : ℕ) (r : Request) → IsOpenAt (host_row w.server.kept host) w.packets host x r → OpenFits r w.journal
+pub open-known : (w : World) (events : List Event) → Holds w → Known w events → CallsKnown w → (host : ℕ) (c : Client)
+    → slice_get w.clients host ≡ Some c → (x : ℕ) (r : Request) → IsOpenAt (host_row w.server.kept host) w.packets host x r → OpenFits r w.journal
 open-known w events held known g host c is x r o = case (either (host_row w.server.kept host).inc c.who.inc (known.clients host c is).lined.past)
   where
     either : (a b : ℕ) → a ≤ b → (a ≡ b) ⊎ (a < b)
@@ -157,16 +169,23 @@ open-known w events held known g host c is x r o = case (either (host_row w.serv
     case (inl same) =
         let t = open-ticket w events held known host c is same x r o in
         let k = (g.clients host c is).asks.ticketed t.0 t.1 in
-        subst (λ z. OpenFits z w.journal) t.3 (open-for-any t.0 w.journal ((held.clients host c is).alone.asking.ticketed t.0 t.1).fits (λ job. k.opens o.seq job (ap sequence_of t.3 ∙ o.draws) (λ inc. o.above)))
+        subst (λ z. OpenFits z w.journal) t.3
+        (open-for-any t.0 w.journal ((held.clients host c is).alone.asking.ticketed t.0 t.1).fits
+        (λ job. k.opens o.seq job (ap sequence_of t.3 ∙ o.draws) (λ inc. o.above)))
 
 -- ---- a step of a client
 
 -- the client after its step
-pub client-known : (w : World) (events : List Event) (host : ℕ) (c : Client) (t : ClientStep) (mine : Who) → slice_get w.clients host ≡ Some c → mine.host ≡ host → c.who.inc ≤ mine.inc → Holds w → Known w events → Drew host w.packets t → Doing (host_row w.server.kept host) (IsRefused w.packets mine) (length w.packets) mine w.journal ⊤ t → CallsKnown w → CallsKnown (after_client w host t)
+pub client-known : (w : World) (events : List Event) (host : ℕ) (c : Client) (t : ClientStep) (mine : Who) → slice_get w.clients host ≡ Some c
+    → mine.host ≡ host → c.who.inc ≤ mine.inc → Holds w → Known w events → Drew host w.packets t
+    → Doing (host_row w.server.kept host) (IsRefused w.packets mine) (length w.packets) mine w.journal ⊤ t → CallsKnown w
+    → CallsKnown (after_client w host t)
 unfolding after_client
 client-known w events host c t mine is here up held known drew d g = record {
   journal = d.journal;
-  below = all-below-more (t.entries ++ w.journal) (length w.packets) (length (packets_with w.packets host t.sends)) (omega (arith, length-append {A = Packet})) (each-append (IsBelow (length w.packets)) t.entries w.journal (λ e i. (d.own e i).1) g.below);
+  below =
+      all-below-more (t.entries ++ w.journal) (length w.packets) (length (packets_with w.packets host t.sends))
+      (omega (arith, length-append {A = Packet})) (each-append (IsBelow (length w.packets)) t.entries w.journal (λ e i. (d.own e i).1) g.below);
   clients = clients-after CallsOfIn w host t own (λ other e apart there. others other e apart there);
   reads = λ other x r asked. reads other x r (in-append w.packets (map (from_host host) t.sends) (from_host other (call x r)) asked);
   ended = clients-after Ended w host t over (λ other e apart there. still other e apart there);
@@ -175,29 +194,34 @@ client-known w events host c t mine is here up held known drew d g = record {
   line = host_row w.server.kept host
 
   Ended : ℕ → Client → World → Type 0
-  Ended other e v = (host_row v.server.kept other).inc < e.who.inc → (x : ℕ) (r : Request) → IsOpenAt (host_row v.server.kept other) v.packets other x r → OpenFits r v.journal
+  Ended other e v =
+      (host_row v.server.kept other).inc < e.who.inc → (x : ℕ) (r : Request) → IsOpenAt (host_row v.server.kept other) v.packets other x r
+      → OpenFits r v.journal
 
   mine-here : t.client.who.host ≡ host
   mine-here = ap (λ z. z.host) d.same ∙ here
 
-  mine-inc : t.client.who.inc ≡ mine.inc
-  mine-inc = ap (λ z. z.inc) d.same
-
   own : CallsOf line (IsRefused (packets_with w.packets host t.sends) t.client.who) t.client (t.entries ++ w.journal)
   own = calls-of-refused line (IsRefused w.packets mine) (IsRefused (packets_with w.packets host t.sends) t.client.who) t.client (t.entries ++ w.journal)
-      (λ x some. (some.0, old-told w.packets host mine.host t.sends (reply x (Reply.Refused mine.inc some.0)) (subst (λ v. Told (packets_with w.packets host t.sends) v.host (reply x (Reply.Refused v.inc some.0))) d.same some.1)))
+      (λ x some. (
+        some.0,
+        old-told w.packets host mine.host t.sends (reply x (Reply.Refused mine.inc some.0))
+            (subst (λ v. Told (packets_with w.packets host t.sends) v.host (reply x (Reply.Refused v.inc some.0))) d.same some.1),
+      ))
       (record {
         calls_fit = d.calls_fit;
         pending = d.pending tt;
         asks = record { positive = d.asks.positive; line_drawn = d.asks.line_drawn; ticketed = d.asks.ticketed; sent = λ x r i. absurd i };
       })
 
-  not-here : (other : ℕ) (e : Client) → other ≢ host → slice_get w.clients other ≡ Some e → (f : Entry) → In t.entries f → (v : Who) → entry_who f ≡ Some v → v.host ≢ e.who.host
+  not-here : (other : ℕ) (e : Client) → other ≢ host → slice_get w.clients other ≡ Some e → (f : Entry) → In t.entries f → (v : Who)
+      → entry_who f ≡ Some v → v.host ≢ e.who.host
   not-here other e apart there f i v by same =
       let one : t.client.who ≡ v = some-same t.client.who v (sym (d.own f i).0 ∙ by) in
       apart (sym (held.clients other e there).here ∙ sym same ∙ ap (λ z. z.host) (sym one) ∙ mine-here)
 
-  others : (other : ℕ) (e : Client) → other ≢ host → slice_get w.clients other ≡ Some e → CallsOf (host_row w.server.kept other) (IsRefused (packets_with w.packets host t.sends) e.who) e (t.entries ++ w.journal)
+  others : (other : ℕ) (e : Client) → other ≢ host → slice_get w.clients other ≡ Some e
+      → CallsOf (host_row w.server.kept other) (IsRefused (packets_with w.packets host t.sends) e.who) e (t.entries ++ w.journal)
   others other e apart there =
       calls-of-more (host_row w.server.kept other) (IsRefused (packets_with w.packets host t.sends) e.who) e t.entries w.journal
       (λ f i. foreign e.who e.calls e.number f (not-here other e apart there f i))
@@ -205,21 +229,30 @@ client-known w events host c t mine is here up held known drew d g = record {
       (λ x some. (some.0, old-told w.packets host e.who.host t.sends (reply x (Reply.Refused e.who.inc some.0)) some.1))
       (g.clients other e there))
 
-  reads : (other x : ℕ) (r : Request) → Asked w.packets other x r ⊎ In (map (from_host host) t.sends) (from_host other (call x r)) → ReadFits r (t.entries ++ w.journal)
+  reads : (other x : ℕ) (r : Request) → Asked w.packets other x r ⊎ In (map (from_host host) t.sends) (from_host other (call x r))
+      → ReadFits r (t.entries ++ w.journal)
   reads other x r (inl old) = read-fits-later r t.entries w.journal (g.reads other x r old)
   reads other x r (inr new) = d.asks.sent x r (sent-calls host other t.sends x r new)
 
-  over : line.inc < t.client.who.inc → (x : ℕ) (r : Request) → IsOpenAt line (packets_with w.packets host t.sends) host x r → OpenFits r (t.entries ++ w.journal)
+  over : line.inc < t.client.who.inc → (x : ℕ) (r : Request) → IsOpenAt line (packets_with w.packets host t.sends) host x r
+      → OpenFits r (t.entries ++ w.journal)
   over later x r o =
       let below : o.who.inc < t.client.who.inc = let kept = o.kept in omega arith in
       open-fits-later r o.who t.entries w.journal o.by
-      (λ f i. foreign-quiet o.who f (λ v by same. let one : t.client.who.inc ≡ o.who.inc = ap (λ z. z.inc) (some-same t.client.who v (sym (d.own f i).0 ∙ by) ∙ same) in absurd (omega arith)))
-      (open-known w events held known g host c is x r (record { who = o.who; seq = o.seq; asked = drew.own x r o.who o.asked o.by below; by = o.by; kept = o.kept; draws = o.draws; above = o.above }))
+      (λ f i. foreign-quiet o.who f (λ v by same. let one : t.client.who.inc ≡ o.who.inc = ap (λ z. z.inc)
+      (some-same t.client.who v (sym (d.own f i).0 ∙ by) ∙ same) in absurd (omega arith)))
+      (open-known w events held known g host c is x r
+      (record { who = o.who; seq = o.seq; asked = drew.own x r o.who o.asked o.by below; by = o.by; kept = o.kept; draws = o.draws; above = o.above }))
 
-  still : (other : ℕ) (e : Client) → other ≢ host → slice_get w.clients other ≡ Some e → (host_row w.server.kept other).inc < e.who.inc → (x : ℕ) (r : Request) → IsOpenAt (host_row w.server.kept other) (packets_with w.packets host t.sends) other x r → OpenFits r (t.entries ++ w.journal)
+  still : (other : ℕ) (e : Client) → other ≢ host → slice_get w.clients other ≡ Some e → (host_row w.server.kept other).inc < e.who.inc
+      → (x : ℕ) (r : Request) → IsOpenAt (host_row w.server.kept other) (packets_with w.packets host t.sends) other x r
+      → OpenFits r (t.entries ++ w.journal)
   still other e apart there later x r o =
       let old : Asked w.packets other x r = other-asked w.packets host other t.sends x r apart o.asked in
-      let there_by : o.who.host ≡ other = ((held.clients other e there).mail.asked x r o.who (subst (λ n. Asked w.packets n x r) (sym (held.clients other e there).here) old) o.by).host ∙ (held.clients other e there).here in
+      let there_by : o.who.host ≡ other =
+      ((held.clients other e there).mail.asked x r o.who (subst (λ n. Asked w.packets n x r) (sym (held.clients other e there).here) old) o.by).host
+      ∙ (held.clients other e there).here in
       open-fits-later r o.who t.entries w.journal o.by
-      (λ f i. foreign-quiet o.who f (λ v by same. not-here other e apart there f i v by (ap (λ z. z.host) same ∙ there_by ∙ sym (held.clients other e there).here)))
+      (λ f i. foreign-quiet o.who f (λ v by same. not-here other e apart there f i v by
+      (ap (λ z. z.host) same ∙ there_by ∙ sym (held.clients other e there).here)))
       (g.ended other e there later x r (record { who = o.who; seq = o.seq; asked = old; by = o.by; kept = o.kept; draws = o.draws; above = o.above }))

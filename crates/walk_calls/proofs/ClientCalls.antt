@@ -65,7 +65,8 @@ module _ (line : HostRow) (Refused : ℕ → Type 0) (limit : ℕ) (mine : Who) 
   unfolding ends_push
   spent-ends Goes t h = record { does = move.ends-keeps line Refused limit mine old Goes t h.does; none = h.none }
 
-  spent-spends : (Goes : Type 0) (t : ClientStep) → (Goes → NoneDone line t.client.who t.client.ticket) → Doing line Refused limit mine old ⊤ t → Spent Goes (spends t)
+  spent-spends : (Goes : Type 0) (t : ClientStep) → (Goes → NoneDone line t.client.who t.client.ticket) → Doing line Refused limit mine old ⊤ t
+      → Spent Goes (spends t)
   unfolding spends
   spent-spends Goes t none h = record { does = move.spends-keeps line Refused limit mine old Goes t none h; none = refl }
 
@@ -73,38 +74,53 @@ module _ (line : HostRow) (Refused : ℕ → Type 0) (limit : ℕ) (mine : Who) 
   unfolding answers
   answers-none t q answer by h = h
 
-  spent-answers : (Goes : Type 0) (t : ClientStep) (answer : Answer) (by : Option ℕ) → ((k : ℕ) → by ≡ Some k → k < limit) → Spent Goes t → Spent ⊤ (answers_call t answer by)
+  spent-answers : (Goes : Type 0) (t : ClientStep) (answer : Answer) (by : Option ℕ) → ((k : ℕ) → by ≡ Some k → k < limit) → Spent Goes t
+      → Spent ⊤ (answers_call t answer by)
   spent-answers Goes t answer by sent h = answers-call-cases t answer by (λ s. Spent ⊤ s)
       (λ none. record { does = move.idle-keeps line Refused limit mine old Goes t none h.does; none = h.none })
-      (λ u is. record { does = move.answers-keeps line Refused limit mine old Goes t u answer by sent is (idle t h.none) h.does; none = answers-none t u.q answer by h.none })
+      (λ u is. record {
+        does = move.answers-keeps line Refused limit mine old Goes t u answer by sent is (idle t h.none) h.does;
+        none = answers-none t
+            u.q answer by h.none;
+      })
 
   spent-names : (Goes : Type 0) (t : ClientStep) (u : UnderWay) (file : ℕ) → t.client.call ≡ Some u → Spent Goes t → Spent ⊤ (names_losses t u.q file)
   spent-names Goes t u file is h = record {
     does = move.names-keeps line Refused limit mine old Goes t u file is (idle t h.none) h.does;
-    none = answers-none (in_state t (record t.client { losses = other_losses file t.client.losses })) u.q (Answer.Lost (loss_list (losses_of file t.client.losses))) None h.none;
+    none =
+        answers-none (in_state t (record t.client { losses = other_losses file t.client.losses })) u.q
+        (Answer.Lost (loss_list (losses_of file t.client.losses))) None h.none;
   }
 
   spent-weaker : (Goes : Type 0) (t : ClientStep) → Spent ⊤ t → Spent Goes t
   spent-weaker Goes t h = record { does = move.weaker line Refused limit mine old Goes t h.does; none = h.none }
 
   spent-reports : (Goes : Type 0) (t : ClientStep) (file : ℕ) → Spent Goes t → Spent Goes (reports t file)
-  spent-reports Goes t file h = reports-cases t file (λ s. Spent Goes s) (λ none. h) (λ u is other. h) (λ u is waits. spent-weaker Goes (names_losses t u.q file) (spent-names Goes t u file is h))
+  spent-reports Goes t file h =
+      reports-cases t file (λ s. Spent Goes s) (λ none. h) (λ u is other. h)
+      (λ u is waits. spent-weaker Goes (names_losses t u.q file) (spent-names Goes t u file is h))
 
   spent-noticed : (Goes : Type 0) (t : ClientStep) (file : ℕ) (o : Option Notice) → Spent Goes t → Spent Goes (vacates_noticed t file o)
   spent-noticed Goes t file o h = vacates-noticed-cases t file o (λ s. Spent Goes s) (λ none. h) (λ n is. spent-vacates Goes t file n.tag h)
 
   spent-breaks : (Goes : Type 0) (t : ClientStep) (file : ℕ) → Spent Goes t → Spent Goes (breaks_chain t file)
-  spent-breaks Goes t file h = spent-reports Goes (vacates_noticed (loses t file) file (notice_on file t.client.notices)) file (spent-noticed Goes (loses t file) file (notice_on file t.client.notices) (spent-loses Goes t file h))
+  spent-breaks Goes t file h =
+      spent-reports Goes (vacates_noticed (loses t file) file (notice_on file t.client.notices)) file
+      (spent-noticed Goes (loses t file) file (notice_on file t.client.notices) (spent-loses Goes t file h))
 
   spent-grant : (Goes : Type 0) (t : ClientStep) (file : ℕ) (g : Grant) (sent : ℕ) → Spent Goes t → Spent Goes (takes_grant t file g sent)
-  spent-grant Goes t file g sent h = spent-holds Goes (if_broken t file g) file g sent (if-broken-cases t file g (λ s. Spent Goes s) (λ whole. h) (λ lease held below dirty. spent-breaks Goes t file h))
+  spent-grant Goes t file g sent h =
+      spent-holds Goes (if_broken t file g) file g sent
+      (if-broken-cases t file g (λ s. Spent Goes s) (λ whole. h) (λ lease held below dirty. spent-breaks Goes t file h))
 
   spent-optional : (Goes : Type 0) (t : ClientStep) (file : ℕ) (o : Option Grant) (sent : ℕ) → Spent Goes t → Spent Goes (takes_optional t file o sent)
   spent-optional Goes t file o sent h = takes-optional-cases t file o sent (λ s. Spent Goes s) (λ none. h) (λ g is. spent-grant Goes t file g sent h)
 
-  spent-read : (t : ClientStep) (file block : ℕ) (body : List ℕ) (o : Option Grant) (sent number : ℕ) → number < limit → Spent ⊥ t → Spent ⊤ (read_done t file block body o sent number)
+  spent-read : (t : ClientStep) (file block : ℕ) (body : List ℕ) (o : Option Grant) (sent number : ℕ) → number < limit → Spent ⊥ t
+      → Spent ⊤ (read_done t file block body o sent number)
   spent-read t file block body o sent number below h =
-      spent-answers ⊥ (then_caches (takes_optional t file o sent) file block body o) _ (Some number) (λ k e. subst (λ n. n < limit) (some-same number k e) below)
+      spent-answers ⊥ (then_caches (takes_optional t file o sent) file block body o) _ (Some number)
+      (λ k e. subst (λ n. n < limit) (some-same number k e) below)
       (then-caches-cases (takes_optional t file o sent) file block body o (λ s. Spent ⊥ s)
       (λ caching. spent-caches ⊥ (takes_optional t file o sent) file block body (spent-optional ⊥ t file o sent h))
       (λ other. spent-optional ⊥ t file o sent h))
@@ -125,42 +141,60 @@ module _ (line : HostRow) (Refused : ℕ → Type 0) (limit : ℕ) (mine : Who) 
       let s = knows_revision (ends_push t) file rev in
       let k = spent-knows ⊤ (ends_push t) file rev (spent-ends ⊤ t h) in
       let p = caches-push-cases s file block body (λ s. Spent ⊤ s) (λ dirty. k) (λ clean. spent-caches ⊤ s file block body k) in
-      vacates-if-clean-cases (caches_push s file block body) file (λ s. Spent ⊤ s) p (λ n clean is. spent-vacates ⊤ (caches_push s file block body) file n.tag p)
+      vacates-if-clean-cases (caches_push s file block body) file (λ s. Spent ⊤ s) p
+      (λ n clean is. spent-vacates ⊤ (caches_push s file block body) file n.tag p)
 
   spent-refused : (t : ClientStep) (file : ℕ) → Spent ⊤ t → Spent ⊤ (push_refused t file)
   spent-refused t file h =
       spent-reports ⊤ (vacates_noticed (without_lease (loses t file) file) file (notice_on file t.client.notices)) file
-      (spent-noticed ⊤ (without_lease (loses t file) file) file (notice_on file t.client.notices) (spent-without ⊤ (loses t file) file (spent-loses ⊤ t file h)))
+      (spent-noticed ⊤ (without_lease (loses t file) file) file (notice_on file t.client.notices)
+      (spent-without ⊤ (loses t file) file (spent-loses ⊤ t file h)))
 
   -- ---- the reply to the request under way
 
-  pub replied-keeps : (c : Client) (number : ℕ) (ticket : Ticket) (r : Reply) → number < limit → c.ticket ≡ Some ticket → fits_job ticket.job ticket.request ≡ true → reply_counts r ticket ≡ true → ((inc : ℕ) (status : Refusal) → r ≡ Reply.Refused inc status → Refused ticket.xid) → Doing line Refused limit mine old ⊤ (begun c) → Doing line Refused limit mine old ⊤ (replied (begun c) number ticket r)
-  replied-keeps c number ticket r sent is fits counts refused h = replied-cases c number ticket r (λ s. Doing line Refused limit mine old ⊤ s) fits counts (record {
-    attaching = λ who inc job asks e. move.attached-keeps line Refused limit mine old ⊤ (spends (begun c)) (spent (other attaching job (λ d. absurd (cc)))).does;
-    named = λ answer job n. (spent-answers ⊥ (spends (begun c)) answer None (λ k e. none-some k e) answering).does;
-    reading = λ who q file block want inc rev body grant o e. (spent-read (spends (begun c)) file block body grant ticket.first number sent answering).does;
-    leasing = λ who file want inc grant o e. spent-lease (spends (begun c)) file grant ticket.first (spent (undrawn (ap sequence_of o.asks)));
-    writing = λ who seq file block first last body inc rev o e. (spent-write (spends (begun c)) file block body rev answering).does;
-    resizing = λ who seq q file blocks inc rev o e. (spent-answers ⊥ (knows_revision (spends (begun c)) file rev) (Answer.Ok Value.Nothing) None (λ k e. none-some k e) (spent-knows ⊥ (spends (begun c)) file rev answering)).does;
-    removing = λ who seq q file inc o e. (spent-answers ⊥ (spends (begun c)) (Answer.Ok Value.Nothing) None (λ k e. none-some k e) answering).does;
-    renewing = λ who file want inc grant job asks e. (spent-optional ⊤ (spends (begun c)) file grant ticket.first (spent (undrawn (ap sequence_of asks)))).does;
-    pushed = λ who seq file block first last base body inc rev job asks e. (spent-push (spends (begun c)) file block body rev (spent (other pushing job (λ d. absurd (cc))))).does;
-    putting_off = λ inc status jobs e off. move.pauses-keeps line Refused limit mine old ⊤ (spends (begun c)) (spent (declined (refused inc status e))).does;
-    refusing = λ inc status job e of counted. (spent-answers ⊥ (spends (begun c)) _ None (λ k e. none-some k e) answering).does;
-    renewal_refused = λ inc status job e counted. (spent (other renewing job (λ d. absurd (cc)))).does;
-    push_refused = λ who seq file block first last base body inc status job asks e counted. (spent-refused (spends (begun c)) file (spent (other pushing job (λ d. absurd (cc))))).does;
-  }) where
-    spent : NoneDone line c.who c.ticket → Spent ⊤ (spends (begun c))
-    spent none = spent-spends ⊤ (begun c) (λ goes. none) h
+  pub replied-keeps : (c : Client) (number : ℕ) (ticket : Ticket) (r : Reply) → number < limit → c.ticket ≡ Some ticket
+      → fits_job ticket.job ticket.request ≡ true → reply_counts r ticket ≡ true
+      → ((inc : ℕ) (status : Refusal) → r ≡ Reply.Refused inc status → Refused ticket.xid) → Doing line Refused limit mine old ⊤ (begun c)
+      → Doing line Refused limit mine old ⊤ (replied (begun c) number ticket r)
+  replied-keeps c number ticket r sent is fits counts refused h =
+      replied-cases c number ticket r (λ s. Doing line Refused limit mine old ⊤ s) fits counts (record {
+        attaching =
+            λ who inc job asks e. move.attached-keeps line Refused limit mine old ⊤ (spends (begun c)) (spent (other attaching job (λ d. absurd (cc)))).does;
+        named = λ answer job n. (spent-answers ⊥ (spends (begun c)) answer None (λ k e. none-some k e) answering).does;
+        reading = λ who q file block want inc rev body grant o e. (spent-read (spends (begun c)) file block body grant ticket.first number sent answering).does;
+        leasing = λ who file want inc grant o e. spent-lease (spends (begun c)) file grant ticket.first (spent (undrawn (ap sequence_of o.asks)));
+        writing = λ who seq file block first last body inc rev o e. (spent-write (spends (begun c)) file block body rev answering).does;
+        resizing =
+            λ who seq q file blocks inc rev o e.
+            (spent-answers ⊥ (knows_revision (spends (begun c)) file rev) (Answer.Ok Value.Nothing) None (λ k e. none-some k e)
+            (spent-knows ⊥ (spends (begun c)) file rev answering)).does;
+        removing =
+            λ who seq q file inc o e.
+            (spent-answers ⊥ (spends (begun c)) (Answer.Ok Value.Nothing) None (λ k e. none-some k e) answering).does;
+        renewing = λ who file want inc grant job asks e. (spent-optional ⊤ (spends (begun c)) file grant ticket.first (spent (undrawn (ap sequence_of asks)))).does;
+        pushed =
+            λ who seq file block first last base body inc rev job asks e.
+            (spent-push (spends (begun c)) file block body rev (spent (other pushing job (λ d. absurd (cc))))).does;
+        putting_off =
+            λ inc status jobs e off.
+            move.pauses-keeps line Refused limit mine old ⊤ (spends (begun c)) (spent (declined (refused inc status e))).does;
+        refusing = λ inc status job e of counted. (spent-answers ⊥ (spends (begun c)) _ None (λ k e. none-some k e) answering).does;
+        renewal_refused = λ inc status job e counted. (spent (other renewing job (λ d. absurd (cc)))).does;
+        push_refused =
+            λ who seq file block first last base body inc status job asks e counted.
+            (spent-refused (spends (begun c)) file (spent (other pushing job (λ d. absurd (cc))))).does;
+      }) where
+        spent : NoneDone line c.who c.ticket → Spent ⊤ (spends (begun c))
+        spent none = spent-spends ⊤ (begun c) (λ goes. none) h
 
-    answering : Spent ⊥ (spends (begun c))
-    answering = spent-spends ⊥ (begun c) (λ goes. absurd goes) h
+        answering : Spent ⊥ (spends (begun c))
+        answering = spent-spends ⊥ (begun c) (λ goes. absurd goes) h
 
-    other : (job : Job) → ticket.job ≡ job → (job ≡ for_call → ⊥) → NoneDone line c.who c.ticket
-    other job of differs k same d = differs (sym of ∙ ap (λ z. z.job) (some-same ticket k (sym is ∙ same)) ∙ d.job)
+        other : (job : Job) → ticket.job ≡ job → (job ≡ for_call → ⊥) → NoneDone line c.who c.ticket
+        other job of differs k same d = differs (sym of ∙ ap (λ z. z.job) (some-same ticket k (sym is ∙ same)) ∙ d.job)
 
-    undrawn : sequence_of ticket.request ≡ None → NoneDone line c.who c.ticket
-    undrawn none k same d = none-some d.seq (sym none ∙ ap (λ z. sequence_of z.request) (some-same ticket k (sym is ∙ same)) ∙ d.draws)
+        undrawn : sequence_of ticket.request ≡ None → NoneDone line c.who c.ticket
+        undrawn none k same d = none-some d.seq (sym none ∙ ap (λ z. sequence_of z.request) (some-same ticket k (sym is ∙ same)) ∙ d.draws)
 
-    declined : Refused ticket.xid → NoneDone line c.who c.ticket
-    declined off k same d = let one = some-same ticket k (sym is ∙ same) in (h.asks.ticketed k same).refused (subst Refused (ap (λ z. z.xid) one) off) d
+        declined : Refused ticket.xid → NoneDone line c.who c.ticket
+        declined off k same d = let one = some-same ticket k (sym is ∙ same) in (h.asks.ticketed k same).refused (subst Refused (ap (λ z. z.xid) one) off) d

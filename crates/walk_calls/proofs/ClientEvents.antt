@@ -41,7 +41,8 @@ pub record CallsOf (line : HostRow) (Refused : ℕ → Type 0) (c : Client) (jou
   pub pending : Pending line c.who c.call c.ticket journal
   pub asks : Requesting line Refused c.who c.number c.seq c.ticket [] journal
 
-module _ (line : HostRow) (Refused : ℕ → Type 0) (limit : ℕ) (old : List Entry) (journal : JournalFits old) (c : Client) (alone : Alone c) (known : CallsOf line Refused c old) where
+module _ (line : HostRow) (Refused : ℕ → Type 0) (limit : ℕ) (old : List Entry) (journal : JournalFits old) (c : Client) (alone : Alone c)
+    (known : CallsOf line Refused c old) where
   begun-does : Doing line Refused limit c.who old ⊤ (begun c)
   begun-does = record { same = refl; journal = journal; calls_fit = known.calls_fit; pending = λ goes. known.pending; asks = known.asks; own = λ e i. absurd i }
 
@@ -58,14 +59,21 @@ module _ (line : HostRow) (Refused : ℕ → Type 0) (limit : ℕ) (old : List E
     no-cached : ¬ Exists (IsCachedBy c.who (c.calls + 1)) old
     no-cached a = let below = cached-below c.who c.calls c.number c.call old known.calls_fit (c.calls + 1) a in omega arith
 
-    answered : (word : Said) → IsBelow limit (A c.who (c.calls + 1) word) → (HasOpen old c.who → word ≡ Busy) → Fits line Refused limit c.who old ⊤ c.who (c.calls + 1) c.number c.seq c.call c.ticket [] (A c.who (c.calls + 1) word ∷ C c.who (c.calls + 1) (told op) ∷ [])
+    answered : (word : Said) → IsBelow limit (A c.who (c.calls + 1) word) → (HasOpen old c.who → word ≡ Busy)
+        → Fits line Refused limit c.who old ⊤ c.who (c.calls + 1) c.number c.seq c.call c.ticket []
+        (A c.who (c.calls + 1) word ∷ C c.who (c.calls + 1) (told op) ∷ [])
     answered word below busy = record {
       same = refl;
       journal = journal-busy c.who (c.calls + 1) (told op) word old (rises c.who c.calls c.number c.call old known.calls_fit) busy no-answer no-cached journal;
       calls_fit = calls-busy c.who c.calls c.number c.call (told op) word old known.calls_fit;
-      pending = λ goes. pending-more line c.who c.call c.ticket (A c.who (c.calls + 1) word) (C c.who (c.calls + 1) (told op) ∷ old) (record { write = λ n h. h; resize = λ n h. h }) (pending-more line c.who c.call c.ticket (C c.who (c.calls + 1) (told op)) old (record { write = λ n h. h; resize = λ n h. h }) known.pending);
+      pending =
+          λ goes. pending-more line c.who c.call c.ticket (A c.who (c.calls + 1) word) (C c.who (c.calls + 1) (told op) ∷ old)
+          (record { write = λ n h. h; resize = λ n h. h })
+          (pending-more line c.who c.call c.ticket (C c.who (c.calls + 1) (told op)) old (record { write = λ n h. h; resize = λ n h. h }) known.pending);
       asks = asks-busy c.who c.calls c.number c.call (told op) word old known.calls_fit line Refused c.seq c.ticket [] known.asks;
-      own = own-more limit c.who (A c.who (c.calls + 1) word) (C c.who (c.calls + 1) (told op) ∷ []) (refl, below) (own-more limit c.who (C c.who (c.calls + 1) (told op)) [] (refl, tt) (λ e i. absurd i));
+      own =
+          own-more limit c.who (A c.who (c.calls + 1) word) (C c.who (c.calls + 1) (told op) ∷ []) (refl, below)
+          (own-more limit c.who (C c.who (c.calls + 1) (told op)) [] (refl, tt) (λ e i. absurd i));
     }
 
     busy-does : Doing line Refused limit c.who old ⊤ (says_busy (begins_call c op))
@@ -77,7 +85,10 @@ module _ (line : HostRow) (Refused : ℕ → Type 0) (limit : ℕ) (old : List E
 
     telling-does : (file : ℕ) → c.call ≡ None → Doing line Refused limit c.who old ⊤ (names_losses (begins_call c op) (begins_call c op).client.calls file)
     unfolding begins_call answers
-    telling-does file none = subst (λ o. Fits line Refused limit c.who old ⊤ c.who (c.calls + 1) c.number c.seq o c.ticket [] (A c.who (c.calls + 1) (said (Answer.Lost (loss_list (losses_of file c.losses))) None) ∷ C c.who (c.calls + 1) (told op) ∷ [])) none (answered (said (Answer.Lost (loss_list (losses_of file c.losses))) None) tt (λ some. absurd (none-open none some)))
+    telling-does file none =
+        subst (λ o. Fits line Refused limit c.who old ⊤ c.who (c.calls + 1) c.number c.seq o c.ticket []
+        (A c.who (c.calls + 1) (said (Answer.Lost (loss_list (losses_of file c.losses))) None) ∷ C c.who (c.calls + 1) (told op) ∷ [])) none
+        (answered (said (Answer.Lost (loss_list (losses_of file c.losses))) None) tt (λ some. absurd (none-open none some)))
 
     idle : c.call ≡ None → NotForCall c.ticket
     idle none t is job = some (alone.asking.called t is job)
@@ -92,7 +103,9 @@ module _ (line : HostRow) (Refused : ℕ → Type 0) (limit : ℕ) (old : List E
         let fit : CallsAt c.who c.calls c.number None old = subst (λ o. CallsAt c.who c.calls c.number o old) none known.calls_fit in
         record {
           same = refl;
-          journal = journal-more e old (rises c.who c.calls c.number c.call old known.calls_fit) (λ some unanswered. absurd (none-open none some)) (λ w n h. h) journal;
+          journal =
+              journal-more e old (rises c.who c.calls c.number c.call old known.calls_fit) (λ some unanswered. absurd (none-open none some))
+              (λ w n h. h) journal;
           calls_fit = calls-called c.who c.calls c.number op old fit;
           pending = λ goes. pending-called line c.who c.calls c.number c.ticket op old fit;
           asks = asks-idle line Refused c.who c.number c.seq c.ticket [] e old (idle none) known.asks;
@@ -105,7 +118,8 @@ module _ (line : HostRow) (Refused : ℕ → Type 0) (limit : ℕ) (old : List E
       telling = λ file loss losses none on changes of. telling-does file none;
       going = λ none on empty.
           let s = settle-keeps line Refused limit c.who old (is_called (begins_call c op) op) (going-does none) in
-          unless-cached-cases (settle (is_called (begins_call c op) op)) (λ s. Doing line Refused limit c.who old ⊤ s) (λ cached. s) (λ other. send-keeps line Refused limit c.who old false (settle (is_called (begins_call c op) op)) s);
+          unless-cached-cases (settle (is_called (begins_call c op) op)) (λ s. Doing line Refused limit c.who old ⊤ s) (λ cached. s)
+          (λ other. send-keeps line Refused limit c.who old false (settle (is_called (begins_call c op) op)) s);
     })
 
   -- ---- a tick
@@ -115,7 +129,9 @@ module _ (line : HostRow) (Refused : ℕ → Type 0) (limit : ℕ) (old : List E
   ticked-does now = tick-cases c now (λ s. Doing line Refused limit c.who old ⊤ s) (record {
     again = λ ticket is late. move.again-keeps line Refused limit c.who old (begun (at_time c now)) ticket is (timed-does now);
     quiet = λ ticket is soon. timed-does now;
-    free = λ none. send-keeps line Refused limit c.who old true (settle (begun (at_time c now))) (settle-keeps line Refused limit c.who old (begun (at_time c now)) (timed-does now));
+    free =
+        λ none. send-keeps line Refused limit c.who old true (settle (begun (at_time c now)))
+        (settle-keeps line Refused limit c.who old (begun (at_time c now)) (timed-does now));
   })
 
   -- ---- a datagram
@@ -131,9 +147,14 @@ module _ (line : HostRow) (Refused : ℕ → Type 0) (limit : ℕ) (old : List E
         waiting = λ e. move.notes-keeps line Refused limit c.who old ⊤ (cancels (begun c) file) file tag h;
       })
 
-  pub heard-does : (k : ℕ) (m : Message) (t : ClientStep) → k < limit → hear c k m ≡ Some t → ((xid : ℕ) (status : Refusal) → m ≡ reply xid (Reply.Refused c.who.inc status) → Refused xid) → Doing line Refused limit c.who old ⊤ t
+  pub heard-does : (k : ℕ) (m : Message) (t : ClientStep) → k < limit → hear c k m ≡ Some t
+      → ((xid : ℕ) (status : Refusal) → m ≡ reply xid (Reply.Refused c.who.inc status) → Refused xid) → Doing line Refused limit c.who old ⊤ t
   heard-does k m t sent hears refused = heard-cases c k m t (λ s. Doing line Refused limit c.who old ⊤ s) hears (record {
-    answered = λ xid r ticket e is same inc counts. goes-on (replied (begun c) k ticket r) (replied-keeps line Refused limit c.who old c k ticket r sent is (alone.asking.ticketed ticket is).fits counts (λ i status off. subst Refused same (refused xid status (e ∙ ap (λ z. reply xid z) (off ∙ ap (λ n. Reply.Refused n status) (sym (ap inc_of off) ∙ inc))))) begun-does);
+    answered =
+        λ xid r ticket e is same inc counts. goes-on (replied (begun c) k ticket r)
+        (replied-keeps line Refused limit c.who old c k ticket r sent is (alone.asking.ticketed ticket is).fits counts
+        (λ i status off. subst Refused same
+        (refused xid status (e ∙ ap (λ z. reply xid z) (off ∙ ap (λ n. Reply.Refused n status) (sym (ap inc_of off) ∙ inc))))) begun-does);
     noticed = λ xid file tag e holds. goes-on (evicted (cancels (begun c) file) file tag) (evicted-does file tag);
   })
 
@@ -174,7 +195,8 @@ module _ (line : HostRow) (Refused : ℕ → Type 0) (limit : ℕ) (old : List E
       who = next_incarnation c.who
 
       new : (e : Entry) (w : Who) → In old e → entry_who e ≡ Some w → w ≡ who → ⊥
-      new e w i by same = let inc : w.inc ≡ c.who.inc + 1 = ap (λ z. z.inc) same in let below = known.calls_fit.past e w i by (ap (λ z. z.host) same) in omega arith
+      new e w i by same =
+          let inc : w.inc ≡ c.who.inc + 1 = ap (λ z. z.inc) same in let below = known.calls_fit.past e w i by (ap (λ z. z.host) same) in omega arith
 
       before : (e : Entry) (w : Who) → (B who ≡ e) ⊎ In old e → entry_who e ≡ Some w → w.host ≡ c.who.host → w.inc ≤ c.who.inc + 1
       before e w (inl same) by here = let inc : c.who.inc + 1 ≡ w.inc = ap (λ z. z.inc) (some-same who w (ap entry_who same ∙ by)) in omega arith

@@ -72,11 +72,16 @@ record IsLaterBy (rest : List Entry) (who : Who) (q : ℕ) : Type 0 where
   unanswered : ¬ Exists (IsAnswer who q) rest
   uncached : ¬ Exists (IsCachedBy who q) rest
 
-later-by : (who : Who) (q packet : ℕ) (later rest : List Entry) → Throughout Placed (later ++ rest) → Exists (IsAnswerBy who q packet) later → IsLaterBy rest who q
+later-by : (who : Who) (q packet : ℕ) (later rest : List Entry) → Throughout Placed (later ++ rest) → Exists (IsAnswerBy who q packet) later
+    → IsLaterBy rest who q
 later-by who q packet [] rest t h = absurd h
 later-by who q packet (A by n (OkBy value k) ∷ later) rest t (inl h) =
-    let p : (¬ Exists (IsAnswer who n) (later ++ rest)) × (¬ Exists (IsCachedBy who n) (later ++ rest)) = subst (λ w. (¬ Exists (IsAnswer w n) (later ++ rest)) × (¬ Exists (IsCachedBy w n) (later ++ rest))) h.0 t.0 in
-    let r : (¬ Exists (IsAnswer who q) (later ++ rest)) × (¬ Exists (IsCachedBy who q) (later ++ rest)) = subst (λ m. (¬ Exists (IsAnswer who m) (later ++ rest)) × (¬ Exists (IsCachedBy who m) (later ++ rest))) h.1 p in
+    let p : (¬ Exists (IsAnswer who n) (later ++ rest))
+    × (¬ Exists (IsCachedBy who n) (later ++ rest)) = subst
+    (λ w. (¬ Exists (IsAnswer w n) (later ++ rest)) × (¬ Exists (IsCachedBy w n) (later ++ rest))) h.0 t.0 in
+    let r : (¬ Exists (IsAnswer who q) (later ++ rest))
+    × (¬ Exists (IsCachedBy who q) (later ++ rest)) = subst
+    (λ m. (¬ Exists (IsAnswer who m) (later ++ rest)) × (¬ Exists (IsCachedBy who m) (later ++ rest))) h.1 p in
     record {
       unanswered = λ e. r.0 (exists-right (IsAnswer who q) later rest e);
       uncached = λ e. r.1 (exists-right (IsCachedBy who q) later rest e);
@@ -98,7 +103,8 @@ same-packet : (who : Who) (q k m : ℕ) (entry : Entry) → IsAnswerBy who q k e
 same-packet who q k m (A by n (OkBy value p)) a b = sym a.2 ∙ b.2
 same-packet who q k m other a b = absurd a
 
-by-once : (who : Who) (q k m : ℕ) (entries : List Entry) → Throughout Placed entries → Exists (IsAnswerBy who q k) entries → Exists (IsAnswerBy who q m) entries → k ≡ m
+by-once : (who : Who) (q k m : ℕ) (entries : List Entry) → Throughout Placed entries → Exists (IsAnswerBy who q k) entries
+    → Exists (IsAnswerBy who q m) entries → k ≡ m
 by-once who q k m [] t a b = absurd a
 by-once who q k m (e ∷ entries) t (inl a) (inl b) = same-packet who q k m e a b
 by-once who q k m (e ∷ entries) t (inl a) (inr b) = absurd (answered-once who q e entries t.0 (by-answer who q k e a) (by-answers who q m entries b))
@@ -124,7 +130,8 @@ was-counted whole (R by n file block value (Some k) ∷ before) who q (inl h) =
     was_served k (inl refl) (subst (λ m. Exists (IsAnswerBy who m k) whole) h.0.1 (subst (λ w. Exists (IsAnswerBy w n k) whole) h.0.0 h.1))
 was-counted whole (e ∷ before) who q (inl h) = absurd h.0
 
-cached-in-order : (later before : List Entry) (who : Who) (q file block value : ℕ) → Throughout Placed (later ++ R who q file block value None ∷ before) → IsCachedInOrder before who q file block → IsReadInOrder (later ++ R who q file block value None ∷ before) before who q
+cached-in-order : (later before : List Entry) (who : Who) (q file block value : ℕ) → Throughout Placed (later ++ R who q file block value None ∷ before)
+    → IsCachedInOrder before who q file block → IsReadInOrder (later ++ R who q file block value None ∷ before) before who q
 cached-in-order later before who q file block value t p = record { is_open = p.is_open; first = λ h. case (was-counted _ before who q h) }
   where
     case : WasCounted (later ++ R who q file block value None ∷ before) before who q → ⊥
@@ -136,13 +143,18 @@ cached-in-order later before who q file block value t p = record { is_open = p.i
         either (inr (inl x)) = absurd x
         either (inr (inr b)) = p.is_open.1 (by-answers who q k before b)
 
-served-in-order : (later before : List Entry) (who : Who) (q file block value packet : ℕ) → Throughout Placed (later ++ R who q file block value (Some packet) ∷ before) → IsServedInOrder before who q file block packet → Exists (IsAnswerBy who q packet) (later ++ R who q file block value (Some packet) ∷ before) → IsReadInOrder (later ++ R who q file block value (Some packet) ∷ before) before who q
-served-in-order later before who q file block value packet t p counted = case (exists-append (IsAnswerBy who q packet) later (R who q file block value (Some packet) ∷ before) counted)
+served-in-order : (later before : List Entry) (who : Who) (q file block value packet : ℕ)
+    → Throughout Placed (later ++ R who q file block value (Some packet) ∷ before) → IsServedInOrder before who q file block packet
+    → Exists (IsAnswerBy who q packet) (later ++ R who q file block value (Some packet) ∷ before)
+    → IsReadInOrder (later ++ R who q file block value (Some packet) ∷ before) before who q
+served-in-order later before who q file block value packet t p counted =
+    case (exists-append (IsAnswerBy who q packet) later (R who q file block value (Some packet) ∷ before) counted)
   where
     Whole : List Entry
     Whole = later ++ R who q file block value (Some packet) ∷ before
 
-    case : Exists (IsAnswerBy who q packet) later ⊎ Exists (IsAnswerBy who q packet) (R who q file block value (Some packet) ∷ before) → IsReadInOrder Whole before who q
+    case : Exists (IsAnswerBy who q packet) later ⊎ Exists (IsAnswerBy who q packet) (R who q file block value (Some packet) ∷ before)
+        → IsReadInOrder Whole before who q
     case (inr (inl x)) = absurd x
     case (inr (inr b)) = absurd (p.unanswered b)
     case (inl l) = record {
@@ -155,7 +167,8 @@ served-in-order later before who q file block value packet t p counted = case (e
 
 -- ---- the order
 
-order-at : (later : List Entry) (after : List Entry) (entry : Entry) (before : List Entry) → Throughout Placed (later ++ entry ∷ before) → Placed entry before → Spaced after entry before → IsInOrder (later ++ entry ∷ before) after entry before
+order-at : (later : List Entry) (after : List Entry) (entry : Entry) (before : List Entry) → Throughout Placed (later ++ entry ∷ before)
+    → Placed entry before → Spaced after entry before → IsInOrder (later ++ entry ∷ before) after entry before
 order-at later after (C who q told) before t p s = record { rises = p; alone = s }
 order-at later after (W who file block number value through) before t p s = p
 order-at later after (Z who q file from to) before t p s = p
@@ -169,7 +182,8 @@ pub append-one : {A : Type 0} (xs : List A) (y : A) (ys : List A) → (xs ++ y �
 append-one [] y ys = refl
 append-one (x ∷ xs) y ys = ap (λ zs. x ∷ zs) (append-one xs y ys)
 
-order-from : (later after journal : List Entry) → Throughout Placed (later ++ journal) → Throughout Placed journal → AtEachPlace Spaced after journal → AtEachPlace (IsInOrder (later ++ journal)) after journal
+order-from : (later after journal : List Entry) → Throughout Placed (later ++ journal) → Throughout Placed journal → AtEachPlace Spaced after journal
+    → AtEachPlace (IsInOrder (later ++ journal)) after journal
 order-from later after [] t p s = tt
 order-from later after (entry ∷ before) t p s = (
   order-at later after entry before t p.0 s.0,
@@ -183,14 +197,16 @@ ordered journal t s = order-from [] [] journal t t s
 -- ---- reads are of their calls
 
 -- what a call asks stays told
-pub call-told : (entry : Entry) (before : List Entry) (who : Who) (q : ℕ) (told : Told) → call_of before who q ≡ Some told → call_of (entry ∷ before) who q ≡ Some told
+pub call-told : (entry : Entry) (before : List Entry) (who : Who) (q : ℕ) (told : Told) → call_of before who q ≡ Some told
+    → call_of (entry ∷ before) who q ≡ Some told
 call-told entry before who q told e = rw e refl
 
 pub call-later : (later before : List Entry) (who : Who) (q : ℕ) (told : Told) → call_of before who q ≡ Some told → call_of (later ++ before) who q ≡ Some told
 call-later [] before who q told e = e
 call-later (x ∷ later) before who q told e = call-told x (later ++ before) who q told (call-later later before who q told e)
 
-pub reads-on : (later before : List Entry) (who : Who) (q file block : ℕ) → Reads file block (call_of before who q) → Reads file block (call_of (later ++ before) who q)
+pub reads-on : (later before : List Entry) (who : Who) (q file block : ℕ) → Reads file block (call_of before who q)
+    → Reads file block (call_of (later ++ before) who q)
 reads-on later before who q file block h = case (call_of before who q) refl h
   where
     case : (o : Option Told) → call_of before who q ≡ o → Reads file block o → Reads file block (call_of (later ++ before) who q)
@@ -213,7 +229,8 @@ called-of (x ∷ journal) who q told e = case (called-of journal who q) (call_of
         by-test false h k = none-some told k
     now other f = none-some told f
 
-    case : ((t : Told) → call_of journal who q ≡ Some t → Exists (IsCall who q) journal) → (o : Option Told) → call_of journal who q ≡ o → option_or o (told_by x who q) ≡ Some told → Exists (IsCall who q) (x ∷ journal)
+    case : ((t : Told) → call_of journal who q ≡ Some t → Exists (IsCall who q) journal) → (o : Option Told) → call_of journal who q ≡ o
+        → option_or o (told_by x who q) ≡ Some told → Exists (IsCall who q) (x ∷ journal)
     case rest (Some t) is f = inr (rest t is)
     case rest None is f = inl (now x f)
 
@@ -225,8 +242,12 @@ reads-called journal who q file block h = case (call_of journal who q) refl h
     case (Some told) e r = called-of journal who q told e
 
 of-its-call : (later : List Entry) (entry : Entry) (before : List Entry) → Placed entry before → IsOfItsCall (later ++ entry ∷ before) entry
-of-its-call later (R who q file block value None) before p = λ counted. subst (λ j. Reads file block (call_of j who q)) (append-one later (R who q file block value None) before) (reads-on (later ++ R who q file block value None ∷ []) before who q file block p.reads)
-of-its-call later (R who q file block value (Some packet)) before p = λ counted. subst (λ j. Reads file block (call_of j who q)) (append-one later (R who q file block value (Some packet)) before) (reads-on (later ++ R who q file block value (Some packet) ∷ []) before who q file block p.reads)
+of-its-call later (R who q file block value None) before p =
+    λ counted. subst (λ j. Reads file block (call_of j who q)) (append-one later (R who q file block value None) before)
+    (reads-on (later ++ R who q file block value None ∷ []) before who q file block p.reads)
+of-its-call later (R who q file block value (Some packet)) before p =
+    λ counted. subst (λ j. Reads file block (call_of j who q)) (append-one later (R who q file block value (Some packet)) before)
+    (reads-on (later ++ R who q file block value (Some packet) ∷ []) before who q file block p.reads)
 of-its-call later other before p = tt
 
 calls-from : (later journal : List Entry) → Throughout Placed journal → Each (IsOfItsCall (later ++ journal)) journal

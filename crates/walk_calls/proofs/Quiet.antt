@@ -33,10 +33,14 @@ pub record IsQuiet (who : Who) (e : Entry) : Type 0 where
 
 -- an entry of another incarnation is quiet
 pub foreign-quiet : (who : Who) (e : Entry) → ((w : Who) → entry_who e ≡ Some w → w ≢ who) → IsQuiet who e
-foreign-quiet who (C w q told) other = record { no_call = record { call = λ n h. other w refl h.0; answer = λ n h. h }; no_change = record { write = λ n h. h; resize = λ n h. h } }
-foreign-quiet who (A w q said) other = record { no_call = record { call = λ n h. h; answer = λ n h. other w refl h.0 }; no_change = record { write = λ n h. h; resize = λ n h. h } }
-foreign-quiet who (W w file block number value through) other = record { no_call = record { call = λ n h. h; answer = λ n h. h }; no_change = record { write = λ n h. other w refl h.0; resize = λ n h. h } }
-foreign-quiet who (Z w q file from to) other = record { no_call = record { call = λ n h. h; answer = λ n h. h }; no_change = record { write = λ n h. h; resize = λ n h. other w refl h.0 } }
+foreign-quiet who (C w q told) other =
+    record { no_call = record { call = λ n h. other w refl h.0; answer = λ n h. h }; no_change = record { write = λ n h. h; resize = λ n h. h } }
+foreign-quiet who (A w q said) other =
+    record { no_call = record { call = λ n h. h; answer = λ n h. other w refl h.0 }; no_change = record { write = λ n h. h; resize = λ n h. h } }
+foreign-quiet who (W w file block number value through) other =
+    record { no_call = record { call = λ n h. h; answer = λ n h. h }; no_change = record { write = λ n h. other w refl h.0; resize = λ n h. h } }
+foreign-quiet who (Z w q file from to) other =
+    record { no_call = record { call = λ n h. h; answer = λ n h. h }; no_change = record { write = λ n h. h; resize = λ n h. other w refl h.0 } }
 foreign-quiet who e other = record { no_call = record { call = λ n h. h; answer = λ n h. h }; no_change = record { write = λ n h. h; resize = λ n h. h } }
 
 -- ---- calls
@@ -56,7 +60,8 @@ open-before {who = who} {e = e} journal q quiet h = (called h.0, λ a. h.1 (inr 
     called (inr before) = before
 
 -- what a call is stays told
-pub told-more : (P : Option Told → Type 0) → (P None → ⊥) → (e : Entry) (journal : List Entry) (who : Who) (q : ℕ) → P (call_of journal who q) → P (call_of (e ∷ journal) who q)
+pub told-more : (P : Option Told → Type 0) → (P None → ⊥) → (e : Entry) (journal : List Entry) (who : Who) (q : ℕ) → P (call_of journal who q)
+    → P (call_of (e ∷ journal) who q)
 told-more P none e journal who q h = case (call_of journal who q) refl h
   where
     case : (o : Option Told) → call_of journal who q ≡ o → P o → P (call_of (e ∷ journal) who q)
@@ -69,10 +74,12 @@ before-call : (who : Who) (q : ℕ) (e : Entry) (journal : List Entry) → IsNoC
 before-call who q (W by file block number value through) journal quiet = λ same. absurd (quiet.write number (same, refl))
 before-call who q other journal quiet = tt
 
-pub before-more : {who : Who} {e : Entry} (journal : List Entry) (q : ℕ) → IsNoChange who e → Throughout (IsBeforeCall who q) journal → Throughout (IsBeforeCall who q) (e ∷ journal)
+pub before-more : {who : Who} {e : Entry} (journal : List Entry) (q : ℕ) → IsNoChange who e → Throughout (IsBeforeCall who q) journal
+    → Throughout (IsBeforeCall who q) (e ∷ journal)
 before-more {who = who} {e = e} journal q quiet h = (before-call who q e journal quiet, h)
 
-pub write-more : {who : Who} {e : Entry} {journal : List Entry} (file block number value : ℕ) → IsQuiet who e → IsWriteInOrder journal who file block number value → IsWriteInOrder (e ∷ journal) who file block number value
+pub write-more : {who : Who} {e : Entry} {journal : List Entry} (file block number value : ℕ) → IsQuiet who e
+    → IsWriteInOrder journal who file block number value → IsWriteInOrder (e ∷ journal) who file block number value
 write-more {who = who} {e = e} {journal = journal} file block number value quiet (q, h) = (
   q,
   record {
@@ -87,7 +94,8 @@ write-more {who = who} {e = e} {journal = journal} file block number value quiet
   fresh (inl now) = quiet.no_change.write number now
   fresh (inr before) = h.fresh before
 
-pub resize-more : {who : Who} {e : Entry} {journal : List Entry} (q file to : ℕ) → IsQuiet who e → IsResizeInOrder journal who q file to → IsResizeInOrder (e ∷ journal) who q file to
+pub resize-more : {who : Who} {e : Entry} {journal : List Entry} (q file to : ℕ) → IsQuiet who e → IsResizeInOrder journal who q file to
+    → IsResizeInOrder (e ∷ journal) who q file to
 resize-more {who = who} {e = e} {journal = journal} q file to quiet h = record {
   is_open = open-more journal q quiet.no_call h.is_open;
   call = told-more (Resizes file to) (λ p. p) e journal who q h.call;
@@ -106,8 +114,10 @@ OpenFits (Resize who seq q file blocks) journal = IsResizeInOrder journal who q 
 OpenFits (Remove who seq q file) journal = IsResizeInOrder journal who q file 0
 OpenFits other journal = ⊤
 
-pub open-fits-more : (r : Request) (who : Who) (e : Entry) (journal : List Entry) → asker r ≡ Some who → IsQuiet who e → OpenFits r journal → OpenFits r (e ∷ journal)
-open-fits-more (Write w seq file block first last None body) who e journal by quiet h = write-more file block first (value_of body) (subst (λ v. IsQuiet v e) (sym (some-same w who by)) quiet) h
+pub open-fits-more : (r : Request) (who : Who) (e : Entry) (journal : List Entry) → asker r ≡ Some who → IsQuiet who e → OpenFits r journal
+    → OpenFits r (e ∷ journal)
+open-fits-more (Write w seq file block first last None body) who e journal by quiet h =
+    write-more file block first (value_of body) (subst (λ v. IsQuiet v e) (sym (some-same w who by)) quiet) h
 open-fits-more (Resize w seq q file blocks) who e journal by quiet h = resize-more q file blocks (subst (λ v. IsQuiet v e) (sym (some-same w who by)) quiet) h
 open-fits-more (Remove w seq q file) who e journal by quiet h = resize-more q file 0 (subst (λ v. IsQuiet v e) (sym (some-same w who by)) quiet) h
 open-fits-more other who e journal by quiet h = tt

@@ -44,7 +44,8 @@ use Rattle.walk_server.proofs.Rows.{same-number, number-same}
 use Rattle.walk_server.proofs.ServerCases.{server-hears}
 use Rattle.walk_server.proofs.ServerOutcomes.{IsFresh, error-no-reply}
 
-module _ (w : World) (events : List Event) (held : Holds w) (known : Known w events) (g : CallsKnown w) (sender : ℕ) (d : Datagram) (was_sent : (xid : ℕ) (r : Request) → d ≡ request xid r → Asked w.packets sender xid r) (lines : length w.server.kept.hosts ≡ most_hosts) where
+module _ (w : World) (events : List Event) (held : Holds w) (known : Known w events) (g : CallsKnown w) (sender : ℕ) (d : Datagram)
+    (was_sent : (xid : ℕ) (r : Request) → d ≡ request xid r → Asked w.packets sender xid r) (lines : length w.server.kept.hosts ≡ most_hosts) where
   abbrev s : Server
   s = w.server
 
@@ -63,7 +64,8 @@ module _ (w : World) (events : List Event) (held : Holds w) (known : Known w eve
     change : ((k.verdict ≡ Verdict.Done) × IsChange r) ⊎ ((x : Entry) → In k.entries x → (v : Who) → IsNoChange v x)
 
   -- the request is open
-  abbrev is-open-now : (xid : ℕ) (who : Who) (seq : ℕ) (r : Request) → d ≡ request xid r → asker r ≡ Some who → sequence_of r ≡ Some seq → IsFresh s sender who seq → IsOpenAt (host_row s.kept who.host) w.packets who.host xid r
+  abbrev is-open-now : (xid : ℕ) (who : Who) (seq : ℕ) (r : Request) → d ≡ request xid r → asker r ≡ Some who → sequence_of r ≡ Some seq
+      → IsFresh s sender who seq → IsOpenAt (host_row s.kept who.host) w.packets who.host xid r
   is-open-now xid who seq r e by sq fresh = record {
     who = who;
     seq = seq;
@@ -74,20 +76,37 @@ module _ (w : World) (events : List Event) (held : Holds w) (known : Known w eve
     above = fresh.above;
   }
 
-  commits-does : (xid : ℕ) (who : Who) (seq : ℕ) (r : Request) (k : Decision) → d ≡ request xid r → asker r ≡ Some who → sequence_of r ≡ Some seq → IsFresh s sender who seq → Decides who r k → ServerDoes w (commits who seq xid r k)
+  commits-does : (xid : ℕ) (who : Who) (seq : ℕ) (r : Request) (k : Decision) → d ≡ request xid r → asker r ≡ Some who → sequence_of r ≡ Some seq
+      → IsFresh s sender who seq → Decides who r k → ServerDoes w (commits who seq xid r k)
   unfolding commits keeping
   commits-does xid who seq r k e by sq fresh m = record {
     journal = m.journal;
     below = λ x i. m.below x i _;
-    refuses = refuse-both w.packets (λ h. host_row (with_row k.server.kept who.host (row_after who seq k)) h) k.sends (to_host who.host (reply xid (verdict_reply who.inc k.verdict k.value r)) ∷ []) (m.silent _)
-        (refuse-reply w.packets (λ h. host_row (with_row k.server.kept who.host (row_after who seq k)) h) who.host xid (verdict_reply who.inc k.verdict k.value r)
-        (λ inc status is. record { asks = r; who = who; sent = asked-by w events held known g sender d was_sent lines xid who r e fresh.current.from.host; by = by; same = verdict-inc who.inc k.verdict k.value r inc status is; why = otherwise (λ done. done-tells who.inc k.value r k.verdict inc status is (sym (ap (λ l. l.verdict) own) ∙ done)) }));
+    refuses =
+        refuse-both w.packets (λ h. host_row (with_row k.server.kept who.host (row_after who seq k)) h) k.sends
+        (to_host who.host (reply xid (verdict_reply who.inc k.verdict k.value r)) ∷ []) (m.silent _)
+        (refuse-reply w.packets (λ h. host_row (with_row k.server.kept who.host (row_after who seq k)) h) who.host xid
+        (verdict_reply who.inc k.verdict k.value r)
+        (λ inc status is. record {
+          asks = r;
+          who = who;
+          sent = asked-by w events held known g sender d was_sent lines xid who r e
+              fresh.current.from.host;
+          by = by;
+          same = verdict-inc who.inc k.verdict k.value r inc status is;
+          why = otherwise
+              (λ done. done-tells who.inc k.value r k.verdict inc status is (sym (ap (λ l. l.verdict) own) ∙ done));
+        }));
     outcome = λ host c is. outcome host c is (host == who.host) refl;
   } where
     own : host_row (with_row k.server.kept who.host (row_after who seq k)) who.host ≡ row_after who seq k
-    own = own-line k.server.kept who.host (row_after who seq k) (let p = fresh.current.from.possible in let n : length k.server.kept.hosts ≡ most_hosts = ap length m.hosts ∙ lines in omega arith)
+    own =
+        own-line k.server.kept who.host (row_after who seq k)
+        (let p = fresh.current.from.possible in let n : length k.server.kept.hosts ≡ most_hosts = ap length m.hosts ∙ lines in omega arith)
 
-    change : ((k.verdict ≡ Verdict.Done) × IsChange r) ⊎ ((x : Entry) → In k.entries x → (v : Who) → IsNoChange v x) → (((host_row (with_row k.server.kept who.host (row_after who seq k)) who.host).verdict ≡ Verdict.Done) × IsChange r) ⊎ ((x : Entry) → In k.entries x → (v : Who) → v.host ≡ who.host → IsNoChange v x)
+    change : ((k.verdict ≡ Verdict.Done) × IsChange r) ⊎ ((x : Entry) → In k.entries x → (v : Who) → IsNoChange v x)
+        → (((host_row (with_row k.server.kept who.host (row_after who seq k)) who.host).verdict ≡ Verdict.Done) × IsChange r)
+        ⊎ ((x : Entry) → In k.entries x → (v : Who) → v.host ≡ who.host → IsNoChange v x)
     change (inl done) = inl (ap (λ l. l.verdict) own ∙ done.0, done.1)
     change (inr none) = inr (λ x i v here. none x i v)
 
@@ -98,7 +117,10 @@ module _ (w : World) (events : List Event) (held : Holds w) (known : Known w eve
         (ap (λ l. l.seq) own)
         (λ x i. record {
           no_call = λ v here. m.no_call x i v;
-          no_change = λ v here differs. (foreign-quiet v x (λ u of same. let one : who ≡ u = some-same who u (sym (m.own x i) ∙ of) in differs (ap (λ z. z.inc) (sym same ∙ sym one) ∙ fresh.current.inc))).no_change;
+          no_change =
+              λ v here differs. (foreign-quiet v x
+              (λ u of same. let one : who ≡ u = some-same who u (sym (m.own x i) ∙ of) in
+              differs (ap (λ z. z.inc) (sym same ∙ sym one) ∙ fresh.current.inc))).no_change;
           bounded = m.bounded c is x i;
         })
         (change m.change)
@@ -112,13 +134,16 @@ module _ (w : World) (events : List Event) (held : Holds w) (known : Known w eve
         line_same (other-line k.server.kept who.host host (row_after who seq k) apart ∙ same-lines s.kept k.server.kept host m.hosts)
         (λ x i. record {
           quiet = λ v here. foreign-quiet v x (λ u of same. apart (sym here ∙ ap (λ z. z.host) (sym same ∙ sym (some-same who u (sym (m.own x i) ∙ of)))));
-          bounded = (foreign c.who c.calls c.number x (λ u of same. apart (sym ((held.clients host c is).here) ∙ sym same ∙ ap (λ z. z.host) (sym (some-same who u (sym (m.own x i) ∙ of)))))).1;
+          bounded =
+              (foreign c.who c.calls c.number x
+              (λ u of same. apart (sym ((held.clients host c is).here) ∙ sym same ∙ ap (λ z. z.host) (sym (some-same who u (sym (m.own x i) ∙ of)))))).1;
         })
 
   -- ---- decisions
 
   -- one without entries
-  idle-decides : (who : Who) (r : Request) (k : Decision) → k.server.kept.hosts ≡ s.kept.hosts → ((line : ℕ → HostRow) → AllRefuse w.packets line k.sends) → k.entries ≡ [] → Decides who r k
+  idle-decides : (who : Who) (r : Request) (k : Decision) → k.server.kept.hosts ≡ s.kept.hosts
+      → ((line : ℕ → HostRow) → AllRefuse w.packets line k.sends) → k.entries ≡ [] → Decides who r k
   idle-decides who r k hosts silent none = record {
     hosts = hosts;
     silent = silent;
@@ -145,12 +170,14 @@ module _ (w : World) (events : List Event) (held : Holds w) (known : Known w eve
   puts-off-decides who r file table = idle-decides who r (puts_off s who file table) refl (λ line. refuse-notices w.packets line s.notice _) refl
 
   -- one of the entry of delayed writes that are stored
-  module _ (xid : ℕ) (who : Who) (seq : ℕ) (r : Request) (e : d ≡ request xid r) (by : asker r ≡ Some who) (sq : sequence_of r ≡ Some seq) (fresh : IsFresh s sender who seq) where
+  module _ (xid : ℕ) (who : Who) (seq : ℕ) (r : Request) (e : d ≡ request xid r) (by : asker r ≡ Some who) (sq : sequence_of r ≡ Some seq)
+      (fresh : IsFresh s sender who seq) where
     one-entry : (x : Entry) (P : Entry → Type 0) → P x → (y : Entry) → (x ≡ y) ⊎ ⊥ → P y
     one-entry x P p y (inl same) = subst P same p
     one-entry x P p y (inr bad) = absurd bad
 
-    stored : (k : Decision) (file block first last : ℕ) → k.server.kept.hosts ≡ s.kept.hosts → k.sends ≡ [] → k.entries ≡ S who file block first last s.now ∷ [] → Decides who r k
+    stored : (k : Decision) (file block first last : ℕ) → k.server.kept.hosts ≡ s.kept.hosts → k.sends ≡ []
+        → k.entries ≡ S who file block first last s.now ∷ [] → Decides who r k
     stored k file block first last hosts none made = record {
       hosts = hosts;
       silent = λ line. subst (AllRefuse w.packets line) (sym none) (refuse-none w.packets line);
@@ -158,7 +185,10 @@ module _ (w : World) (events : List Event) (held : Holds w) (known : Known w eve
       below = λ y i. one-entry x (λ z. (n : ℕ) → IsBelow n z) (λ n. tt) y (at y i);
       own = λ y i. one-entry x (λ z. entry_who z ≡ Some who) refl y (at y i);
       no_call = λ y i. one-entry x (λ z. (v : Who) → IsNoCall v z) (λ v. record { call = λ n h. h; answer = λ n h. h }) y (at y i);
-      bounded = λ c is y i. one-entry x (λ z. IsBounded c.who c.calls c.number z) (asker-bounded w events held known g sender d was_sent lines who.host xid r who c x is e by fresh.current.from.host refl (λ n one of. none-some n of) (λ n one of. none-some n of)) y (at y i);
+      bounded =
+          λ c is y i. one-entry x (λ z. IsBounded c.who c.calls c.number z)
+          (asker-bounded w events held known g sender d was_sent lines who.host xid r who c x is e by fresh.current.from.host refl
+          (λ n one of. none-some n of) (λ n one of. none-some n of)) y (at y i);
       change = inr (λ y i. one-entry x (λ z. (v : Who) → IsNoChange v z) (λ v. record { write = λ n h. h; resize = λ n h. h }) y (at y i));
     } where
       x : Entry
@@ -172,7 +202,9 @@ module _ (w : World) (events : List Event) (held : Holds w) (known : Known w eve
     kept-fits c is = open-known w events held known g who.host c is xid r (is-open-now xid who seq r e by sq fresh)
 
     -- a change that the request makes at once
-    changed : (k : Decision) (x : Entry) → k.server.kept.hosts ≡ s.kept.hosts → k.sends ≡ [] → k.entries ≡ x ∷ [] → k.verdict ≡ Verdict.Done → IsChange r → JournalFits (x ∷ w.journal) → ((n : ℕ) → IsBelow n x) → entry_who x ≡ Some who → ((v : Who) → IsNoCall v x) → ((c : Client) → slice_get w.clients who.host ≡ Some c → IsBounded c.who c.calls c.number x) → Decides who r k
+    changed : (k : Decision) (x : Entry) → k.server.kept.hosts ≡ s.kept.hosts → k.sends ≡ [] → k.entries ≡ x ∷ [] → k.verdict ≡ Verdict.Done
+        → IsChange r → JournalFits (x ∷ w.journal) → ((n : ℕ) → IsBelow n x) → entry_who x ≡ Some who → ((v : Who) → IsNoCall v x)
+        → ((c : Client) → slice_get w.clients who.host ≡ Some c → IsBounded c.who c.calls c.number x) → Decides who r k
     changed k x hosts none made done change journal below own uncalled bounded = record {
       hosts = hosts;
       silent = λ line. subst (AllRefuse w.packets line) (sym none) (refuse-none w.packets line);
@@ -187,13 +219,19 @@ module _ (w : World) (events : List Event) (held : Holds w) (known : Known w eve
       at y i = subst (λ es. In es y) made i
 
   -- the number of a write that goes through was drawn
-  through-below : (xid : ℕ) (who : Who) (seq file block first last : ℕ) (body : List ℕ) → d ≡ request xid (Request.Write who seq file block first last None body) → IsFresh s sender who seq → (c : Client) → slice_get w.clients who.host ≡ Some c → who ≡ c.who → first < c.number
+  through-below : (xid : ℕ) (who : Who) (seq file block first last : ℕ) (body : List ℕ)
+      → d ≡ request xid (Request.Write who seq file block first last None body) → IsFresh s sender who seq → (c : Client)
+      → slice_get w.clients who.host ≡ Some c → who ≡ c.who → first < c.number
   through-below xid who seq file block first last body e fresh c is one =
-      let k = open-ticket w events held known who.host c is (sym fresh.current.inc ∙ ap (λ z. z.inc) one) xid (Request.Write who seq file block first last None body) (is-open-now xid who seq (Request.Write who seq file block first last None body) e refl refl fresh) in
+      let k = open-ticket w events held known who.host c is (sym fresh.current.inc ∙ ap (λ z. z.inc) one) xid
+      (Request.Write who seq file block first last None body)
+      (is-open-now xid who seq (Request.Write who seq file block first last None body) e refl refl fresh) in
       ((g.clients who.host c is).asks.ticketed k.0 k.1).numbered first (ap through_number k.3)
 
   module _ (there : (host x : ℕ) (r : Request) → Asked w.packets host x r → (c : Client) × (slice_get w.clients host ≡ Some c)) where
-    writes-decides : (xid : ℕ) (who : Who) (seq block first last : ℕ) (body : List ℕ) (f : File) → d ≡ request xid (Request.Write who seq f.id block first last None body) → IsFresh s sender who seq → Decides who (Request.Write who seq f.id block first last None body) (writes_through s who f block first body)
+    writes-decides : (xid : ℕ) (who : Who) (seq block first last : ℕ) (body : List ℕ) (f : File)
+        → d ≡ request xid (Request.Write who seq f.id block first last None body) → IsFresh s sender who seq
+        → Decides who (Request.Write who seq f.id block first last None body) (writes_through s who f block first body)
     unfolding writes_through keeping with_files
     writes-decides xid who seq block first last body f e fresh =
         let r : Request = Request.Write who seq f.id block first last None body in
@@ -202,13 +240,21 @@ module _ (w : World) (events : List Event) (held : Holds w) (known : Known w eve
         changed xid who seq r e refl refl fresh (writes_through s who f block first body) x refl refl refl refl tt
         (journal-more x w.journal (kept-fits xid who seq r e refl refl fresh c.0 c.1) tt (λ v n h. h) g.journal)
         (λ n. tt) refl (λ v. record { call = λ n h. h; answer = λ n h. h })
-        (λ a is. asker-bounded w events held known g sender d was_sent lines who.host xid r who a x is e refl fresh.current.from.host refl (λ n one of. none-some n of) (λ n one of. subst (λ m. m < a.number) (some-same first n of) (through-below xid who seq f.id block first last body e fresh a is one)))
+        (λ a is. asker-bounded w events held known g sender d was_sent lines who.host xid r who a x is e refl fresh.current.from.host refl
+        (λ n one of. none-some n of) (λ n one of. subst (λ m. m < a.number) (some-same first n of)
+        (through-below xid who seq f.id block first last body e fresh a is one)))
 
     -- the call of a Z was made
-    resize-below : (who : Who) (q file to : ℕ) (c : Client) → slice_get w.clients who.host ≡ Some c → who ≡ c.who → IsResizeInOrder w.journal who q file to → q ≤ c.calls
-    resize-below who q file to c is one h = called-below c.who c.calls c.number c.call w.journal (g.clients who.host c is).calls_fit q (subst (λ v. Exists (IsCall v q) w.journal) one h.is_open.0)
+    resize-below : (who : Who) (q file to : ℕ) (c : Client) → slice_get w.clients who.host ≡ Some c → who ≡ c.who
+        → IsResizeInOrder w.journal who q file to → q ≤ c.calls
+    resize-below who q file to c is one h =
+        called-below c.who c.calls c.number c.call w.journal (g.clients who.host c is).calls_fit q
+        (subst (λ v. Exists (IsCall v q) w.journal) one h.is_open.0)
 
-    changes-length : (k : Decision) (xid : ℕ) (who : Who) (seq q from to : ℕ) (r : Request) (f : File) → d ≡ request xid r → asker r ≡ Some who → sequence_of r ≡ Some seq → IsFresh s sender who seq → k.server.kept.hosts ≡ s.kept.hosts → k.sends ≡ [] → k.entries ≡ Z who q f.id from to ∷ [] → k.verdict ≡ Verdict.Done → IsChange r → (OpenFits r w.journal → IsResizeInOrder w.journal who q f.id to) → Decides who r k
+    changes-length : (k : Decision) (xid : ℕ) (who : Who) (seq q from to : ℕ) (r : Request) (f : File) → d ≡ request xid r → asker r ≡ Some who
+        → sequence_of r ≡ Some seq → IsFresh s sender who seq → k.server.kept.hosts ≡ s.kept.hosts → k.sends ≡ []
+        → k.entries ≡ Z who q f.id from to ∷ [] → k.verdict ≡ Verdict.Done → IsChange r
+        → (OpenFits r w.journal → IsResizeInOrder w.journal who q f.id to) → Decides who r k
     changes-length k xid who seq q from to r f e by sq fresh hosts none made done change fits =
         let x : Entry = Z who q f.id from to in
         let c = there who.host xid r (asked-by w events held known g sender d was_sent lines xid who r e fresh.current.from.host) in
@@ -216,23 +262,37 @@ module _ (w : World) (events : List Event) (held : Holds w) (known : Known w eve
         changed xid who seq r e by sq fresh k x hosts none made done change
         (journal-more x w.journal order tt (λ v n h. h) g.journal)
         (λ n. tt) refl (λ v. record { call = λ n h. h; answer = λ n h. h })
-        (λ a is. asker-bounded w events held known g sender d was_sent lines who.host xid r who a x is e by fresh.current.from.host refl (λ n one of. subst (λ m. m ≤ a.calls) (some-same q n of) (resize-below who q f.id to a is one order)) (λ n one of. none-some n of))
+        (λ a is. asker-bounded w events held known g sender d was_sent lines who.host xid r who a x is e by fresh.current.from.host refl
+        (λ n one of. subst (λ m. m ≤ a.calls) (some-same q n of) (resize-below who q f.id to a is one order)) (λ n one of. none-some n of))
 
-    resizes-decides : (xid : ℕ) (who : Who) (seq q blocks : ℕ) (f : File) → d ≡ request xid (Request.Resize who seq q f.id blocks) → IsFresh s sender who seq → Decides who (Request.Resize who seq q f.id blocks) (resizes s who q f blocks)
+    resizes-decides : (xid : ℕ) (who : Who) (seq q blocks : ℕ) (f : File) → d ≡ request xid (Request.Resize who seq q f.id blocks)
+        → IsFresh s sender who seq → Decides who (Request.Resize who seq q f.id blocks) (resizes s who q f blocks)
     unfolding resizes keeping with_files
-    resizes-decides xid who seq q blocks f e fresh = changes-length (resizes s who q f blocks) xid who seq q _ blocks (Request.Resize who seq q f.id blocks) f e refl refl fresh refl refl refl refl tt (λ h. h)
+    resizes-decides xid who seq q blocks f e fresh =
+        changes-length (resizes s who q f blocks) xid who seq q _ blocks (Request.Resize who seq q f.id blocks) f e refl refl fresh refl refl refl refl
+        tt (λ h. h)
 
-    removes-decides : (xid : ℕ) (who : Who) (seq q : ℕ) (f : File) → d ≡ request xid (Request.Remove who seq q f.id) → IsFresh s sender who seq → Decides who (Request.Remove who seq q f.id) (removes s who q f)
+    removes-decides : (xid : ℕ) (who : Who) (seq q : ℕ) (f : File) → d ≡ request xid (Request.Remove who seq q f.id) → IsFresh s sender who seq
+        → Decides who (Request.Remove who seq q f.id) (removes s who q f)
     unfolding removes keeping_with with_files with_rows
-    removes-decides xid who seq q f e fresh = changes-length (removes s who q f) xid who seq q _ 0 (Request.Remove who seq q f.id) f e refl refl fresh refl refl refl refl tt (λ h. h)
+    removes-decides xid who seq q f e fresh =
+        changes-length (removes s who q f) xid who seq q _ 0 (Request.Remove who seq q f.id) f e refl refl fresh refl refl refl refl tt (λ h. h)
 
-    stores-decides : (xid : ℕ) (who : Who) (seq block first last : ℕ) (base : PushBase) (body : List ℕ) (f : File) (row : Row) → d ≡ request xid (Request.Write who seq f.id block first last (Some base) body) → IsFresh s sender who seq → Decides who (Request.Write who seq f.id block first last (Some base) body) (stores s who f row block first last body)
+    stores-decides : (xid : ℕ) (who : Who) (seq block first last : ℕ) (base : PushBase) (body : List ℕ) (f : File) (row : Row)
+        → d ≡ request xid (Request.Write who seq f.id block first last (Some base) body) → IsFresh s sender who seq
+        → Decides who (Request.Write who seq f.id block first last (Some base) body) (stores s who f row block first last body)
     unfolding stores keeping_with with_files with_rows
-    stores-decides xid who seq block first last base body f row e fresh = stored xid who seq (Request.Write who seq f.id block first last (Some base) body) e refl refl fresh (stores s who f row block first last body) f.id block first last refl refl refl
+    stores-decides xid who seq block first last base body f row e fresh =
+        stored xid who seq (Request.Write who seq f.id block first last (Some base) body) e refl refl fresh (stores s who f row block first last body)
+        f.id block first last refl refl refl
 
-    recovering-decides : (xid : ℕ) (who : Who) (seq block first final : ℕ) (base : PushBase) (body : List ℕ) (f : File) (until : ℕ) (last : Option Table) → d ≡ request xid (Request.Write who seq f.id block first final (Some base) body) → IsFresh s sender who seq → Decides who (Request.Write who seq f.id block first final (Some base) body) (stores_recovering s until last who f block first final body)
+    recovering-decides : (xid : ℕ) (who : Who) (seq block first final : ℕ) (base : PushBase) (body : List ℕ) (f : File) (until : ℕ)
+        (last : Option Table) → d ≡ request xid (Request.Write who seq f.id block first final (Some base) body) → IsFresh s sender who seq
+        → Decides who (Request.Write who seq f.id block first final (Some base) body) (stores_recovering s until last who f block first final body)
     unfolding stores_recovering keeping wrote with_files
-    recovering-decides xid who seq block first final base body f until last e fresh = stored xid who seq (Request.Write who seq f.id block first final (Some base) body) e refl refl fresh (stores_recovering s until last who f block first final body) f.id block first final refl refl refl
+    recovering-decides xid who seq block first final base body f until last e fresh =
+        stored xid who seq (Request.Write who seq f.id block first final (Some base) body) e refl refl fresh
+        (stores_recovering s until last who f block first final body) f.id block first final refl refl refl
 
     -- ---- each datagram
 
@@ -240,26 +300,64 @@ module _ (w : World) (events : List Event) (held : Holds w) (known : Known w eve
     received-does = server-hears s sender next d (λ t. ServerDoes w t) (record {
       stays = hears.quiet-does w events held known g sender d was_sent lines;
       dropping = λ reason. hears.drops-does w events held known g sender d was_sent lines reason;
-      erring = λ m e. hears.says-does w events held known g sender d was_sent lines sender m (refuse-error w.packets _ sender m (λ x a is. error-no-reply d m x a e is));
-      answers_null = λ xid e. hears.says-does w events held known g sender d was_sent lines sender (reply xid Reply.Null) (refuse-reply w.packets _ sender xid Reply.Null (λ inc status is. absurd (cc)));
+      erring =
+          λ m e. hears.says-does w events held known g sender d was_sent lines sender m
+          (refuse-error w.packets _ sender m (λ x a is. error-no-reply d m x a e is));
+      answers_null =
+          λ xid e. hears.says-does w events held known g sender d was_sent lines sender (reply xid Reply.Null)
+          (refuse-reply w.packets _ sender xid Reply.Null (λ inc status is. absurd (cc)));
       replying = λ xid who r a e by from plain. hears.says-does w events held known g sender d was_sent lines who.host (reply xid a)
-          (refuse-reply w.packets (λ h. host_row s.kept h) who.host xid a (λ inc status is. let y = plain-why s who r a inc status plain is in hears.to-asker w events held known g sender d was_sent lines (λ h. host_row s.kept h) xid who r inc e by from.host y.0 y.1));
+          (refuse-reply w.packets (λ h. host_row s.kept h) who.host xid a
+          (λ inc status is. let y = plain-why s who r a inc status plain is in
+          hears.to-asker w events held known g sender d was_sent lines (λ h. host_row s.kept h) xid who r inc e by from.host y.0 y.1));
       attaching = λ xid who e from later. answers.attaches-does w events held known g sender d was_sent lines xid who e from later;
       vacating = λ xid who file tag e current. hears.vacates-does w events held known g sender d was_sent lines who file tag;
-      putting_off = λ xid who r f clash e by on asking c. hears.later-does w events held known g sender d was_sent lines xid who r f.id _ _ e by asking.current.from.host on;
-      putting_off_waiting = λ xid who r f clash want e by on wants asking c own room. hears.later-does w events held known g sender d was_sent lines xid who r f.id _ _ e by asking.current.from.host on;
-      putting_off_by_own = λ xid who r f want own e by on wants asking c o ev. hears.later-does w events held known g sender d was_sent lines xid who r f.id _ _ e by asking.current.from.host on;
-      reading = λ xid who q block f body e asking at c. answers.serves-does w events held known g sender d was_sent lines xid who q f block body None s.table None e asking.current.from.host;
-      reading_full = λ xid who q block want f body e asking at c own room. answers.serves-does w events held known g sender d was_sent lines xid who q f block body (Some want) s.table None e asking.current.from.host;
-      reading_granted = λ xid who q block want f body row term e asking at c gr. answers.serves-does w events held known g sender d was_sent lines xid who q f block body (Some want) _ (Some _) e asking.current.from.host;
-      leasing_full = λ xid who want f e asking c own room. answers.leases-does w events held known g sender d was_sent lines xid who f.id want s.table None e asking.current.from.host;
-      leasing = λ xid who want f row term e asking c gr. answers.leases-does w events held known g sender d was_sent lines xid who f.id want _ (Some _) e asking.current.from.host;
+      putting_off =
+          λ xid who r f clash e by on asking c. hears.later-does w events held known g sender d was_sent lines xid who r f.id _ _ e
+          by asking.current.from.host on;
+      putting_off_waiting =
+          λ xid who r f clash want e by on wants asking c own room. hears.later-does w events held known g sender d was_sent lines xid who r f.id _ _ e
+          by asking.current.from.host on;
+      putting_off_by_own =
+          λ xid who r f want own e by on wants asking c o ev. hears.later-does w events held known g sender d was_sent lines xid who r f.id _ _ e
+          by asking.current.from.host on;
+      reading =
+          λ xid who q block f body e asking at c. answers.serves-does w events held known g sender d was_sent lines xid who q f block body None s.table
+          None e asking.current.from.host;
+      reading_full =
+          λ xid who q block want f body e asking at c own room. answers.serves-does w events held known g sender d was_sent lines xid who q f block body
+          (Some want) s.table None e asking.current.from.host;
+      reading_granted =
+          λ xid who q block want f body row term e asking at c gr. answers.serves-does w events held known g sender d was_sent lines xid who q f block
+          body (Some want) _ (Some _) e asking.current.from.host;
+      leasing_full =
+          λ xid who want f e asking c own room. answers.leases-does w events held known g sender d was_sent lines xid who f.id want s.table None
+          e asking.current.from.host;
+      leasing =
+          λ xid who want f row term e asking c gr. answers.leases-does w events held known g sender d was_sent lines xid who f.id want _ (Some _)
+          e asking.current.from.host;
       declining = λ xid who seq r v e by sq fresh why. commits-does xid who seq r (decides s v) e by sq fresh (declines-decides who r v);
-      putting_off_change = λ xid who seq r f clash e by sq on base changing c. commits-does xid who seq r (puts_off s who f.id _) e by sq changing.fresh (puts-off-decides who r f.id _);
-      creating = λ xid who seq blocks name e fresh serves can. commits-does xid who seq (Request.Create who seq name blocks) (creates s name blocks) e refl refl fresh (creates-decides who _ name blocks);
-      writing_through = λ xid who seq block first last body f e changing below c. commits-does xid who seq (Request.Write who seq f.id block first last None body) (writes_through s who f block first body) e refl refl changing.fresh (writes-decides xid who seq block first last body f e changing.fresh);
-      storing = λ xid who seq block first last base body f row e changing below can. commits-does xid who seq (Request.Write who seq f.id block first last (Some base) body) (stores s who f row block first last body) e refl refl changing.fresh (stores-decides xid who seq block first last base body f row e changing.fresh);
-      storing_recovering = λ xid who seq block first final base body f until heard last e fresh p found below boot rev. commits-does xid who seq (Request.Write who seq f.id block first final (Some base) body) (stores_recovering s until last who f block first final body) e refl refl fresh (recovering-decides xid who seq block first final base body f until last e fresh);
-      resizing = λ xid who seq q blocks f e changing can c. commits-does xid who seq (Request.Resize who seq q f.id blocks) (resizes s who q f blocks) e refl refl changing.fresh (resizes-decides xid who seq q blocks f e changing.fresh);
-      removing = λ xid who seq q f e changing c. commits-does xid who seq (Request.Remove who seq q f.id) (removes s who q f) e refl refl changing.fresh (removes-decides xid who seq q f e changing.fresh);
+      putting_off_change =
+          λ xid who seq r f clash e by sq on base changing c. commits-does xid who seq r (puts_off s who f.id _) e by sq changing.fresh
+          (puts-off-decides who r f.id _);
+      creating =
+          λ xid who seq blocks name e fresh serves can. commits-does xid who seq (Request.Create who seq name blocks) (creates s name blocks) e refl
+          refl fresh (creates-decides who _ name blocks);
+      writing_through =
+          λ xid who seq block first last body f e changing below c. commits-does xid who seq (Request.Write who seq f.id block first last None body)
+          (writes_through s who f block first body) e refl refl changing.fresh (writes-decides xid who seq block first last body f e changing.fresh);
+      storing =
+          λ xid who seq block first last base body f row e changing below can. commits-does xid who seq
+          (Request.Write who seq f.id block first last (Some base) body) (stores s who f row block first last body) e refl refl changing.fresh
+          (stores-decides xid who seq block first last base body f row e changing.fresh);
+      storing_recovering =
+          λ xid who seq block first final base body f until heard last e fresh p found below boot rev. commits-does xid who seq
+          (Request.Write who seq f.id block first final (Some base) body) (stores_recovering s until last who f block first final body) e refl refl
+          fresh (recovering-decides xid who seq block first final base body f until last e fresh);
+      resizing =
+          λ xid who seq q blocks f e changing can c. commits-does xid who seq (Request.Resize who seq q f.id blocks) (resizes s who q f blocks) e refl
+          refl changing.fresh (resizes-decides xid who seq q blocks f e changing.fresh);
+      removing =
+          λ xid who seq q f e changing c. commits-does xid who seq (Request.Remove who seq q f.id) (removes s who q f) e refl refl changing.fresh
+          (removes-decides xid who seq q f e changing.fresh);
     })

@@ -22,7 +22,8 @@ pub record IsIdle (c : Client) : Type 0 where
   pub push : c.push ≡ None
   pub asks : (t : Ticket) → c.ticket ≡ Some t → (w : Who) × (t.request ≡ Request.Attach w)
 
-pub idle-fits : (s : Server) (c : Client) (ps : List Packet) → IsIdle c → 0 < c.seq → ((line_for s.kept c.who).inc ≡ c.who.inc → (line_for s.kept c.who).seq < c.seq) → ChainFits s c ps
+pub idle-fits : (s : Server) (c : Client) (ps : List Packet) → IsIdle c → 0 < c.seq
+    → ((line_for s.kept c.who).inc ≡ c.who.inc → (line_for s.kept c.who).seq < c.seq) → ChainFits s c ps
 idle-fits s c ps idle above drawn = record {
   held = record {
     known = λ file l e. none-some l (no-lease file ∙ e);
@@ -52,7 +53,8 @@ idle-fits s c ps idle above drawn = record {
 
   clean : (file : ℕ) → is_clean_in file c.dirty c.push ≡ false → ⊥
   clean file u =
-      let k : is_clean_in file [] None ≡ false = subst (λ xs. is_clean_in file xs None ≡ false) idle.dirty (subst (λ o. is_clean_in file c.dirty o ≡ false) idle.push u) in
+      let k : is_clean_in file [] None ≡ false = subst (λ xs. is_clean_in file xs None ≡ false) idle.dirty
+      (subst (λ o. is_clean_in file c.dirty o ≡ false) idle.push u) in
       cc
 
 -- a client that is not attached is idle
@@ -83,7 +85,8 @@ waiting-idle c a e = record {
   asks t is = attach-of t.request (subst (λ j. fits_job j t.request ≡ true) (own t is) (a.asking.ticketed t is).fits)
 
 -- after a step of the server
-pub waiting-after : (ps qs : List Packet) (s t : Server) (c : Client) → Alone c → c.attached ≡ false → LineFits c.who c.attached c.ticket c.notices (line_for s.kept c.who) ps → ChainFits s c ps → LineTo ps s t c.who.host → ChainFits t c qs
+pub waiting-after : (ps qs : List Packet) (s t : Server) (c : Client) → Alone c → c.attached ≡ false
+    → LineFits c.who c.attached c.ticket c.notices (line_for s.kept c.who) ps → ChainFits s c ps → LineTo ps s t c.who.host → ChainFits t c qs
 waiting-after ps qs s t c a e lined h line = idle-fits t c qs (waiting-idle c a e) h.line.above (λ inc. drawn inc line)
   where
     drawn : (line_for t.kept c.who).inc ≡ c.who.inc → LineTo ps s t c.who.host → (line_for t.kept c.who).seq < c.seq

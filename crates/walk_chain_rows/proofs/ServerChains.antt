@@ -38,9 +38,11 @@ pub data RowFrom (before : Table) (file host : ℕ) (row' : Row) : Type 0 where
 -- what becomes of a row that lets its holder write
 pub data RowOn (ps : List Packet) (s t : Server) (file host : ℕ) (row : Row) : Type 0 where
   goes_on : (row' : Row) → find_row file host (standing t).rows ≡ Some row' → Continues (standing s) row row' → RowOn ps s t file host row
-  vacated : (x : ℕ) (w : Who) (tag : Tag) → Asked ps host x (Request.Vacated w file tag) → w.host ≡ host → w.inc ≡ row.who.inc → same_tag row.tag tag ≡ true → RowOn ps s t file host row
+  vacated : (x : ℕ) (w : Who) (tag : Tag) → Asked ps host x (Request.Vacated w file tag) → w.host ≡ host → w.inc ≡ row.who.inc
+      → same_tag row.tag tag ≡ true → RowOn ps s t file host row
   superseded : (host_row s.kept host).inc < (host_row t.kept host).inc → RowOn ps s t file host row
-  loosened : (f f' : File) → find_file file s.kept.files ≡ Some f → find_file file t.kept.files ≡ Some f' → f.rev < f'.rev → t.kept.hosts ≡ s.kept.hosts → RowOn ps s t file host row
+  loosened : (f f' : File) → find_file file s.kept.files ≡ Some f → find_file file t.kept.files ≡ Some f' → f.rev < f'.rev → t.kept.hosts ≡ s.kept.hosts
+      → RowOn ps s t file host row
   removed : find_file file t.kept.files ≡ None → RowOn ps s t file host row
   reopened : s.kept.opened < t.kept.opened → RowOn ps s t file host row
 
@@ -53,8 +55,11 @@ pub record RowsMove (ps : List Packet) (s t : Server) (host : ℕ) : Type 0 wher
 -- the line of a host: it stays, an incarnation begins, or a request of the kept one is decided
 pub data LineTo (ps : List Packet) (s t : Server) (host : ℕ) : Type 0 where
   line_stays : host_row t.kept host ≡ host_row s.kept host → LineTo ps s t host
-  line_begins : (x : ℕ) (w : Who) → Asked ps host x (Request.Attach w) → w.host ≡ host → (host_row s.kept host).inc < w.inc → (host_row t.kept host).inc ≡ w.inc → (host_row t.kept host).seq ≡ 0 → LineTo ps s t host
-  line_decides : (x : ℕ) (r : Request) (w : Who) (n : ℕ) (v : Verdict) (value : ℕ) → Asked ps host x r → asker r ≡ Some w → w.host ≡ host → w.inc ≡ (host_row s.kept host).inc → sequence_of r ≡ Some n → (host_row s.kept host).seq < n → host_row t.kept host ≡ record { inc = w.inc; seq = n; verdict = v; value = value } → VerdictFits r v value → LineTo ps s t host
+  line_begins : (x : ℕ) (w : Who) → Asked ps host x (Request.Attach w) → w.host ≡ host → (host_row s.kept host).inc < w.inc
+      → (host_row t.kept host).inc ≡ w.inc → (host_row t.kept host).seq ≡ 0 → LineTo ps s t host
+  line_decides : (x : ℕ) (r : Request) (w : Who) (n : ℕ) (v : Verdict) (value : ℕ) → Asked ps host x r → asker r ≡ Some w → w.host ≡ host
+      → w.inc ≡ (host_row s.kept host).inc → sequence_of r ≡ Some n → (host_row s.kept host).seq < n
+      → host_row t.kept host ≡ record { inc = w.inc; seq = n; verdict = v; value = value } → VerdictFits r v value → LineTo ps s t host
 
 -- ---- files
 
@@ -69,9 +74,13 @@ NoneCaches s t who file Claimed = (row row' : Row) → OwnRow (standing s) who f
 -- what becomes of a file, as one client sees it: it stays; its own write was done; another change was made, and it had no chained
 -- claim; or the file is gone
 pub data FileMove (s t : Server) (who : Who) (ticket : Option Ticket) (file : ℕ) (Claimed : Type 0) : Type 0 where
-  file_stays : find_file file t.kept.files ≡ find_file file s.kept.files → done_at t.kept who ticket file ≡ done_at s.kept who ticket file → (done_at s.kept who ticket file ≡ true → (line_for t.kept who).value ≡ (line_for s.kept who).value) → FileMove s t who ticket file Claimed
-  file_written : (f f' : File) → find_file file s.kept.files ≡ Some f → find_file file t.kept.files ≡ Some f' → f'.rev ≡ f.rev + 1 → blocks_of f' ≡ blocks_of f → done_at s.kept who ticket file ≡ false → done_at t.kept who ticket file ≡ true → (line_for t.kept who).value ≡ f'.rev → FileMove s t who ticket file Claimed
-  file_changed : (f f' : File) → find_file file s.kept.files ≡ Some f → find_file file t.kept.files ≡ Some f' → f.rev < f'.rev → done_at t.kept who ticket file ≡ done_at s.kept who ticket file → NoneCaches s t who file Claimed → FileMove s t who ticket file Claimed
+  file_stays : find_file file t.kept.files ≡ find_file file s.kept.files → done_at t.kept who ticket file ≡ done_at s.kept who ticket file
+      → (done_at s.kept who ticket file ≡ true → (line_for t.kept who).value ≡ (line_for s.kept who).value) → FileMove s t who ticket file Claimed
+  file_written : (f f' : File) → find_file file s.kept.files ≡ Some f → find_file file t.kept.files ≡ Some f' → f'.rev ≡ f.rev + 1
+      → blocks_of f' ≡ blocks_of f → done_at s.kept who ticket file ≡ false → done_at t.kept who ticket file ≡ true
+      → (line_for t.kept who).value ≡ f'.rev → FileMove s t who ticket file Claimed
+  file_changed : (f f' : File) → find_file file s.kept.files ≡ Some f → find_file file t.kept.files ≡ Some f' → f.rev < f'.rev
+      → done_at t.kept who ticket file ≡ done_at s.kept who ticket file → NoneCaches s t who file Claimed → FileMove s t who ticket file Claimed
   file_gone : find_file file t.kept.files ≡ None → NoneCaches s t who file Claimed → FileMove s t who ticket file Claimed
 
 -- what becomes of a file's revision
@@ -103,7 +112,9 @@ pub record NewGrant (s t : Server) (who : Who) (file : ℕ) (g : Grant) : Type 0
   pub row_since : row.since ≡ g.since
   pub row_mode : row.mode ≡ g.mode
   pub alone : caches g.mode ≡ false → g.since ≡ g.tag
-  pub origin : (g.since ≡ next_tag s.table) ⊎ ((own : Row) × (find_row file who.host (standing s).rows ≡ Some own) × (g.since ≡ own.since) × ((mode : Mode) → is_at_least own.mode mode ≡ true → is_at_least g.mode mode ≡ true))
+  pub origin : (g.since ≡ next_tag s.table)
+      ⊎ ((own : Row) × (find_row file who.host (standing s).rows ≡ Some own) × (g.since ≡ own.since)
+      × ((mode : Mode) → is_at_least own.mode mode ≡ true → is_at_least g.mode mode ≡ true))
 
 -- a new reply to a request: to one that is decided once it is what the kept verdict gives, or it was decided before, or the asker
 -- is not attached
@@ -114,7 +125,9 @@ pub record NewReply (ps : List Packet) (s t : Server) (host x : ℕ) (a : Reply)
   pub by : asker asks ≡ Some who
   pub same_host : who.host ≡ host
   pub inc : inc_of a ≡ who.inc
-  pub verdict : (n : ℕ) → sequence_of asks ≡ Some n → ((host_row t.kept host).seq ≡ n × (a ≡ verdict_reply who.inc (host_row t.kept host).verdict (host_row t.kept host).value asks)) ⊎ ((n < (host_row s.kept host).seq) ⊎ ((host_row s.kept host).inc < who.inc))
+  pub verdict : (n : ℕ) → sequence_of asks ≡ Some n
+      → ((host_row t.kept host).seq ≡ n × (a ≡ verdict_reply who.inc (host_row t.kept host).verdict (host_row t.kept host).value asks))
+      ⊎ ((n < (host_row s.kept host).seq) ⊎ ((host_row s.kept host).inc < who.inc))
   pub grants : (g : Grant) → grant_in a ≡ Some g → (file : ℕ) → requested_file asks ≡ Some file → NewGrant s t who file g
 
 -- ---- all of it

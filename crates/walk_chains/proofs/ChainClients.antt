@@ -56,11 +56,13 @@ none-given file g sent = ⊥
 -- ---- before a step
 
 -- a lease that is covered is chained
-covered-chained : (s : Server) (phase : Phase) (table : Table) (who : Who) (file : ℕ) (mode : Mode) (tag : Tag) (until : ℕ) → table ≡ s.table → IsCovered s phase (claim_of who file mode tag until) → (row : Row) × IsChained (standing_in phase table) who file tag row
+covered-chained : (s : Server) (phase : Phase) (table : Table) (who : Who) (file : ℕ) (mode : Mode) (tag : Tag) (until : ℕ) → table ≡ s.table
+    → IsCovered s phase (claim_of who file mode tag until) → (row : Row) × IsChained (standing_in phase table) who file tag row
 covered-chained s serving table who file mode tag until same h =
     let k : HasFitting (claim_of who file mode tag until) table = subst (λ t. HasFitting (claim_of who file mode tag until) t) (sym same) h in
     (k.row, record { own = record { stands = k.stands; holder = k.fits.holder }; began = k.fits.began })
-covered-chained s (recovering end heard last) table who file mode tag until same h = let k = h.fitting in (k.row, record { own = record { stands = k.stands; holder = k.fits.holder }; began = k.fits.began })
+covered-chained s (recovering end heard last) table who file mode tag until same h =
+    let k = h.fitting in (k.row, record { own = record { stands = k.stands; holder = k.fits.holder }; began = k.fits.began })
 
 -- what is known of a client before its step
 pub record Before (s : Server) (events : List Event) (host : ℕ) (c : Client) (ps : List Packet) : Type 0 where
@@ -86,9 +88,30 @@ begins-mid s events host c ps b = record {
 pub fits-sends : (s : Server) (c : Client) (ps : List Packet) (host : ℕ) (sends : List Message) → ChainFits s c ps → ChainFits s c (packets_with ps host sends)
 fits-sends s c ps host sends h = record {
   held = h.held;
-  given = record { fits = λ file g t k. h.given.fits file g t (record { x = k.x; a = k.a; told = old-told ps host c.who.host sends (reply k.x k.a) k.told; inc = k.inc; asked = k.asked; number = k.number; on_file = k.on_file; gives = k.gives }) };
+  given =
+      record {
+        fits = λ file g t k. h.given.fits file g t
+            (record {
+              x = k.x;
+              a = k.a;
+              told = old-told ps host c.who.host sends (reply k.x k.a) k.told;
+              inc = k.inc;
+              asked = k.asked;
+              number = k.number;
+              on_file = k.on_file;
+              gives = k.gives;
+            });
+      };
   writes = h.writes;
-  line = record { above = h.line.above; drawn = h.line.drawn; last = h.line.last; replied = λ x a t n told. h.line.replied x a t n (old-told ps host c.who.host sends (reply x a) told); decided = h.line.decided };
+  line =
+      record {
+        above = h.line.above;
+        drawn = h.line.drawn;
+        last = h.line.last;
+        replied = λ x a t n told. h.line.replied x a t n
+            (old-told ps host c.who.host sends (reply x a) told);
+        decided = h.line.decided;
+      };
 }
 
 mid-fits : (s : Server) (ps : List Packet) (host : ℕ) (t : ClientStep) → MidOf s ps t → ChainFits s t.client (packets_with ps host t.sends)
@@ -103,7 +126,8 @@ module _ (s : Server) (events : List Event) (host : ℕ) (c : Client) (ps : List
     where
       jobs : (t : Ticket) (job : Job) → t.job ≡ job → c.ticket ≡ Some t → ticket_is_for_call (Some t) ≡ false
       jobs t Job.attaching j e = rw j refl
-      jobs t Job.for_call j e = let some : is_some c.call ≡ true = b.there.alone.asking.called t e j in let gone : is_some c.call ≡ false = ap is_some none in absurd (cc)
+      jobs t Job.for_call j e =
+          let some : is_some c.call ≡ true = b.there.alone.asking.called t e j in let gone : is_some c.call ≡ false = ap is_some none in absurd (cc)
       jobs t Job.renewing j e = rw j refl
       jobs t Job.pushing j e = rw j refl
 
@@ -122,7 +146,8 @@ module _ (s : Server) (events : List Event) (host : ℕ) (c : Client) (ps : List
   called-mid : (op : Call) → c.call ≡ None → MidOf s ps (is_called (begins_call c op) op)
   unfolding is_called begins_call
   called-mid op none = mid-calls s ps (view_of (begun c)) (Some (record { q = c.calls + 1; call = op; through = false; written = false })) (idle none)
-      (λ u e on. let one : record { q = c.calls + 1; call = op; through = false; written = false } ≡ u = some-same _ u e in let off : u.through ≡ false = ap (λ z. z.through) (sym one) in absurd (cc))
+      (λ u e on. let one : record { q = c.calls + 1; call = op; through = false; written = false } ≡ u = some-same _ u e in
+      let off : u.through ≡ false = ap (λ z. z.through) (sym one) in absurd (cc))
       (begins-mid s events host c ps b)
 
   call-mid : (op : Call) → DelayingOf (client_call c op).client → MidOf s ps (client_call c op)
@@ -157,11 +182,14 @@ module _ (s : Server) (events : List Event) (host : ℕ) (c : Client) (ps : List
   })
 
   pub tick-fits : ChainFits s (client_tick c (c.now + 1)).client (packets_with ps host (client_tick c (c.now + 1)).sends)
-  tick-fits = mid-fits s ps host (client_tick c (c.now + 1)) (tick-mid (tick-keeps (free-closed none-heard none-given) c (c.now + 1) (omega arith) b.there.alone tt).alone.delaying)
+  tick-fits =
+      mid-fits s ps host (client_tick c (c.now + 1))
+      (tick-mid (tick-keeps (free-closed none-heard none-given) c (c.now + 1) (omega arith) b.there.alone tt).alone.delaying)
 
   -- ---- a datagram
 
-  answered : (xid : ℕ) (r : Reply) (ticket : Ticket) → Told ps c.who.host (reply xid r) → c.ticket ≡ Some ticket → xid ≡ ticket.xid → inc_of r ≡ c.who.inc → reply_counts r ticket ≡ true → Answered s ps c ticket r
+  answered : (xid : ℕ) (r : Reply) (ticket : Ticket) → Told ps c.who.host (reply xid r) → c.ticket ≡ Some ticket → xid ≡ ticket.xid
+      → inc_of r ≡ c.who.inc → reply_counts r ticket ≡ true → Answered s ps c ticket r
   answered xid r ticket told asked same inc counts = record {
     asked = asked;
     alone = b.there.alone;
@@ -173,14 +201,16 @@ module _ (s : Server) (events : List Event) (host : ℕ) (c : Client) (ps : List
         let decided = d.decided in
         (d.inc, omega arith, b.fits.line.replied xid r ticket n told inc asked (sym same) sq);
     ready = λ file g on gives.
-        let take : IsTakeable ps c.who c.ticket file g ticket = record { x = xid; a = r; told = told; inc = inc; asked = asked; number = sym same; on_file = on; gives = gives } in
+        let take : IsTakeable ps c.who c.ticket file g ticket = record
+        { x = xid; a = r; told = told; inc = inc; asked = asked; number = sym same; on_file = on; gives = gives } in
         record {
           fits = b.fits.given.fits file g ticket take;
           live = λ caching runs. covered-chained s s.phase s.table c.who file g.mode g.tag _ refl (b.knows.covered.given file g ticket take caching runs);
         };
   }
 
-  replying : (xid : ℕ) (r : Reply) (ticket : Ticket) → Told ps c.who.host (reply xid r) → c.ticket ≡ Some ticket → xid ≡ ticket.xid → inc_of r ≡ c.who.inc → reply_counts r ticket ≡ true → Replying (given-by ticket) (λ k. Unit {0}) c ticket r
+  replying : (xid : ℕ) (r : Reply) (ticket : Ticket) → Told ps c.who.host (reply xid r) → c.ticket ≡ Some ticket → xid ≡ ticket.xid
+      → inc_of r ≡ c.who.inc → reply_counts r ticket ≡ true → Replying (given-by ticket) (λ k. Unit {0}) c ticket r
   replying xid r ticket told asked same inc counts = record {
     asked = asked;
     counts = counts;

@@ -45,7 +45,8 @@ pub record HeldChains (table : Table) (kept : Kept) (who : Who) (ticket : Option
   pub known : (file : ℕ) (l : Lease) → lease_on file leases ≡ Some l → is_some (revision_of file revisions) ≡ true
   pub numbered : (file : ℕ) (l : Lease) → lease_on file leases ≡ Some l → file < kept.next
   -- a chained lease knows the file
-  pub chained : (file : ℕ) (l : Lease) (row : Row) → lease_on file leases ≡ Some l → caches l.mode ≡ true → IsChained table who file l.tag row → KnowsFile kept (line_for kept who) row.mode l.mode file (rev_at revisions file) l.blocks (done_at kept who ticket file)
+  pub chained : (file : ℕ) (l : Lease) (row : Row) → lease_on file leases ≡ Some l → caches l.mode ≡ true → IsChained table who file l.tag row
+      → KnowsFile kept (line_for kept who) row.mode l.mode file (rev_at revisions file) l.blocks (done_at kept who ticket file)
   -- the own row's latest tag is no earlier than a held one
   pub below : (file : ℕ) (l : Lease) (row : Row) → lease_on file leases ≡ Some l → OwnRow table who file row → tag_below row.tag l.tag ≡ false
 
@@ -68,15 +69,18 @@ pub record GrantFits (table : Table) (kept : Kept) (who : Who) (leases : List Le
   pub numbered : file < kept.next
   pub ordered : InOrder g
   -- a chained grant knows the file
-  pub chained : (row : Row) → caches g.mode ≡ true → IsChained table who file g.tag row → KnowsFile kept (line_for kept who) row.mode g.mode file g.rev g.blocks false
+  pub chained : (row : Row) → caches g.mode ≡ true → IsChained table who file g.tag row
+      → KnowsFile kept (line_for kept who) row.mode g.mode file g.rev g.blocks false
   -- one whose chain began no later than the tag of a held lease goes on with it
-  pub goes_on : (l : Lease) → caches g.mode ≡ true → lease_on file leases ≡ Some l → caches l.mode ≡ true → tag_below l.tag g.since ≡ false → GoesOnAs g l (rev_at revisions file)
+  pub goes_on : (l : Lease) → caches g.mode ≡ true → lease_on file leases ≡ Some l → caches l.mode ≡ true → tag_below l.tag g.since ≡ false
+      → GoesOnAs g l (rev_at revisions file)
   -- its tag is above a held one
   pub above : (l : Lease) → lease_on file leases ≡ Some l → tag_below l.tag g.tag ≡ true
   -- the own row's tags are no earlier than its tags
   pub below : (row : Row) → OwnRow table who file row → (tag_below row.tag g.tag ≡ false) × (tag_below row.since g.since ≡ false)
 
-pub record GivenChains (table : Table) (kept : Kept) (who : Who) (ticket : Option Ticket) (leases : List Lease) (revisions : List Revision) (ps : List Packet) : Type 0 where
+pub record GivenChains (table : Table) (kept : Kept) (who : Who) (ticket : Option Ticket) (leases : List Lease) (revisions : List Revision)
+    (ps : List Packet) : Type 0 where
   pub fits : (file : ℕ) (g : Grant) (t : Ticket) → IsTakeable ps who ticket file g t → GrantFits table kept who leases revisions file g
 
 -- ---- files with delayed writes
@@ -108,15 +112,21 @@ file_written (Write file block body) = Some file
 file_written (WriteSync file block body) = Some file
 file_written other = None
 
-pub record WriteChains (table : Table) (kept : Kept) (who : Who) (ticket : Option Ticket) (call : Option UnderWay) (leases : List Lease) (revisions : List Revision) (dirty : List Push) (push : Option Push) : Type 0 where
+pub record WriteChains (table : Table) (kept : Kept) (who : Who) (ticket : Option Ticket) (call : Option UnderWay) (leases : List Lease)
+    (revisions : List Revision) (dirty : List Push) (push : Option Push) : Type 0 where
   -- a file with delayed writes is held for writing, and chained or fenced
   pub held : (file : ℕ) → is_clean_in file dirty push ≡ false → (l : Lease) × (lease_on file leases ≡ Some l) × (is_writing l.mode ≡ true)
-  pub bound : (file : ℕ) (l : Lease) → is_clean_in file dirty push ≡ false → lease_on file leases ≡ Some l → IsBoundOrFenced table kept who file l.tag (due (done_at kept who ticket file) (rev_at revisions file))
+  pub bound : (file : ℕ) (l : Lease) → is_clean_in file dirty push ≡ false → lease_on file leases ≡ Some l
+      → IsBoundOrFenced table kept who file l.tag (due (done_at kept who ticket file) (rev_at revisions file))
   -- a request that pushes is the push under way
-  pub pushed : (t : Ticket) (w : Who) (n file block first last : ℕ) (base : PushBase) (body : List ℕ) → ticket ≡ Some t → t.request ≡ Request.Write w n file block first last (Some base) body → IsPushed leases revisions push file base (record { file = file; block = block; first = first; last = last; body = body })
+  pub pushed : (t : Ticket) (w : Who) (n file block first last : ℕ) (base : PushBase) (body : List ℕ) → ticket ≡ Some t
+      → t.request ≡ Request.Write w n file block first last (Some base) body
+      → IsPushed leases revisions push file base (record { file = file; block = block; first = first; last = last; body = body })
   -- a file is clean where a write to it goes through, or is to, or where the call asks for a lease on it to write
-  pub through : (t : Ticket) (w : Who) (n file block first last : ℕ) (body : List ℕ) → ticket ≡ Some t → t.job ≡ for_call → t.request ≡ Request.Write w n file block first last None body → is_clean_in file dirty push ≡ true
-  pub leased : (t : Ticket) (w : Who) (file : ℕ) (want : Want) → ticket ≡ Some t → t.job ≡ for_call → t.request ≡ Request.GetLease w file want → (u : UnderWay) × (call ≡ Some u) × (file_written u.call ≡ Some file) × (is_clean_in file dirty push ≡ true)
+  pub through : (t : Ticket) (w : Who) (n file block first last : ℕ) (body : List ℕ) → ticket ≡ Some t → t.job ≡ for_call
+      → t.request ≡ Request.Write w n file block first last None body → is_clean_in file dirty push ≡ true
+  pub leased : (t : Ticket) (w : Who) (file : ℕ) (want : Want) → ticket ≡ Some t → t.job ≡ for_call → t.request ≡ Request.GetLease w file want
+      → (u : UnderWay) × (call ≡ Some u) × (file_written u.call ≡ Some file) × (is_clean_in file dirty push ≡ true)
   pub marked : (u : UnderWay) → call ≡ Some u → u.through ≡ true → (file : ℕ) × (file_written u.call ≡ Some file) × (is_clean_in file dirty push ≡ true)
 
 -- ---- the kept line and the request under way
@@ -143,9 +153,11 @@ pub record LineChains (kept : Kept) (who : Who) (seq : ℕ) (ticket : Option Tic
   pub drawn : (line_for kept who).inc ≡ who.inc → (line_for kept who).seq < seq
   pub last : (t : Ticket) (n : ℕ) → ticket ≡ Some t → sequence_of t.request ≡ Some n → n + 1 ≡ seq
   -- a reply to it is what the kept verdict and value give
-  pub replied : (x : ℕ) (a : Reply) (t : Ticket) (n : ℕ) → Told ps who.host (reply x a) → inc_of a ≡ who.inc → ticket ≡ Some t → t.xid ≡ x → sequence_of t.request ≡ Some n → a ≡ verdict_reply who.inc (line_for kept who).verdict (line_for kept who).value t.request
+  pub replied : (x : ℕ) (a : Reply) (t : Ticket) (n : ℕ) → Told ps who.host (reply x a) → inc_of a ≡ who.inc → ticket ≡ Some t → t.xid ≡ x
+      → sequence_of t.request ≡ Some n → a ≡ verdict_reply who.inc (line_for kept who).verdict (line_for kept who).value t.request
   -- where it was decided, the verdict is one that it can have
-  pub decided : (t : Ticket) (n : ℕ) → ticket ≡ Some t → sequence_of t.request ≡ Some n → (line_for kept who).inc ≡ who.inc → (line_for kept who).seq ≡ n → VerdictFits t.request (line_for kept who).verdict (line_for kept who).value
+  pub decided : (t : Ticket) (n : ℕ) → ticket ≡ Some t → sequence_of t.request ≡ Some n → (line_for kept who).inc ≡ who.inc
+      → (line_for kept who).seq ≡ n → VerdictFits t.request (line_for kept who).verdict (line_for kept who).value
 
 -- ---- all of a client
 

@@ -50,7 +50,8 @@ pub record StillLease (less : List Lease) (file : ℕ) (l : Lease) : Type 0 wher
   pub tag : after.tag ≡ l.tag
 
 pub still-used : (f : ℕ) (leases : List Lease) (file : ℕ) (l : Lease) → lease_on file leases ≡ Some l → StillLease (used_lease f leases) file l
-still-used f leases file l e = record { after = marked_used f l; found = used-lease-found file f leases ∙ rw e refl; mode = marked-mode f l; tag = marked-tag f l }
+still-used f leases file l e =
+    record { after = marked_used f l; found = used-lease-found file f leases ∙ rw e refl; mode = marked-mode f l; tag = marked-tag f l }
 
 pub still-dropped : (f : ℕ) (leases : List Lease) (file : ℕ) (l : Lease) → file ≢ f → lease_on file leases ≡ Some l → StillLease (drop_lease f leases) file l
 still-dropped f leases file l apart e = record { after = l; found = other-lease-dropped f file leases apart ∙ e; mode = refl; tag = refl }
@@ -67,7 +68,8 @@ pub known-put-other : (f rev g : ℕ) (revisions : List Revision) → g ≢ f �
 known-put-other f rev g revisions apart = ap revision_or_zero (other-revision-put f rev g revisions apart)
 
 -- a file that has a revision has one still
-pub some-put : (f rev g : ℕ) (revisions : List Revision) → is_some (revision_of g revisions) ≡ true → is_some (revision_of g (put_revision f rev revisions)) ≡ true
+pub some-put : (f rev g : ℕ) (revisions : List Revision) → is_some (revision_of g revisions) ≡ true
+    → is_some (revision_of g (put_revision f rev revisions)) ≡ true
 some-put f rev g revisions some = step (g == f) refl
   where
     step : (b : Bool) → (g == f) ≡ b → is_some (revision_of g (put_revision f rev revisions)) ≡ true
@@ -76,7 +78,8 @@ some-put f rev g revisions some = step (g == f) refl
 
 -- ---- delayed writes
 
-any-less-step : (p : Push → Bool) (y : Push) (xs ys : List Push) (c : Bool) → (list_any p ys ≡ true → list_any p xs ≡ true) → list_any p (if c then y ∷ ys else ys) ≡ true → (p y || list_any p xs) ≡ true
+any-less-step : (p : Push → Bool) (y : Push) (xs ys : List Push) (c : Bool) → (list_any p ys ≡ true → list_any p xs ≡ true)
+    → list_any p (if c then y ∷ ys else ys) ≡ true → (p y || list_any p xs) ≡ true
 any-less-step p y xs ys c rest h = step (p y) refl c h
   where
     step : (b : Bool) → p y ≡ b → (c : Bool) → list_any p (if c then y ∷ ys else ys) ≡ true → (b || list_any p xs) ≡ true
@@ -89,7 +92,8 @@ pub any-less : (p q : Push → Bool) (xs : List Push) → list_any p (filter q x
 any-less p q [] h = h
 any-less p q (y ∷ xs) h = any-less-step p y xs (filter q xs) (q y) (any-less p q xs) h
 
-any-found-step : (p : Push → Bool) (x y : Push) (xs : List Push) (b : Bool) → p y ≡ b → (first : Option Push) → (first ≡ Some x → list_any p xs ≡ true) → (if b then Some y else first) ≡ Some x → (p y || list_any p xs) ≡ true
+any-found-step : (p : Push → Bool) (x y : Push) (xs : List Push) (b : Bool) → p y ≡ b → (first : Option Push) → (first ≡ Some x → list_any p xs ≡ true)
+    → (if b then Some y else first) ≡ Some x → (p y || list_any p xs) ≡ true
 any-found-step p x y xs true e first rest h = rw e refl
 any-found-step p x y xs false e first rest h = rw e (rest h)
 
@@ -98,7 +102,8 @@ pub any-found : (file : ℕ) (xs : List Push) (x : Push) → first_dirty file xs
 any-found file [] x h = none-some x h
 any-found file (y ∷ xs) x h = any-found-step (is_push_of file) x y xs (is_push_of file y) refl (first_dirty file xs) (any-found file xs x) h
 
-none-found-step : (p : Push → Bool) (y : Push) (xs : List Push) (b : Bool) → p y ≡ b → (first : Option Push) → (first ≡ None → list_any p xs ≡ false) → (if b then Some y else first) ≡ None → (p y || list_any p xs) ≡ false
+none-found-step : (p : Push → Bool) (y : Push) (xs : List Push) (b : Bool) → p y ≡ b → (first : Option Push) → (first ≡ None → list_any p xs ≡ false)
+    → (if b then Some y else first) ≡ None → (p y || list_any p xs) ≡ false
 none-found-step p y xs true e first rest h = none-some y (sym h)
 none-found-step p y xs false e first rest h = rw e (rest h)
 
@@ -120,30 +125,37 @@ any-last p [] y h = step (p y) h
 any-last p (x ∷ xs) y h = any-last-step (p y) (list_any p (xs ++ y ∷ [])) (list_any p xs) (any-last p xs y) (p x) h
 
 -- of another file than the one that is written there were delayed writes before
-any-wrote : (f file block number : ℕ) (body : List ℕ) (dirty : List Push) (o : Option Push) → f ≢ file → list_any (is_push_of f) (with_write file block number body dirty o) ≡ true → list_any (is_push_of f) dirty ≡ true
+any-wrote : (f file block number : ℕ) (body : List ℕ) (dirty : List Push) (o : Option Push) → f ≢ file
+    → list_any (is_push_of f) (with_write file block number body dirty o) ≡ true → list_any (is_push_of f) dirty ≡ true
 any-wrote f file block number body dirty (Some p) apart h = sym (any-overwritten file block number body f dirty) ∙ h
-any-wrote f file block number body dirty None apart h = step (any-last (is_push_of f) dirty (record { file = file; block = block; first = number; last = number; body = body }) h)
+any-wrote f file block number body dirty None apart h =
+    step (any-last (is_push_of f) dirty (record { file = file; block = block; first = number; last = number; body = body }) h)
   where
     step : (list_any (is_push_of f) dirty ≡ true) ⊎ ((file == f) ≡ true) → list_any (is_push_of f) dirty ≡ true
     step (inl some) = some
     step (inr same) = absurd (apart (sym (same-number file f same)))
 
-pub unclean-wrote : (f file block number : ℕ) (body : List ℕ) (dirty : List Push) (o push : Option Push) → f ≢ file → is_clean_in f (with_write file block number body dirty o) push ≡ false → is_clean_in f dirty push ≡ false
+pub unclean-wrote : (f file block number : ℕ) (body : List ℕ) (dirty : List Push) (o push : Option Push) → f ≢ file
+    → is_clean_in f (with_write file block number body dirty o) push ≡ false → is_clean_in f dirty push ≡ false
 unclean-wrote f file block number body dirty o push apart h = step (has-writes f (with_write file block number body dirty o) push h)
   where
-    step : (list_any (is_push_of f) (with_write file block number body dirty o) ≡ true) ⊎ (push_passes (is_push_of f) push ≡ true) → is_clean_in f dirty push ≡ false
+    step : (list_any (is_push_of f) (with_write file block number body dirty o) ≡ true) ⊎ (push_passes (is_push_of f) push ≡ true)
+        → is_clean_in f dirty push ≡ false
     step (inl some) = writes-in-list f dirty push (any-wrote f file block number body dirty o apart some)
     step (inr some) = writes-under-way f dirty push some
 
 -- a push that is taken from the list was in it
-pub unclean-pushed : (f : ℕ) (p : Push) (dirty : List Push) (push : Option Push) → first_dirty p.file dirty ≡ Some p → is_clean_in f (drop_dirty p.file p.block dirty) (Some p) ≡ false → is_clean_in f dirty push ≡ false
+pub unclean-pushed : (f : ℕ) (p : Push) (dirty : List Push) (push : Option Push) → first_dirty p.file dirty ≡ Some p
+    → is_clean_in f (drop_dirty p.file p.block dirty) (Some p) ≡ false → is_clean_in f dirty push ≡ false
 unclean-pushed f p dirty push first h = step (has-writes f (drop_dirty p.file p.block dirty) (Some p) h)
   where
     step : (list_any (is_push_of f) (drop_dirty p.file p.block dirty) ≡ true) ⊎ ((p.file == f) ≡ true) → is_clean_in f dirty push ≡ false
     step (inl some) = writes-in-list f dirty push (any-less (is_push_of f) (λ x. not (is_push_at p.file p.block x)) dirty some)
-    step (inr same) = writes-in-list f dirty push (subst (λ n. list_any (is_push_of n) dirty ≡ true) (same-number p.file f same) (any-found p.file dirty p first))
+    step (inr same) =
+        writes-in-list f dirty push (subst (λ n. list_any (is_push_of n) dirty ≡ true) (same-number p.file f same) (any-found p.file dirty p first))
 
-none-other-step : (file : ℕ) (y : Push) (ys : List Push) (b : Bool) → is_push_of file y ≡ b → list_any (is_push_of file) ys ≡ false → list_any (is_push_of file) (if not b then y ∷ ys else ys) ≡ false
+none-other-step : (file : ℕ) (y : Push) (ys : List Push) (b : Bool) → is_push_of file y ≡ b → list_any (is_push_of file) ys ≡ false
+    → list_any (is_push_of file) (if not b then y ∷ ys else ys) ≡ false
 none-other-step file y ys true e rest = rest
 none-other-step file y ys false e rest = rw e rest
 
@@ -172,10 +184,12 @@ passed-left file f (Some p) h = step (is_push_of file p) h
     step false e = e
 
 -- a file that is not clean after a loss was not before
-pub unclean-lost : (file f : ℕ) (dirty : List Push) (push : Option Push) → is_clean_in f (other_dirty file dirty) (other_push file push) ≡ false → is_clean_in f dirty push ≡ false
+pub unclean-lost : (file f : ℕ) (dirty : List Push) (push : Option Push) → is_clean_in f (other_dirty file dirty) (other_push file push) ≡ false
+    → is_clean_in f dirty push ≡ false
 unclean-lost file f dirty push h = step (has-writes f (other_dirty file dirty) (other_push file push) h)
   where
-    step : (list_any (is_push_of f) (other_dirty file dirty) ≡ true) ⊎ (push_passes (is_push_of f) (other_push file push) ≡ true) → is_clean_in f dirty push ≡ false
+    step : (list_any (is_push_of f) (other_dirty file dirty) ≡ true) ⊎ (push_passes (is_push_of f) (other_push file push) ≡ true)
+        → is_clean_in f dirty push ≡ false
     step (inl some) = writes-in-list f dirty push (any-less (is_push_of f) (λ x. not (is_push_of file x)) dirty some)
     step (inr some) = writes-under-way f dirty push (passed-left file f push some)
 
@@ -199,7 +213,8 @@ all-four true true true d not_both = absurd (not_both refl refl)
 pub fresh-undone : (line : HostRow) (inc file n : ℕ) (r : Request) → sequence_of r ≡ Some n → (line.inc ≡ inc → line.seq < n) → has_done line inc file r ≡ false
 fresh-undone line inc file n (Request.Write w seq f block first last push body) s later =
     all-four (f == file) (line.inc == inc) (line.seq == seq) (is_done line.verdict)
-    (λ a b. let below = later (same-number line.inc inc a) in let same : line.seq ≡ seq = same-number line.seq seq b in let one : seq ≡ n = some-same seq n s in absurd (omega arith))
+    (λ a b. let below = later (same-number line.inc inc a) in let same : line.seq ≡ seq = same-number line.seq seq b in
+    let one : seq ≡ n = some-same seq n s in absurd (omega arith))
 fresh-undone line inc file n other s later = refl
 
 -- nor was one without a sequence

@@ -46,7 +46,8 @@ pub record Mid (s : Server) (ps : List Packet) (v : View) : Type 0 where
   pub writes : WriteChains (standing s) s.kept v.who v.ticket v.call v.leases v.revisions v.dirty v.push
   pub line : LineChains s.kept v.who v.seq v.ticket ps
   -- a caching lease that runs is chained
-  pub live : (file : ℕ) (l : Lease) → lease_on file v.leases ≡ Some l → caches l.mode ≡ true → v.now < l.expiry → (row : Row) × IsChained (standing s) v.who file l.tag row
+  pub live : (file : ℕ) (l : Lease) → lease_on file v.leases ≡ Some l → caches l.mode ≡ true → v.now < l.expiry
+      → (row : Row) × IsChained (standing s) v.who file l.tag row
   -- no reply is there to a request that is not sent yet
   pub fresh : (x : ℕ) (a : Reply) → Told ps v.who.host (reply x a) → inc_of a ≡ v.who.inc → x < v.xid
 
@@ -57,7 +58,9 @@ pub record Ready (s : Server) (v : View) (file : ℕ) (g : Grant) (sent : ℕ) :
 
 -- ---- leases that go, or are marked
 
-pub grant-leases : {table : Table} {kept : Kept} {who : Who} {leases : List Lease} {revisions : List Revision} {file : ℕ} {g : Grant} (less : List Lease) → ((l : Lease) → lease_on file less ≡ Some l → WasLease leases file l) → GrantFits table kept who leases revisions file g → GrantFits table kept who less revisions file g
+pub grant-leases : {table : Table} {kept : Kept} {who : Who} {leases : List Lease} {revisions : List Revision} {file : ℕ} {g : Grant}
+    (less : List Lease) → ((l : Lease) → lease_on file less ≡ Some l → WasLease leases file l) → GrantFits table kept who leases revisions file g
+    → GrantFits table kept who less revisions file g
 grant-leases {revisions = revisions} {file = file} {g = g} less from h = record {
   numbered = h.numbered;
   ordered = h.ordered;
@@ -74,22 +77,31 @@ module _ (s : Server) (ps : List Packet) where
   table : Table
   table = standing s
 
-  mid-leases : (v : View) (less : List Lease) → ((file : ℕ) (l : Lease) → lease_on file less ≡ Some l → WasLease v.leases file l) → ((file : ℕ) (l : Lease) → is_clean_in file v.dirty v.push ≡ false → lease_on file v.leases ≡ Some l → StillLease less file l) → Mid s ps v → Mid s ps (record v { leases = less })
+  mid-leases : (v : View) (less : List Lease) → ((file : ℕ) (l : Lease) → lease_on file less ≡ Some l → WasLease v.leases file l)
+      → ((file : ℕ) (l : Lease) → is_clean_in file v.dirty v.push ≡ false → lease_on file v.leases ≡ Some l → StillLease less file l) → Mid s ps v
+      → Mid s ps (record v { leases = less })
   mid-leases v less from still h = record {
     held = record {
       known = λ file l e. let m = from file l e in h.held.known file m.before m.found;
       numbered = λ file l e. let m = from file l e in h.held.numbered file m.before m.found;
       chained = λ file l row e c k.
           let m = from file l e in
-          subst (λ mode. KnowsFile s.kept (line_for s.kept v.who) row.mode mode file (rev_at v.revisions file) l.blocks (done_at s.kept v.who v.ticket file)) (sym m.mode)
-          (subst (λ b. KnowsFile s.kept (line_for s.kept v.who) row.mode m.before.mode file (rev_at v.revisions file) b (done_at s.kept v.who v.ticket file)) (sym m.blocks)
+          subst (λ mode. KnowsFile s.kept (line_for s.kept v.who) row.mode mode file (rev_at v.revisions file) l.blocks
+          (done_at s.kept v.who v.ticket file)) (sym m.mode)
+          (subst (λ b. KnowsFile s.kept (line_for s.kept v.who) row.mode m.before.mode file (rev_at v.revisions file) b
+          (done_at s.kept v.who v.ticket file)) (sym m.blocks)
           (h.held.chained file m.before row m.found (ap caches (sym m.mode) ∙ c) (subst (λ t. IsChained (standing s) v.who file t row) m.tag k)));
       below = λ file l row e o. let m = from file l e in subst (λ t. tag_below row.tag t ≡ false) (sym m.tag) (h.held.below file m.before row m.found o);
     };
     given = record { fits = λ file g t k. grant-leases less (from file) (h.given.fits file g t k) };
     writes = record {
-      held = λ file u. let l = h.writes.held file u in let m = still file l.0 u l.1 in (m.after, m.found, subst (λ mode. is_writing mode ≡ true) (sym m.mode) l.2);
-      bound = λ file l u e. let m = from file l e in subst (λ t. IsBoundOrFenced (standing s) s.kept v.who file t (due (done_at s.kept v.who v.ticket file) (rev_at v.revisions file))) (sym m.tag) (h.writes.bound file m.before u m.found);
+      held =
+          λ file u. let l = h.writes.held file u in let m = still file l.0 u l.1 in
+          (m.after, m.found, subst (λ mode. is_writing mode ≡ true) (sym m.mode) l.2);
+      bound =
+          λ file l u e. let m = from file l e in
+          subst (λ t. IsBoundOrFenced (standing s) s.kept v.who file t (due (done_at s.kept v.who v.ticket file) (rev_at v.revisions file))) (sym m.tag)
+          (h.writes.bound file m.before u m.found);
       pushed = λ t w n file block first last base body e r.
           let p = h.writes.pushed t w n file block first last base body e r in
           let m = still file p.lease (pushed-unclean file _ v.push p.under_way) p.held in
@@ -99,11 +111,15 @@ module _ (s : Server) (ps : List Packet) where
       marked = h.writes.marked;
     };
     line = h.line;
-    live = λ file l e c runs. let m = from file l e in let k = h.live file m.before m.found (ap caches (sym m.mode) ∙ c) (let same = m.expiry in omega arith) in (k.0, subst (λ t. IsChained (standing s) v.who file t k.0) (sym m.tag) k.1);
+    live =
+        λ file l e c runs. let m = from file l e in
+        let k = h.live file m.before m.found (ap caches (sym m.mode) ∙ c) (let same = m.expiry in omega arith) in
+        (k.0, subst (λ t. IsChained (standing s) v.who file t k.0) (sym m.tag) k.1);
     fresh = h.fresh;
   } where
     pushed-unclean : (file : ℕ) (p : Push) (push : Option Push) → push ≡ Some p → is_clean_in p.file v.dirty push ≡ false
-    pushed-unclean file p push e = writes-under-way p.file v.dirty push (subst (λ o. push_passes (is_push_of p.file) o ≡ true) (sym e) (number-same p.file p.file refl))
+    pushed-unclean file p push e =
+        writes-under-way p.file v.dirty push (subst (λ o. push_passes (is_push_of p.file) o ≡ true) (sym e) (number-same p.file p.file refl))
 
   -- a lease is marked as used
   pub mid-uses : (v : View) (f : ℕ) → Mid s ps v → Mid s ps (record v { leases = used_lease f v.leases })
@@ -119,7 +135,9 @@ module _ (s : Server) (ps : List Packet) where
   -- ---- the call under way
 
   -- another call, or none, is under way, while the request under way is not the call's
-  pub mid-calls : (v : View) (call : Option UnderWay) → ticket_is_for_call v.ticket ≡ false → ((u : UnderWay) → call ≡ Some u → u.through ≡ true → (file : ℕ) × (file_written u.call ≡ Some file) × (is_clean_in file v.dirty v.push ≡ true)) → Mid s ps v → Mid s ps (record v { call = call })
+  pub mid-calls : (v : View) (call : Option UnderWay) → ticket_is_for_call v.ticket ≡ false
+      → ((u : UnderWay) → call ≡ Some u → u.through ≡ true → (file : ℕ) × (file_written u.call ≡ Some file) × (is_clean_in file v.dirty v.push ≡ true))
+      → Mid s ps v → Mid s ps (record v { call = call })
   mid-calls v call other marked h = record {
     held = h.held;
     given = h.given;
@@ -143,31 +161,50 @@ module _ (s : Server) (ps : List Packet) where
   -- a view without a request under way, of the same leases, with other revisions and delayed writes
   pub record Spends (v : View) (revisions : List Revision) (dirty : List Push) (push : Option Push) : Type 0 where
     pub some : (file : ℕ) (l : Lease) → lease_on file v.leases ≡ Some l → is_some (revision_of file revisions) ≡ true
-    pub knows : (file : ℕ) (l : Lease) (row : Row) → lease_on file v.leases ≡ Some l → caches l.mode ≡ true → IsChained (standing s) v.who file l.tag row → rev_at revisions file ≡ due (done_at s.kept v.who v.ticket file) (rev_at v.revisions file)
+    pub knows : (file : ℕ) (l : Lease) (row : Row) → lease_on file v.leases ≡ Some l → caches l.mode ≡ true
+        → IsChained (standing s) v.who file l.tag row → rev_at revisions file ≡ due (done_at s.kept v.who v.ticket file) (rev_at v.revisions file)
     pub unclean : (file : ℕ) → is_clean_in file dirty push ≡ false → is_clean_in file v.dirty v.push ≡ false
     pub bound : (file : ℕ) → is_clean_in file dirty push ≡ false → rev_at revisions file ≡ due (done_at s.kept v.who v.ticket file) (rev_at v.revisions file)
     pub marked : (u : UnderWay) → v.call ≡ Some u → u.through ≡ true → (file : ℕ) × (file_written u.call ≡ Some file) × (is_clean_in file dirty push ≡ true)
 
-  pub mid-spends : (v : View) (revisions : List Revision) (dirty : List Push) (push : Option Push) → Spends v revisions dirty push → Mid s ps v → Mid s ps (record v { ticket = None; revisions = revisions; dirty = dirty; push = push })
+  pub mid-spends : (v : View) (revisions : List Revision) (dirty : List Push) (push : Option Push) → Spends v revisions dirty push → Mid s ps v
+      → Mid s ps (record v { ticket = None; revisions = revisions; dirty = dirty; push = push })
   mid-spends v revisions dirty push k h = record {
     held = record {
       known = k.some;
       numbered = h.held.numbered;
       chained = λ file l row e c chained.
           let was = h.held.chained file l row e c chained in
-          record { kind = was.kind; f = was.f; found = was.found; revision = was.revision ∙ sym (k.knows file l row e c chained); length = was.length; value = λ bad. absurd (cc) };
+          record {
+            kind = was.kind;
+            f = was.f;
+            found = was.found;
+            revision = was.revision
+                ∙ sym (k.knows file l row e c chained);
+            length = was.length;
+            value = λ bad. absurd (cc);
+          };
       below = h.held.below;
     };
     given = record { fits = λ file g t takes. none-takes file g t takes };
     writes = record {
       held = λ file u. h.writes.held file (k.unclean file u);
-      bound = λ file l u e. subst (λ r. IsBoundOrFenced (standing s) s.kept v.who file l.tag r) (sym (k.bound file u)) (h.writes.bound file l (k.unclean file u) e);
+      bound =
+          λ file l u e. subst (λ r. IsBoundOrFenced (standing s) s.kept v.who file l.tag r) (sym (k.bound file u))
+          (h.writes.bound file l (k.unclean file u) e);
       pushed = λ t w n file block first last base body e. none-some t e;
       through = λ t w n file block first last body e. none-some t e;
       leased = λ t w file want e. none-some t e;
       marked = k.marked;
     };
-    line = record { above = h.line.above; drawn = h.line.drawn; last = λ t n e. none-some t e; replied = λ x a t n told inc e. none-some t e; decided = λ t n e. none-some t e };
+    line =
+        record {
+          above = h.line.above;
+          drawn = h.line.drawn;
+          last = λ t n e. none-some t e;
+          replied = λ x a t n told inc e. none-some t e;
+          decided = λ t n e. none-some t e;
+        };
     live = h.live;
     fresh = h.fresh;
   } where
@@ -197,7 +234,8 @@ module _ (s : Server) (ps : List Packet) where
   cancelled-or f who None = inl refl
   cancelled-or f who (Some t) = step (wants_of f t.request) refl
     where
-      step : (b : Bool) → wants_of f t.request ≡ b → ((if b then None else Some t) ≡ Some t) ⊎ (((if b then None else Some t) ≡ None) × ((file : ℕ) → done_at s.kept who (Some t) file ≡ false))
+      step : (b : Bool) → wants_of f t.request ≡ b
+          → ((if b then None else Some t) ≡ Some t) ⊎ (((if b then None else Some t) ≡ None) × ((file : ℕ) → done_at s.kept who (Some t) file ≡ false))
       step true e = inr (refl, wants-undone f t.request who e)
       step false e = inl refl
 
@@ -209,21 +247,47 @@ module _ (s : Server) (ps : List Packet) where
       step (inr gone) = subst (λ o. Mid s ps (record v { ticket = o })) (sym gone.0) (mid-spent v gone.1 h)
 
   -- the request under way is sent again
-  again : (v : View) (t u : Ticket) → u.xid ≡ t.xid → u.request ≡ t.request → u.job ≡ t.job → Mid s ps (record v { ticket = Some t }) → Mid s ps (record v { ticket = Some u })
+  again : (v : View) (t u : Ticket) → u.xid ≡ t.xid → u.request ≡ t.request → u.job ≡ t.job → Mid s ps (record v { ticket = Some t })
+      → Mid s ps (record v { ticket = Some u })
   again v t u xid request job h = record {
     held = record {
       known = h.held.known;
       numbered = h.held.numbered;
-      chained = λ file l row e c k. subst (λ r. KnowsFile s.kept (line_for s.kept v.who) row.mode l.mode file (rev_at v.revisions file) l.blocks (has_done (line_for s.kept v.who) v.who.inc file r)) (sym request) (h.held.chained file l row e c k);
+      chained =
+          λ file l row e c k. subst (λ r. KnowsFile s.kept (line_for s.kept v.who) row.mode l.mode file (rev_at v.revisions file) l.blocks
+          (has_done (line_for s.kept v.who) v.who.inc file r)) (sym request) (h.held.chained file l row e c k);
       below = h.held.below;
     };
-    given = record { fits = λ file g w k. h.given.fits file g t (record { x = k.x; a = k.a; told = k.told; inc = k.inc; asked = refl; number = sym xid ∙ ap (λ z. z.xid) (some-same u w k.asked) ∙ k.number; on_file = ap requested_file (sym request) ∙ ap (λ z. requested_file z.request) (some-same u w k.asked) ∙ k.on_file; gives = k.gives }) };
+    given =
+        record {
+          fits = λ file g w k. h.given.fits file g t
+              (record {
+                x = k.x;
+                a = k.a;
+                told = k.told;
+                inc = k.inc;
+                asked = refl;
+                number = sym xid ∙ ap (λ z. z.xid) (some-same u w k.asked)
+                    ∙ k.number;
+                on_file = ap requested_file (sym request) ∙ ap (λ z. requested_file z.request) (some-same u w k.asked)
+                    ∙ k.on_file;
+                gives = k.gives;
+              });
+        };
     writes = record {
       held = h.writes.held;
-      bound = λ file l n e. subst (λ r. IsBoundOrFenced (standing s) s.kept v.who file l.tag (due (has_done (line_for s.kept v.who) v.who.inc file r) (rev_at v.revisions file))) (sym request) (h.writes.bound file l n e);
-      pushed = λ w x n file block first last base body e r. h.writes.pushed t x n file block first last base body refl (sym request ∙ ap (λ z. z.request) (some-same u w e) ∙ r);
-      through = λ w x n file block first last body e j r. h.writes.through t x n file block first last body refl (sym job ∙ ap (λ z. z.job) (some-same u w e) ∙ j) (sym request ∙ ap (λ z. z.request) (some-same u w e) ∙ r);
-      leased = λ w x file want e j r. h.writes.leased t x file want refl (sym job ∙ ap (λ z. z.job) (some-same u w e) ∙ j) (sym request ∙ ap (λ z. z.request) (some-same u w e) ∙ r);
+      bound =
+          λ file l n e. subst (λ r. IsBoundOrFenced (standing s) s.kept v.who file l.tag
+          (due (has_done (line_for s.kept v.who) v.who.inc file r) (rev_at v.revisions file))) (sym request) (h.writes.bound file l n e);
+      pushed =
+          λ w x n file block first last base body e r. h.writes.pushed t x n file block first last base body refl
+          (sym request ∙ ap (λ z. z.request) (some-same u w e) ∙ r);
+      through =
+          λ w x n file block first last body e j r. h.writes.through t x n file block first last body refl
+          (sym job ∙ ap (λ z. z.job) (some-same u w e) ∙ j) (sym request ∙ ap (λ z. z.request) (some-same u w e) ∙ r);
+      leased =
+          λ w x file want e j r. h.writes.leased t x file want refl (sym job ∙ ap (λ z. z.job) (some-same u w e) ∙ j)
+          (sym request ∙ ap (λ z. z.request) (some-same u w e) ∙ r);
       marked = h.writes.marked;
     };
     line = record {
@@ -232,10 +296,12 @@ module _ (s : Server) (ps : List Packet) where
       last = λ w n e sq. h.line.last t n refl (ap sequence_of (sym request ∙ ap (λ z. z.request) (some-same u w e)) ∙ sq);
       replied = λ x a w n told inc e number sq.
           let same = sym request ∙ ap (λ z. z.request) (some-same u w e) in
-          h.line.replied x a t n told inc refl (sym xid ∙ ap (λ z. z.xid) (some-same u w e) ∙ number) (ap sequence_of same ∙ sq) ∙ ap (λ r. verdict_reply v.who.inc (line_for s.kept v.who).verdict (line_for s.kept v.who).value r) same;
+          h.line.replied x a t n told inc refl (sym xid ∙ ap (λ z. z.xid) (some-same u w e) ∙ number) (ap sequence_of same ∙ sq)
+          ∙ ap (λ r. verdict_reply v.who.inc (line_for s.kept v.who).verdict (line_for s.kept v.who).value r) same;
       decided = λ w n e sq kept is.
           let same = sym request ∙ ap (λ z. z.request) (some-same u w e) in
-          subst (λ r. VerdictFits r (line_for s.kept v.who).verdict (line_for s.kept v.who).value) same (h.line.decided t n refl (ap sequence_of same ∙ sq) kept is);
+          subst (λ r. VerdictFits r (line_for s.kept v.who).verdict (line_for s.kept v.who).value) same
+          (h.line.decided t n refl (ap sequence_of same ∙ sq) kept is);
     };
     live = h.live;
     fresh = h.fresh;
@@ -246,7 +312,15 @@ module _ (s : Server) (ps : List Packet) where
 
   -- time passes
   pub mid-passes : (v : View) (later : ℕ) → v.now ≤ later → Mid s ps v → Mid s ps (record v { now = later })
-  mid-passes v later more h = record { held = h.held; given = h.given; writes = h.writes; line = h.line; live = λ file l e c runs. h.live file l e c (omega arith); fresh = h.fresh }
+  mid-passes v later more h =
+      record {
+        held = h.held;
+        given = h.given;
+        writes = h.writes;
+        line = h.line;
+        live = λ file l e c runs. h.live file l e c (omega arith);
+        fresh = h.fresh;
+      }
 
   -- ---- requests
 
@@ -262,26 +336,41 @@ module _ (s : Server) (ps : List Packet) where
     pub last : (n : ℕ) → sequence_of request ≡ Some n → n + 1 ≡ seq
     pub above : (n : ℕ) → sequence_of request ≡ Some n → (line_for s.kept v.who).inc ≡ v.who.inc → (line_for s.kept v.who).seq < n
     pub unclean : (file : ℕ) → is_clean_in file dirty push ≡ false → is_clean_in file v.dirty v.push ≡ false
-    pub pushed : (w : Who) (n file block first last : ℕ) (base : PushBase) (body : List ℕ) → request ≡ Request.Write w n file block first last (Some base) body → IsPushed v.leases v.revisions push file base (record { file = file; block = block; first = first; last = last; body = body })
-    pub through : (w : Who) (n file block first last : ℕ) (body : List ℕ) → job ≡ for_call → request ≡ Request.Write w n file block first last None body → is_clean_in file dirty push ≡ true
-    pub leased : (w : Who) (file : ℕ) (want : Want) → job ≡ for_call → request ≡ Request.GetLease w file want → (u : UnderWay) × (v.call ≡ Some u) × (file_written u.call ≡ Some file) × (is_clean_in file dirty push ≡ true)
+    pub pushed : (w : Who) (n file block first last : ℕ) (base : PushBase) (body : List ℕ)
+        → request ≡ Request.Write w n file block first last (Some base) body
+        → IsPushed v.leases v.revisions push file base (record { file = file; block = block; first = first; last = last; body = body })
+    pub through : (w : Who) (n file block first last : ℕ) (body : List ℕ) → job ≡ for_call → request ≡ Request.Write w n file block first last None body
+        → is_clean_in file dirty push ≡ true
+    pub leased : (w : Who) (file : ℕ) (want : Want) → job ≡ for_call → request ≡ Request.GetLease w file want
+        → (u : UnderWay) × (v.call ≡ Some u) × (file_written u.call ≡ Some file) × (is_clean_in file dirty push ≡ true)
     pub marked : (u : UnderWay) → v.call ≡ Some u → u.through ≡ true → (file : ℕ) × (file_written u.call ≡ Some file) × (is_clean_in file dirty push ≡ true)
 
-  pub mid-sends : (v : View) (job : Job) (request : Request) (seq : ℕ) (dirty : List Push) (push : Option Push) → CanAsk v job request seq dirty push → Mid s ps v → Mid s ps (record v { ticket = Some (new_ticket v job request); xid = v.xid + 1; seq = seq; dirty = dirty; push = push })
+  pub mid-sends : (v : View) (job : Job) (request : Request) (seq : ℕ) (dirty : List Push) (push : Option Push) → CanAsk v job request seq dirty push
+      → Mid s ps v → Mid s ps (record v { ticket = Some (new_ticket v job request); xid = v.xid + 1; seq = seq; dirty = dirty; push = push })
   mid-sends v job request seq dirty push k h = record {
     held = record {
       known = h.held.known;
       numbered = h.held.numbered;
-      chained = λ file l row e c chained. subst (λ b. KnowsFile s.kept (line_for s.kept v.who) row.mode l.mode file (rev_at v.revisions file) l.blocks b) (undone-before file ∙ sym (k.undone file)) (h.held.chained file l row e c chained);
+      chained =
+          λ file l row e c chained. subst (λ b. KnowsFile s.kept (line_for s.kept v.who) row.mode l.mode file (rev_at v.revisions file) l.blocks b)
+          (undone-before file ∙ sym (k.undone file)) (h.held.chained file l row e c chained);
       below = h.held.below;
     };
     given = record { fits = λ file g u takes. absurd (unanswered u takes.asked takes.x takes.a takes.told takes.inc takes.number) };
     writes = record {
       held = λ file u. h.writes.held file (k.unclean file u);
-      bound = λ file l u e. subst (λ b. IsBoundOrFenced (standing s) s.kept v.who file l.tag (due b (rev_at v.revisions file))) (undone-before file ∙ sym (k.undone file)) (h.writes.bound file l (k.unclean file u) e);
-      pushed = λ t w n file block first last base body e r. k.pushed w n file block first last base body (ap (λ z. z.request) (some-same (new_ticket v job request) t e) ∙ r);
-      through = λ t w n file block first last body e j r. k.through w n file block first last body (ap (λ z. z.job) (some-same (new_ticket v job request) t e) ∙ j) (ap (λ z. z.request) (some-same (new_ticket v job request) t e) ∙ r);
-      leased = λ t w file want e j r. k.leased w file want (ap (λ z. z.job) (some-same (new_ticket v job request) t e) ∙ j) (ap (λ z. z.request) (some-same (new_ticket v job request) t e) ∙ r);
+      bound =
+          λ file l u e. subst (λ b. IsBoundOrFenced (standing s) s.kept v.who file l.tag (due b (rev_at v.revisions file)))
+          (undone-before file ∙ sym (k.undone file)) (h.writes.bound file l (k.unclean file u) e);
+      pushed =
+          λ t w n file block first last base body e r. k.pushed w n file block first last base body
+          (ap (λ z. z.request) (some-same (new_ticket v job request) t e) ∙ r);
+      through =
+          λ t w n file block first last body e j r. k.through w n file block first last body
+          (ap (λ z. z.job) (some-same (new_ticket v job request) t e) ∙ j) (ap (λ z. z.request) (some-same (new_ticket v job request) t e) ∙ r);
+      leased =
+          λ t w file want e j r. k.leased w file want (ap (λ z. z.job) (some-same (new_ticket v job request) t e) ∙ j)
+          (ap (λ z. z.request) (some-same (new_ticket v job request) t e) ∙ r);
       marked = k.marked;
     };
     line = record {
@@ -289,7 +378,9 @@ module _ (s : Server) (ps : List Packet) where
       drawn = λ kept. let below = h.line.drawn kept in let more = k.no_fewer in omega arith;
       last = λ t n e sq. k.last n (ap (λ z. sequence_of z.request) (some-same (new_ticket v job request) t e) ∙ sq);
       replied = λ x a t n told inc e number sq. absurd (unanswered t e x a told inc number);
-      decided = λ t n e sq kept is. let above = k.above n (ap (λ z. sequence_of z.request) (some-same (new_ticket v job request) t e) ∙ sq) kept in absurd (omega arith);
+      decided =
+          λ t n e sq kept is. let above = k.above n (ap (λ z. sequence_of z.request) (some-same (new_ticket v job request) t e) ∙ sq) kept in
+          absurd (omega arith);
     };
     live = h.live;
     fresh = λ x a told inc. let below = h.fresh x a told inc in omega arith;
@@ -297,5 +388,7 @@ module _ (s : Server) (ps : List Packet) where
     undone-before : (file : ℕ) → done_at s.kept v.who v.ticket file ≡ false
     undone-before file = ap (λ o. done_at s.kept v.who o file) k.free
 
-    unanswered : (t : Ticket) → Some (new_ticket v job request) ≡ Some t → (x : ℕ) (a : Reply) → Told ps v.who.host (reply x a) → inc_of a ≡ v.who.inc → t.xid ≡ x → ⊥
-    unanswered t e x a told inc number = let below = h.fresh x a told inc in let one : v.xid ≡ t.xid = ap (λ z. z.xid) (some-same (new_ticket v job request) t e) in omega arith
+    unanswered : (t : Ticket) → Some (new_ticket v job request) ≡ Some t → (x : ℕ) (a : Reply) → Told ps v.who.host (reply x a) → inc_of a ≡ v.who.inc
+        → t.xid ≡ x → ⊥
+    unanswered t e x a told inc number =
+        let below = h.fresh x a told inc in let one : v.xid ≡ t.xid = ap (λ z. z.xid) (some-same (new_ticket v job request) t e) in omega arith

@@ -53,29 +53,38 @@ MidOf s ps t = Mid s ps (view_of t)
 
 module _ (s : Server) (ps : List Packet) where
   -- the call under way is answered
-  pub mid-answers : (t : ClientStep) (q : ℕ) (answer : Answer) (by : Option ℕ) → ticket_is_for_call t.client.ticket ≡ false → MidOf s ps t → MidOf s ps (answers t q answer by)
+  pub mid-answers : (t : ClientStep) (q : ℕ) (answer : Answer) (by : Option ℕ) → ticket_is_for_call t.client.ticket ≡ false → MidOf s ps t
+      → MidOf s ps (answers t q answer by)
   unfolding answers
   mid-answers t q answer by other h = mid-calls s ps (view_of t) None other (λ u e. none-some u e) h
 
   -- a block is read
-  mid-reads : (t : ClientStep) (u : UnderWay) (file block : ℕ) (body : List ℕ) → ticket_is_for_call t.client.ticket ≡ false → MidOf s ps t → MidOf s ps (reads_cached t u file block body)
+  mid-reads : (t : ClientStep) (u : UnderWay) (file block : ℕ) (body : List ℕ) → ticket_is_for_call t.client.ticket ≡ false → MidOf s ps t
+      → MidOf s ps (reads_cached t u file block body)
   unfolding reads_cached after_read answers
-  mid-reads t u file block body other h = mid-calls s ps (record (view_of t) { leases = _ }) None other (λ u e. none-some u e) (mid-uses s ps (view_of t) file h)
+  mid-reads t u file block body other h =
+      mid-calls s ps (record (view_of t) { leases = _ }) None other (λ u e. none-some u e) (mid-uses s ps (view_of t) file h)
 
   -- a write is delayed
-  mid-writes : (t : ClientStep) (u : UnderWay) (file block : ℕ) (body : List ℕ) (lease : Lease) → IsSettling t u → CanWrite t.client u file lease → MidOf s ps t → MidOf s ps (delays t file block body)
+  mid-writes : (t : ClientStep) (u : UnderWay) (file block : ℕ) (body : List ℕ) (lease : Lease) → IsSettling t u → CanWrite t.client u file lease
+      → MidOf s ps t → MidOf s ps (delays t file block body)
   unfolding after_write
   mid-writes t u file block body lease is can h =
       let lets = and_parts _ _ can.lets in
       mid-delays s ps (view_of t) file block t.client.number body _ lease is.idle can.held lets.0 (runs lets.1)
-      (λ v e on. let one : u ≡ v = some-same u v (sym is.called ∙ e) in let off : v.through ≡ false = subst (λ z. z.through ≡ false) one can.delayed in absurd (cc)) h
+      (λ v e on. let one : u ≡ v = some-same u v (sym is.called ∙ e) in let off : v.through ≡ false = subst (λ z. z.through ≡ false) one can.delayed in
+      absurd (cc)) h
     where
       runs : nat_lt t.client.now lease.expiry ≡ true → t.client.now < lease.expiry
       runs e = grind (arith, nat_tests)
 
-  mid-put : (t : ClientStep) (u : UnderWay) (file block : ℕ) (body : List ℕ) → u.through ≡ false → ticket_is_for_call t.client.ticket ≡ false → MidOf s ps (delays t file block body) → MidOf s ps (marks_written (delays t file block body) u)
+  mid-put : (t : ClientStep) (u : UnderWay) (file block : ℕ) (body : List ℕ) → u.through ≡ false → ticket_is_for_call t.client.ticket ≡ false
+      → MidOf s ps (delays t file block body) → MidOf s ps (marks_written (delays t file block body) u)
   unfolding marks_written after_write
-  mid-put t u file block body off other h = mid-calls s ps (view_of (delays t file block body)) (Some (record u { written = true })) other (λ v e on. let one : record u { written = true } ≡ v = some-same (record u { written = true }) v e in let bad : v.through ≡ false = subst (λ z. z.through ≡ false) one off in absurd (cc)) h
+  mid-put t u file block body off other h =
+      mid-calls s ps (view_of (delays t file block body)) (Some (record u { written = true })) other
+      (λ v e on. let one : record u { written = true } ≡ v = some-same (record u { written = true }) v e in
+      let bad : v.through ≡ false = subst (λ z. z.through ≡ false) one off in absurd (cc)) h
 
   same-ticket : (t : ClientStep) (file block : ℕ) (body : List ℕ) → (delays t file block body).client.ticket ≡ t.client.ticket
   unfolding after_write
@@ -90,8 +99,12 @@ module _ (s : Server) (ps : List Packet) where
     read_waits = λ u file block is read waits. h;
     write_out = λ u sync file block body lease is write can out. mid-answers t u.q _ None is.idle h;
     write_full = λ u sync file block body lease is write can below full. mid-answers t u.q _ None is.idle h;
-    writing = λ u file block body lease is write can below room. mid-answers (delays t file block body) u.q _ None (ap ticket_is_for_call (same-ticket t file block body) ∙ is.idle) (mid-writes t u file block body lease is can h);
-    putting = λ u file block body lease is put written can below room. mid-put t u file block body can.delayed is.idle (mid-writes t u file block body lease is can h);
+    writing =
+        λ u file block body lease is write can below room. mid-answers (delays t file block body) u.q _ None
+        (ap ticket_is_for_call (same-ticket t file block body) ∙ is.idle) (mid-writes t u file block body lease is can h);
+    putting =
+        λ u file block body lease is put written can below room. mid-put t u file block body can.delayed is.idle
+        (mid-writes t u file block body lease is can h);
     write_waits = λ u sync file block body is write waits. h;
     syncing = λ u file is sync clean. mid-answers t u.q _ None is.idle h;
     sync_waits = λ u file is sync dirty. h;
@@ -100,13 +113,17 @@ module _ (s : Server) (ps : List Packet) where
 
 -- ---- where nothing is to be pushed first
 
-passing-step : (p : Lease → Bool) (y l : Lease) (leases : List Lease) (b c : Bool) → p y ≡ c → (lease_on l.file leases ≡ Some l → least (map file_of_lease (filter p leases)) ≡ None → ⊥) → p l ≡ true → (if b then Some y else lease_on l.file leases) ≡ Some l → least (map file_of_lease (if c then y ∷ filter p leases else filter p leases)) ≡ None → ⊥
+passing-step : (p : Lease → Bool) (y l : Lease) (leases : List Lease) (b c : Bool) → p y ≡ c
+    → (lease_on l.file leases ≡ Some l → least (map file_of_lease (filter p leases)) ≡ None → ⊥) → p l ≡ true
+    → (if b then Some y else lease_on l.file leases) ≡ Some l → least (map file_of_lease (if c then y ∷ filter p leases else filter p leases)) ≡ None → ⊥
 passing-step p y l leases b true e rest passes found none = least-with-some y.file (least (map file_of_lease (filter p leases))) none
-passing-step p y l leases true false e rest passes found none = let one : y ≡ l = some-same y l found in let yes : p y ≡ true = subst (λ z. p z ≡ true) (sym one) passes in absurd (cc)
+passing-step p y l leases true false e rest passes found none =
+    let one : y ≡ l = some-same y l found in let yes : p y ≡ true = subst (λ z. p z ≡ true) (sym one) passes in absurd (cc)
 passing-step p y l leases false false e rest passes found none = rest found none
 
 -- where a lease that is held passes, there is a least file of those that do
-passing : (p : Lease → Bool) (leases : List Lease) (l : Lease) → lease_on l.file leases ≡ Some l → p l ≡ true → least (map file_of_lease (filter p leases)) ≡ None → ⊥
+passing : (p : Lease → Bool) (leases : List Lease) (l : Lease) → lease_on l.file leases ≡ Some l → p l ≡ true
+    → least (map file_of_lease (filter p leases)) ≡ None → ⊥
 passing p [] l found passes none = none-some l found
 passing p (y ∷ leases) l found passes none = passing-step p y l leases (y.file == l.file) (p y) refl (λ e n. passing p leases l e passes n) passes found none
 
@@ -119,7 +136,8 @@ all-three false b c x y z = cc
 expired : (now expiry : ℕ) → nat_lt now expiry ≡ false → nat_le expiry (now + 3) ≡ true
 expired now expiry h = grind (arith, nat_tests)
 
-module _ (t : ClientStep) (noticed : (file : ℕ) (n : Notice) → notice_on file t.client.notices ≡ Some n → is_clean t.client file ≡ false) (pushless : t.client.push ≡ None) (free : t.client.ticket ≡ None) (nothing : NothingToPush t.client) where
+module _ (t : ClientStep) (noticed : (file : ℕ) (n : Notice) → notice_on file t.client.notices ≡ Some n → is_clean t.client file ≡ false)
+    (pushless : t.client.push ≡ None) (free : t.client.ticket ≡ None) (nothing : NothingToPush t.client) where
   -- a file that is not clean has a first delayed write
   has-first : (file : ℕ) → is_clean t.client file ≡ false → first_dirty file t.client.dirty ≡ None → ⊥
   has-first file u none = step (none-found file t.client.dirty none)
@@ -154,7 +172,8 @@ module _ (t : ClientStep) (noticed : (file : ℕ) (n : Notice) → notice_on fil
           has-first g (subst (λ n. is_clean t.client n ≡ false) m.1 (not-true _ j.1)) (nothing.ending g is)
 
   -- a settled write that is not to go through is to a clean file
-  waits-clean : Settled t → (s : Server) (ps : List Packet) → MidOf s ps t → (u : UnderWay) (sync : Bool) (file block : ℕ) (body : List ℕ) → t.client.call ≡ Some u → IsWrite u sync file block body → u.through ≡ false → is_clean t.client file ≡ true
+  waits-clean : Settled t → (s : Server) (ps : List Packet) → MidOf s ps t → (u : UnderWay) (sync : Bool) (file block : ℕ) (body : List ℕ)
+      → t.client.call ≡ Some u → IsWrite u sync file block body → u.through ≡ false → is_clean t.client file ≡ true
   waits-clean settled s ps h u sync file block body called write off = step (is_clean t.client file) refl
     where
       unclean : is_clean t.client file ≡ false → ⊥
@@ -171,10 +190,12 @@ module _ (t : ClientStep) (noticed : (file : ℕ) (n : Notice) → notice_on fil
               (record { held = held; lets = rw (writes, runs) refl; unnoticed = unnoticed file; delayed = off })
           lives l held writes false over = unending file l held (ends l held writes over)
             where
-              ends : (l : Lease) → lease_on file t.client.leases ≡ Some l → is_writing l.mode ≡ true → is_live t.client.now l ≡ false → is_to_push t.client l ≡ true
+              ends : (l : Lease) → lease_on file t.client.leases ≡ Some l → is_writing l.mode ≡ true → is_live t.client.now l ≡ false
+                  → is_to_push t.client l ≡ true
               ends l held writes over =
                   let of : l.file ≡ file = same-number l.file file (find-passes (λ z. z.file == file) l t.client.leases held) in
-                  all-three (is_writing l.mode) (is_clean t.client l.file) (nat_le l.expiry (t.client.now + renewal)) writes (subst (λ n. is_clean t.client n ≡ false) (sym of) e) (expired t.client.now l.expiry over)
+                  all-three (is_writing l.mode) (is_clean t.client l.file) (nat_le l.expiry (t.client.now + renewal)) writes
+                  (subst (λ n. is_clean t.client n ≡ false) (sym of) e) (expired t.client.now l.expiry over)
 
       step : (b : Bool) → is_clean t.client file ≡ b → is_clean t.client file ≡ true
       step true e = e
@@ -183,7 +204,8 @@ module _ (t : ClientStep) (noticed : (file : ℕ) (n : Notice) → notice_on fil
 -- ---- requests
 
 -- a shared file is clean: one with delayed writes is held for writing
-shares-clean : (s : Server) (ps : List Packet) (t : ClientStep) (file : ℕ) → MidOf s ps t → shares_live t.client.now (lease_on file t.client.leases) ≡ true → is_clean t.client file ≡ true
+shares-clean : (s : Server) (ps : List Packet) (t : ClientStep) (file : ℕ) → MidOf s ps t
+    → shares_live t.client.now (lease_on file t.client.leases) ≡ true → is_clean t.client file ≡ true
 shares-clean s ps t file h shares = step (is_clean t.client file) refl
   where
     writing-shares : (mode : Mode) (b : Bool) → is_writing mode ≡ true → (not (caches mode) && b) ≡ true → ⊥
@@ -199,7 +221,10 @@ shares-clean s ps t file h shares = step (is_clean t.client file) refl
 
 module _ (s : Server) (ps : List Packet) where
   -- a request without a sequence
-  mid-asks : (t : ClientStep) (job : Job) (request : Request) → t.client.ticket ≡ None → sequence_of request ≡ None → ((w : Who) (file : ℕ) (want : Want) → job ≡ for_call → request ≡ Request.GetLease w file want → (u : UnderWay) × (t.client.call ≡ Some u) × (file_written u.call ≡ Some file) × (is_clean t.client file ≡ true)) → MidOf s ps t → MidOf s ps (sends_request t job request)
+  mid-asks : (t : ClientStep) (job : Job) (request : Request) → t.client.ticket ≡ None → sequence_of request ≡ None
+      → ((w : Who) (file : ℕ) (want : Want) → job ≡ for_call → request ≡ Request.GetLease w file want
+      → (u : UnderWay) × (t.client.call ≡ Some u) × (file_written u.call ≡ Some file) × (is_clean t.client file ≡ true)) → MidOf s ps t
+      → MidOf s ps (sends_request t job request)
   unfolding sends_request
   mid-asks t job request free plain leased h = mid-sends s ps (view_of t) job request t.client.seq t.client.dirty t.client.push (record {
     free = free;
@@ -215,7 +240,9 @@ module _ (s : Server) (ps : List Packet) where
   }) h
 
   -- a request with a sequence that is no push
-  decides : (t : ClientStep) (request : Request) → sequence_of request ≡ Some t.client.seq → base_in request ≡ None → t.client.ticket ≡ None → ((w : Who) (n file block first last : ℕ) (body : List ℕ) → request ≡ Request.Write w n file block first last None body → is_clean t.client file ≡ true) → MidOf s ps t → CanAsk s ps (view_of t) for_call request (t.client.seq + 1) t.client.dirty t.client.push
+  decides : (t : ClientStep) (request : Request) → sequence_of request ≡ Some t.client.seq → base_in request ≡ None → t.client.ticket ≡ None
+      → ((w : Who) (n file block first last : ℕ) (body : List ℕ) → request ≡ Request.Write w n file block first last None body
+      → is_clean t.client file ≡ true) → MidOf s ps t → CanAsk s ps (view_of t) for_call request (t.client.seq + 1) t.client.dirty t.client.push
   decides t request seq base free through h = record {
     free = free;
     no_fewer = omega arith;
@@ -229,29 +256,42 @@ module _ (s : Server) (ps : List Packet) where
     marked = h.writes.marked;
   }
 
-  mid-decides : (t : ClientStep) (request : Request) → sequence_of request ≡ Some t.client.seq → base_in request ≡ None → t.client.ticket ≡ None → ((w : Who) (n file block first last : ℕ) (body : List ℕ) → request ≡ Request.Write w n file block first last None body → is_clean t.client file ≡ true) → MidOf s ps t → MidOf s ps (sends_request (after_seq t) for_call request)
+  mid-decides : (t : ClientStep) (request : Request) → sequence_of request ≡ Some t.client.seq → base_in request ≡ None → t.client.ticket ≡ None
+      → ((w : Who) (n file block first last : ℕ) (body : List ℕ) → request ≡ Request.Write w n file block first last None body
+      → is_clean t.client file ≡ true) → MidOf s ps t → MidOf s ps (sends_request (after_seq t) for_call request)
   unfolding sends_request after_seq
-  mid-decides t request seq base free through h = mid-sends s ps (view_of t) for_call request (t.client.seq + 1) t.client.dirty t.client.push (decides t request seq base free through h) h
+  mid-decides t request seq base free through h =
+      mid-sends s ps (view_of t) for_call request (t.client.seq + 1) t.client.dirty t.client.push (decides t request seq base free through h) h
 
   -- a write that goes through
-  mid-through : (t : ClientStep) (file block : ℕ) (body : List ℕ) → t.client.ticket ≡ None → is_clean t.client file ≡ true → MidOf s ps t → MidOf s ps (sends_write t file block body)
+  mid-through : (t : ClientStep) (file block : ℕ) (body : List ℕ) → t.client.ticket ≡ None → is_clean t.client file ≡ true → MidOf s ps t
+      → MidOf s ps (sends_write t file block body)
   unfolding sends_request after_number
   mid-through t file block body free clean h =
       let request : Request = Request.Write t.client.who t.client.seq file block t.client.number t.client.number None body in
       mid-sends s ps (view_of t) for_call request (t.client.seq + 1) t.client.dirty t.client.push
-      (decides t request refl refl free (λ w n g b first last more is. subst (λ f. is_clean t.client f ≡ true) (some-same file g (ap file_changed_by is)) clean) h) h
+      (decides t request refl refl free
+      (λ w n g b first last more is. subst (λ f. is_clean t.client f ≡ true) (some-same file g (ap file_changed_by is)) clean) h) h
 
   -- a lease is given up before its file is changed
   mid-gives-up : (t : ClientStep) (file : ℕ) → is_clean t.client file ≡ true → MidOf s ps t → MidOf s ps (gives_up t file)
   unfolding gives_up
   mid-gives-up t file clean h = mid-drops s ps (view_of t) file clean h
 
-  mid-changes : (t : ClientStep) (file : ℕ) (request : Request) → sequence_of request ≡ Some t.client.seq → base_in request ≡ None → t.client.ticket ≡ None → is_clean t.client file ≡ true → ((w : Who) (n g block first last : ℕ) (body : List ℕ) → request ≡ Request.Write w n g block first last None body → ⊥) → MidOf s ps t → MidOf s ps (sends_request (after_seq (gives_up t file)) for_call request)
+  mid-changes : (t : ClientStep) (file : ℕ) (request : Request) → sequence_of request ≡ Some t.client.seq → base_in request ≡ None
+      → t.client.ticket ≡ None → is_clean t.client file ≡ true
+      → ((w : Who) (n g block first last : ℕ) (body : List ℕ) → request ≡ Request.Write w n g block first last None body → ⊥) → MidOf s ps t
+      → MidOf s ps (sends_request (after_seq (gives_up t file)) for_call request)
   unfolding gives_up
-  mid-changes t file request seq base free clean other h = mid-decides (gives_up t file) request seq base free (λ w n g block first last body is. absurd (other w n g block first last body is)) (mid-gives-up t file clean h)
+  mid-changes t file request seq base free clean other h =
+      mid-decides (gives_up t file) request seq base free (λ w n g block first last body is. absurd (other w n g block first last body is))
+      (mid-gives-up t file clean h)
 
   -- delayed writes are pushed
-  is-pushed : (c : Client) (p : Push) (l : Lease) (w : Who) (n file block first last : ℕ) (base : PushBase) (body : List ℕ) → lease_on p.file c.leases ≡ Some l → Request.Write c.who c.seq p.file p.block p.first p.last (Some (base_of c p.file)) p.body ≡ Request.Write w n file block first last (Some base) body → IsPushed c.leases c.revisions (Some p) file base (record { file = file; block = block; first = first; last = last; body = body })
+  is-pushed : (c : Client) (p : Push) (l : Lease) (w : Who) (n file block first last : ℕ) (base : PushBase) (body : List ℕ)
+      → lease_on p.file c.leases ≡ Some l
+      → Request.Write c.who c.seq p.file p.block p.first p.last (Some (base_of c p.file)) p.body ≡ Request.Write w n file block first last (Some base)
+      body → IsPushed c.leases c.revisions (Some p) file base (record { file = file; block = block; first = first; last = last; body = body })
   is-pushed c p l w n file block first last base body held is =
       let same : p.file ≡ file = some-same p.file file (ap file_changed_by is) in
       let rests : base_of c p.file ≡ base = some-same (base_of c p.file) base (ap base_in is) in
@@ -279,14 +319,24 @@ module _ (s : Server) (ps : List Packet) where
         last = λ n sq. let one : t.client.seq ≡ n = some-same _ _ sq in omega arith;
         above = λ n sq kept. let one : t.client.seq ≡ n = some-same _ _ sq in let below = h.line.drawn kept in omega arith;
         unclean = λ file u. unclean-pushed file p t.client.dirty t.client.push first u;
-        pushed = λ w n file block a b base body is. let l = h.writes.held p.file (writes-in-list p.file t.client.dirty t.client.push (any-found p.file t.client.dirty p first)) in is-pushed t.client p l.0 w n file block a b base body l.1 is;
+        pushed =
+            λ w n file block a b base body is. let l = h.writes.held p.file
+            (writes-in-list p.file t.client.dirty t.client.push (any-found p.file t.client.dirty p first)) in
+            is-pushed t.client p l.0 w n file block a b base body l.1 is;
         through = λ w n file block first last body j is. absurd (cc);
         leased = λ w file want j is. absurd (cc);
-        marked = λ u e on. let m = h.writes.marked u e on in (m.0, m.1, clean-after (is_clean t.client m.0) (is_clean_in m.0 (drop_dirty p.file p.block t.client.dirty) (Some p)) (unclean-pushed m.0 p t.client.dirty t.client.push first) m.2);
+        marked =
+            λ u e on. let m = h.writes.marked u e on in (
+              m.0,
+              m.1,
+              clean-after (is_clean t.client m.0) (is_clean_in m.0 (drop_dirty p.file p.block t.client.dirty) (Some p))
+                  (unclean-pushed m.0 p t.client.dirty t.client.push first) m.2,
+            );
       }) h
 
   -- what is known of delayed writes after a request of the call was sent was so before
-  call-noticed : (t : ClientStep) (request : Request) → DelayingOf (sends_request t for_call request).client → (file : ℕ) (n : Notice) → notice_on file t.client.notices ≡ Some n → is_clean t.client file ≡ false
+  call-noticed : (t : ClientStep) (request : Request) → DelayingOf (sends_request t for_call request).client → (file : ℕ) (n : Notice)
+      → notice_on file t.client.notices ≡ Some n → is_clean t.client file ≡ false
   unfolding sends_request
   call-noticed t request d = d.noticed
 
@@ -294,10 +344,12 @@ module _ (s : Server) (ps : List Packet) where
   unfolding sends_request
   call-pushless t request d = no-push t.client.push d (λ u e job. not-pushing u e job)
     where
-      not-pushing : (u : Ticket) → Some (record { xid = t.client.xid; first = t.client.now; last = t.client.now; request = request; job = for_call }) ≡ Some u → u.job ≡ pushing → ⊥
+      not-pushing : (u : Ticket) → Some
+          (record { xid = t.client.xid; first = t.client.now; last = t.client.now; request = request; job = for_call }) ≡ Some u → u.job ≡ pushing → ⊥
       not-pushing u e job = let one : for_call ≡ u.job = ap (λ z. z.job) (some-same _ u e) in absurd (cc)
 
-  write-noticed : (t : ClientStep) (file block : ℕ) (body : List ℕ) → DelayingOf (sends_write t file block body).client → (f : ℕ) (n : Notice) → notice_on f t.client.notices ≡ Some n → is_clean t.client f ≡ false
+  write-noticed : (t : ClientStep) (file block : ℕ) (body : List ℕ) → DelayingOf (sends_write t file block body).client → (f : ℕ) (n : Notice)
+      → notice_on f t.client.notices ≡ Some n → is_clean t.client f ≡ false
   unfolding sends_request after_number
   write-noticed t file block body d = d.noticed
 
@@ -317,7 +369,8 @@ module _ (s : Server) (ps : List Packet) where
     reading = λ u file block is call d. mid-asks t for_call _ is.free refl (λ w file want j e. absurd (cc)) h;
     fetching = λ u file block is call d. mid-asks t for_call _ is.free refl (λ w file want j e. absurd (cc)) h;
     writing = λ u file block body is call through d. mid-through t file block body is.free (through-clean u file block body is call (u.through) refl through) h;
-    leasing = λ u file block body is call off shares d. mid-asks t for_call _ is.free refl (λ w g want j e. leased u file block body is call off d w g want e) h;
+    leasing =
+        λ u file block body is call off shares d. mid-asks t for_call _ is.free refl (λ w g want j e. leased u file block body is call off d w g want e) h;
     putting = λ u file block body is call off d. mid-through t file block body is.free (put-clean u file block body is call off d (u.through) refl) h;
     resizing = λ u file blocks is call clean d. mid-changes t file _ refl refl is.free clean (λ w n g b x y z e. absurd (cc)) h;
     removing = λ u file is call clean d. mid-changes t file _ refl refl is.free clean (λ w n g b x y z e. absurd (cc)) h;
@@ -325,21 +378,36 @@ module _ (s : Server) (ps : List Packet) where
   })
     where
       marked-clean : (u : UnderWay) (file : ℕ) → t.client.call ≡ Some u → file_written u.call ≡ Some file → u.through ≡ true → is_clean t.client file ≡ true
-      marked-clean u file called writes on = let m = h.writes.marked u called on in subst (λ f. is_clean t.client f ≡ true) (some-same m.0 file (sym m.1 ∙ writes)) m.2
+      marked-clean u file called writes on =
+          let m = h.writes.marked u called on in subst (λ f. is_clean t.client f ≡ true) (some-same m.0 file (sym m.1 ∙ writes)) m.2
 
-      through-clean : (u : UnderWay) (file block : ℕ) (body : List ℕ) → IsFree t u → u.call ≡ Call.Write file block body → (b : Bool) → u.through ≡ b → (b || shares_live t.client.now (lease_on file t.client.leases)) ≡ true → is_clean t.client file ≡ true
+      through-clean : (u : UnderWay) (file block : ℕ) (body : List ℕ) → IsFree t u → u.call ≡ Call.Write file block body → (b : Bool) → u.through ≡ b
+          → (b || shares_live t.client.now (lease_on file t.client.leases)) ≡ true → is_clean t.client file ≡ true
       through-clean u file block body is call true on e = marked-clean u file is.called (ap file_written call) on
       through-clean u file block body is call false off shares = shares-clean s ps t file h shares
 
-      leased : (u : UnderWay) (file block : ℕ) (body : List ℕ) → IsFree t u → u.call ≡ Call.Write file block body → u.through ≡ false → DelayingOf (sends_request t for_call (Request.GetLease t.client.who file (want_of t.client Mode.Writing))).client → (w : Who) (g : ℕ) (want : Want) → Request.GetLease t.client.who file (want_of t.client Mode.Writing) ≡ Request.GetLease w g want → (v : UnderWay) × (t.client.call ≡ Some v) × (file_written v.call ≡ Some g) × (is_clean t.client g ≡ true)
+      leased : (u : UnderWay) (file block : ℕ) (body : List ℕ) → IsFree t u → u.call ≡ Call.Write file block body → u.through ≡ false
+          → DelayingOf (sends_request t for_call (Request.GetLease t.client.who file (want_of t.client Mode.Writing))).client
+          → (w : Who) (g : ℕ) (want : Want) → Request.GetLease t.client.who file (want_of t.client Mode.Writing) ≡ Request.GetLease w g want
+          → (v : UnderWay) × (t.client.call ≡ Some v) × (file_written v.call ≡ Some g) × (is_clean t.client g ≡ true)
       leased u file block body is call off d w g want e =
-          let same : file ≡ g = some-same file g (ap requested_file e) in
-          (u, is.called, ap file_written call ∙ ap Some same, subst (λ f. is_clean t.client f ≡ true) same (waits-clean t (call-noticed t _ d) (call-pushless t _ d) is.free is.nothing settled s ps h u false file block body is.called call off))
+          let same : file ≡ g = some-same file g (ap requested_file e) in (
+            u,
+            is.called,
+            ap file_written call
+                ∙ ap Some same,
+            subst (λ f. is_clean t.client f ≡ true) same
+                (waits-clean t (call-noticed t _ d) (call-pushless t _ d) is.free is.nothing settled s ps h u false file block body is.called call off),
+          )
 
-      put-clean : (u : UnderWay) (file block : ℕ) (body : List ℕ) → IsFree t u → u.call ≡ Call.WriteSync file block body → u.written ≡ false → DelayingOf (sends_write t file block body).client → (b : Bool) → u.through ≡ b → is_clean t.client file ≡ true
+      put-clean : (u : UnderWay) (file block : ℕ) (body : List ℕ) → IsFree t u → u.call ≡ Call.WriteSync file block body → u.written ≡ false
+          → DelayingOf (sends_write t file block body).client → (b : Bool) → u.through ≡ b → is_clean t.client file ≡ true
       put-clean u file block body is call off d true on = marked-clean u file is.called (ap file_written call) on
-      put-clean u file block body is call off d false through = waits-clean t (write-noticed t file block body d) (write-pushless t file block body d) is.free is.nothing settled s ps h u true file block body is.called (call, off) through
+      put-clean u file block body is call off d false through =
+          waits-clean t (write-noticed t file block body d) (write-pushless t file block body d) is.free is.nothing settled s ps h u true file block
+          body is.called (call, off) through
 
   -- calls that need no packet, and the next request
-  pub mid-goes-on : (in_tick : Bool) (t : ClientStep) → MidOf s ps t → DelayingOf (send_next in_tick (settle t)).client → MidOf s ps (send_next in_tick (settle t))
+  pub mid-goes-on : (in_tick : Bool) (t : ClientStep) → MidOf s ps t → DelayingOf (send_next in_tick (settle t)).client
+      → MidOf s ps (send_next in_tick (settle t))
   mid-goes-on in_tick t h d = nexts in_tick (settle t) (settle-settles t) (mid-settles s ps t h) d

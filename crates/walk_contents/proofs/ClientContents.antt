@@ -51,7 +51,8 @@ losses-quiet : (who : Who) (ps : List Push) → AllQuiet (reverse (map (loss_ent
 losses-quiet who [] = tt
 losses-quiet who (p ∷ ps) =
     subst AllQuiet (sym (reverse-append (loss_entry who p ∷ []) (map (loss_entry who) ps)))
-    (quiet-append (reverse (map (loss_entry who) ps)) (loss_entry who p ∷ []) (losses-quiet who ps) (record { none = λ file. refl; idle = λ w file block n. refl }, tt))
+    (quiet-append (reverse (map (loss_entry who) ps)) (loss_entry who p ∷ []) (losses-quiet who ps)
+    (record { none = λ file. refl; idle = λ w file block n. refl }, tt))
 
 module _ (journal : List Entry) (first : ℕ → ℕ) (next : ℕ) (ps : List Packet) where
   abbrev pub P : ClientStep → Type 0
@@ -74,7 +75,8 @@ module _ (journal : List Entry) (first : ℕ → ℕ) (next : ℕ) (ps : List Pa
 
   answers-mid : (t : ClientStep) (q : ℕ) (answer : Answer) (by : Option ℕ) → P t → P (answers t q answer by)
   unfolding answers
-  answers-mid t q answer by h = notes-entry journal first next ps (part_of t) (Entry.A t.client.who q (said answer by)) (λ file. refl) (λ w file block n. refl) h
+  answers-mid t q answer by h =
+      notes-entry journal first next ps (part_of t) (Entry.A t.client.who q (said answer by)) (λ file. refl) (λ w file block n. refl) h
 
   names-mid : (t : ClientStep) (q file : ℕ) → P t → P (names_losses t q file)
   unfolding answers
@@ -89,7 +91,9 @@ module _ (journal : List Entry) (first : ℕ → ℕ) (next : ℕ) (ps : List Pa
       (notes-entry journal first next ps _ (Entry.R t.client.who u.q file block (value_of body) None) (λ file. refl) (λ w file block n. refl)
       (clean-fewer journal first next ps (part_of t) _ (λ f b k e. fewer f b k (reads_clean t.client file block) e) h))
     where
-      fewer : (f b : ℕ) (k : Clean) (x : Bool) → clean_at f b (if x then touched file block (clean_at file block t.client.clean) t.client.clean else t.client.clean) ≡ Some k → clean_at f b t.client.clean ≡ Some k
+      fewer : (f b : ℕ) (k : Clean) (x : Bool)
+          → clean_at f b (if x then touched file block (clean_at file block t.client.clean) t.client.clean else t.client.clean) ≡ Some k
+          → clean_at f b t.client.clean ≡ Some k
       fewer f b k true e = found-touched f b file block (clean_at file block t.client.clean) t.client.clean k refl e
       fewer f b k false e = e
 
@@ -112,7 +116,8 @@ module _ (journal : List Entry) (first : ℕ → ℕ) (next : ℕ) (ps : List Pa
 
   -- ---- the next request
 
-  numbers-more : (p : Part) (number : ℕ) → p.number ≤ number → Mid journal first next ps p → Mid journal first next ps (record p { seq = p.seq + 1; number = number })
+  numbers-more : (p : Part) (number : ℕ) → p.number ≤ number → Mid journal first next ps p
+      → Mid journal first next ps (record p { seq = p.seq + 1; number = number })
   numbers-more p number more h = record {
     known = h.known;
     clean = h.clean;
@@ -132,7 +137,9 @@ module _ (journal : List Entry) (first : ℕ → ℕ) (next : ℕ) (ps : List Pa
 
   request-mid : (t : ClientStep) (job : Job) (r : Request) → CanSend journal first next ps (part_of t) r → P t → P (sends_request t job r)
   unfolding sends_request
-  request-mid t job r can h = sends-ticket journal first next ps (part_of t) (record { xid = t.client.xid; first = t.client.now; last = t.client.now; request = r; job = job }) refl can h
+  request-mid t job r can h =
+      sends-ticket journal first next ps (part_of t) (record { xid = t.client.xid; first = t.client.now; last = t.client.now; request = r; job = job })
+      refl can h
 
   seq-mid : (t : ClientStep) → P t → P (after_seq t)
   unfolding after_seq
@@ -146,7 +153,8 @@ module _ (journal : List Entry) (first : ℕ → ℕ) (next : ℕ) (ps : List Pa
   no-sequence e = absurd (cc)
 
   -- a request that pushes nothing and changes no length
-  plain : (p : Part) (r : Request) → IsOverKnown p.revisions r → push_in r ≡ None → changes_file r ≡ None → IsFair (p.entries ++ journal) r → CanSend journal first next ps p r
+  plain : (p : Part) (r : Request) → IsOverKnown p.revisions r → push_in r ≡ None → changes_file r ≡ None → IsFair (p.entries ++ journal) r
+      → CanSend journal first next ps p r
   plain p r over none still pushed = record {
     base = over;
     again = λ q e. none-some q (sym none ∙ e);
@@ -156,7 +164,9 @@ module _ (journal : List Entry) (first : ℕ → ℕ) (next : ℕ) (ps : List Pa
 
   write-mid : (t : ClientStep) (file block : ℕ) (body : List ℕ) → P t → P (sends_write t file block body)
   unfolding after_number
-  write-mid t file block body h = request-mid (after_number t) for_call _ (plain (part_of (after_number t)) _ tt refl refl (tt, not-zero t.client.seq h.counted)) (numbers-more (part_of t) (t.client.number + 1) (omega arith) h)
+  write-mid t file block body h =
+      request-mid (after_number t) for_call _ (plain (part_of (after_number t)) _ tt refl refl (tt, not-zero t.client.seq h.counted))
+      (numbers-more (part_of t) (t.client.number + 1) (omega arith) h)
 
   push-mid : (t : ClientStep) (file : ℕ) (p : Push) → t.client.ticket ≡ None → first_dirty file t.client.dirty ≡ Some p → P t → P (pushed t p)
   unfolding after_seq takes_push
@@ -166,23 +176,31 @@ module _ (journal : List Entry) (first : ℕ → ℕ) (next : ℕ) (ps : List Pa
         again = λ q e. undirty q (some-same _ q e);
         changing = λ f block e. none-some f e;
         pushed = (h.dirty p (find-in (is_push_of file) t.client.dirty p found), not-zero t.client.seq h.counted);
-      }) (numbers-more _ t.client.number (omega arith) (dirty-fewer journal first next ps (part_of t) (drop_dirty p.file p.block t.client.dirty) free (λ q i. in-filtered _ t.client.dirty q i) h))
+      }) (numbers-more _ t.client.number (omega arith)
+      (dirty-fewer journal first next ps (part_of t) (drop_dirty p.file p.block t.client.dirty) free (λ q i. in-filtered _ t.client.dirty q i) h))
     where
-      undirty : (q : Push) → record { file = p.file; block = p.block; first = p.first; last = p.last; body = p.body } ≡ q → dirty_at q.file q.block (drop_dirty p.file p.block t.client.dirty) ≡ None
+      undirty : (q : Push) → record { file = p.file; block = p.block; first = p.first; last = p.last; body = p.body } ≡ q
+          → dirty_at q.file q.block (drop_dirty p.file p.block t.client.dirty) ≡ None
       undirty q e = subst (λ z. dirty_at z.file z.block (drop_dirty p.file p.block t.client.dirty) ≡ None) e (dirty-dropped p.file p.block t.client.dirty)
 
-  change-mid : (t : ClientStep) (file : ℕ) (r : Request) → changes_file r ≡ Some file → push_in r ≡ None → IsOverKnown t.client.revisions r → IsFair (t.entries ++ journal) r → P t → P (sends_request (after_seq (gives_up t file)) for_call r)
+  change-mid : (t : ClientStep) (file : ℕ) (r : Request) → changes_file r ≡ Some file → push_in r ≡ None → IsOverKnown t.client.revisions r
+      → IsFair (t.entries ++ journal) r → P t → P (sends_request (after_seq (gives_up t file)) for_call r)
   unfolding after_seq gives_up
   change-mid t file r changes none over pushed h =
       request-mid (after_seq (gives_up t file)) for_call r (record {
         base = over;
         again = λ q e. none-some q (sym none ∙ e);
-        changing = λ f block e. subst (λ n. clean_at n block (purge file t.client.clean) ≡ None) (some-same file f (sym changes ∙ e)) (clean-purged file block t.client.clean);
+        changing =
+            λ f block e. subst (λ n. clean_at n block (purge file t.client.clean) ≡ None) (some-same file f (sym changes ∙ e))
+            (clean-purged file block t.client.clean);
         pushed = pushed;
-      }) (numbers-more _ t.client.number (omega arith) (clean-fewer journal first next ps (part_of t) (purge file t.client.clean) (λ f b k e. (found-purged f b file t.client.clean k e).1) h))
+      }) (numbers-more _ t.client.number (omega arith)
+      (clean-fewer journal first next ps (part_of t) (purge file t.client.clean) (λ f b k e. (found-purged f b file t.client.clean k e).1) h))
 
-  create-mid : (t : ClientStep) (name : List ℕ) (blocks : ℕ) → P t → P (sends_request (after_seq t) for_call (Request.Create t.client.who t.client.seq name blocks))
-  create-mid t name blocks h = request-mid (after_seq t) for_call _ (plain (part_of (after_seq t)) _ tt refl refl (tt, not-zero t.client.seq h.counted)) (seq-mid t h)
+  create-mid : (t : ClientStep) (name : List ℕ) (blocks : ℕ) → P t
+      → P (sends_request (after_seq t) for_call (Request.Create t.client.who t.client.seq name blocks))
+  create-mid t name blocks h =
+      request-mid (after_seq t) for_call _ (plain (part_of (after_seq t)) _ tt refl refl (tt, not-zero t.client.seq h.counted)) (seq-mid t h)
 
   pub send-mid : (in_tick : Bool) (t : ClientStep) → P t → P (send_next in_tick t)
   send-mid in_tick t h = send-cases in_tick t P (record {
@@ -199,7 +217,9 @@ module _ (journal : List Entry) (first : ℕ → ℕ) (next : ℕ) (ps : List Pa
     putting = λ u file block body free is unwritten. write-mid t file block body h;
     resizing = λ u file blocks free is clean. change-mid t file _ refl refl tt (tt, not-zero t.client.seq h.counted) h;
     removing = λ u file free is clean. change-mid t file _ refl refl tt (tt, not-zero t.client.seq h.counted) h;
-    renewing = λ file lease tick free nothing unpaused renewed held same clean unnoticed. request-mid t renewing _ (plain (part_of t) _ tt refl refl (tt, no-sequence)) h;
+    renewing =
+        λ file lease tick free nothing unpaused renewed held same clean unnoticed. request-mid t renewing _
+        (plain (part_of t) _ tt refl refl (tt, no-sequence)) h;
   })
 
   pub goes-mid : (t : ClientStep) → P t → P (goes_on t)
@@ -225,7 +245,8 @@ module _ (journal : List Entry) (first : ℕ → ℕ) (next : ℕ) (ps : List Pa
     telling = λ file loss losses none on changed lost. names-mid (begins_call c op) (begins_call c op).client.calls file (begins-mid c op h);
     going = λ none on lost.
         let settled = settle-mid (is_called (begins_call c op) op) (called-mid (begins_call c op) op (begins-mid c op h)) in
-        unless-cached-cases (settle (is_called (begins_call c op) op)) P (λ cached. settled) (λ other. send-mid false (settle (is_called (begins_call c op) op)) settled);
+        unless-cached-cases (settle (is_called (begins_call c op) op)) P (λ cached. settled)
+        (λ other. send-mid false (settle (is_called (begins_call c op) op)) settled);
   })
 
   -- ---- a tick
@@ -237,9 +258,12 @@ module _ (journal : List Entry) (first : ℕ → ℕ) (next : ℕ) (ps : List Pa
   again-mid : (t : ClientStep) (ticket : Ticket) → t.client.ticket ≡ Some ticket → IsFair (t.entries ++ journal) ticket.request → P t → P (sends_again t ticket)
   unfolding sends_again
   again-mid t ticket is pushed h =
-      sends-more journal first next ps (record (part_of t) { ticket = Some (record ticket { last = t.client.now }) }) (call ticket.xid ticket.request) t.client.xid (omega arith)
+      sends-more journal first next ps (record (part_of t) { ticket = Some (record ticket { last = t.client.now }) }) (call ticket.xid ticket.request)
+      t.client.xid (omega arith)
       (λ x r e. subst (IsFair (t.entries ++ journal)) (call-same ticket.xid x ticket.request r e).1 pushed)
-      (ticket-fewer journal first next ps (part_of t) (Some (record ticket { last = t.client.now })) (λ u e. let one : record ticket { last = t.client.now } ≡ u = some-same (record ticket { last = t.client.now }) u e in (ticket, is, ap (λ z. z.xid) one, ap (λ z. z.request) one)) h)
+      (ticket-fewer journal first next ps (part_of t) (Some (record ticket { last = t.client.now }))
+      (λ u e. let one : record ticket { last = t.client.now } ≡ u = some-same (record ticket { last = t.client.now }) u e in
+      (ticket, is, ap (λ z. z.xid) one, ap (λ z. z.request) one)) h)
 
   timed-ticket : (c : Client) (now : ℕ) → (begun (at_time c now)).client.ticket ≡ c.ticket
   unfolding at_time
@@ -256,7 +280,9 @@ module _ (journal : List Entry) (first : ℕ → ℕ) (next : ℕ) (ps : List Pa
 
   vacates-mid : (t : ClientStep) (file : ℕ) (tag : Tag) → P t → P (vacates_lease t file tag)
   unfolding vacates_lease
-  vacates-mid t file tag h = sends-more journal first next ps (part_of t) (call t.client.xid (Request.Vacated t.client.who file tag)) (t.client.xid + 1) (omega arith) (λ x r e. subst (IsFair (t.entries ++ journal)) (call-same t.client.xid x (Request.Vacated t.client.who file tag) r e).1 (tt, no-sequence)) h
+  vacates-mid t file tag h =
+      sends-more journal first next ps (part_of t) (call t.client.xid (Request.Vacated t.client.who file tag)) (t.client.xid + 1) (omega arith)
+      (λ x r e. subst (IsFair (t.entries ++ journal)) (call-same t.client.xid x (Request.Vacated t.client.who file tag) r e).1 (tt, no-sequence)) h
 
   notes-mid : (t : ClientStep) (file : ℕ) (tag : Tag) → P t → P (notes_notice t file tag)
   unfolding notes_notice
@@ -269,7 +295,12 @@ module _ (journal : List Entry) (first : ℕ → ℕ) (next : ℕ) (ps : List Pa
   pub notice-mid : (c : Client) (file : ℕ) (tag : Tag) → P (begun c) → P (goes_on (evicted (cancels (begun c) file) file tag))
   notice-mid c file tag h =
       let t : ClientStep = cancels (begun c) file in
-      goes-mid (evicted t file tag) (evicted-cases t file tag P (record { clean = λ is. vacates-mid t file tag (cancels-mid (begun c) file h); waiting = λ is. notes-mid t file tag (cancels-mid (begun c) file h) }))
+      goes-mid (evicted t file tag) (evicted-cases t file tag P
+      (record {
+        clean = λ is. vacates-mid t file tag (cancels-mid (begun c) file h);
+        waiting = λ is. notes-mid t file tag
+            (cancels-mid (begun c) file h);
+      }))
 
   -- ---- a reply
 
@@ -292,7 +323,9 @@ module _ (journal : List Entry) (first : ℕ → ℕ) (next : ℕ) (ps : List Pa
   loses-spent : (t : ClientStep) (file : ℕ) → Spent t → Spent (loses t file)
   unfolding loses
   loses-spent t file h = record {
-    mid = notes-all (record (part_of t) { dirty = other_dirty file t.client.dirty }) _ (losses-quiet t.client.who (all_dirty t.client file)) (dirty-fewer journal first next ps (part_of t) (other_dirty file t.client.dirty) h.free (λ q i. in-filtered _ t.client.dirty q i) h.mid);
+    mid =
+        notes-all (record (part_of t) { dirty = other_dirty file t.client.dirty }) _ (losses-quiet t.client.who (all_dirty t.client file))
+        (dirty-fewer journal first next ps (part_of t) (other_dirty file t.client.dirty) h.free (λ q i. in-filtered _ t.client.dirty q i) h.mid);
     free = h.free;
   }
 
@@ -315,104 +348,147 @@ module _ (journal : List Entry) (first : ℕ → ℕ) (next : ℕ) (ps : List Pa
   without-spent t file h = record { mid = h.mid; free = h.free }
 
   pub refused-spent : (t : ClientStep) (file : ℕ) → Spent t → Spent (push_refused t file)
-  refused-spent t file h = reports-spent _ file (noticed-spent _ file (notice_on file t.client.notices) (without-spent (loses t file) file (loses-spent t file h)))
+  refused-spent t file h =
+      reports-spent _ file (noticed-spent _ file (notice_on file t.client.notices) (without-spent (loses t file) file (loses-spent t file h)))
 
   broken-spent : (t : ClientStep) (file : ℕ) (g : Grant) → Spent t → Spent (if_broken t file g)
-  broken-spent t file g h = if-broken-cases t file g Spent (λ whole. h) (λ lease held below dirty. reports-spent _ file (noticed-spent _ file (notice_on file t.client.notices) (loses-spent t file h)))
+  broken-spent t file g h =
+      if-broken-cases t file g Spent (λ whole. h)
+      (λ lease held below dirty. reports-spent _ file (noticed-spent _ file (notice_on file t.client.notices) (loses-spent t file h)))
 
   -- a grant is held, and its revision is known
-  holds-mid : (t : ClientStep) (file : ℕ) (g : Grant) (sent : ℕ) → HadLength (history_in journal first next []) file g.rev g.blocks → Spent t → Spent (holds t file g sent)
+  holds-mid : (t : ClientStep) (file : ℕ) (g : Grant) (sent : ℕ) → HadLength (history_in journal first next []) file g.rev g.blocks → Spent t
+      → Spent (holds t file g sent)
   unfolding holds
   holds-mid t file g sent had h = record { mid = case (is_revision g.rev (revision_of file t.client.revisions)) refl; free = h.free }
     where
       knows : IsKnown (history_in journal first next t.entries) file g.rev
       knows = let d = had.drawn in let a = had.had.reached in let b = (grown t.entries).counts file in record { drawn = had.drawn; reached = omega arith }
 
-      same : (o : Option Revision) → revision_of file t.client.revisions ≡ o → is_revision g.rev o ≡ true → (r : Revision) × (revision_of file t.client.revisions ≡ Some r) × (r.rev ≡ g.rev)
+      same : (o : Option Revision) → revision_of file t.client.revisions ≡ o → is_revision g.rev o ≡ true
+          → (r : Revision) × (revision_of file t.client.revisions ≡ Some r) × (r.rev ≡ g.rev)
       same None e is = absurd (cc)
       same (Some r) e is = (r, e, same-number _ _ is)
 
-      case : (b : Bool) → is_revision g.rev (revision_of file t.client.revisions) ≡ b → Mid journal first next ps (record (part_of t) { clean = if b then t.client.clean else purge file t.client.clean; revisions = put_revision file g.rev t.client.revisions })
+      case : (b : Bool) → is_revision g.rev (revision_of file t.client.revisions) ≡ b
+          → Mid journal first next ps (record (part_of t)
+          { clean = if b then t.client.clean else purge file t.client.clean; revisions = put_revision file g.rev t.client.revisions })
       case true e = let r = same (revision_of file t.client.revisions) refl e in confirms journal first next ps (part_of t) file g.rev r.0 h.free r.1 r.2 h.mid
-      case false e = forgets journal first next ps (part_of t) file g.rev (purge file t.client.clean) h.free knows (λ f b k i. found-purged f b file t.client.clean k i) h.mid
+      case false e =
+          forgets journal first next ps (part_of t) file g.rev (purge file t.client.clean) h.free knows
+          (λ f b k i. found-purged f b file t.client.clean k i) h.mid
 
-  held-revision : (t : ClientStep) (file : ℕ) (g : Grant) (sent : ℕ) → revision_of file (holds t file g sent).client.revisions ≡ Some (record { file = file; rev = g.rev })
+  held-revision : (t : ClientStep) (file : ℕ) (g : Grant) (sent : ℕ)
+      → revision_of file (holds t file g sent).client.revisions ≡ Some (record { file = file; rev = g.rev })
   unfolding holds
   held-revision t file g sent = revision-put file g.rev t.client.revisions
 
-  takes-spent : (t : ClientStep) (file : ℕ) (g : Grant) (sent : ℕ) → HadLength (history_in journal first next []) file g.rev g.blocks → Spent t → Spent (takes_grant t file g sent)
+  takes-spent : (t : ClientStep) (file : ℕ) (g : Grant) (sent : ℕ) → HadLength (history_in journal first next []) file g.rev g.blocks → Spent t
+      → Spent (takes_grant t file g sent)
   takes-spent t file g sent had h = holds-mid (if_broken t file g) file g sent had (broken-spent t file g h)
 
-  pub optional-spent : (t : ClientStep) (file : ℕ) (o : Option Grant) (sent : ℕ) → GrantTells (history_in journal first next []) file o → Spent t → Spent (takes_optional t file o sent)
+  pub optional-spent : (t : ClientStep) (file : ℕ) (o : Option Grant) (sent : ℕ) → GrantTells (history_in journal first next []) file o → Spent t
+      → Spent (takes_optional t file o sent)
   optional-spent t file None sent tells h = h
   optional-spent t file (Some g) sent tells h = takes-spent t file g sent tells h
 
   -- a block is read, and cached under a caching grant
-  found-cached : (t : ClientStep) (file block : ℕ) (body : List ℕ) (f b : ℕ) (k : Clean) → clean_at f b (put_clean file block body t.client.clean) ≡ Some k → (IsBlock f b file block × (value_of k.body ≡ value_of body)) ⊎ ((IsBlock f b file block → ⊥) × (clean_at f b t.client.clean ≡ Some k))
+  found-cached : (t : ClientStep) (file block : ℕ) (body : List ℕ) (f b : ℕ) (k : Clean)
+      → clean_at f b (put_clean file block body t.client.clean) ≡ Some k
+      → (IsBlock f b file block × (value_of k.body ≡ value_of body)) ⊎ ((IsBlock f b file block → ⊥) × (clean_at f b t.client.clean ≡ Some k))
   found-cached t file block body f b k e = case (found-put f b file block body t.client.clean k e)
     where
-      case : (IsBlock f b file block × (k ≡ record { file = file; block = block; body = body })) ⊎ ((IsBlock f b file block → ⊥) × (clean_at f b t.client.clean ≡ Some k)) → (IsBlock f b file block × (value_of k.body ≡ value_of body)) ⊎ ((IsBlock f b file block → ⊥) × (clean_at f b t.client.clean ≡ Some k))
+      case : (IsBlock f b file block × (k ≡ record { file = file; block = block; body = body }))
+          ⊎ ((IsBlock f b file block → ⊥) × (clean_at f b t.client.clean ≡ Some k))
+          → (IsBlock f b file block × (value_of k.body ≡ value_of body)) ⊎ ((IsBlock f b file block → ⊥) × (clean_at f b t.client.clean ≡ Some k))
       case (inl one) = inl (one.0, ap (λ z. value_of z.body) one.1)
       case (inr other) = inr other
 
-  caches-mid : (t : ClientStep) (file block : ℕ) (body : List ℕ) (r : Revision) → revision_of file t.client.revisions ≡ Some r → HadValue (history_in journal first next []) file r.rev block (value_of body) → Spent t → P (caches_block t file block body)
+  caches-mid : (t : ClientStep) (file block : ℕ) (body : List ℕ) (r : Revision) → revision_of file t.client.revisions ≡ Some r
+      → HadValue (history_in journal first next []) file r.rev block (value_of body) → Spent t → P (caches_block t file block body)
   unfolding caches_block
-  caches-mid t file block body r was had h = caches journal first next ps (part_of t) file block (value_of body) r (put_clean file block body t.client.clean) h.free was (value-follows file r.rev block (value_of body) (grown t.entries) had) (found-cached t file block body) h.mid
+  caches-mid t file block body r was had h =
+      caches journal first next ps (part_of t) file block (value_of body) r (put_clean file block body t.client.clean) h.free was
+      (value-follows file r.rev block (value_of body) (grown t.entries) had) (found-cached t file block body) h.mid
 
-  pub read-mid : (t : ClientStep) (file block rev : ℕ) (body : List ℕ) (o : Option Grant) (sent number : ℕ) → HadValue (history_in journal first next []) file rev block (value_of body) → GrantTells (history_in journal first next []) file o → GrantIsOf rev o → Spent t → P (read_done t file block body o sent number)
+  pub read-mid : (t : ClientStep) (file block rev : ℕ) (body : List ℕ) (o : Option Grant) (sent number : ℕ)
+      → HadValue (history_in journal first next []) file rev block (value_of body) → GrantTells (history_in journal first next []) file o
+      → GrantIsOf rev o → Spent t → P (read_done t file block body o sent number)
   read-mid t file block rev body None sent number had tells is h = answers-call-mid t (Answer.Ok (Value.Body body)) (Some number) h.mid
   read-mid t file block rev body (Some g) sent number had tells is h =
       let held : Spent (takes_grant t file g sent) = takes-spent t file g sent tells h in
       let s : ClientStep = takes_grant t file g sent in
       answers-call-mid (then_caches s file block body (Some g)) (Answer.Ok (Value.Body body)) (Some number)
       (choice P (grant_caches (Some g)) (caches_block s file block body) s
-      (λ caching. caches-mid s file block body (record { file = file; rev = g.rev }) (held-revision (if_broken t file g) file g sent) (subst (λ n. HadValue (history_in journal first next []) file n block (value_of body)) (sym is) had) held)
+      (λ caching. caches-mid s file block body (record { file = file; rev = g.rev }) (held-revision (if_broken t file g) file g sent)
+      (subst (λ n. HadValue (history_in journal first next []) file n block (value_of body)) (sym is) had) held)
       (λ other. held.mid))
 
   through-mid : (on : Bool) (t : ClientStep) → P t → P (marks_through on t)
   unfolding marks_through
   through-mid on t h = h
 
-  pub lease-mid : (t : ClientStep) (file : ℕ) (o : Option Grant) (sent : ℕ) → GrantTells (history_in journal first next []) file o → Spent t → P (lease_done t file o sent)
+  pub lease-mid : (t : ClientStep) (file : ℕ) (o : Option Grant) (sent : ℕ) → GrantTells (history_in journal first next []) file o → Spent t
+      → P (lease_done t file o sent)
   lease-mid t file o sent tells h =
       let s : Spent (takes_optional t file o sent) = optional-spent t file o sent tells h in
-      choice P (grant_caches o) (takes_optional t file o sent) (marks_through true (takes_optional t file o sent)) (λ caching. s.mid) (λ other. through-mid true (takes_optional t file o sent) s.mid)
+      choice P (grant_caches o) (takes_optional t file o sent) (marks_through true (takes_optional t file o sent)) (λ caching. s.mid)
+      (λ other. through-mid true (takes_optional t file o sent) s.mid)
 
   -- a write went through: its block is cached, or the file's clean blocks go
-  pub through-known : (t : ClientStep) (file block rev : ℕ) (body : List ℕ) → SetsBlock (history_in journal first next []) file rev block (value_of body) → Spent t → P (knows_revision (caches_write t file block body rev) file rev)
+  pub through-known : (t : ClientStep) (file block rev : ℕ) (body : List ℕ)
+      → SetsBlock (history_in journal first next []) file rev block (value_of body) → Spent t
+      → P (knows_revision (caches_write t file block body rev) file rev)
   unfolding caches_block purges knows_revision
   through-known t file block rev body set h =
-      let set_now : SetsBlock (history_in journal first next t.entries) file rev block (value_of body) = sets-follows file rev block (value_of body) (grown t.entries) set in
+      let set_now : SetsBlock (history_in journal first next t.entries) file rev block (value_of body) = sets-follows file rev block (value_of body)
+      (grown t.entries) set in
       caches-write-cases t file block body rev (λ s. P (knows_revision s file rev))
-      (λ holds before. sets journal first next ps (part_of t) file rev block (value_of body) (put_clean file block body t.client.clean) h.free set_now (λ r was. next-after (revision_of file t.client.revisions) before r was) (found-cached t file block body) h.mid)
-      (forgets journal first next ps (part_of t) file rev (purge file t.client.clean) h.free (record { drawn = set_now.value.drawn; reached = set_now.value.had.reached }) (λ f b k i. found-purged f b file t.client.clean k i) h.mid)
+      (λ holds before. sets journal first next ps (part_of t) file rev block (value_of body) (put_clean file block body t.client.clean) h.free set_now
+      (λ r was. next-after (revision_of file t.client.revisions) before r was) (found-cached t file block body) h.mid)
+      (forgets journal first next ps (part_of t) file rev (purge file t.client.clean) h.free
+      (record { drawn = set_now.value.drawn; reached = set_now.value.had.reached }) (λ f b k i. found-purged f b file t.client.clean k i) h.mid)
     where
       next-after : (o : Option Revision) → is_revision_before rev o ≡ true → (r : Revision) → o ≡ Some r → rev ≡ r.rev + 1
       next-after None before r was = none-some r was
       next-after (Some q) before r was = sym (same-number _ _ before) ∙ ap (λ z. z.rev + 1) (some-same q r was)
 
   -- a resize was done: the file has no clean blocks
-  pub resized-known : (t : ClientStep) (file rev blocks : ℕ) → HadLength (history_in journal first next []) file rev blocks → ((block : ℕ) → clean_at file block t.client.clean ≡ None) → Spent t → P (knows_revision t file rev)
+  pub resized-known : (t : ClientStep) (file rev blocks : ℕ) → HadLength (history_in journal first next []) file rev blocks
+      → ((block : ℕ) → clean_at file block t.client.clean ≡ None) → Spent t → P (knows_revision t file rev)
   unfolding knows_revision
   resized-known t file rev blocks had none h =
-      forgets journal first next ps (part_of t) file rev t.client.clean h.free knows (λ f b k i. ((λ one. none-some k (sym (none b) ∙ ap (λ n. clean_at n b t.client.clean) (sym one) ∙ i)), i)) h.mid
+      forgets journal first next ps (part_of t) file rev t.client.clean h.free knows
+      (λ f b k i. ((λ one. none-some k (sym (none b) ∙ ap (λ n. clean_at n b t.client.clean) (sym one) ∙ i)), i)) h.mid
     where
       knows : IsKnown (history_in journal first next t.entries) file rev
       knows = let a = had.had.reached in let b = (grown t.entries).counts file in record { drawn = had.drawn; reached = omega arith }
 
   -- a push was stored: its block is cached, unless it is dirty again
-  stored-known : (t : ClientStep) (file block rev : ℕ) (body : List ℕ) → SetsBlock (history_in journal first next []) file rev block (value_of body) → rev ≡ revision_or_zero (revision_of file t.client.revisions) + 1 → (is_some (dirty_at file block t.client.dirty) ≡ true → clean_at file block t.client.clean ≡ None) → Spent t → P (caches_push (knows_revision (ends_push t) file rev) file block body)
+  stored-known : (t : ClientStep) (file block rev : ℕ) (body : List ℕ) → SetsBlock (history_in journal first next []) file rev block (value_of body)
+      → rev ≡ revision_or_zero (revision_of file t.client.revisions) + 1
+      → (is_some (dirty_at file block t.client.dirty) ≡ true → clean_at file block t.client.clean ≡ None) → Spent t
+      → P (caches_push (knows_revision (ends_push t) file rev) file block body)
   unfolding caches_block ends_push knows_revision
   stored-known t file block rev body set over again h =
-      let set_now : SetsBlock (history_in journal first next t.entries) file rev block (value_of body) = sets-follows file rev block (value_of body) (grown t.entries) set in
+      let set_now : SetsBlock (history_in journal first next t.entries) file rev block (value_of body) = sets-follows file rev block (value_of body)
+      (grown t.entries) set in
       caches-push-cases (knows_revision (ends_push t) file rev) file block body P
-      (λ dirty. sets journal first next ps (part_of t) file rev block (value_of body) t.client.clean h.free set_now before (λ f b k i. inr ((λ one. none-some k (sym (again dirty) ∙ ap (λ n. clean_at n block t.client.clean) (sym one.file_same) ∙ ap (λ n. clean_at f n t.client.clean) (sym one.block_same) ∙ i)), i)) h.mid)
-      (λ clean. sets journal first next ps (part_of t) file rev block (value_of body) (put_clean file block body t.client.clean) h.free set_now before (found-cached t file block body) h.mid)
+      (λ dirty. sets journal first next ps (part_of t) file rev block (value_of body) t.client.clean h.free set_now before
+      (λ f b k i. inr (
+        (λ one. none-some k (sym (again dirty) ∙ ap (λ n. clean_at n block t.client.clean) (sym one.file_same)
+            ∙ ap (λ n. clean_at f n t.client.clean) (sym one.block_same) ∙ i)),
+        i,
+      )) h.mid)
+      (λ clean. sets journal first next ps (part_of t) file rev block (value_of body) (put_clean file block body t.client.clean) h.free set_now before
+      (found-cached t file block body) h.mid)
     where
       before : (r : Revision) → revision_of file t.client.revisions ≡ Some r → rev ≡ r.rev + 1
       before r was = over ∙ ap (λ o. revision_or_zero o + 1) was
 
-  pub stored-mid : (t : ClientStep) (file block rev : ℕ) (body : List ℕ) → SetsBlock (history_in journal first next []) file rev block (value_of body) → rev ≡ revision_or_zero (revision_of file t.client.revisions) + 1 → (is_some (dirty_at file block t.client.dirty) ≡ true → clean_at file block t.client.clean ≡ None) → Spent t → P (push_done t file block body rev)
+  pub stored-mid : (t : ClientStep) (file block rev : ℕ) (body : List ℕ) → SetsBlock (history_in journal first next []) file rev block (value_of body)
+      → rev ≡ revision_or_zero (revision_of file t.client.revisions) + 1
+      → (is_some (dirty_at file block t.client.dirty) ≡ true → clean_at file block t.client.clean ≡ None) → Spent t → P (push_done t file block body rev)
   stored-mid t file block rev body set over again h =
       let s : ClientStep = caches_push (knows_revision (ends_push t) file rev) file block body in
       let k : P s = stored-known t file block rev body set over again h in

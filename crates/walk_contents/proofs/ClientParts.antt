@@ -94,7 +94,8 @@ abbrev pub OnlyDelayedBy : Who → List Entry → Type 0
 OnlyDelayedBy who [] = Unit {0}
 OnlyDelayedBy who (e ∷ es) = ((w : Who) (file block n : ℕ) → w ≢ who → delayed_by e w file block n ≡ None) × OnlyDelayedBy who es
 
-pub only-delayed : (who w : Who) (es j : List Entry) (file block n : ℕ) → OnlyDelayedBy who es → w ≢ who → delayed_value (es ++ j) w file block n ≡ delayed_value j w file block n
+pub only-delayed : (who w : Who) (es j : List Entry) (file block n : ℕ) → OnlyDelayedBy who es → w ≢ who
+    → delayed_value (es ++ j) w file block n ≡ delayed_value j w file block n
 only-delayed who w [] j file block n h apart = refl
 only-delayed who w (e ∷ es) j file block n h apart =
     rw (h.0 w file block n apart) (or-none (delayed_value (es ++ j) w file block n) ∙ only-delayed who w es j file block n h.1 apart)
@@ -108,9 +109,11 @@ pub record Mid (journal : List Entry) (first : ℕ → ℕ) (next : ℕ) (ps : L
   pub known : (file : ℕ) (r : Revision) → revision_of file p.revisions ≡ Some r → IsKnown (history_in journal first next p.entries) file r.rev
   pub clean : (file block : ℕ) (k : Clean) → clean_at file block p.clean ≡ Some k → IsClean (history_in journal first next p.entries) p.revisions file block k
   pub base : (t : Ticket) → p.ticket ≡ Some t → IsOverKnown p.revisions t.request
-  pub again : (t : Ticket) (q : Push) → p.ticket ≡ Some t → push_in t.request ≡ Some q → is_some (dirty_at q.file q.block p.dirty) ≡ true → clean_at q.file q.block p.clean ≡ None
+  pub again : (t : Ticket) (q : Push) → p.ticket ≡ Some t → push_in t.request ≡ Some q → is_some (dirty_at q.file q.block p.dirty) ≡ true
+      → clean_at q.file q.block p.clean ≡ None
   pub changing : (t : Ticket) (file block : ℕ) → p.ticket ≡ Some t → changes_file t.request ≡ Some file → clean_at file block p.clean ≡ None
-  pub told : (t : Ticket) (a : Reply) → p.ticket ≡ Some t → Told ps p.who.host (reply t.xid a) → inc_of a ≡ p.who.inc → Tells (history_in journal first next p.entries) t.request a
+  pub told : (t : Ticket) (a : Reply) → p.ticket ≡ Some t → Told ps p.who.host (reply t.xid a) → inc_of a ≡ p.who.inc
+      → Tells (history_in journal first next p.entries) t.request a
   pub numbers : (x : ℕ) (a : Reply) → Told ps p.who.host (reply x a) → inc_of a ≡ p.who.inc → x < p.xid
   pub dirty : (q : Push) → In p.dirty q → IsPending (p.entries ++ journal) p.who q
   pub fresh : NoneFrom (p.entries ++ journal) p.who p.number
@@ -121,10 +124,13 @@ pub record Mid (journal : List Entry) (first : ℕ → ℕ) (next : ℕ) (ps : L
   pub pushes : (x : ℕ) (r : Request) → In p.sends (call x r) → IsFair (p.entries ++ journal) r
 
 pub known-follows : {h g : History} (file rev : ℕ) → Follows h g → IsKnown h file rev → IsKnown g file rev
-known-follows file rev f k = let a = k.drawn in let b = f.ids in let c = k.reached in let d = f.counts file in record { drawn = omega arith; reached = omega arith }
+known-follows file rev f k =
+    let a = k.drawn in let b = f.ids in let c = k.reached in let d = f.counts file in record { drawn = omega arith; reached = omega arith }
 
-pub clean-follows : {h g : History} (revisions : List Revision) (file block : ℕ) (k : Clean) → Follows h g → IsClean h revisions file block k → IsClean g revisions file block k
-clean-follows revisions file block k f c = record { revision = c.revision; known = c.known; had = value-follows file c.revision.rev block (value_of k.body) f c.had }
+pub clean-follows : {h g : History} (revisions : List Revision) (file block : ℕ) (k : Clean) → Follows h g → IsClean h revisions file block k
+    → IsClean g revisions file block k
+clean-follows revisions file block k f c =
+    record { revision = c.revision; known = c.known; had = value-follows file c.revision.rev block (value_of k.body) f c.had }
 
 pub pushed-more : (e : Entry) (j : List Entry) (r : Request) → IsPushed j r → IsPushed (e ∷ j) r
 pushed-more e j (Request.Write who seq file block f l (Some push) body) h = delayed-more (e ∷ []) j who file block l (value_of body) h
@@ -172,7 +178,8 @@ module _ (journal : List Entry) (first : ℕ → ℕ) (next : ℕ) (ps : List Pa
   one-follows p e = follows (history_in journal first next p.entries) (e ∷ []) first next (omega arith) (λ id drawn. refl)
 
   -- an entry that changes no file and delays no write
-  pub notes-entry : (p : Part) (e : Entry) → ((file : ℕ) → changes e file ≡ false) → ((w : Who) (file block n : ℕ) → delayed_by e w file block n ≡ None) → MidOf p → MidOf (record p { entries = e ∷ p.entries })
+  pub notes-entry : (p : Part) (e : Entry) → ((file : ℕ) → changes e file ≡ false) → ((w : Who) (file block n : ℕ) → delayed_by e w file block n ≡ None)
+      → MidOf p → MidOf (record p { entries = e ∷ p.entries })
   notes-entry p e none idle h =
       let f = one-follows p e in
       record {
@@ -193,7 +200,9 @@ module _ (journal : List Entry) (first : ℕ → ℕ) (next : ℕ) (ps : List Pa
       }
 
   -- clean blocks go, or change their order
-  pub clean-fewer : (p : Part) (clean : List Clean) → ((file block : ℕ) (k : Clean) → clean_at file block clean ≡ Some k → clean_at file block p.clean ≡ Some k) → MidOf p → MidOf (record p { clean = clean })
+  pub clean-fewer : (p : Part) (clean : List Clean)
+      → ((file block : ℕ) (k : Clean) → clean_at file block clean ≡ Some k → clean_at file block p.clean ≡ Some k) → MidOf p
+      → MidOf (record p { clean = clean })
   clean-fewer p clean old h = record {
     known = h.known;
     clean = λ file block k is. h.clean file block k (old file block k is);
@@ -234,14 +243,19 @@ module _ (journal : List Entry) (first : ℕ → ℕ) (next : ℕ) (ps : List Pa
   }
 
   -- the request under way is one that was, but for its sending times, or none
-  pub ticket-fewer : (p : Part) (ticket : Option Ticket) → ((t : Ticket) → ticket ≡ Some t → (u : Ticket) × (p.ticket ≡ Some u) × (u.xid ≡ t.xid) × (u.request ≡ t.request)) → MidOf p → MidOf (record p { ticket = ticket })
+  pub ticket-fewer : (p : Part) (ticket : Option Ticket)
+      → ((t : Ticket) → ticket ≡ Some t → (u : Ticket) × (p.ticket ≡ Some u) × (u.xid ≡ t.xid) × (u.request ≡ t.request)) → MidOf p
+      → MidOf (record p { ticket = ticket })
   ticket-fewer p ticket old h = record {
     known = h.known;
     clean = h.clean;
     base = λ t is. let u = old t is in subst (IsOverKnown p.revisions) u.3 (h.base u.0 u.1);
     again = λ t q is at some. let u = old t is in h.again u.0 q u.1 (ap push_in u.3 ∙ at) some;
     changing = λ t file block is at. let u = old t is in h.changing u.0 file block u.1 (ap changes_file u.3 ∙ at);
-    told = λ t a is sent inc. let u = old t is in subst (λ r. Tells (history_in journal first next p.entries) r a) u.3 (h.told u.0 a u.1 (subst (λ x. Told ps p.who.host (reply x a)) (sym u.2) sent) inc);
+    told =
+        λ t a is sent inc. let u = old t is in
+        subst (λ r. Tells (history_in journal first next p.entries) r a) u.3
+        (h.told u.0 a u.1 (subst (λ x. Told ps p.who.host (reply x a)) (sym u.2) sent) inc);
     numbers = h.numbers;
     dirty = h.dirty;
     fresh = h.fresh;
@@ -252,7 +266,8 @@ module _ (journal : List Entry) (first : ℕ → ℕ) (next : ℕ) (ps : List Pa
     pushes = h.pushes;
   }
 
-  pushes-more : (p : Part) (m : Message) → ((x : ℕ) (r : Request) → m ≡ call x r → IsFair (p.entries ++ journal) r) → MidOf p → (x : ℕ) (r : Request) → In (p.sends ++ m ∷ []) (call x r) → IsFair (p.entries ++ journal) r
+  pushes-more : (p : Part) (m : Message) → ((x : ℕ) (r : Request) → m ≡ call x r → IsFair (p.entries ++ journal) r) → MidOf p → (x : ℕ) (r : Request)
+      → In (p.sends ++ m ∷ []) (call x r) → IsFair (p.entries ++ journal) r
   pushes-more p m pushed h x r i = case (in-last p.sends m (call x r) i)
     where
       case : In p.sends (call x r) ⊎ (m ≡ call x r) → IsFair (p.entries ++ journal) r
@@ -260,7 +275,8 @@ module _ (journal : List Entry) (first : ℕ → ℕ) (next : ℕ) (ps : List Pa
       case (inr new) = pushed x r new
 
   -- a message is sent, and numbers are drawn
-  pub sends-more : (p : Part) (m : Message) (xid : ℕ) → p.xid ≤ xid → ((x : ℕ) (r : Request) → m ≡ call x r → IsFair (p.entries ++ journal) r) → MidOf p → MidOf (record p { xid = xid; sends = p.sends ++ m ∷ [] })
+  pub sends-more : (p : Part) (m : Message) (xid : ℕ) → p.xid ≤ xid → ((x : ℕ) (r : Request) → m ≡ call x r → IsFair (p.entries ++ journal) r) → MidOf p
+      → MidOf (record p { xid = xid; sends = p.sends ++ m ∷ [] })
   sends-more p m xid more pushed h = record {
     known = h.known;
     clean = h.clean;
@@ -286,7 +302,8 @@ module _ (journal : List Entry) (first : ℕ → ℕ) (next : ℕ) (ps : List Pa
     pub pushed : IsFair (p.entries ++ journal) r
 
   -- a request is sent, and is under way
-  pub sends-ticket : (p : Part) (t : Ticket) → t.xid ≡ p.xid → CanSend p t.request → MidOf p → MidOf (record p { ticket = Some t; xid = p.xid + 1; sends = p.sends ++ call p.xid t.request ∷ [] })
+  pub sends-ticket : (p : Part) (t : Ticket) → t.xid ≡ p.xid → CanSend p t.request → MidOf p
+      → MidOf (record p { ticket = Some t; xid = p.xid + 1; sends = p.sends ++ call p.xid t.request ∷ [] })
   sends-ticket p t numbered can h = record {
     known = h.known;
     clean = h.clean;
@@ -307,7 +324,15 @@ module _ (journal : List Entry) (first : ℕ → ℕ) (next : ℕ) (ps : List Pa
     clean-now q none some = let no : is_some (dirty_at q.file q.block p.dirty) ≡ false = ap is_some none in absurd (cc)
 
   -- a write is delayed
-  pub delays-write : (p : Part) (file block : ℕ) (body : List ℕ) (o : Option Push) → MidOf p → MidOf (record p { number = p.number + 1; clean = drop_clean file block p.clean; dirty = with_write file block p.number body p.dirty o; entries = Entry.W p.who file block p.number (value_of body) false ∷ p.entries })
+  pub delays-write : (p : Part) (file block : ℕ) (body : List ℕ) (o : Option Push) → MidOf p
+      → MidOf
+      (record p {
+        number = p.number + 1;
+        clean = drop_clean file block p.clean;
+        dirty = with_write file block p.number body p.dirty o;
+        entries = Entry.W
+            p.who file block p.number (value_of body) false ∷ p.entries;
+      })
   delays-write p file block body o h =
       let f = one-follows p w in
       record {
@@ -322,7 +347,12 @@ module _ (journal : List Entry) (first : ℕ → ℕ) (next : ℕ) (ps : List Pa
         fresh = λ f' b n above. rw (h.fresh f' b n (omega arith), delayed-later p.who file block p.number (value_of body) f' b n above) refl;
         idle = ((λ f'. refl), h.idle);
         own = ((λ v f' b n apart. delayed-other p.who v file block p.number (value_of body) f' b n apart), h.own);
-        later = λ v home above f' b n zero. rw (h.later v home above f' b n zero, delayed-other p.who v file block p.number (value_of body) f' b n (λ same. let e : v.inc ≡ p.who.inc = ap (λ z. z.inc) same in absurd (omega arith))) refl;
+        later =
+            λ v home above f' b n zero. rw (
+              h.later v home above f' b n zero,
+              delayed-other p.who v file block p.number (value_of body) f' b n
+                  (λ same. let e : v.inc ≡ p.who.inc = ap (λ z. z.inc) same in absurd (omega arith)),
+            ) refl;
         counted = h.counted;
         pushes = λ x r i. fair-more w (p.entries ++ journal) r (h.pushes x r i);
       }
@@ -330,13 +360,20 @@ module _ (journal : List Entry) (first : ℕ → ℕ) (next : ℕ) (ps : List Pa
       w : Entry
       w = Entry.W p.who file block p.number (value_of body) false
 
-      none : (f' b : ℕ) (c : Option Clean) → clean_at f' b (drop_clean file block p.clean) ≡ c → clean_at f' b p.clean ≡ None → clean_at f' b (drop_clean file block p.clean) ≡ None
+      none : (f' b : ℕ) (c : Option Clean) → clean_at f' b (drop_clean file block p.clean) ≡ c → clean_at f' b p.clean ≡ None
+          → clean_at f' b (drop_clean file block p.clean) ≡ None
       none f' b None is was = is
       none f' b (Some k) is was = none-some k (sym was ∙ found-dropped f' b file block p.clean k is)
 
-      undirty : (t : Ticket) (q : Push) → p.ticket ≡ Some t → push_in t.request ≡ Some q → is_some (dirty_at q.file q.block (with_write file block p.number body p.dirty o)) ≡ true → IsBlock q.file q.block file block ⊎ (IsBlock q.file q.block file block → ⊥) → clean_at q.file q.block (drop_clean file block p.clean) ≡ None
-      undirty t q is at some (inl one) = subst (λ n. clean_at n q.block (drop_clean file block p.clean) ≡ None) (sym one.file_same) (subst (λ n. clean_at file n (drop_clean file block p.clean) ≡ None) (sym one.block_same) (clean-dropped file block p.clean))
-      undirty t q is at some (inr other) = none q.file q.block (clean_at q.file q.block (drop_clean file block p.clean)) refl (h.again t q is at (written-elsewhere q.file q.block file block p.number body p.dirty o other some))
+      undirty : (t : Ticket) (q : Push) → p.ticket ≡ Some t → push_in t.request ≡ Some q
+          → is_some (dirty_at q.file q.block (with_write file block p.number body p.dirty o)) ≡ true
+          → IsBlock q.file q.block file block ⊎ (IsBlock q.file q.block file block → ⊥) → clean_at q.file q.block (drop_clean file block p.clean) ≡ None
+      undirty t q is at some (inl one) =
+          subst (λ n. clean_at n q.block (drop_clean file block p.clean) ≡ None) (sym one.file_same)
+          (subst (λ n. clean_at file n (drop_clean file block p.clean) ≡ None) (sym one.block_same) (clean-dropped file block p.clean))
+      undirty t q is at some (inr other) =
+          none q.file q.block (clean_at q.file q.block (drop_clean file block p.clean)) refl
+          (h.again t q is at (written-elsewhere q.file q.block file block p.number body p.dirty o other some))
 
       new-value : delayed_value (w ∷ p.entries ++ journal) p.who file block p.number ≡ Some (value_of body)
       new-value = rw (h.fresh file block p.number (omega arith), delayed-step p.who file block p.number (value_of body)) refl
@@ -351,7 +388,10 @@ module _ (journal : List Entry) (first : ℕ → ℕ) (next : ℕ) (ps : List Pa
 
   -- ---- a revision becomes known, while no request is under way
 
-  revised : (p : Part) (file rev : ℕ) (clean : List Clean) → p.ticket ≡ None → IsKnown (history_in journal first next p.entries) file rev → ((f b : ℕ) (k : Clean) → clean_at f b clean ≡ Some k → IsClean (history_in journal first next p.entries) (put_revision file rev p.revisions) f b k) → MidOf p → MidOf (record p { clean = clean; revisions = put_revision file rev p.revisions })
+  revised : (p : Part) (file rev : ℕ) (clean : List Clean) → p.ticket ≡ None → IsKnown (history_in journal first next p.entries) file rev
+      → ((f b : ℕ) (k : Clean) → clean_at f b clean ≡ Some k
+      → IsClean (history_in journal first next p.entries) (put_revision file rev p.revisions) f b k) → MidOf p
+      → MidOf (record p { clean = clean; revisions = put_revision file rev p.revisions })
   revised p file rev clean free knows cleans h = record {
     known = λ f r is. case f r (revision-after f file rev r p.revisions is);
     clean = cleans;
@@ -368,26 +408,35 @@ module _ (journal : List Entry) (first : ℕ → ℕ) (next : ℕ) (ps : List Pa
     counted = h.counted;
     pushes = h.pushes;
   } where
-    case : (f : ℕ) (r : Revision) → ((f ≡ file) × (r.rev ≡ rev)) ⊎ ((f ≢ file) × (revision_of f p.revisions ≡ Some r)) → IsKnown (history_in journal first next p.entries) f r.rev
-    case f r (inl same) = subst (λ n. IsKnown (history_in journal first next p.entries) n r.rev) (sym same.0) (subst (λ n. IsKnown (history_in journal first next p.entries) file n) (sym same.1) knows)
+    case : (f : ℕ) (r : Revision) → ((f ≡ file) × (r.rev ≡ rev)) ⊎ ((f ≢ file) × (revision_of f p.revisions ≡ Some r))
+        → IsKnown (history_in journal first next p.entries) f r.rev
+    case f r (inl same) =
+        subst (λ n. IsKnown (history_in journal first next p.entries) n r.rev) (sym same.0)
+        (subst (λ n. IsKnown (history_in journal first next p.entries) file n) (sym same.1) knows)
     case f r (inr other) = h.known f r other.1
 
   -- a clean block of another file stays
-  other-stays : (p : Part) (file rev f b : ℕ) (k : Clean) → f ≢ file → clean_at f b p.clean ≡ Some k → MidOf p → IsClean (history_in journal first next p.entries) (put_revision file rev p.revisions) f b k
+  other-stays : (p : Part) (file rev f b : ℕ) (k : Clean) → f ≢ file → clean_at f b p.clean ≡ Some k → MidOf p
+      → IsClean (history_in journal first next p.entries) (put_revision file rev p.revisions) f b k
   other-stays p file rev f b k apart is h =
       let c = h.clean f b k is in
       record { revision = c.revision; known = other-revision-put file rev f p.revisions apart ∙ c.known; had = c.had }
 
   -- none of the file's clean blocks is left
-  pub forgets : (p : Part) (file rev : ℕ) (clean : List Clean) → p.ticket ≡ None → IsKnown (history_in journal first next p.entries) file rev → ((f b : ℕ) (k : Clean) → clean_at f b clean ≡ Some k → (f ≢ file) × (clean_at f b p.clean ≡ Some k)) → MidOf p → MidOf (record p { clean = clean; revisions = put_revision file rev p.revisions })
+  pub forgets : (p : Part) (file rev : ℕ) (clean : List Clean) → p.ticket ≡ None → IsKnown (history_in journal first next p.entries) file rev
+      → ((f b : ℕ) (k : Clean) → clean_at f b clean ≡ Some k → (f ≢ file) × (clean_at f b p.clean ≡ Some k)) → MidOf p
+      → MidOf (record p { clean = clean; revisions = put_revision file rev p.revisions })
   forgets p file rev clean free knows old h = revised p file rev clean free knows (λ f b k is. let o = old f b k is in other-stays p file rev f b k o.0 o.1 h) h
 
   -- the revision was known
-  pub confirms : (p : Part) (file rev : ℕ) (r : Revision) → p.ticket ≡ None → revision_of file p.revisions ≡ Some r → r.rev ≡ rev → MidOf p → MidOf (record p { revisions = put_revision file rev p.revisions })
+  pub confirms : (p : Part) (file rev : ℕ) (r : Revision) → p.ticket ≡ None → revision_of file p.revisions ≡ Some r → r.rev ≡ rev → MidOf p
+      → MidOf (record p { revisions = put_revision file rev p.revisions })
   confirms p file rev r free was same h =
-      revised p file rev p.clean free (subst (IsKnown (history_in journal first next p.entries) file) same (h.known file r was)) (λ f b k is. stays f b k is (f == file) refl) h
+      revised p file rev p.clean free (subst (IsKnown (history_in journal first next p.entries) file) same (h.known file r was))
+      (λ f b k is. stays f b k is (f == file) refl) h
     where
-      stays : (f b : ℕ) (k : Clean) → clean_at f b p.clean ≡ Some k → (x : Bool) → (f == file) ≡ x → IsClean (history_in journal first next p.entries) (put_revision file rev p.revisions) f b k
+      stays : (f b : ℕ) (k : Clean) → clean_at f b p.clean ≡ Some k → (x : Bool) → (f == file) ≡ x
+          → IsClean (history_in journal first next p.entries) (put_revision file rev p.revisions) f b k
       stays f b k is true e =
           let one : f ≡ file = same-number _ _ e in
           let c = h.clean f b k is in
@@ -400,7 +449,12 @@ module _ (journal : List Entry) (first : ℕ → ℕ) (next : ℕ) (ps : List Pa
       stays f b k is false e = other-stays p file rev f b k (λ one. absurd (let yes : (f == file) ≡ true = number-same f file one in both_ways _ e yes)) is h
 
   -- the next revision sets one block
-  pub sets : (p : Part) (file rev block v : ℕ) (clean : List Clean) → p.ticket ≡ None → SetsBlock (history_in journal first next p.entries) file rev block v → ((r : Revision) → revision_of file p.revisions ≡ Some r → rev ≡ r.rev + 1) → ((f b : ℕ) (k : Clean) → clean_at f b clean ≡ Some k → (IsBlock f b file block × (value_of k.body ≡ v)) ⊎ ((IsBlock f b file block → ⊥) × (clean_at f b p.clean ≡ Some k))) → MidOf p → MidOf (record p { clean = clean; revisions = put_revision file rev p.revisions })
+  pub sets : (p : Part) (file rev block v : ℕ) (clean : List Clean) → p.ticket ≡ None
+      → SetsBlock (history_in journal first next p.entries) file rev block v
+      → ((r : Revision) → revision_of file p.revisions ≡ Some r → rev ≡ r.rev + 1)
+      → ((f b : ℕ) (k : Clean) → clean_at f b clean ≡ Some k
+      → (IsBlock f b file block × (value_of k.body ≡ v)) ⊎ ((IsBlock f b file block → ⊥) × (clean_at f b p.clean ≡ Some k))) → MidOf p
+      → MidOf (record p { clean = clean; revisions = put_revision file rev p.revisions })
   sets p file rev block v clean free set before old h =
       revised p file rev clean free (record { drawn = set.value.drawn; reached = set.value.had.reached }) (λ f b k is. cleans f b k (old f b k is)) h
     where
@@ -414,19 +468,30 @@ module _ (journal : List Entry) (first : ℕ → ℕ) (next : ℕ) (ps : List Pa
         had = subst (λ n. HadValue g n rev b (value_of k.body)) (sym one) had;
       }
 
-      kept : (f b : ℕ) (k : Clean) → (IsBlock f b file block → ⊥) → clean_at f b p.clean ≡ Some k → (x : Bool) → (f == file) ≡ x → IsClean g (put_revision file rev p.revisions) f b k
+      kept : (f b : ℕ) (k : Clean) → (IsBlock f b file block → ⊥) → clean_at f b p.clean ≡ Some k → (x : Bool) → (f == file) ≡ x
+          → IsClean g (put_revision file rev p.revisions) f b k
       kept f b k other is true e =
           let one : f ≡ file = same-number _ _ e in
           let c = h.clean f b k is in
-          same-file f b k one (set.others c.revision.rev b (value_of k.body) (before c.revision (ap (λ n. revision_of n p.revisions) (sym one) ∙ c.known)) (λ same. other (record { file_same = one; block_same = same })) (subst (λ n. HadValue g n c.revision.rev b (value_of k.body)) one c.had))
-      kept f b k other is false e = other-stays p file rev f b k (λ one. absurd (let yes : (f == file) ≡ true = number-same f file one in both_ways _ e yes)) is h
+          same-file f b k one (set.others c.revision.rev b (value_of k.body)
+          (before c.revision (ap (λ n. revision_of n p.revisions) (sym one) ∙ c.known))
+          (λ same. other (record { file_same = one; block_same = same })) (subst (λ n. HadValue g n c.revision.rev b (value_of k.body)) one c.had))
+      kept f b k other is false e =
+          other-stays p file rev f b k (λ one. absurd (let yes : (f == file) ≡ true = number-same f file one in both_ways _ e yes)) is h
 
-      cleans : (f b : ℕ) (k : Clean) → (IsBlock f b file block × (value_of k.body ≡ v)) ⊎ ((IsBlock f b file block → ⊥) × (clean_at f b p.clean ≡ Some k)) → IsClean g (put_revision file rev p.revisions) f b k
-      cleans f b k (inl one) = same-file f b k one.0.file_same (subst (λ n. HadValue g file rev n (value_of k.body)) (sym one.0.block_same) (subst (HadValue g file rev block) (sym one.1) set.value))
+      cleans : (f b : ℕ) (k : Clean) → (IsBlock f b file block × (value_of k.body ≡ v))
+          ⊎ ((IsBlock f b file block → ⊥) × (clean_at f b p.clean ≡ Some k)) → IsClean g (put_revision file rev p.revisions) f b k
+      cleans f b k (inl one) =
+          same-file f b k one.0.file_same
+          (subst (λ n. HadValue g file rev n (value_of k.body)) (sym one.0.block_same) (subst (HadValue g file rev block) (sym one.1) set.value))
       cleans f b k (inr o) = kept f b k o.0 o.1 (f == file) refl
 
   -- a block of the known revision is cached
-  pub caches : (p : Part) (file block v : ℕ) (r : Revision) (clean : List Clean) → p.ticket ≡ None → revision_of file p.revisions ≡ Some r → HadValue (history_in journal first next p.entries) file r.rev block v → ((f b : ℕ) (k : Clean) → clean_at f b clean ≡ Some k → (IsBlock f b file block × (value_of k.body ≡ v)) ⊎ ((IsBlock f b file block → ⊥) × (clean_at f b p.clean ≡ Some k))) → MidOf p → MidOf (record p { clean = clean })
+  pub caches : (p : Part) (file block v : ℕ) (r : Revision) (clean : List Clean) → p.ticket ≡ None → revision_of file p.revisions ≡ Some r
+      → HadValue (history_in journal first next p.entries) file r.rev block v
+      → ((f b : ℕ) (k : Clean) → clean_at f b clean ≡ Some k
+      → (IsBlock f b file block × (value_of k.body ≡ v)) ⊎ ((IsBlock f b file block → ⊥) × (clean_at f b p.clean ≡ Some k))) → MidOf p
+      → MidOf (record p { clean = clean })
   caches p file block v r clean free was had old h = record {
     known = h.known;
     clean = λ f b k is. case f b k (old f b k is);
@@ -443,10 +508,14 @@ module _ (journal : List Entry) (first : ℕ → ℕ) (next : ℕ) (ps : List Pa
     counted = h.counted;
     pushes = h.pushes;
   } where
-    case : (f b : ℕ) (k : Clean) → (IsBlock f b file block × (value_of k.body ≡ v)) ⊎ ((IsBlock f b file block → ⊥) × (clean_at f b p.clean ≡ Some k)) → IsClean (history_in journal first next p.entries) p.revisions f b k
+    case : (f b : ℕ) (k : Clean) → (IsBlock f b file block × (value_of k.body ≡ v)) ⊎ ((IsBlock f b file block → ⊥) × (clean_at f b p.clean ≡ Some k))
+        → IsClean (history_in journal first next p.entries) p.revisions f b k
     case f b k (inl one) = record {
       revision = r;
       known = ap (λ n. revision_of n p.revisions) one.0.file_same ∙ was;
-      had = subst (λ n. HadValue (history_in journal first next p.entries) n r.rev b (value_of k.body)) (sym one.0.file_same) (subst (λ n. HadValue (history_in journal first next p.entries) file r.rev n (value_of k.body)) (sym one.0.block_same) (subst (HadValue (history_in journal first next p.entries) file r.rev block) (sym one.1) had));
+      had =
+          subst (λ n. HadValue (history_in journal first next p.entries) n r.rev b (value_of k.body)) (sym one.0.file_same)
+          (subst (λ n. HadValue (history_in journal first next p.entries) file r.rev n (value_of k.body)) (sym one.0.block_same)
+          (subst (HadValue (history_in journal first next p.entries) file r.rev block) (sym one.1) had));
     }
     case f b k (inr o) = h.clean f b k o.1

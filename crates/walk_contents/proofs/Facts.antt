@@ -27,15 +27,20 @@ pub record History : Type 0 where
 pub record Follows (h g : History) : Type 0 where
   pub ids : h.next ≤ g.next
   pub counts : (file : ℕ) → changes_of h.journal file ≤ changes_of g.journal file
-  pub contents : (file rev : ℕ) → file < h.next → rev ≤ changes_of h.journal file → content_at g.journal (g.first file) file rev ≡ content_at h.journal (h.first file) file rev
-  pub delayed : (who : Who) (file block number v : ℕ) → delayed_value h.journal who file block number ≡ Some v → delayed_value g.journal who file block number ≡ Some v
+  pub contents : (file rev : ℕ) → file < h.next → rev ≤ changes_of h.journal file
+      → content_at g.journal (g.first file) file rev ≡ content_at h.journal (h.first file) file rev
+  pub delayed : (who : Who) (file block number v : ℕ) → delayed_value h.journal who file block number ≡ Some v
+      → delayed_value g.journal who file block number ≡ Some v
   pub changed : (file rev : ℕ) (c : Entry) → change_at h.journal file rev ≡ Some c → change_at g.journal file rev ≡ Some c
 
-pub follows : (h : History) (es : List Entry) (first : ℕ → ℕ) (next : ℕ) → h.next ≤ next → ((id : ℕ) → id < h.next → first id ≡ h.first id) → Follows h (record { journal = es ++ h.journal; first = first; next = next })
+pub follows : (h : History) (es : List Entry) (first : ℕ → ℕ) (next : ℕ) → h.next ≤ next → ((id : ℕ) → id < h.next → first id ≡ h.first id)
+    → Follows h (record { journal = es ++ h.journal; first = first; next = next })
 follows h es first next more same = record {
   ids = more;
   counts = λ file. count-more es h.journal file;
-  contents = λ file rev drawn reached. ap (λ n. content_at (es ++ h.journal) n file rev) (same file drawn) ∙ content-more es h.journal (h.first file) file rev reached;
+  contents =
+      λ file rev drawn reached. ap (λ n. content_at (es ++ h.journal) n file rev) (same file drawn)
+      ∙ content-more es h.journal (h.first file) file rev reached;
   delayed = λ who file block number v. delayed-more es h.journal who file block number v;
   changed = λ file rev c. change-more es h.journal file rev c;
 }
@@ -58,7 +63,8 @@ value-follows file rev block v f k =
       had = record { reached = omega arith; has = ap (λ values. slice_get values block) (f.contents file rev k.drawn k.had.reached) ∙ k.had.has };
     }
 
-pub value-before : {h g : History} (file rev block v : ℕ) → Follows h g → file < h.next → rev ≤ changes_of h.journal file → HadValue g file rev block v → HadValue h file rev block v
+pub value-before : {h g : History} (file rev block v : ℕ) → Follows h g → file < h.next → rev ≤ changes_of h.journal file → HadValue g file rev block v
+    → HadValue h file rev block v
 value-before file rev block v f drawn reached k = record {
   drawn = drawn;
   had = record { reached = reached; has = ap (λ values. slice_get values block) (sym (f.contents file rev drawn reached)) ∙ k.had.has };
@@ -97,7 +103,8 @@ IsOverBase None rev = Unit {0}
 IsOverBase (Some push) rev = rev ≡ push.base + 1
 
 abbrev pub Tells : History → Request → Reply → Type 0
-Tells h (Request.Read who q file block want) (Reply.Read inc rev body grant) = HadValue h file rev block (value_of body) × GrantTells h file grant × GrantIsOf rev grant
+Tells h (Request.Read who q file block want) (Reply.Read inc rev body grant) =
+    HadValue h file rev block (value_of body) × GrantTells h file grant × GrantIsOf rev grant
 Tells h (Request.GetLease who file want) (Reply.GetLease inc grant) = GrantTells h file grant
 Tells h (Request.Write who seq file block f l push body) (Reply.Write inc rev) = SetsBlock h file rev block (value_of body) × IsOverBase push rev
 Tells h (Request.Resize who seq q file blocks) (Reply.Resize inc rev) = HadLength h file rev blocks
@@ -108,7 +115,8 @@ grant-follows file None f k = k
 grant-follows file (Some x) f k = length-follows file x.rev x.blocks f k
 
 pub tells-follows : {h g : History} (r : Request) (a : Reply) → Follows h g → Tells h r a → Tells g r a
-tells-follows (Request.Read who q file block want) (Reply.Read inc rev body grant) f k = (value-follows file rev block (value_of body) f k.0, grant-follows file grant f k.1, k.2)
+tells-follows (Request.Read who q file block want) (Reply.Read inc rev body grant) f k =
+    (value-follows file rev block (value_of body) f k.0, grant-follows file grant f k.1, k.2)
 tells-follows (Request.GetLease who file want) (Reply.GetLease inc grant) f k = grant-follows file grant f k
 tells-follows (Request.Write who seq file block n l push body) (Reply.Write inc rev) f k = (sets-follows file rev block (value_of body) f k.0, k.1)
 tells-follows (Request.Resize who seq q file blocks) (Reply.Resize inc rev) f k = length-follows file rev blocks f k
@@ -133,8 +141,14 @@ changed-follows value other f k = tt
 
 change-follows : {h g : History} (value : ℕ) (r : Request) → Follows h g → IsChangeBy h.journal value r → IsChangeBy g.journal value r
 change-follows value (Request.Write who seq file block n l None body) f k = f.changed file value (Entry.W who file block n (value_of body) true) k
-change-follows value (Request.Write who seq file block n l (Some push) body) f k = (k.0, f.delayed who file block l (value_of body) k.1, record { some = k.2.some; change = f.changed file value (Entry.S who file block n l k.2.some) k.2.change })
-change-follows value (Request.Resize who seq q file blocks) f k = record { some = k.some; change = f.changed file value (Entry.Z who q file k.some blocks) k.change }
+change-follows value (Request.Write who seq file block n l (Some push) body) f k = (
+  k.0,
+  f.delayed who file block l (value_of body) k.1,
+  record
+      { some = k.2.some; change = f.changed file value (Entry.S who file block n l k.2.some) k.2.change },
+)
+change-follows value (Request.Resize who seq q file blocks) f k =
+    record { some = k.some; change = f.changed file value (Entry.Z who q file k.some blocks) k.change }
 change-follows value other f k = tt
 
 pub done-follows : {h g : History} (value : ℕ) (r : Request) → Follows h g → IsDone h value r → IsDone g value r
@@ -157,9 +171,22 @@ pub record IsLast (h : History) (ps : List Packet) (host : ℕ) (line : HostRow)
 abbrev pub LineTells : History → List Packet → (host : ℕ) → HostRow → Type 0
 LineTells h ps host line = (line.seq ≡ 0) ⊎ IsLast h ps host line
 
-pub line-follows : {h g : History} (ps qs : List Packet) (host : ℕ) (line : HostRow) → Follows h g → ((xid : ℕ) (r : Request) → Asked ps host xid r → Asked qs host xid r) → LineTells h ps host line → LineTells g qs host line
+pub line-follows : {h g : History} (ps qs : List Packet) (host : ℕ) (line : HostRow) → Follows h g
+    → ((xid : ℕ) (r : Request) → Asked ps host xid r → Asked qs host xid r) → LineTells h ps host line → LineTells g qs host line
 line-follows ps qs host line f more (inl none) = inl none
-line-follows ps qs host line f more (inr k) = inr (record { xid = k.xid; asks = k.asks; who = k.who; sent = more k.xid k.asks k.sent; by = k.by; home = k.home; inc = k.inc; sequence = k.sequence; done = λ d. done-follows line.value k.asks f (k.done d) })
+line-follows ps qs host line f more (inr k) =
+    inr
+    (record {
+      xid = k.xid;
+      asks = k.asks;
+      who = k.who;
+      sent = more k.xid k.asks k.sent;
+      by = k.by;
+      home = k.home;
+      inc = k.inc;
+      sequence = k.sequence;
+      done = λ d. done-follows line.value k.asks f (k.done d);
+    })
 
 -- ---- kept files
 

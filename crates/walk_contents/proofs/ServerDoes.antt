@@ -36,7 +36,8 @@ get-mapped f (y ∷ xs) (suc i) x h = get-mapped f xs i x h
 
 -- ---- what a kept file tells
 
-pub file-value : {h : History} (id : ℕ) (f : File) (block : ℕ) (body : List ℕ) → IsFile h id f → slice_get f.bodies block ≡ Some body → HadValue h id f.rev block (value_of body)
+pub file-value : {h : History} (id : ℕ) (f : File) (block : ℕ) (body : List ℕ) → IsFile h id f → slice_get f.bodies block ≡ Some body
+    → HadValue h id f.rev block (value_of body)
 file-value id f block body k there =
     let rev = k.revision in
     record {
@@ -53,26 +54,33 @@ file-length id f k =
     }
 
 -- the file is written by this entry
-module _ (h : History) (e : Entry) (after : ℕ → ℕ) (same : (id : ℕ) → id < h.next → after id ≡ h.first id) (f : File) (fits : IsFile h f.id f) (only : ChangesOnly e f.id) where
+module _ (h : History) (e : Entry) (after : ℕ → ℕ) (same : (id : ℕ) → id < h.next → after id ≡ h.first id) (f : File) (fits : IsFile h f.id f)
+    (only : ChangesOnly e f.id) where
   abbrev pub next_history : History
   next_history = record { journal = e ∷ h.journal; first = after; next = h.next }
 
-  pub content-written : content_at (e ∷ h.journal) (after f.id) f.id (f.rev + 1) ≡ after_change e h.journal (content_at h.journal (after f.id) f.id (changes_of h.journal f.id))
+  pub content-written : content_at (e ∷ h.journal) (after f.id) f.id (f.rev + 1) ≡ after_change e h.journal
+      (content_at h.journal (after f.id) f.id (changes_of h.journal f.id))
   content-written = ap (λ n. content_at (e ∷ h.journal) (after f.id) f.id (n + 1)) fits.revision ∙ content-changed e h.journal (after f.id) f.id only.this
 
   pub values-before : content_at h.journal (after f.id) f.id (changes_of h.journal f.id) ≡ map value_of f.bodies
-  values-before = ap (λ n. content_at h.journal n f.id (changes_of h.journal f.id)) (same f.id fits.drawn) ∙ ap (content_at h.journal (h.first f.id) f.id) (sym fits.revision) ∙ sym fits.content
+  values-before =
+      ap (λ n. content_at h.journal n f.id (changes_of h.journal f.id)) (same f.id fits.drawn)
+      ∙ ap (content_at h.journal (h.first f.id) f.id) (sym fits.revision) ∙ sym fits.content
 
   pub reached-now : f.rev + 1 ≤ changes_of (e ∷ h.journal) f.id
   reached-now = let a = count-changed e h.journal f.id only.this in let b = fits.revision in omega arith
 
-  pub sets-block : (block v : ℕ) → ((values : List ℕ) → after_change e h.journal values ≡ slice_set values block v) → block < blocks_of f → SetsBlock next_history f.id (f.rev + 1) block v
+  pub sets-block : (block v : ℕ) → ((values : List ℕ) → after_change e h.journal values ≡ slice_set values block v) → block < blocks_of f
+      → SetsBlock next_history f.id (f.rev + 1) block v
   sets-block block v sets below = record {
     value = record {
       drawn = fits.drawn;
       had = record {
         reached = reached-now;
-        has = ap (λ values. slice_get values block) (content-written ∙ sets _) ∙ get-set-there _ block v (let size = ap (λ values. length values) values-before ∙ length-map f.bodies value_of in omega arith);
+        has =
+            ap (λ values. slice_get values block) (content-written ∙ sets _)
+            ∙ get-set-there _ block v (let size = ap (λ values. length values) values-before ∙ length-map f.bodies value_of in omega arith);
       };
     };
     others = λ old other w next apart had. record {
@@ -82,7 +90,8 @@ module _ (h : History) (e : Entry) (after : ℕ → ℕ) (same : (id : ℕ) → 
         has =
             ap (λ values. slice_get values other) (content-written ∙ sets _)
             ∙ get-set-other _ block other v apart
-            ∙ ap (λ n. slice_get (content_at h.journal (after f.id) f.id n) other) (let rev = fits.revision in let one : changes_of h.journal f.id ≡ old = omega arith in one)
+            ∙ ap (λ n. slice_get (content_at h.journal (after f.id) f.id n) other)
+            (let rev = fits.revision in let one : changes_of h.journal f.id ≡ old = omega arith in one)
             ∙ ap (λ values. slice_get values other) (sym (content-stays e h.journal (after f.id) f.id old (let rev = fits.revision in omega arith)))
             ∙ had.had.has;
       };
@@ -92,7 +101,8 @@ module _ (h : History) (e : Entry) (after : ℕ → ℕ) (same : (id : ℕ) → 
   pub is-change : change_at (e ∷ h.journal) f.id (f.rev + 1) ≡ Some e
   is-change = ap (λ n. change_at (e ∷ h.journal) f.id (n + 1)) fits.revision ∙ change-changed e h.journal f.id only.this
 
-  pub sets-length : (blocks : ℕ) → ((values : List ℕ) → after_change e h.journal values ≡ with_length blocks values) → HadLength next_history f.id (f.rev + 1) blocks
+  pub sets-length : (blocks : ℕ) → ((values : List ℕ) → after_change e h.journal values ≡ with_length blocks values)
+      → HadLength next_history f.id (f.rev + 1) blocks
   sets-length blocks sets = record {
     drawn = fits.drawn;
     had = record {
@@ -101,7 +111,8 @@ module _ (h : History) (e : Entry) (after : ℕ → ℕ) (same : (id : ℕ) → 
     };
   } where
     lengthened : (values : List ℕ) → length (with_length blocks values) ≡ blocks
-    lengthened values = omega (arith, length-take blocks (values ++ replicate blocks 0), length-append values (replicate blocks 0), length-replicate {A = ℕ} blocks 0)
+    lengthened values =
+        omega (arith, length-take blocks (values ++ replicate blocks 0), length-append values (replicate blocks 0), length-replicate {A = ℕ} blocks 0)
 
 -- ---- what a step shows
 
@@ -137,7 +148,8 @@ refused-tells g (Request.Resize w seq q file blocks) inc status = tt
 refused-tells g other inc status = tt
 
 -- the reply that a verdict gives
-pub verdict-tells : (g : History) (inc : ℕ) (v : Verdict) (value : ℕ) (r : Request) → (v ≡ Verdict.Done → IsDone g value r) → Tells g r (verdict_reply inc v value r)
+pub verdict-tells : (g : History) (inc : ℕ) (v : Verdict) (value : ℕ) (r : Request) → (v ≡ Verdict.Done → IsDone g value r)
+    → Tells g r (verdict_reply inc v value r)
 verdict-tells g inc Verdict.Done value (Request.Create w seq name blocks) done = tt
 verdict-tells g inc Verdict.Done value (Request.Write w seq file block first last None body) done = ((done refl).changed, tt)
 verdict-tells g inc Verdict.Done value (Request.Write w seq file block first last (Some push) body) done = ((done refl).changed, (done refl).change.0)

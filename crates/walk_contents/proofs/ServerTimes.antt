@@ -36,16 +36,24 @@ module _ (journal : List Entry) (first after : ℕ → ℕ) (ps : List Packet) (
   ShowsIf t = IsFirst first after s.kept.next t.server.kept.files → Shows journal first after ps s t
 
   -- a step that says nothing and changes no file
-  silent : (t : ServerStep) → t.sends ≡ [] → NoChanges t.entries → t.server.kept.files ≡ s.kept.files → t.server.kept.next ≡ s.kept.next → ((host : ℕ) → host_row t.server.kept host ≡ host_row s.kept host) → ShowsIf t
+  silent : (t : ServerStep) → t.sends ≡ [] → NoChanges t.entries → t.server.kept.files ≡ s.kept.files → t.server.kept.next ≡ s.kept.next
+      → ((host : ℕ) → host_row t.server.kept host ≡ host_row s.kept host) → ShowsIf t
   silent t none idle files ids lines is =
       let g : History = record { journal = t.entries ++ journal; first = after; next = s.kept.next } in
       let follow : Follows before g = follows before t.entries after s.kept.next (omega arith) is.same in
       record {
         follow = subst (λ n. Follows before (record { journal = t.entries ++ journal; first = after; next = n })) (sym ids) follow;
-        files = subst (λ fs. FilesFit (history_after journal after t) fs) (sym files) (subst (λ n. FilesFit (record { journal = t.entries ++ journal; first = after; next = n }) s.kept.files) (sym ids) (files-idle before t.entries after idle is.same s.kept.files h.files));
-        unused = subst (λ n. UnusedFit (record { journal = t.entries ++ journal; first = after; next = n })) (sym ids) (unused-idle before t.entries after s.kept.next idle (omega arith) h.unused);
+        files =
+            subst (λ fs. FilesFit (history_after journal after t) fs) (sym files)
+            (subst (λ n. FilesFit (record { journal = t.entries ++ journal; first = after; next = n }) s.kept.files) (sym ids)
+            (files-idle before t.entries after idle is.same s.kept.files h.files));
+        unused =
+            subst (λ n. UnusedFit (record { journal = t.entries ++ journal; first = after; next = n })) (sym ids)
+            (unused-idle before t.entries after s.kept.next idle (omega arith) h.unused);
         replies = λ host xid a i. absurd (subst (λ ps. In ps (to_host host (reply xid a))) none i);
-        lines = λ host. subst (λ n. LineTells (record { journal = t.entries ++ journal; first = after; next = n }) ps host (host_row t.server.kept host)) (sym ids) (subst (LineTells g ps host) (sym (lines host)) (line-follows ps ps host (host_row s.kept host) follow (λ x r a. a) (h.lines host)));
+        lines =
+            λ host. subst (λ n. LineTells (record { journal = t.entries ++ journal; first = after; next = n }) ps host (host_row t.server.kept host))
+            (sym ids) (subst (LineTells g ps host) (sym (lines host)) (line-follows ps ps host (host_row s.kept host) follow (λ x r a. a) (h.lines host)));
       }
 
   waits : (now : ℕ) → ShowsIf (quiet (at_time s now))
@@ -64,7 +72,8 @@ module _ (journal : List Entry) (first after : ℕ → ℕ) (ps : List Packet) (
   only-fenced row now = record { this = number-same row.file row.file refl; others = λ other apart. grind (arith, nat_tests) }
 
   -- a writing row ends, and its file is fenced
-  ends-writing : (now : ℕ) (rows : List Row) (row : Row) (o : Option File) → find_file row.file s.kept.files ≡ o → is_some o ≡ true → ShowsIf (ends_writing (at_time s now) rows row)
+  ends-writing : (now : ℕ) (rows : List Row) (row : Row) (o : Option File) → find_file row.file s.kept.files ≡ o → is_some o ≡ true
+      → ShowsIf (ends_writing (at_time s now) rows row)
   unfolding ends_writing at_time keeping_with with_files fenced_file
   ends-writing now rows row None found kept is = absurd (cc)
   ends-writing now rows row (Some f) found kept is =
@@ -73,20 +82,29 @@ module _ (journal : List Entry) (first after : ℕ → ℕ) (ps : List Packet) (
       let there : find_file f.id s.kept.files ≡ Some f = ap (λ n. find_file n s.kept.files) id ∙ found in
       let only : ChangesOnly e f.id = subst (λ n. ChangesOnly e n) (sym id) (only-fenced row now) in
       let fenced : fence s.kept (find_file row.file s.kept.files) ≡ with_files s.kept (replace_file (fenced_file f) s.kept.files) = ap (fence s.kept) found in
-      let follow : Follows before (record { journal = e ∷ journal; first = after; next = s.kept.next }) = follows before (e ∷ []) after s.kept.next (omega arith) is.same in
+      let follow : Follows before (record { journal = e ∷ journal; first = after; next = s.kept.next }) = follows before (e ∷ []) after s.kept.next
+      (omega arith) is.same in
       record {
         follow = subst (λ k. Follows before (record { journal = e ∷ journal; first = after; next = k.next })) (sym fenced) follow;
-        files = subst (λ k. FilesFit (record { journal = e ∷ journal; first = after; next = k.next }) k.files) (sym fenced) (files-changed before e after is.same s.kept.files f (fenced_file f) there refl only refl refl h.files);
-        unused = subst (λ k. UnusedFit (record { journal = e ∷ journal; first = after; next = k.next })) (sym fenced) (unused-changed before e f.id after only (h.files f.id f there).drawn h.unused);
+        files =
+            subst (λ k. FilesFit (record { journal = e ∷ journal; first = after; next = k.next }) k.files) (sym fenced)
+            (files-changed before e after is.same s.kept.files f (fenced_file f) there refl only refl refl h.files);
+        unused =
+            subst (λ k. UnusedFit (record { journal = e ∷ journal; first = after; next = k.next })) (sym fenced)
+            (unused-changed before e f.id after only (h.files f.id f there).drawn h.unused);
         replies = λ host xid a bad. absurd bad;
-        lines = λ host. subst (λ k. LineTells (record { journal = e ∷ journal; first = after; next = k.next }) ps host (host_row k host)) (sym fenced) (line-follows ps ps host (host_row s.kept host) follow (λ x r a. a) (h.lines host));
+        lines =
+            λ host. subst (λ k. LineTells (record { journal = e ∷ journal; first = after; next = k.next }) ps host (host_row k host)) (sym fenced)
+            (line-follows ps ps host (host_row s.kept host) follow (λ x r a. a) (h.lines host));
       }
 
   -- a row of a table that stands is of a kept file
-  row-kept : (now : ℕ) (row : Row) → s.phase ≡ serving → StandingFitsOf s → find (is_due now) (end_reading now s.table.rows) ≡ Some row → is_some (find_file row.file s.kept.files) ≡ true
+  row-kept : (now : ℕ) (row : Row) → s.phase ≡ serving → StandingFitsOf s → find (is_due now) (end_reading now s.table.rows) ≡ Some row
+      → is_some (find_file row.file s.kept.files) ≡ true
   row-kept now row p stands due =
       let own : TableFits s.kept.files s.table.boot s.table.drawn s.table.rows = subst (λ p. StandingFits s.kept.files p s.table) p stands in
-      let there : find_row row.file row.who.host (end_reading now s.table.rows) ≡ Some row = found-any (is_due now) (end_reading now s.table.rows) row (unique-filtered (λ r. not (is_over now r)) s.table.rows own.unique) due in
+      let there : find_row row.file row.who.host (end_reading now s.table.rows) ≡ Some row = found-any (is_due now) (end_reading now s.table.rows) row
+      (unique-filtered (λ r. not (is_over now r)) s.table.rows own.unique) due in
       (own.fits row.file row.who.host row (found-kept (λ r. not (is_over now r)) row.file row.who.host s.table.rows row own.unique there).0).kept
 
   pub ticks : (now : ℕ) → StandingFitsOf s → ShowsIf (tick s now)
@@ -97,7 +115,9 @@ module _ (journal : List Entry) (first after : ℕ → ℕ) (ps : List Packet) (
     ending_writing = λ row p due. ends-writing now _ row (find_file row.file s.kept.files) refl (row-kept now row p stands due);
   })
 
-  booted-same : (longest : ℕ) (b : Bool) → (s.kept.opened == 0) ≡ b → ((booted s.kept longest).files ≡ s.kept.files) × ((booted s.kept longest).next ≡ s.kept.next) × ((host : ℕ) → host_row (booted s.kept longest) host ≡ host_row s.kept host)
+  booted-same : (longest : ℕ) (b : Bool) → (s.kept.opened == 0) ≡ b
+      → ((booted s.kept longest).files ≡ s.kept.files) × ((booted s.kept longest).next ≡ s.kept.next)
+      × ((host : ℕ) → host_row (booted s.kept longest) host ≡ host_row s.kept host)
   booted-same longest true e = rw e (refl, refl, λ host. refl)
   booted-same longest false e = rw e (refl, refl, λ host. refl)
 

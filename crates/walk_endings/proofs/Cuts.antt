@@ -6,7 +6,7 @@ use Rattle.nq_base.specs.declared.Who.{Who}
 use Rattle.nq_model.proofs.Endings.{EndsIn, ends-first}
 use Rattle.nq_model.specs.CutOff.{Ends, IsCutOff, IsExcused}
 use Rattle.nq_model.specs.Hear.{loss_entry}
-use Rattle.nq_model.specs.Journal.{Exists, AtEachPlace, IsWithin, Loses}
+use Rattle.nq_model.specs.Journal.{Each, Exists, AtEachPlace, IsWithin, Loses}
 use Rattle.walk_run.proofs.Packets.{In}
 
 -- an entry is no delayed write, and no loss
@@ -16,8 +16,7 @@ IsPlain (Entry.L who file block first last) = ⊥
 IsPlain other = Unit {0}
 
 abbrev pub ArePlain : List Entry → Type 0
-ArePlain [] = Unit {0}
-ArePlain (e ∷ entries) = IsPlain e × ArePlain entries
+ArePlain entries = Each IsPlain entries
 
 -- a delayed write or a loss is of an incarnation
 abbrev pub IsOf : Who → Entry → Type 0
@@ -43,10 +42,12 @@ IsExcusedIn journal who p = EndsIn (loss_entry who p) who p.file journal
 -- and they stay so after plain entries
 pub excused-more : (who : Who) (p : Push) (more journal : List Entry) → ArePlain more → IsExcusedIn journal who p → IsExcusedIn (more ++ journal) who p
 excused-more who p [] journal plain h = h
-excused-more who p (e ∷ more) journal plain h = inr (λ within. plain-outside who p.file p.block p.first p.last e plain.0 within, excused-more who p more journal plain.1 h)
+excused-more who p (e ∷ more) journal plain h =
+    inr (λ within. plain-outside who p.file p.block p.first p.last e plain.0 within, excused-more who p more journal plain.1 h)
 
 -- and after an entry that is not among them
-pub excused-past : (who : Who) (p : Push) (e : Entry) (journal : List Entry) → (IsWithin who p.file p.block p.first p.last e → ⊥) → IsExcusedIn journal who p → IsExcusedIn (e ∷ journal) who p
+pub excused-past : (who : Who) (p : Push) (e : Entry) (journal : List Entry) → (IsWithin who p.file p.block p.first p.last e → ⊥)
+    → IsExcusedIn journal who p → IsExcusedIn (e ∷ journal) who p
 excused-past who p e journal apart h = inr (apart, h)
 
 -- they are excused by an entry that ends the lease now
@@ -102,7 +103,8 @@ cut-off : (after : List Entry) (e : Entry) (before : List Entry) → EndsBefore 
 cut-off after (Entry.L who file block first last) before ends none = (ends-first (Entry.L who file block first last) who file before ends, none)
 cut-off after other before ends none = tt
 
-at-each-place : (after journal : List Entry) → AreCut journal → ((loss : Entry) → In journal loss → Exists (Loses loss) after → ⊥) → AtEachPlace IsCutOff after journal
+at-each-place : (after journal : List Entry) → AreCut journal → ((loss : Entry) → In journal loss → Exists (Loses loss) after → ⊥)
+    → AtEachPlace IsCutOff after journal
 at-each-place after [] h none = tt
 at-each-place after (e ∷ journal) h none = (
   cut-off after e journal h.0 (none e (inl refl)),

@@ -49,7 +49,10 @@ module _ (s : Server) (journal : List Entry) where
   call-keeps c op h = call-cases c op Mid (record {
     busy = λ why. busy (begins_call c op) (begins c op h);
     telling = λ file loss losses none on changes has. named s journal (begins_call c op) (begins_call c op).client.calls file (begins c op h);
-    going = λ none on no_loss. let t : ClientStep = settle (is_called (begins_call c op) op) in let k : Mid t = settled s journal (is_called (begins_call c op) op) (called (begins_call c op) op (begins c op h)) in unless-cached-cases t Mid (λ from_cache. k) (λ other. sent-next s journal false t k);
+    going =
+        λ none on no_loss. let t : ClientStep = settle (is_called (begins_call c op) op) in
+        let k : Mid t = settled s journal (is_called (begins_call c op) op) (called (begins_call c op) op (begins c op h)) in
+        unless-cached-cases t Mid (λ from_cache. k) (λ other. sent-next s journal false t k);
   })
 
   -- ---- a tick
@@ -57,7 +60,8 @@ module _ (s : Server) (journal : List Entry) where
   sent-again : (t : ClientStep) (ticket : Ticket) → t.client.ticket ≡ Some ticket → Mid t → Mid (sends_again t ticket)
   unfolding sends_again
   sent-again t ticket is h =
-      fewer s t.client.who t.client.now journal (view_of t) _ t.client.seq t.client.number t.client.dirty t.client.push (λ p waits. waits) (omega arith) (omega arith)
+      fewer s t.client.who t.client.now journal (view_of t) _ t.client.seq t.client.number t.client.dirty t.client.push (λ p waits. waits) (omega arith)
+      (omega arith)
       (λ u n same seq. inr (ticket, is, ap (λ k. k.request) (some-same _ u same))) h
 
   lets-before : (now later : ℕ) (l : Lease) → now ≤ later → lets_write later l ≡ true → lets_write now l ≡ true
@@ -103,19 +107,26 @@ module _ (s : Server) (journal : List Entry) where
   -- what is known of a reply that is heard: of its grant, and of the push that it refuses
   pub record HearsFit (c : Client) (ticket : Ticket) (r : Reply) : Type 0 where
     pub takes : (file : ℕ) (g : Grant) → requested_file ticket.request ≡ Some file → grant_in r ≡ Some g → TakesFit s c file g ticket.first
-    pub unbound : (p : Push) (inc : ℕ) (status : Refusal) → push_in ticket.request ≡ Some p → r ≡ Reply.Refused inc status → is_put_off status ≡ false → IsHeldBound s c.who c.leases p.file → ⊥
+    pub unbound : (p : Push) (inc : ℕ) (status : Refusal) → push_in ticket.request ≡ Some p → r ≡ Reply.Refused inc status → is_put_off status ≡ false
+        → IsHeldBound s c.who c.leases p.file → ⊥
 
   -- a datagram keeps it
-  pub hear-keeps : (c : Client) (number : ℕ) (m : Message) (t : ClientStep) → hear c number m ≡ Some t → ((ticket : Ticket) → c.ticket ≡ Some ticket → fits_job ticket.job ticket.request ≡ true) → ((xid : ℕ) (r : Reply) (ticket : Ticket) → m ≡ reply xid r → c.ticket ≡ Some ticket → xid ≡ ticket.xid → inc_of r ≡ c.who.inc → reply_counts r ticket ≡ true → HearsFit c ticket r) → Mid (begun c) → Mid t
+  pub hear-keeps : (c : Client) (number : ℕ) (m : Message) (t : ClientStep) → hear c number m ≡ Some t
+      → ((ticket : Ticket) → c.ticket ≡ Some ticket → fits_job ticket.job ticket.request ≡ true)
+      → ((xid : ℕ) (r : Reply) (ticket : Ticket) → m ≡ reply xid r → c.ticket ≡ Some ticket → xid ≡ ticket.xid → inc_of r ≡ c.who.inc
+      → reply_counts r ticket ≡ true → HearsFit c ticket r) → Mid (begun c) → Mid t
   hear-keeps c number m t hears fits knows h = heard-cases c number m t Mid hears (record {
-    answered = λ xid r ticket is asked same inc counts. let k = knows xid r ticket is asked same inc counts in went-on (replied (begun c) number ticket r) (reply-keeps s journal c number ticket r k.takes k.unbound h (fits ticket asked) counts);
+    answered =
+        λ xid r ticket is asked same inc counts. let k = knows xid r ticket is asked same inc counts in
+        went-on (replied (begun c) number ticket r) (reply-keeps s journal c number ticket r k.takes k.unbound h (fits ticket asked) counts);
     noticed = λ xid file tag is later. went-on (evicted (cancels (begun c) file) file tag) (notice-keeps s journal c file tag h);
   })
 
   -- ---- a restart
 
   -- the next incarnation has no delayed writes
-  pub restart-keeps : (c : Client) → (host_row s.kept c.who.host).inc ≤ c.who.inc → ((e : Entry) → In journal e → IsPastLoss c.who c.number e) → AreCut journal → Mid (restart c)
+  pub restart-keeps : (c : Client) → (host_row s.kept c.who.host).inc ≤ c.who.inc → ((e : Entry) → In journal e → IsPastLoss c.who c.number e)
+      → AreCut journal → Mid (restart c)
   unfolding starts fresh_client
   restart-keeps c line past cut = record {
     live = λ file l held. none-some l held;

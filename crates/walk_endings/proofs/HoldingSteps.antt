@@ -14,7 +14,6 @@ use Rattle.walk_endings.proofs.Holdings.{view_of, Holding, uses, drops, fewer, n
 use Rattle.walk_endings.proofs.HoldingWrites.{writes}
 use Rattle.walk_endings.proofs.Waiting.{IsWaiting, none-waiting}
 use Rattle.nq_model.specs.Client.{ClientStep, Job, for_call, Lease, UnderWay, is_push_at, is_push_of, drop_dirty, first_dirty, is_clean, lease_on, lets_write}
-use Rattle.nq_model.specs.Kept.{host_row}
 use Rattle.nq_model.specs.Message.{sequence_of}
 use Rattle.nq_model.specs.Send.{sends_request, after_seq, after_number, takes_push, sends_write, gives_up, read_want, want_of, send_next}
 use Rattle.nq_model.specs.Server.{Server}
@@ -44,9 +43,11 @@ module _ (s : Server) (journal : List Entry) where
       let read = notes s t.client.who t.client.now journal _ (Entry.R t.client.who u.q file block (value_of body) None) tt refl used in
       notes s t.client.who t.client.now journal _ (Entry.A t.client.who u.q _) tt refl read
 
-  delayed : (t : ClientStep) (file block : ℕ) (body : List ℕ) (lease : Lease) → lease_on file t.client.leases ≡ Some lease → lets_write t.client.now lease ≡ true → block < lease.blocks → Between t → Between (delays t file block body)
+  delayed : (t : ClientStep) (file block : ℕ) (body : List ℕ) (lease : Lease) → lease_on file t.client.leases ≡ Some lease
+      → lets_write t.client.now lease ≡ true → block < lease.blocks → Between t → Between (delays t file block body)
   unfolding after_write
-  delayed t file block body lease held lets within h = writes s t.client.who t.client.now journal file block (value_of body) body lease (view_of t) held lets within h
+  delayed t file block body lease held lets within h =
+      writes s t.client.who t.client.now journal file block (value_of body) body lease (view_of t) held lets within h
 
   marked : (t : ClientStep) (u : UnderWay) → Between t → Between (marks_written t u)
   unfolding marks_written
@@ -61,8 +62,12 @@ module _ (s : Server) (journal : List Entry) where
     read_waits = λ u file block is read waits. h;
     write_out = λ u sync file block body lease is write can out. answered t u.q Answer.Range None h;
     write_full = λ u sync file block body lease is write can within full. answered t u.q Answer.DirtyFull None h;
-    writing = λ u file block body lease is write can within room. answered (delays t file block body) u.q (Answer.Ok Value.Nothing) None (delayed t file block body lease can.held can.lets within h);
-    putting = λ u file block body lease is write unwritten can within room. marked (delays t file block body) u (delayed t file block body lease can.held can.lets within h);
+    writing =
+        λ u file block body lease is write can within room. answered (delays t file block body) u.q (Answer.Ok Value.Nothing) None
+        (delayed t file block body lease can.held can.lets within h);
+    putting =
+        λ u file block body lease is write unwritten can within room. marked (delays t file block body) u
+        (delayed t file block body lease can.held can.lets within h);
     write_waits = λ u sync file block body is write waits. h;
     syncing = λ u file is sync clean. answered t u.q (Answer.Ok Value.Nothing) None h;
     sync_waits = λ u file is sync dirty. h;
@@ -75,32 +80,37 @@ module _ (s : Server) (journal : List Entry) where
 
   -- ---- the next request
 
-  abbrev Drawn : Server → ClientStep → ℕ → Type 0
-  Drawn s t n = (host_row s.kept t.client.who.host).inc ≡ t.client.who.inc → (host_row s.kept t.client.who.host).seq < n
-
   asked : (t : ClientStep) (job : Job) (request : Request) → sequence_of request ≡ None → Between t → Between (sends_request t job request)
   unfolding sends_request
   asked t job request none h =
-      fewer s t.client.who t.client.now journal (view_of t) _ t.client.seq t.client.number t.client.dirty t.client.push (λ p waits. waits) (omega arith) (omega arith)
+      fewer s t.client.who t.client.now journal (view_of t) _ t.client.seq t.client.number t.client.dirty t.client.push (λ p waits. waits) (omega arith)
+      (omega arith)
       (λ u n is seq. none-some n (sym none ∙ ap (λ k. sequence_of k.request) (some-same _ u is) ∙ seq)) h
 
-  decided : (t : ClientStep) (job : Job) (request : Request) → sequence_of request ≡ Some t.client.seq → Between t → Between (sends_request (after_seq t) job request)
+  decided : (t : ClientStep) (job : Job) (request : Request) → sequence_of request ≡ Some t.client.seq → Between t
+      → Between (sends_request (after_seq t) job request)
   unfolding sends_request after_seq
   decided t job request draws h =
-      fewer s t.client.who t.client.now journal (view_of t) _ (t.client.seq + 1) t.client.number t.client.dirty t.client.push (λ p waits. waits) (omega arith) (omega arith)
-      (λ u n is seq. inl (λ inc. let below = h.drawn inc in let same : t.client.seq ≡ n = some-same t.client.seq n (sym draws ∙ ap (λ k. sequence_of k.request) (some-same _ u is) ∙ seq) in omega arith)) h
+      fewer s t.client.who t.client.now journal (view_of t) _ (t.client.seq + 1) t.client.number t.client.dirty t.client.push (λ p waits. waits)
+      (omega arith) (omega arith)
+      (λ u n is seq. inl (λ inc. let below = h.drawn inc in
+      let same : t.client.seq ≡ n = some-same t.client.seq n (sym draws ∙ ap (λ k. sequence_of k.request) (some-same _ u is) ∙ seq) in omega arith)) h
 
   through : (t : ClientStep) (file block : ℕ) (body : List ℕ) → Between t → Between (sends_write t file block body)
   unfolding sends_request after_number
   through t file block body h =
-      fewer s t.client.who t.client.now journal (view_of t) _ (t.client.seq + 1) (t.client.number + 1) t.client.dirty t.client.push (λ p waits. waits) (omega arith) (omega arith)
-      (λ u n is seq. inl (λ inc. let below = h.drawn inc in let same : t.client.seq ≡ n = some-same t.client.seq n (ap (λ k. sequence_of k.request) (some-same _ u is) ∙ seq) in omega arith)) h
+      fewer s t.client.who t.client.now journal (view_of t) _ (t.client.seq + 1) (t.client.number + 1) t.client.dirty t.client.push (λ p waits. waits)
+      (omega arith) (omega arith)
+      (λ u n is seq. inl (λ inc. let below = h.drawn inc in
+      let same : t.client.seq ≡ n = some-same t.client.seq n (ap (λ k. sequence_of k.request) (some-same _ u is) ∙ seq) in omega arith)) h
 
   pushes : (t : ClientStep) (file : ℕ) (p : Push) → first_dirty file t.client.dirty ≡ Some p → Between t → Between (pushed t p)
   unfolding sends_request after_seq takes_push
   pushes t file p found h =
-      fewer s t.client.who t.client.now journal (view_of t) _ (t.client.seq + 1) t.client.number (drop_dirty p.file p.block t.client.dirty) (Some p) less (omega arith) (omega arith)
-      (λ u n is seq. inl (λ inc. let below = h.drawn inc in let same : t.client.seq ≡ n = some-same t.client.seq n (ap (λ k. sequence_of k.request) (some-same _ u is) ∙ seq) in omega arith)) h
+      fewer s t.client.who t.client.now journal (view_of t) _ (t.client.seq + 1) t.client.number (drop_dirty p.file p.block t.client.dirty) (Some p)
+      less (omega arith) (omega arith)
+      (λ u n is seq. inl (λ inc. let below = h.drawn inc in
+      let same : t.client.seq ≡ n = some-same t.client.seq n (ap (λ k. sequence_of k.request) (some-same _ u is) ∙ seq) in omega arith)) h
     where
       less : (q : Push) → IsWaiting (drop_dirty p.file p.block t.client.dirty) (Some p) q → IsWaiting t.client.dirty t.client.push q
       less q (inl there) = inl (in-filter (λ x. not (is_push_at p.file p.block x)) t.client.dirty q there).0
@@ -108,7 +118,8 @@ module _ (s : Server) (journal : List Entry) where
 
   given-up : (t : ClientStep) (file : ℕ) → is_clean t.client file ≡ true → Between t → Between (gives_up t file)
   unfolding gives_up
-  given-up t file clean h = drops s t.client.who t.client.now journal file (view_of t) (λ p waits on. none-waiting file t.client.dirty t.client.push p clean waits on) h
+  given-up t file clean h =
+      drops s t.client.who t.client.now journal file (view_of t) (λ p waits on. none-waiting file t.client.dirty t.client.push p clean waits on) h
 
   same-seq : (t : ClientStep) (file : ℕ) → (gives_up t file).client.seq ≡ t.client.seq
   unfolding gives_up
@@ -127,9 +138,15 @@ module _ (s : Server) (journal : List Entry) where
     writing = λ u file block body free is shares. through t file block body h;
     leasing = λ u file block body free is may alone. asked t for_call (Request.GetLease t.client.who file (want_of t.client Mode.Writing)) refl h;
     putting = λ u file block body free is unwritten. through t file block body h;
-    resizing = λ u file blocks free is clean. decided (gives_up t file) for_call (Request.Resize t.client.who t.client.seq u.q file blocks) (ap Some (sym (same-seq t file))) (given-up t file clean h);
-    removing = λ u file free is clean. decided (gives_up t file) for_call (Request.Remove t.client.who t.client.seq u.q file) (ap Some (sym (same-seq t file))) (given-up t file clean h);
-    renewing = λ file lease tick none nothing may due held on clean unnoticed. asked t Job.renewing (Request.GetLease t.client.who lease.file (want_of t.client lease.mode)) refl h;
+    resizing =
+        λ u file blocks free is clean. decided (gives_up t file) for_call (Request.Resize t.client.who t.client.seq u.q file blocks)
+        (ap Some (sym (same-seq t file))) (given-up t file clean h);
+    removing =
+        λ u file free is clean. decided (gives_up t file) for_call (Request.Remove t.client.who t.client.seq u.q file) (ap Some (sym (same-seq t file)))
+        (given-up t file clean h);
+    renewing =
+        λ file lease tick none nothing may due held on clean unnoticed. asked t Job.renewing
+        (Request.GetLease t.client.who lease.file (want_of t.client lease.mode)) refl h;
   }
 
   -- the next request keeps it

@@ -10,7 +10,8 @@ use Rattle.nq_model.proofs.ClientLists.{marked-before}
 use Rattle.walk_client.proofs.ClientMoves.{some-same}
 use Rattle.walk_endings.proofs.Cuts.{IsOf, IsExcusedIn, excused-past, AreCut, NoneLoses, cut-loss}
 use Rattle.walk_endings.proofs.Holdings.{View, IsHeldBound, IsPastLoss, Holding, uses, held-used}
-use Rattle.walk_endings.proofs.Waiting.{IsWaiting, in-written, IsWritten, lost-waited, left-waiting, fold-losses}
+use Rattle.walk_endings.proofs.Waiting.{IsWaiting, in-written, IsWritten, lost-waited, left-waiting}
+use Rattle.walk_entries.proofs.Losses.{fold-losses}
 use Rattle.nq_model.specs.Client.{Lease, is_push_of, lease_on, marked_used, used_lease, dirty_at, other_dirty, lets_write}
 use Rattle.nq_model.specs.Hear.{push_of, other_push, loss_entry}
 use Rattle.nq_model.specs.Journal.{Loses, Each}
@@ -32,7 +33,8 @@ module _ (s : Server) (who : Who) (now : ℕ) (journal : List Entry) where
   }
 
   -- a write is delayed under a lease that lets it
-  pub writes : (file block value : ℕ) (body : List ℕ) (lease : Lease) (v : View) → lease_on file v.leases ≡ Some lease → lets_write now lease ≡ true → block < lease.blocks → Holding s who now journal v → Holding s who now journal (written v file block value body)
+  pub writes : (file block value : ℕ) (body : List ℕ) (lease : Lease) (v : View) → lease_on file v.leases ≡ Some lease → lets_write now lease ≡ true
+      → block < lease.blocks → Holding s who now journal v → Holding s who now journal (written v file block value body)
   writes file block value body lease v held lets within h = record {
     live = u.live;
     waiting = λ p waits. by p (old p waits) (p.file == file) refl;
@@ -51,7 +53,8 @@ module _ (s : Server) (who : Who) (now : ℕ) (journal : List Entry) where
     bound : IsHeldBound s who (used_lease file v.leases) file
     bound = held-used file file v.leases (record { lease = lease; held = held; writes = (and_parts _ _ lets).0; bound = h.live file lease held lets })
 
-    old : (p : Push) → IsWaiting (with_write file block v.number body v.dirty (dirty_at file block v.dirty)) v.push p → ((p.file ≡ file) × (p.block ≡ block) × (p.last ≡ v.number)) ⊎ IsWaiting v.dirty v.push p
+    old : (p : Push) → IsWaiting (with_write file block v.number body v.dirty (dirty_at file block v.dirty)) v.push p
+        → ((p.file ≡ file) × (p.block ≡ block) × (p.last ≡ v.number)) ⊎ IsWaiting v.dirty v.push p
     old p (inr under) = inr (inr under)
     old p (inl there) = case (in-written file block v.number body v.dirty (dirty_at file block v.dirty) p there)
       where
@@ -62,19 +65,23 @@ module _ (s : Server) (who : Who) (now : ℕ) (journal : List Entry) where
     write : Entry
     write = Entry.W who file block v.number value false
 
-    apart-more : (p : Push) → p.file ≢ file → IsHeldBound s who (used_lease file v.leases) p.file ⊎ IsExcusedIn (v.entries ++ journal) who p → IsHeldBound s who (used_lease file v.leases) p.file ⊎ IsExcusedIn (write ∷ v.entries ++ journal) who p
+    apart-more : (p : Push) → p.file ≢ file → IsHeldBound s who (used_lease file v.leases) p.file ⊎ IsExcusedIn (v.entries ++ journal) who p
+        → IsHeldBound s who (used_lease file v.leases) p.file ⊎ IsExcusedIn (write ∷ v.entries ++ journal) who p
     apart-more p apart (inl b) = inl b
     apart-more p apart (inr excused) = inr (excused-past who p write (v.entries ++ journal) (λ in_range. apart (sym in_range.1)) excused)
 
-    other : (p : Push) → p.file ≢ file → ((p.file ≡ file) × (p.block ≡ block) × (p.last ≡ v.number)) ⊎ IsWaiting v.dirty v.push p → IsHeldBound s who (used_lease file v.leases) p.file ⊎ IsExcusedIn (write ∷ v.entries ++ journal) who p
+    other : (p : Push) → p.file ≢ file → ((p.file ≡ file) × (p.block ≡ block) × (p.last ≡ v.number)) ⊎ IsWaiting v.dirty v.push p
+        → IsHeldBound s who (used_lease file v.leases) p.file ⊎ IsExcusedIn (write ∷ v.entries ++ journal) who p
     other p apart (inl new) = absurd (apart new.0)
     other p apart (inr before) = apart-more p apart (u.waiting p before)
 
-    by : (p : Push) → ((p.file ≡ file) × (p.block ≡ block) × (p.last ≡ v.number)) ⊎ IsWaiting v.dirty v.push p → (b : Bool) → (p.file == file) ≡ b → IsHeldBound s who (used_lease file v.leases) p.file ⊎ IsExcusedIn (write ∷ v.entries ++ journal) who p
+    by : (p : Push) → ((p.file ≡ file) × (p.block ≡ block) × (p.last ≡ v.number)) ⊎ IsWaiting v.dirty v.push p → (b : Bool) → (p.file == file) ≡ b
+        → IsHeldBound s who (used_lease file v.leases) p.file ⊎ IsExcusedIn (write ∷ v.entries ++ journal) who p
     by p was true e = inl (subst (IsHeldBound s who (used_lease file v.leases)) (sym (same-number p.file file e)) bound)
     by p was false e = other p (is-other p.file file e) was
 
-    below : (p : Push) (l : Lease) → ((p.file ≡ file) × (p.block ≡ block) × (p.last ≡ v.number)) ⊎ IsWaiting v.dirty v.push p → lease_on p.file (used_lease file v.leases) ≡ Some l → p.block < l.blocks
+    below : (p : Push) (l : Lease) → ((p.file ≡ file) × (p.block ≡ block) × (p.last ≡ v.number)) ⊎ IsWaiting v.dirty v.push p
+        → lease_on p.file (used_lease file v.leases) ≡ Some l → p.block < l.blocks
     below p l (inr before) is = u.blocks p l before is
     below p l (inl new) is =
         let m = marked-before p.file file v.leases l is in
@@ -132,14 +139,16 @@ module _ (s : Server) (who : Who) (now : ℕ) (journal : List Entry) where
     past : (e : Entry) → In entries e → IsPastLoss who v.number e
     cut : AreCut entries
 
-  losing-more : (v : View) (file : ℕ) (p : Push) (entries : List Entry) → IsWaiting v.dirty v.push p → p.file ≡ file → p.last < v.number → Losing v file entries → Losing v file (loss_entry who p ∷ entries)
+  losing-more : (v : View) (file : ℕ) (p : Push) (entries : List Entry) → IsWaiting v.dirty v.push p → p.file ≡ file → p.last < v.number
+      → Losing v file entries → Losing v file (loss_entry who p ∷ entries)
   losing-more v file p entries waits on below l = record {
     excused = λ q w. case q (l.excused q w);
     own = λ q w at. inr (λ bad. bad, l.own q w at);
     past = λ e there. past e there;
     cut = cut-loss who p entries (l.own p waits on) l.cut;
   } where
-    case : (q : Push) → IsHeldBound s who v.leases q.file ⊎ IsExcusedIn entries who q → IsHeldBound s who v.leases q.file ⊎ IsExcusedIn (loss_entry who p ∷ entries) who q
+    case : (q : Push) → IsHeldBound s who v.leases q.file ⊎ IsExcusedIn entries who q
+        → IsHeldBound s who v.leases q.file ⊎ IsExcusedIn (loss_entry who p ∷ entries) who q
     case q (inl b) = inl b
     case q (inr e) = inr (inr (λ bad. bad, e))
 
@@ -154,7 +163,8 @@ module _ (s : Server) (who : Who) (now : ℕ) (journal : List Entry) where
   own-losses ps entries own = fold-losses (Each (IsOf who)) who ps entries (λ p more there h. (refl, h)) own
 
   -- a file's delayed writes are lost, each of which is excused
-  pub loses : (file : ℕ) (v : View) → ((p : Push) → IsWaiting v.dirty v.push p → p.file ≡ file → IsExcusedIn (v.entries ++ journal) who p) → Holding s who now journal v → Holding s who now journal (lost v file)
+  pub loses : (file : ℕ) (v : View) → ((p : Push) → IsWaiting v.dirty v.push p → p.file ≡ file → IsExcusedIn (v.entries ++ journal) who p)
+      → Holding s who now journal v → Holding s who now journal (lost v file)
   loses file v excused h = record {
     live = h.live;
     waiting = λ p waits. l.excused p (left-waiting file v.dirty v.push p waits).0;

@@ -117,7 +117,8 @@ module _ (s : Server) (who : Who) (now : ℕ) (journal : List Entry) where
     live = λ file l held lets.
         let m = marked-before file f v.leases l held in
         subst (λ tag. IsBound s s.phase who file tag) (sym (ap (λ z. z.tag) m.same ∙ marked-tag f m.before))
-        (h.live file m.before m.found (sym (lets-same now l m.before (ap (λ z. z.mode) m.same ∙ marked-mode f m.before) (ap (λ z. z.expiry) m.same ∙ marked-expiry f m.before)) ∙ lets));
+        (h.live file m.before m.found (sym
+        (lets-same now l m.before (ap (λ z. z.mode) m.same ∙ marked-mode f m.before) (ap (λ z. z.expiry) m.same ∙ marked-expiry f m.before)) ∙ lets));
     waiting = λ p waits. case p (h.waiting p waits);
     blocks = λ p l waits held.
         let m = marked-before p.file f v.leases l held in
@@ -132,12 +133,14 @@ module _ (s : Server) (who : Who) (now : ℕ) (journal : List Entry) where
     drawn = h.drawn;
     refused = λ t p n asks pushes seq inc same not_done held. h.refused t p n asks pushes seq inc same not_done (used-held f p.file v.leases held);
   } where
-    case : (p : Push) → IsHeldBound s who v.leases p.file ⊎ IsExcusedIn (v.entries ++ journal) who p → IsHeldBound s who (used_lease f v.leases) p.file ⊎ IsExcusedIn (v.entries ++ journal) who p
+    case : (p : Push) → IsHeldBound s who v.leases p.file ⊎ IsExcusedIn (v.entries ++ journal) who p
+        → IsHeldBound s who (used_lease f v.leases) p.file ⊎ IsExcusedIn (v.entries ++ journal) who p
     case p (inl bound) = inl (held-used f p.file v.leases bound)
     case p (inr excused) = inr excused
 
   -- the lease of a file without delayed writes is given up
-  pub drops : (f : ℕ) (v : View) → ((p : Push) → IsWaiting v.dirty v.push p → p.file ≡ f → ⊥) → Holding s who now journal v → Holding s who now journal (record v { leases = drop_lease f v.leases })
+  pub drops : (f : ℕ) (v : View) → ((p : Push) → IsWaiting v.dirty v.push p → p.file ≡ f → ⊥) → Holding s who now journal v
+      → Holding s who now journal (record v { leases = drop_lease f v.leases })
   drops f v none h = record {
     live = λ file l held lets. h.live file l (lease-before-drop f file v.leases l held).1 lets;
     waiting = λ p waits. case p (none p waits) (h.waiting p waits);
@@ -148,16 +151,21 @@ module _ (s : Server) (who : Who) (now : ℕ) (journal : List Entry) where
     untimed = h.untimed;
     own = h.own;
     drawn = h.drawn;
-    refused = λ t p n asks pushes seq inc same not_done held. h.refused t p n asks pushes seq inc same not_done (record { lease = held.lease; held = (lease-before-drop f p.file v.leases held.lease held.held).1; writes = held.writes; bound = held.bound });
+    refused =
+        λ t p n asks pushes seq inc same not_done held. h.refused t p n asks pushes seq inc same not_done
+        (record { lease = held.lease; held = (lease-before-drop f p.file v.leases held.lease held.held).1; writes = held.writes; bound = held.bound });
   } where
-    case : (p : Push) → p.file ≢ f → IsHeldBound s who v.leases p.file ⊎ IsExcusedIn (v.entries ++ journal) who p → IsHeldBound s who (drop_lease f v.leases) p.file ⊎ IsExcusedIn (v.entries ++ journal) who p
-    case p apart (inl bound) = inl (record { lease = bound.lease; held = other-lease-dropped f p.file v.leases apart ∙ bound.held; writes = bound.writes; bound = bound.bound })
+    case : (p : Push) → p.file ≢ f → IsHeldBound s who v.leases p.file ⊎ IsExcusedIn (v.entries ++ journal) who p
+        → IsHeldBound s who (drop_lease f v.leases) p.file ⊎ IsExcusedIn (v.entries ++ journal) who p
+    case p apart (inl bound) =
+        inl (record { lease = bound.lease; held = other-lease-dropped f p.file v.leases apart ∙ bound.held; writes = bound.writes; bound = bound.bound })
     case p apart (inr excused) = inr excused
 
   -- a grant is taken, where none is under way
   pub holds : (file : ℕ) (g : Grant) (sent : ℕ) (v : View) → v.ticket ≡ None
       → (lets_write now (granted_lease file g sent) ≡ true → IsBound s s.phase who file g.tag)
-      → ((p : Push) → IsWaiting v.dirty v.push p → p.file ≡ file → (p.block < g.blocks) × (IsHeldBound s who v.leases file → (is_writing g.mode ≡ true) × IsBound s s.phase who file g.tag))
+      → ((p : Push) → IsWaiting v.dirty v.push p → p.file ≡ file
+      → (p.block < g.blocks) × (IsHeldBound s who v.leases file → (is_writing g.mode ≡ true) × IsBound s s.phase who file g.tag))
       → Holding s who now journal v → Holding s who now journal (record v { leases = put_lease (granted_lease file g sent) v.leases })
   unfolding granted_lease
   holds file g sent v free covered fits h = record {
@@ -175,24 +183,32 @@ module _ (s : Server) (who : Who) (now : ℕ) (journal : List Entry) where
     lease : Lease
     lease = granted_lease file g sent
 
-    live : (f : ℕ) (l : Lease) → lets_write now l ≡ true → ((f ≡ file) × (l ≡ lease)) ⊎ ((f ≢ file) × (lease_on f v.leases ≡ Some l)) → IsBound s s.phase who f l.tag
-    live f l lets (inl k) = subst (λ n. IsBound s s.phase who n l.tag) (sym k.0) (subst (λ z. IsBound s s.phase who file z.tag) (sym k.1) (covered (ap (lets_write now) (sym k.1) ∙ lets)))
+    live : (f : ℕ) (l : Lease) → lets_write now l ≡ true → ((f ≡ file) × (l ≡ lease)) ⊎ ((f ≢ file) × (lease_on f v.leases ≡ Some l))
+        → IsBound s s.phase who f l.tag
+    live f l lets (inl k) =
+        subst (λ n. IsBound s s.phase who n l.tag) (sym k.0)
+        (subst (λ z. IsBound s s.phase who file z.tag) (sym k.1) (covered (ap (lets_write now) (sym k.1) ∙ lets)))
     live f l lets (inr k) = h.live f l k.1 lets
 
-    bound-after : (p : Push) → IsWaiting v.dirty v.push p → p.file ≡ file → IsHeldBound s who v.leases p.file → IsHeldBound s who (put_lease lease v.leases) p.file
+    bound-after : (p : Push) → IsWaiting v.dirty v.push p → p.file ≡ file → IsHeldBound s who v.leases p.file
+        → IsHeldBound s who (put_lease lease v.leases) p.file
     bound-after p waits on bound =
         let k = (fits p waits on).1 (subst (IsHeldBound s who v.leases) on bound) in
         record { lease = lease; held = put-lease-found lease p.file v.leases on; writes = k.0; bound = subst (λ n. IsBound s s.phase who n g.tag) (sym on) k.1 }
 
     other-after : (p : Push) → p.file ≢ file → IsHeldBound s who v.leases p.file → IsHeldBound s who (put_lease lease v.leases) p.file
-    other-after p apart bound = record { lease = bound.lease; held = other-lease-put lease p.file v.leases apart ∙ bound.held; writes = bound.writes; bound = bound.bound }
+    other-after p apart bound =
+        record { lease = bound.lease; held = other-lease-put lease p.file v.leases apart ∙ bound.held; writes = bound.writes; bound = bound.bound }
 
-    by : (p : Push) → IsWaiting v.dirty v.push p → (b : Bool) → (p.file == file) ≡ b → IsHeldBound s who v.leases p.file ⊎ IsExcusedIn (v.entries ++ journal) who p → IsHeldBound s who (put_lease lease v.leases) p.file ⊎ IsExcusedIn (v.entries ++ journal) who p
+    by : (p : Push) → IsWaiting v.dirty v.push p → (b : Bool) → (p.file == file) ≡ b
+        → IsHeldBound s who v.leases p.file ⊎ IsExcusedIn (v.entries ++ journal) who p
+        → IsHeldBound s who (put_lease lease v.leases) p.file ⊎ IsExcusedIn (v.entries ++ journal) who p
     by p waits b e (inr excused) = inr excused
     by p waits true e (inl bound) = inl (bound-after p waits (same-number p.file file e) bound)
     by p waits false e (inl bound) = inl (other-after p (is-other p.file file e) bound)
 
-    below : (p : Push) (l : Lease) → IsWaiting v.dirty v.push p → ((p.file ≡ file) × (l ≡ lease)) ⊎ ((p.file ≢ file) × (lease_on p.file v.leases ≡ Some l)) → p.block < l.blocks
+    below : (p : Push) (l : Lease) → IsWaiting v.dirty v.push p
+        → ((p.file ≡ file) × (l ≡ lease)) ⊎ ((p.file ≢ file) × (lease_on p.file v.leases ≡ Some l)) → p.block < l.blocks
     below p l waits (inl k) = let small = (fits p waits k.0).0 in let same : l.blocks ≡ g.blocks = ap (λ z. z.blocks) k.1 in omega arith
     below p l waits (inr k) = h.blocks p l waits k.1
 
@@ -200,7 +216,9 @@ module _ (s : Server) (who : Who) (now : ℕ) (journal : List Entry) where
   pub fewer : (v : View) (ticket : Option Ticket) (seq number : ℕ) (dirty : List Push) (push : Option Push)
       → ((p : Push) → IsWaiting dirty push p → IsWaiting v.dirty v.push p)
       → v.number ≤ number → v.seq ≤ seq
-      → ((t : Ticket) (n : ℕ) → ticket ≡ Some t → sequence_of t.request ≡ Some n → ((host_row s.kept who.host).inc ≡ who.inc → (host_row s.kept who.host).seq < n) ⊎ ((u : Ticket) × (v.ticket ≡ Some u) × (u.request ≡ t.request)))
+      → ((t : Ticket) (n : ℕ) → ticket ≡ Some t → sequence_of t.request ≡ Some n
+      → ((host_row s.kept who.host).inc ≡ who.inc → (host_row s.kept who.host).seq < n)
+      ⊎ ((u : Ticket) × (v.ticket ≡ Some u) × (u.request ≡ t.request)))
       → Holding s who now journal v → Holding s who now journal (record v { ticket = ticket; seq = seq; number = number; dirty = dirty; push = push })
   fewer v ticket seq number dirty push less later drawn from h = record {
     live = h.live;
@@ -222,12 +240,17 @@ module _ (s : Server) (who : Who) (now : ℕ) (journal : List Entry) where
         step (inr own) = let below = own.1 in inr (own.0, omega arith)
     past-later other k = tt
 
-    case : (t : Ticket) (p : Push) (n : ℕ) → push_in t.request ≡ Some p → sequence_of t.request ≡ Some n → (host_row s.kept who.host).inc ≡ who.inc → (host_row s.kept who.host).seq ≡ n → ((host_row s.kept who.host).verdict ≡ Verdict.Done → ⊥) → IsHeldBound s who v.leases p.file → ((host_row s.kept who.host).inc ≡ who.inc → (host_row s.kept who.host).seq < n) ⊎ ((u : Ticket) × (v.ticket ≡ Some u) × (u.request ≡ t.request)) → ⊥
+    case : (t : Ticket) (p : Push) (n : ℕ) → push_in t.request ≡ Some p → sequence_of t.request ≡ Some n → (host_row s.kept who.host).inc ≡ who.inc
+        → (host_row s.kept who.host).seq ≡ n → ((host_row s.kept who.host).verdict ≡ Verdict.Done → ⊥) → IsHeldBound s who v.leases p.file
+        → ((host_row s.kept who.host).inc ≡ who.inc → (host_row s.kept who.host).seq < n)
+        ⊎ ((u : Ticket) × (v.ticket ≡ Some u) × (u.request ≡ t.request)) → ⊥
     case t p n pushes sequence inc same not_done held (inl fresh) = let below = fresh inc in absurd (omega arith)
-    case t p n pushes sequence inc same not_done held (inr u) = h.refused u.0 p n u.1 (ap push_in u.2 ∙ pushes) (ap sequence_of u.2 ∙ sequence) inc same not_done held
+    case t p n pushes sequence inc same not_done held (inr u) =
+        h.refused u.0 p n u.1 (ap push_in u.2 ∙ pushes) (ap sequence_of u.2 ∙ sequence) inc same not_done held
 
   -- a plain entry is made
-  pub notes : (v : View) (e : Entry) → IsPlain e → is_timed e ≡ false → Holding s who now journal v → Holding s who now journal (record v { entries = e ∷ v.entries })
+  pub notes : (v : View) (e : Entry) → IsPlain e → is_timed e ≡ false → Holding s who now journal v
+      → Holding s who now journal (record v { entries = e ∷ v.entries })
   notes v e plain quiet h = record {
     live = h.live;
     waiting = λ p waits. case p (h.waiting p waits);
@@ -240,7 +263,8 @@ module _ (s : Server) (who : Who) (now : ℕ) (journal : List Entry) where
     drawn = h.drawn;
     refused = h.refused;
   } where
-    case : (p : Push) → IsHeldBound s who v.leases p.file ⊎ IsExcusedIn (v.entries ++ journal) who p → IsHeldBound s who v.leases p.file ⊎ IsExcusedIn (e ∷ v.entries ++ journal) who p
+    case : (p : Push) → IsHeldBound s who v.leases p.file ⊎ IsExcusedIn (v.entries ++ journal) who p
+        → IsHeldBound s who v.leases p.file ⊎ IsExcusedIn (e ∷ v.entries ++ journal) who p
     case p (inl bound) = inl bound
     case p (inr excused) = inr (excused-more who p (e ∷ []) (v.entries ++ journal) (plain, tt) excused)
 

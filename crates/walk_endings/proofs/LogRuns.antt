@@ -40,22 +40,28 @@ later-opened opened longest boot longest' h (Entry.G who file mode tag term now)
 later-opened opened longest boot longest' h other g = tt
 
 -- a caching grant is for the longest term at most
-granted-short : (table : Table) (q : Question) (want : Want) (row : Row) (term : ℕ) → shortest_term ≤ q.longest → IsGranted table q want row term → caches row.mode ≡ true → term ≤ q.longest
+granted-short : (table : Table) (q : Question) (want : Want) (row : Row) (term : ℕ) → shortest_term ≤ q.longest → IsGranted table q want row term
+    → caches row.mode ≡ true → term ≤ q.longest
 unfolding sharing_row caching_row shared_again renewed_row
 granted-short table q want row term long (shares_again own found stays shares is lasts) caching =
     let mode : caches row.mode ≡ caches own.mode = ap (λ r. caches r.mode) is in
     absurd (cc)
 granted-short table q want row term long (begins_sharing none room shared is lasts) caching = let b = term-bounds q.longest want.term long in omega (arith, b.1)
 granted-short table q want row term long (begins_caching none room shared is lasts) caching = let b = term-bounds q.longest want.term long in omega (arith, b.1)
-granted-short table q want row term long (renews_row own found stays caches is lasts) caching = let b = term-bounds q.longest want.term long in omega (arith, b.1)
+granted-short table q want row term long (renews_row own found stays caches is lasts) caching =
+    let b = term-bounds q.longest want.term long in omega (arith, b.1)
 
 module _ (most : ℕ) (s : Server) (d : Datagram) (log : List Entry) (boots : BootsFitOf s) (terms : TermsFitOf most s) (g : GrantsShort s.kept log) where
-  short-entry : (q : Question) (want : Want) (row : Row) (term : ℕ) → q.longest ≡ s.longest → s.phase ≡ serving → IsGranted s.table q want row term → (row.tag.boot ≤ s.kept.opened) × (caches row.mode ≡ true → row.tag.boot ≡ s.kept.opened → term ≤ s.kept.longest)
+  short-entry : (q : Question) (want : Want) (row : Row) (term : ℕ) → q.longest ≡ s.longest → s.phase ≡ serving → IsGranted s.table q want row term
+      → (row.tag.boot ≤ s.kept.opened) × (caches row.mode ≡ true → row.tag.boot ≡ s.kept.opened → term ≤ s.kept.longest)
   short-entry q want row term longest p granted =
       let b : ServesBoot s.kept.boot s.kept.opened s.table = subst (λ p. BootsFit s.kept.boot s.kept.opened p s.table) p boots in
       let boot : row.tag.boot ≡ s.table.boot = ap (λ t. t.boot) (granted-tag s.table q want row term granted) in
-      let same : s.kept.longest ≡ s.longest = terms.same p in
-      (omega (arith, b.table_boot, b.opened_now), λ caching e. let short = granted-short s.table q want row term (subst (λ l. shortest_term ≤ l) (sym longest) terms.long) granted caching in omega arith)
+      let same : s.kept.longest ≡ s.longest = terms.same p in (
+        omega (arith, b.table_boot, b.opened_now),
+        λ caching e. let short = granted-short s.table q want row term
+            (subst (λ l. shortest_term ≤ l) (sym longest) terms.long) granted caching in omega arith,
+      )
 
   short-moves : LogMoves s d log (λ kept phase table after. GrantsShort kept after)
   unfolding with_row with_files with_new_file
@@ -75,21 +81,26 @@ module _ (most : ℕ) (s : Server) (d : Datagram) (log : List Entry) (boots : Bo
   }
 
 -- caching grants are short after a datagram
-short-receive : (most : ℕ) (s : Server) (sender next : ℕ) (d : Datagram) (log : List Entry) → BootsFitOf s → TermsFitOf most s → GrantsShort s.kept log → GrantsShort (receive s sender next d).server.kept (timed (receive s sender next d).entries ++ log)
-short-receive most s sender next d log boots terms g = log-moves s sender next d log (λ kept phase table after. GrantsShort kept after) (short-moves most s d log boots terms g)
+short-receive : (most : ℕ) (s : Server) (sender next : ℕ) (d : Datagram) (log : List Entry) → BootsFitOf s → TermsFitOf most s → GrantsShort s.kept log
+    → GrantsShort (receive s sender next d).server.kept (timed (receive s sender next d).entries ++ log)
+short-receive most s sender next d log boots terms g =
+    log-moves s sender next d log (λ kept phase table after. GrantsShort kept after) (short-moves most s d log boots terms g)
 
 short-fenced : (kept : Kept) (o : Option File) (log : List Entry) → GrantsShort kept log → GrantsShort (fence kept o) log
 unfolding with_files
 short-fenced kept None log g = g
 short-fenced kept (Some f) log g = g
 
-short-opened : (s : Server) (until heard : ℕ) (last : Option Table) (log : List Entry) → s.phase ≡ recovering until heard last → BootsFitOf s → GrantsShort s.kept log → Each (IsShortGrant s.kept.boot s.longest) log
+short-opened : (s : Server) (until heard : ℕ) (last : Option Table) (log : List Entry) → s.phase ≡ recovering until heard last → BootsFitOf s
+    → GrantsShort s.kept log → Each (IsShortGrant s.kept.boot s.longest) log
 short-opened s until heard last log p b g =
     let r : RecoversBoot s.kept.boot s.kept.opened s.table last = subst (λ p. BootsFit s.kept.boot s.kept.opened p s.table) p b in
-    each-map (IsShortGrant s.kept.opened s.kept.longest) (IsShortGrant s.kept.boot s.longest) log (later-opened s.kept.opened s.kept.longest s.kept.boot s.longest r.opened_before) g
+    each-map (IsShortGrant s.kept.opened s.kept.longest) (IsShortGrant s.kept.boot s.longest) log
+    (later-opened s.kept.opened s.kept.longest s.kept.boot s.longest r.opened_before) g
 
 -- and after a tick
-short-tick : (s : Server) (now : ℕ) (log : List Entry) → BootsFitOf s → GrantsShort s.kept log → GrantsShort (tick s now).server.kept (timed (tick s now).entries ++ log)
+short-tick : (s : Server) (now : ℕ) (log : List Entry) → BootsFitOf s → GrantsShort s.kept log
+    → GrantsShort (tick s now).server.kept (timed (tick s now).entries ++ log)
 short-tick s now log b g = tick-log-moves s now log (λ kept phase table after. GrantsShort kept after) (record {
   waits = λ until heard last p goes_on. g;
   opening = λ until heard last p over. (tt, short-opened s until heard last log p b g);
@@ -98,7 +109,8 @@ short-tick s now log b g = tick-log-moves s now log (λ kept phase table after. 
 })
 
 -- and after a crash
-short-crash : (s : Server) (longest : ℕ) (log : List Entry) → BootsFitOf s → GrantsShort s.kept log → GrantsShort (crash s longest).server.kept (timed (crash s longest).entries ++ log)
+short-crash : (s : Server) (longest : ℕ) (log : List Entry) → BootsFitOf s → GrantsShort s.kept log
+    → GrantsShort (crash s longest).server.kept (timed (crash s longest).entries ++ log)
 unfolding crash boot empty_table
 short-crash s longest log b g = (tt, in-phase (s.kept.opened == 0))
   where
@@ -106,8 +118,11 @@ short-crash s longest log b g = (tt, in-phase (s.kept.opened == 0))
     opened-before serving b = omega (arith, b.opened_now)
     opened-before (recovering until heard last) b = omega (arith, b.opened_before)
 
-    in-phase : (z : Bool) → GrantsShort (if z then record s.kept { boot = s.kept.boot + 1; opened = s.kept.boot + 1; longest = longest } else record s.kept { boot = s.kept.boot + 1 }) log
-    in-phase true = each-map (IsShortGrant s.kept.opened s.kept.longest) (IsShortGrant (s.kept.boot + 1) longest) log (later-opened s.kept.opened s.kept.longest (s.kept.boot + 1) longest (opened-before s.phase b)) g
+    in-phase : (z : Bool) → GrantsShort
+        (if z then record s.kept { boot = s.kept.boot + 1; opened = s.kept.boot + 1; longest = longest } else record s.kept { boot = s.kept.boot + 1 }) log
+    in-phase true =
+        each-map (IsShortGrant s.kept.opened s.kept.longest) (IsShortGrant (s.kept.boot + 1) longest) log
+        (later-opened s.kept.opened s.kept.longest (s.kept.boot + 1) longest (opened-before s.phase b)) g
     in-phase false = g
 
 -- ---- all of it
@@ -132,7 +147,8 @@ pub record LogRuns (booted : ℕ) (s : Server) (log : List Entry) : Type 0 where
   pub hear : RowsHear s.phase s.table log
   pub waits : PhaseWaitsOf booted s
 
-pub runs-receive : (most booted : ℕ) (s : Server) (sender next : ℕ) (d : Datagram) (log : List Entry) → Alone most s → LogRuns booted s log → LogRuns booted (receive s sender next d).server (timed (receive s sender next d).entries ++ log)
+pub runs-receive : (most booted : ℕ) (s : Server) (sender next : ℕ) (d : Datagram) (log : List Entry) → Alone most s → LogRuns booted s log
+    → LogRuns booted (receive s sender next d).server (timed (receive s sender next d).entries ++ log)
 runs-receive most booted s sender next d log a l = record {
   by = subst (λ now. LogBy now (timed (receive s sender next d).entries ++ log)) (sym (receive-keeps s sender next d).1) (by-receive s sender next d log l.by);
   heard = heard-receive s sender next d log l.by l.heard;
@@ -143,7 +159,8 @@ runs-receive most booted s sender next d log a l = record {
   waits = waits-receive booted s sender next d l.waits;
 }
 
-pub runs-tick : (most booted : ℕ) (s : Server) (now : ℕ) (log : List Entry) → s.now ≤ now → Alone most s → LogRuns booted s log → LogRuns booted (tick s now).server (timed (tick s now).entries ++ log)
+pub runs-tick : (most booted : ℕ) (s : Server) (now : ℕ) (log : List Entry) → s.now ≤ now → Alone most s → LogRuns booted s log
+    → LogRuns booted (tick s now).server (timed (tick s now).entries ++ log)
 runs-tick most booted s now log later a l = record {
   by = subst (λ time. LogBy time (timed (tick s now).entries ++ log)) (sym (tick-keeps s now).1) (by-tick s now log later l.by);
   heard = heard-tick s now log l.heard;
@@ -155,7 +172,8 @@ runs-tick most booted s now log later a l = record {
 }
 
 -- after a crash the last boot was at the server's time
-pub runs-crash : (most booted : ℕ) (s : Server) (longest : ℕ) (log : List Entry) → Alone most s → LogRuns booted s log → LogRuns s.now (crash s longest).server (timed (crash s longest).entries ++ log)
+pub runs-crash : (most booted : ℕ) (s : Server) (longest : ℕ) (log : List Entry) → Alone most s → LogRuns booted s log
+    → LogRuns s.now (crash s longest).server (timed (crash s longest).entries ++ log)
 runs-crash most booted s longest log a l = record {
   by = subst (λ now. LogBy now (timed (crash s longest).entries ++ log)) (sym (crash-now s longest)) (by-crash s longest log l.by);
   heard = heard-crash s longest log l.by;

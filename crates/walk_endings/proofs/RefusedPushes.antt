@@ -42,7 +42,8 @@ push-shape other p e = none-some p e
 
 module _ (s : Server) (c : Client) (ps : List Packet) (k : ChainFits s c ps) (boots : BootsFitOf s) (stands : StandingFitsOf s)
     (within : (p : Push) (l : Lease) → IsWaiting c.dirty c.push p → lease_on p.file c.leases ≡ Some l → p.block < l.blocks)
-    (t : Ticket) (p : Push) (asks : c.ticket ≡ Some t) (sh : PushShape t.request p) (undecided : (host_row s.kept c.who.host).seq < sh.seq) (b : IsHeldBound s c.who c.leases p.file) where
+    (t : Ticket) (p : Push) (asks : c.ticket ≡ Some t) (sh : PushShape t.request p) (undecided : (host_row s.kept c.who.host).seq < sh.seq)
+    (b : IsHeldBound s c.who c.leases p.file) where
   pushed : IsPushed c.leases c.revisions c.push p.file sh.base (record { file = p.file; block = p.block; first = p.first; last = p.last; body = p.body })
   pushed = k.writes.pushed t sh.who sh.seq p.file p.block p.first p.last sh.base p.body asks sh.is
 
@@ -53,7 +54,8 @@ module _ (s : Server) (c : Client) (ps : List Packet) (k : ChainFits s c ps) (bo
   not-done =
       ap (λ o. has_done_write (host_row s.kept c.who.host) c.who.inc p.file o) asks
       ∙ ap (λ r. has_done_write (host_row s.kept c.who.host) c.who.inc p.file (Some (record t { request = r }))) sh.is
-      ∙ no (p.file == p.file) ((host_row s.kept c.who.host).inc == c.who.inc) ((host_row s.kept c.who.host).seq == sh.seq) _ (number-other (host_row s.kept c.who.host).seq sh.seq (λ same. let less = undecided in absurd (omega arith)))
+      ∙ no (p.file == p.file) ((host_row s.kept c.who.host).inc == c.who.inc) ((host_row s.kept c.who.host).seq == sh.seq) _
+      (number-other (host_row s.kept c.who.host).seq sh.seq (λ same. let less = undecided in absurd (omega arith)))
     where
       no : (a b d e : Bool) → d ≡ false → (a && b && d && e) ≡ false
       no true true true e f = absurd (cc)
@@ -72,7 +74,8 @@ module _ (s : Server) (c : Client) (ps : List Packet) (k : ChainFits s c ps) (bo
   unfolding row
   row-writes = (bound-knows s c ps k boots stands p.file b).2
 
-  knows : KnowsFile s.kept (line_for s.kept c.who) row.mode b.lease.mode p.file (rev_at c.revisions p.file) b.lease.blocks (done_at s.kept c.who c.ticket p.file)
+  knows : KnowsFile s.kept (line_for s.kept c.who) row.mode b.lease.mode p.file (rev_at c.revisions p.file) b.lease.blocks
+      (done_at s.kept c.who c.ticket p.file)
   unfolding row
   knows = (bound-knows s c ps k boots stands p.file b).3
 
@@ -84,7 +87,8 @@ module _ (s : Server) (c : Client) (ps : List Packet) (k : ChainFits s c ps) (bo
   of-boot = pushed.boot ∙ ap (λ l. l.tag.boot) one-lease ∙ bound-boot s s.phase c.who p.file b.lease.tag boots stands b.bound
 
   serving-boot : s.phase ≡ serving → sh.base.boot ≡ s.kept.boot
-  serving-boot q = let f : ServesBoot s.kept.boot s.kept.opened s.table = subst (λ q. BootsFit s.kept.boot s.kept.opened q s.table) q boots in of-boot ∙ f.opened_now
+  serving-boot q =
+      let f : ServesBoot s.kept.boot s.kept.opened s.table = subst (λ q. BootsFit s.kept.boot s.kept.opened q s.table) q boots in of-boot ∙ f.opened_now
 
   inside : p.block < blocks_of knows.f
   inside =
@@ -102,11 +106,14 @@ module _ (s : Server) (c : Client) (ps : List Packet) (k : ChainFits s c ps) (bo
   not-push : (r : Request) → t.request ≡ r → push_in r ≡ None → ⊥
   not-push r e none = none-some p (sym none ∙ ap push_in (sym e) ∙ ap push_in sh.is)
 
-  stored : (w : Who) (row' : Row) (base : PushBase) (f : File) → s.phase ≡ serving → w ≡ c.who → base ≡ sh.base → f ≡ knows.f → find_row p.file c.who.host s.table.rows ≡ Some row' → (is_writing row'.mode && row'.who.inc == w.inc && base.boot == s.kept.boot && base.base == f.rev) ≡ true
+  stored : (w : Who) (row' : Row) (base : PushBase) (f : File) → s.phase ≡ serving → w ≡ c.who → base ≡ sh.base → f ≡ knows.f
+      → find_row p.file c.who.host s.table.rows ≡ Some row'
+      → (is_writing row'.mode && row'.who.inc == w.inc && base.boot == s.kept.boot && base.base == f.rev) ≡ true
   stored w row' base f q who_is base_is f_is found =
       let one : row' ≡ row = some-same row' row (sym found ∙ serving-row q) in
       let writes : is_writing row'.mode ≡ true = ap (λ z. is_writing z.mode) one ∙ row-writes in
-      let inc : (row'.who.inc == w.inc) ≡ true = number-same row'.who.inc w.inc (ap (λ z. z.who.inc) one ∙ ap (λ z. z.inc) own.holder ∙ ap (λ z. z.inc) (sym who_is)) in
+      let inc : (row'.who.inc == w.inc) ≡ true = number-same row'.who.inc w.inc
+      (ap (λ z. z.who.inc) one ∙ ap (λ z. z.inc) own.holder ∙ ap (λ z. z.inc) (sym who_is)) in
       let boot : (base.boot == s.kept.boot) ≡ true = number-same base.boot s.kept.boot (ap (λ z. z.boot) base_is ∙ serving-boot q) in
       let rev : (base.base == f.rev) ≡ true = number-same base.base f.rev (ap (λ z. z.base) base_is ∙ at-base ∙ ap (λ z. z.rev) (sym f_is)) in
       and_from _ _ (and_from _ _ (and_from _ _ writes inc) boot) rev
@@ -120,7 +127,8 @@ module _ (s : Server) (c : Client) (ps : List Packet) (k : ChainFits s c ps) (bo
       let at : p.file ≡ file = some-same p.file file (sym (ap file_changed_by sh.is) ∙ on) in
       none-some knows.f (sym none ∙ ap (λ n. find_file n s.kept.files) (sym at) ∙ knows.found)
   bound-stored w verdict who_is (outside seq file block first last push body f on found out v) =
-      let e : Request.Write sh.who sh.seq p.file p.block p.first p.last (Some sh.base) p.body ≡ Request.Write w seq file block first last push body = sym sh.is ∙ on in
+      let e : Request.Write sh.who sh.seq p.file p.block p.first p.last (Some sh.base) p.body ≡ Request.Write w seq file block first last push
+      body = sym sh.is ∙ on in
       let at : p.file ≡ file = cc in
       let of_block : p.block ≡ block = cc in
       let one : f ≡ knows.f = same-file f (subst (λ n. find_file n s.kept.files ≡ Some f) (sym at) found) in
@@ -128,22 +136,28 @@ module _ (s : Server) (c : Client) (ps : List Packet) (k : ChainFits s c ps) (bo
       let small = inside in
       absurd (omega arith)
   bound-stored w verdict who_is (no_row seq file block first last base body f q on found none v) =
-      let e : Request.Write sh.who sh.seq p.file p.block p.first p.last (Some sh.base) p.body ≡ Request.Write w seq file block first last (Some base) body = sym sh.is ∙ on in
+      let e : Request.Write sh.who sh.seq p.file p.block p.first p.last (Some sh.base) p.body ≡ Request.Write w seq file block first last (Some base)
+      body = sym sh.is ∙ on in
       let at : p.file ≡ file = cc in
       let id : f.id ≡ p.file = found-file file s.kept.files f found ∙ sym at in
-      let gone : find_row p.file c.who.host s.table.rows ≡ None = subst (λ n. find_row n c.who.host s.table.rows ≡ None) id (subst (λ z. find_row f.id z.host s.table.rows ≡ None) who_is none) in
+      let gone : find_row p.file c.who.host s.table.rows ≡ None = subst (λ n. find_row n c.who.host s.table.rows ≡ None) id
+      (subst (λ z. find_row f.id z.host s.table.rows ≡ None) who_is none) in
       none-some row (sym gone ∙ serving-row q)
   bound-stored w verdict who_is (not_under seq file block first last base body f row' q on found stood bars v) =
-      let e : Request.Write sh.who sh.seq p.file p.block p.first p.last (Some sh.base) p.body ≡ Request.Write w seq file block first last (Some base) body = sym sh.is ∙ on in
+      let e : Request.Write sh.who sh.seq p.file p.block p.first p.last (Some sh.base) p.body ≡ Request.Write w seq file block first last (Some base)
+      body = sym sh.is ∙ on in
       let at : p.file ≡ file = cc in
       let base_is : base ≡ sh.base = cc in
       let id : f.id ≡ p.file = found-file file s.kept.files f found ∙ sym at in
       let one : f ≡ knows.f = same-file f (subst (λ n. find_file n s.kept.files ≡ Some f) (sym at) found) in
-      let there : find_row p.file c.who.host s.table.rows ≡ Some row' = subst (λ n. find_row n c.who.host s.table.rows ≡ Some row') id (subst (λ z. find_row f.id z.host s.table.rows ≡ Some row') who_is stood) in
-      let fine : (is_writing row'.mode && row'.who.inc == w.inc && base.boot == s.kept.boot && base.base == f.rev) ≡ true = stored w row' base f q who_is base_is one there in
+      let there : find_row p.file c.who.host s.table.rows ≡ Some row' = subst (λ n. find_row n c.who.host s.table.rows ≡ Some row') id
+      (subst (λ z. find_row f.id z.host s.table.rows ≡ Some row') who_is stood) in
+      let fine : (is_writing row'.mode && row'.who.inc == w.inc && base.boot == s.kept.boot && base.base == f.rev) ≡ true = stored w row' base f q
+      who_is base_is one there in
       absurd (cc)
   bound-stored w verdict who_is (not_over seq file block first last base body f rec on found bars v) =
-      let e : Request.Write sh.who sh.seq p.file p.block p.first p.last (Some sh.base) p.body ≡ Request.Write w seq file block first last (Some base) body = sym sh.is ∙ on in
+      let e : Request.Write sh.who sh.seq p.file p.block p.first p.last (Some sh.base) p.body ≡ Request.Write w seq file block first last (Some base)
+      body = sym sh.is ∙ on in
       let at : p.file ≡ file = cc in
       let base_is : base ≡ sh.base = cc in
       let one : f ≡ knows.f = same-file f (subst (λ n. find_file n s.kept.files ≡ Some f) (sym at) found) in

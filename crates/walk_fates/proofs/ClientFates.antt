@@ -33,7 +33,8 @@ IsOwn who (L w file block first last) = w ≡ who
 IsOwn who other = Unit {0}
 
 -- in the middle of a step
-pub record MidAt (line : HostRow) (ps : List Packet) (j : List Entry) (who : Who) (number seq : ℕ) (ticket : Option Ticket) (dirty : List Push) (push : Option Push) (sends : List Message) (entries : List Entry) : Type 0 where
+pub record MidAt (line : HostRow) (ps : List Packet) (j : List Entry) (who : Who) (number seq : ℕ) (ticket : Option Ticket) (dirty : List Push)
+    (push : Option Push) (sends : List Message) (entries : List Entry) : Type 0 where
   pub facts : Facts line who number seq ticket dirty push (packets_with ps who.host sends) (entries ++ j)
   pub journal : JournalFits (entries ++ j)
   pub own : (e : Entry) → In entries e → IsOwn who e
@@ -46,8 +47,12 @@ own-more {who = who} es x o all e (inl same) = subst (IsOwn who) same o
 own-more es x o all e (inr i) = all e i
 
 -- one more message
-pub last-facts : {line : HostRow} {who : Who} {number seq : ℕ} {ticket : Option Ticket} {dirty : List Push} {push : Option Push} {j : List Entry} (ps : List Packet) (sends : List Message) (m : Message) → Facts line who number seq ticket dirty push (packets_with ps who.host sends ++ from_host who.host m ∷ []) j → Facts line who number seq ticket dirty push (packets_with ps who.host (sends ++ m ∷ [])) j
-last-facts {line = line} {who = who} {number = number} {seq = seq} {ticket = ticket} {dirty = dirty} {push = push} {j = j} ps sends m h = subst (λ qs. Facts line who number seq ticket dirty push qs j) (sym (packets-last ps who.host sends m)) h
+pub last-facts : {line : HostRow} {who : Who} {number seq : ℕ} {ticket : Option Ticket} {dirty : List Push} {push : Option Push} {j : List Entry}
+    (ps : List Packet) (sends : List Message) (m : Message)
+    → Facts line who number seq ticket dirty push (packets_with ps who.host sends ++ from_host who.host m ∷ []) j
+    → Facts line who number seq ticket dirty push (packets_with ps who.host (sends ++ m ∷ [])) j
+last-facts {line = line} {who = who} {number = number} {seq = seq} {ticket = ticket} {dirty = dirty} {push = push} {j = j} ps sends m h = subst
+    (λ qs. Facts line who number seq ticket dirty push qs j) (sym (packets-last ps who.host sends m)) h
 
 free-seq : (t : ClientStep) → t.client.ticket ≡ None → (after_seq t).client.ticket ≡ None
 unfolding after_seq
@@ -64,7 +69,9 @@ free-gives-up t file free = free
 module _ {line : HostRow} {ps : List Packet} {j : List Entry} where
   -- ---- entries
 
-  pub mid-quiet : {who : Who} {number seq : ℕ} {ticket : Option Ticket} {dirty : List Push} {push : Option Push} {sends : List Message} {entries : List Entry} (e : Entry) → IsQuiet e → IsOwn who e → MidAt line ps j who number seq ticket dirty push sends entries → MidAt line ps j who number seq ticket dirty push sends (e ∷ entries)
+  pub mid-quiet : {who : Who} {number seq : ℕ} {ticket : Option Ticket} {dirty : List Push} {push : Option Push} {sends : List Message}
+      {entries : List Entry} (e : Entry) → IsQuiet e → IsOwn who e → MidAt line ps j who number seq ticket dirty push sends entries
+      → MidAt line ps j who number seq ticket dirty push sends (e ∷ entries)
   mid-quiet {who = who} {entries = entries} e quiet o m = record {
     facts = facts-other who e (entries ++ j) (quiet-other who.host e quiet) m.facts;
     journal = journal-quiet e (entries ++ j) quiet m.journal;
@@ -112,11 +119,14 @@ module _ {line : HostRow} {ps : List Packet} {j : List Entry} where
   free-push t free m = no-push (λ u e. none-some u (sym free ∙ e)) m.facts
 
   -- a request that pushes nothing is sent
-  mid-sends : (t : ClientStep) (job : Job) (r : Request) → t.client.ticket ≡ None → push_in r ≡ None → ((sq f b first last : ℕ) (base : Option PushBase) (bd : List ℕ) → r ≡ Request.Write t.client.who sq f b first last base bd → (first ≤ last) × (last < t.client.number)) → Mid line ps j t → Mid line ps j (sends_request t job r)
+  mid-sends : (t : ClientStep) (job : Job) (r : Request) → t.client.ticket ≡ None → push_in r ≡ None
+      → ((sq f b first last : ℕ) (base : Option PushBase) (bd : List ℕ) → r ≡ Request.Write t.client.who sq f b first last base bd
+      → (first ≤ last) × (last < t.client.number)) → Mid line ps j t → Mid line ps j (sends_request t job r)
   unfolding sends_request
   mid-sends t job r free no_push bounds m = record {
     facts = last-facts ps t.sends (call t.client.xid r)
-        (facts-ticket (Some (record { xid = t.client.xid; first = t.client.now; last = t.client.now; request = r; job = job })) (λ p u is has. none-some u (sym free ∙ has))
+        (facts-ticket (Some (record { xid = t.client.xid; first = t.client.now; last = t.client.now; request = r; job = job }))
+        (λ p u is has. none-some u (sym free ∙ has))
         (facts-sends t.client.xid r no_push bounds m.facts));
     journal = m.journal;
     own = m.own;
@@ -128,7 +138,8 @@ module _ {line : HostRow} {ps : List Packet} {j : List Entry} where
 
   mid-number : (t : ClientStep) → Mid line ps j t → Mid line ps j (after_number t)
   unfolding after_number
-  mid-number t m = record { facts = facts-numbers (t.client.number + 1) (t.client.seq + 1) (omega arith) (omega arith) m.facts; journal = m.journal; own = m.own }
+  mid-number t m =
+      record { facts = facts-numbers (t.client.number + 1) (t.client.seq + 1) (omega arith) (omega arith) m.facts; journal = m.journal; own = m.own }
 
   mid-gives-up : (t : ClientStep) (file : ℕ) → Mid line ps j t → Mid line ps j (gives_up t file)
   unfolding gives_up
@@ -137,9 +148,12 @@ module _ {line : HostRow} {ps : List Packet} {j : List Entry} where
   mid-writes : (t : ClientStep) (file block : ℕ) (body : List ℕ) → t.client.ticket ≡ None → Mid line ps j t → Mid line ps j (sends_write t file block body)
   unfolding after_number
   mid-writes t file block body free m =
-      mid-sends (after_number t) for_call (Request.Write t.client.who t.client.seq file block t.client.number t.client.number None body) (free-number t free) refl bounds (mid-number t m)
+      mid-sends (after_number t) for_call (Request.Write t.client.who t.client.seq file block t.client.number t.client.number None body)
+      (free-number t free) refl bounds (mid-number t m)
     where
-      bounds : (sq f b first last : ℕ) (base : Option PushBase) (bd : List ℕ) → Request.Write t.client.who t.client.seq file block t.client.number t.client.number None body ≡ Request.Write t.client.who sq f b first last base bd → (first ≤ last) × (last < t.client.number + 1)
+      bounds : (sq f b first last : ℕ) (base : Option PushBase) (bd : List ℕ)
+          → Request.Write t.client.who t.client.seq file block t.client.number t.client.number None body ≡ Request.Write t.client.who sq f b first last
+          base bd → (first ≤ last) × (last < t.client.number + 1)
       bounds sq f b first last base bd e = let a : t.client.number ≡ first = cc in let z : t.client.number ≡ last = cc in (omega arith, omega arith)
 
   -- delayed writes are pushed
@@ -147,7 +161,15 @@ module _ {line : HostRow} {ps : List Packet} {j : List Entry} where
   unfolding sends_request after_seq takes_push
   mid-pushes t file p free there m = record {
     facts = last-facts ps t.sends _
-        (facts-pushes p t.client.xid (base_of t.client p.file) (record { xid = t.client.xid; first = t.client.now; last = t.client.now; request = Request.Write t.client.who t.client.seq p.file p.block p.first p.last (Some (base_of t.client p.file)) p.body; job = pushing }) there (free-push t free m) refl refl m.facts);
+        (facts-pushes p t.client.xid (base_of t.client p.file)
+        (record {
+          xid = t.client.xid;
+          first = t.client.now;
+          last = t.client.now;
+          request = Request.Write t.client.who t.client.seq p.file p.block
+              p.first p.last (Some (base_of t.client p.file)) p.body;
+          job = pushing;
+        }) there (free-push t free m) refl refl m.facts);
     journal = m.journal;
     own = m.own;
   }
@@ -165,7 +187,13 @@ module _ {line : HostRow} {ps : List Packet} {j : List Entry} where
     writing = λ u file block body is op through. mid-writes t file block body is.free m;
     leasing = λ u file block body is op not_through alone. mid-sends t for_call _ is.free refl (λ sq f b first last base bd e. absurd (cc)) m;
     putting = λ u file block body is op written. mid-writes t file block body is.free m;
-    resizing = λ u file blocks is op clean. mid-sends (after_seq (gives_up t file)) for_call _ (free-seq (gives_up t file) (free-gives-up t file is.free)) refl (λ sq f b first last base bd e. absurd (cc)) (mid-seq (gives_up t file) (mid-gives-up t file m));
-    removing = λ u file is op clean. mid-sends (after_seq (gives_up t file)) for_call _ (free-seq (gives_up t file) (free-gives-up t file is.free)) refl (λ sq f b first last base bd e. absurd (cc)) (mid-seq (gives_up t file) (mid-gives-up t file m));
-    renewing = λ file lease tick free nothing unpaused renewed held of clean unnoticed. mid-sends t renewing _ free refl (λ sq f b first last base bd e. absurd (cc)) m;
+    resizing =
+        λ u file blocks is op clean. mid-sends (after_seq (gives_up t file)) for_call _ (free-seq (gives_up t file) (free-gives-up t file is.free)) refl
+        (λ sq f b first last base bd e. absurd (cc)) (mid-seq (gives_up t file) (mid-gives-up t file m));
+    removing =
+        λ u file is op clean. mid-sends (after_seq (gives_up t file)) for_call _ (free-seq (gives_up t file) (free-gives-up t file is.free)) refl
+        (λ sq f b first last base bd e. absurd (cc)) (mid-seq (gives_up t file) (mid-gives-up t file m));
+    renewing =
+        λ file lease tick free nothing unpaused renewed held of clean unnoticed. mid-sends t renewing _ free refl
+        (λ sq f b first last base bd e. absurd (cc)) m;
   })

@@ -59,14 +59,17 @@ other-covers host (X boot now longest) who file block n o home c = c
 other-covers host (Z w q f from to) who file block n o home c = c
 other-covers host (A w q said) who file block n o home c = c
 
-covers-other : (host : ℕ) (e : Entry) (j : List Entry) (who : Who) (file block n : ℕ) → IsOfOther host e → who.host ≡ host → CoversNumber (e ∷ j) who file block n → CoversNumber j who file block n
+covers-other : (host : ℕ) (e : Entry) (j : List Entry) (who : Who) (file block n : ℕ) → IsOfOther host e → who.host ≡ host
+    → CoversNumber (e ∷ j) who file block n → CoversNumber j who file block n
 covers-other host e j who file block n o home (inl c) = absurd (other-covers host e who file block n o home c)
 covers-other host e j who file block n o home (inr c) = c
 
-other-write : (host : ℕ) (e : Entry) (who : Who) (file block n value : ℕ) (through : Bool) → IsOfOther host e → who.host ≡ host → e ≡ W who file block n value through → ⊥
+other-write : (host : ℕ) (e : Entry) (who : Who) (file block n value : ℕ) (through : Bool) → IsOfOther host e → who.host ≡ host
+    → e ≡ W who file block n value through → ⊥
 other-write host e who file block n value through o home same = subst (λ z. IsOfOther host z) same o home
 
-pub write-before : (host : ℕ) (e : Entry) (j : List Entry) (who : Who) (file block n value : ℕ) (through : Bool) → IsOfOther host e → who.host ≡ host → In (e ∷ j) (W who file block n value through) → In j (W who file block n value through)
+pub write-before : (host : ℕ) (e : Entry) (j : List Entry) (who : Who) (file block n value : ℕ) (through : Bool) → IsOfOther host e → who.host ≡ host
+    → In (e ∷ j) (W who file block n value through) → In j (W who file block n value through)
 write-before host e j who file block n value through o home (inl same) = absurd (other-write host e who file block n value through o home same)
 write-before host e j who file block n value through o home (inr i) = i
 
@@ -77,16 +80,19 @@ behind-more e b = record { ordered = b.ordered; first_there = (b.first_there.0, 
 
 module _ (who : Who) (e : Entry) (j : List Entry) (o : IsOfOther who.host e) where
   other-dirty : {number : ℕ} {p : Push} → IsDirty who number j p → IsDirty who number (e ∷ j) p
-  other-dirty {p = p} d = record { behind = behind-more e d.behind; below = d.below; above = λ n c. d.above n (covers-other who.host e j who p.file p.block n o refl c) }
+  other-dirty {p = p} d =
+      record { behind = behind-more e d.behind; below = d.below; above = λ n c. d.above n (covers-other who.host e j who p.file p.block n o refl c) }
 
   other-stands : {line : HostRow} {seq : ℕ} {p : Push} → PushStands line who seq j p → PushStands line who seq (e ∷ j) p
-  other-stands {p = p} (waits not_done clear) = waits not_done (λ n above below c. clear n above below (covers-other who.host e j who p.file p.block n o refl c))
+  other-stands {p = p} (waits not_done clear) =
+      waits not_done (λ n above below c. clear n above below (covers-other who.host e j who p.file p.block n o refl c))
   other-stands (stored now done i) = stored now done (inr i)
 
   other-pushed : {line : HostRow} {number seq : ℕ} {p : Push} → IsPushed line who number seq j p → IsPushed line who number seq (e ∷ j) p
   other-pushed d = record { behind = behind-more e d.behind; below = d.below; stands = other-stands d.stands }
 
-  more-unsaved : {dirty : List Push} {push : Option Push} (file block n : ℕ) → CoversNumber j who file block n ⊎ LiesWithin dirty push file block n → CoversNumber (e ∷ j) who file block n ⊎ LiesWithin dirty push file block n
+  more-unsaved : {dirty : List Push} {push : Option Push} (file block n : ℕ) → CoversNumber j who file block n ⊎ LiesWithin dirty push file block n
+      → CoversNumber (e ∷ j) who file block n ⊎ LiesWithin dirty push file block n
   more-unsaved file block n (inl c) = inl (inr c)
   more-unsaved file block n (inr h) = inr h
 
@@ -99,10 +105,12 @@ module _ (who : Who) (e : Entry) (j : List Entry) (o : IsOfOther who.host e) whe
     top = λ p is n c. h.top p is n (covers-other who.host e j who p.file p.block n o refl c);
     numbers = λ file block n value through i. h.numbers file block n value through (write-before who.host e j who file block n value through o refl i);
     covered = λ file block n c. h.covered file block n (covers-other who.host e j who file block n o refl c);
-    unsaved = λ file block n value i. more-unsaved file block n (h.unsaved file block n value (write-before who.host e j who file block n value false o refl i));
+    unsaved =
+        λ file block n value i. more-unsaved file block n (h.unsaved file block n value (write-before who.host e j who file block n value false o refl i));
   }
 
-  other-sent : {line : HostRow} {number : ℕ} {dirty : List Push} {packets : List Packet} → PushesFit line who number dirty packets j → PushesFit line who number dirty packets (e ∷ j)
+  other-sent : {line : HostRow} {number : ℕ} {dirty : List Push} {packets : List Packet} → PushesFit line who number dirty packets j
+      → PushesFit line who number dirty packets (e ∷ j)
   other-sent h = record {
     behind = λ w p k. behind-more e (h.behind w p k);
     clear = λ w p k n above below c. h.clear w p k n above below (covers-other who.host e j w p.file p.block n o k.home c);
@@ -112,7 +120,8 @@ module _ (who : Who) (e : Entry) (j : List Entry) (o : IsOfOther who.host e) whe
   }
 
   -- an entry of another host, or one that is no write and covers none
-  pub facts-other : {line : HostRow} {number seq : ℕ} {ticket : Option Ticket} {dirty : List Push} {push : Option Push} {packets : List Packet} → Facts line who number seq ticket dirty push packets j → Facts line who number seq ticket dirty push packets (e ∷ j)
+  pub facts-other : {line : HostRow} {number seq : ℕ} {ticket : Option Ticket} {dirty : List Push} {push : Option Push} {packets : List Packet}
+      → Facts line who number seq ticket dirty push packets j → Facts line who number seq ticket dirty push packets (e ∷ j)
   facts-other h = record {
     list = other-list h.list;
     pushed = λ p t n is asks sq. other-pushed (h.pushed p t n is asks sq);
@@ -124,7 +133,9 @@ module _ (who : Who) (e : Entry) (j : List Entry) (o : IsOfOther who.host e) whe
   }
 
 -- more of them
-pub facts-others : {line : HostRow} {who : Who} {number seq : ℕ} {ticket : Option Ticket} {dirty : List Push} {push : Option Push} {packets : List Packet} (es j : List Entry) → ((e : Entry) → In es e → IsOfOther who.host e) → Facts line who number seq ticket dirty push packets j → Facts line who number seq ticket dirty push packets (es ++ j)
+pub facts-others : {line : HostRow} {who : Who} {number seq : ℕ} {ticket : Option Ticket} {dirty : List Push} {push : Option Push}
+    {packets : List Packet} (es j : List Entry) → ((e : Entry) → In es e → IsOfOther who.host e) → Facts line who number seq ticket dirty push packets j
+    → Facts line who number seq ticket dirty push packets (es ++ j)
 facts-others [] j all h = h
 facts-others {who = who} (e ∷ es) j all h = facts-other who e (es ++ j) (all e (inl refl)) (facts-others es j (λ x i. all x (inr i)) h)
 
@@ -156,20 +167,23 @@ journal-quiets (e ∷ es) j all h = journal-quiet e (es ++ j) (all e (inl refl))
 
 -- ---- a write is delayed
 
-module _ {line : HostRow} {who : Who} {number seq : ℕ} {ticket : Option Ticket} {dirty : List Push} {push : Option Push} {packets : List Packet} {j : List Entry} (file block : ℕ) (body : List ℕ) (h : Facts line who number seq ticket dirty push packets j) where
+module _ {line : HostRow} {who : Who} {number seq : ℕ} {ticket : Option Ticket} {dirty : List Push} {push : Option Push} {packets : List Packet}
+    {j : List Entry} (file block : ℕ) (body : List ℕ) (h : Facts line who number seq ticket dirty push packets j) where
   abbrev delayed : Entry
   delayed = W who file block number (value_of body) false
 
   abbrev longer : List Push
   longer = with_write file block number body dirty (dirty_at file block dirty)
 
-  fresh : (f b : ℕ) → CoversNumber j who f b number → ⊥
-  fresh f b c = let below = h.list.covered f b number c in omega arith
-
   listed : (q : Push) → InWritten file block number body dirty q → IsDirty who (number + 1) (delayed ∷ j) q
   listed q (is_other i apart) =
       let d = h.list.listed q i in
-      record { behind = behind-more delayed d.behind; below = let below = d.below in omega arith; above = λ n c. d.above n (covers-before delayed j who q.file q.block n tt c) }
+      record {
+        behind = behind-more delayed d.behind;
+        below = let below = d.below in
+            omega arith;
+        above = λ n c. d.above n (covers-before delayed j who q.file q.block n tt c);
+      }
   listed q (is_longer p i f b same) =
       let d = h.list.listed p i in
       subst (λ z. IsDirty who (number + 1) (delayed ∷ j) z) same (record {
@@ -191,8 +205,10 @@ module _ {line : HostRow} {who : Who} {number seq : ℕ} {ticket : Option Ticket
   distinct p q (is_other i apart) (is_other k other) f b = h.list.distinct p q i k f b
   distinct p q (is_other i apart) (is_longer r k g c same) f b = absurd (apart (f ∙ ap (λ z. z.file) (sym same) ∙ g) (b ∙ ap (λ z. z.block) (sym same) ∙ c))
   distinct p q (is_other i apart) (is_new absent same) f b = absurd (apart (f ∙ ap (λ z. z.file) (sym same)) (b ∙ ap (λ z. z.block) (sym same)))
-  distinct p q (is_longer r i g c same) (is_other k other) f b = absurd (other (sym f ∙ ap (λ z. z.file) (sym same) ∙ g) (sym b ∙ ap (λ z. z.block) (sym same) ∙ c))
-  distinct p q (is_longer r i g c same) (is_longer s k d e also) f b = sym same ∙ ap (overwritten number body) (h.list.distinct r s i k (g ∙ sym d) (c ∙ sym e)) ∙ also
+  distinct p q (is_longer r i g c same) (is_other k other) f b =
+      absurd (other (sym f ∙ ap (λ z. z.file) (sym same) ∙ g) (sym b ∙ ap (λ z. z.block) (sym same) ∙ c))
+  distinct p q (is_longer r i g c same) (is_longer s k d e also) f b =
+      sym same ∙ ap (overwritten number body) (h.list.distinct r s i k (g ∙ sym d) (c ∙ sym e)) ∙ also
   distinct p q (is_longer r i g c same) (is_new absent also) f b = absurd (absent r i g c)
   distinct p q (is_new absent same) (is_other k other) f b = absurd (other (sym f ∙ ap (λ z. z.file) (sym same)) (sym b ∙ ap (λ z. z.block) (sym same)))
   distinct p q (is_new absent same) (is_longer s k d e also) f b = absurd (absent s k d e)
@@ -210,7 +226,8 @@ module _ {line : HostRow} {who : Who} {number seq : ℕ} {ticket : Option Ticket
       seq-of-push r p e = none-some p e
 
   -- where delayed writes are of numbers below
-  earlier : (x f b : ℕ) → x < number → ((q : Push) → In dirty q → q.file ≡ f → q.block ≡ b → x < q.first) → (q : Push) → InWritten file block number body dirty q → q.file ≡ f → q.block ≡ b → x < q.first
+  earlier : (x f b : ℕ) → x < number → ((q : Push) → In dirty q → q.file ≡ f → q.block ≡ b → x < q.first) → (q : Push)
+      → InWritten file block number body dirty q → q.file ≡ f → q.block ≡ b → x < q.first
   earlier x f b below old q (is_other i apart) g c = old q i g c
   earlier x f b below old q (is_longer p i d e same) g c = subst (λ z. x < z.first) same (old p i (ap (λ z. z.file) same ∙ g) (ap (λ z. z.block) same ∙ c))
   earlier x f b below old q (is_new absent same) g c = subst (λ z. x < z.first) same below
@@ -230,10 +247,13 @@ module _ {line : HostRow} {who : Who} {number seq : ℕ} {ticket : Option Ticket
       inr (step k.0 k.1 k.2)
     where
       step : (q : Push) → In longer q → (q ≡ p) ⊎ (q ≡ overwritten number body p) → LiesWithin longer push f b n
-      step q there (inl e) = in_list q there (ap (λ z. z.file) e ∙ g) (ap (λ z. z.block) e ∙ c) (subst (λ z. z.first ≤ n) (sym e) above) (subst (λ z. n ≤ z.last) (sym e) below)
+      step q there (inl e) =
+          in_list q there (ap (λ z. z.file) e ∙ g) (ap (λ z. z.block) e ∙ c) (subst (λ z. z.first ≤ n) (sym e) above)
+          (subst (λ z. n ≤ z.last) (sym e) below)
       step q there (inr e) =
           let d = (h.list.listed p i).below in
-          in_list q there (ap (λ z. z.file) e ∙ g) (ap (λ z. z.block) e ∙ c) (subst (λ z. z.first ≤ n) (sym e) above) (subst (λ z. n ≤ z.last) (sym e) (omega arith))
+          in_list q there (ap (λ z. z.file) e ∙ g) (ap (λ z. z.block) e ∙ c) (subst (λ z. z.first ≤ n) (sym e) above)
+          (subst (λ z. n ≤ z.last) (sym e) (omega arith))
 
   new-within : (f b n value : ℕ) → W who f b n value false ≡ delayed → LiesWithin longer push f b n
   new-within f b n value same =
@@ -270,19 +290,25 @@ module _ {line : HostRow} {who : Who} {number seq : ℕ} {ticket : Option Ticket
       listed = λ q i. listed q (inside q i);
       apart = apart-written file block number body dirty (dirty_at file block dirty) refl h.list.apart;
       distinct = λ p q i k f b. distinct p q (inside p i) (inside q k) f b;
-      earlier = λ p q is i f b. earlier p.last p.file p.block (push-below p is) (λ r k g c. h.list.earlier p r is k (sym g) (sym c)) q (inside q i) (sym f) (sym b);
+      earlier =
+          λ p q is i f b. earlier p.last p.file p.block (push-below p is) (λ r k g c. h.list.earlier p r is k (sym g) (sym c)) q (inside q i) (sym f)
+          (sym b);
       top = λ p is n c. h.list.top p is n (covers-before delayed j who p.file p.block n tt c);
       numbers = numbers;
       covered = λ f b n c. let below = h.list.covered f b n (covers-before delayed j who f b n tt c) in omega arith;
       unsaved = unsaved;
     };
-    pushed = λ p t n is asks sq. let k = h.pushed p t n is asks sq in record { behind = behind-more delayed k.behind; below = let below = k.below in omega arith; stands = stands k.stands };
+    pushed =
+        λ p t n is asks sq. let k = h.pushed p t n is asks sq in
+        record { behind = behind-more delayed k.behind; below = let below = k.below in omega arith; stands = stands k.stands };
     sent = record {
       behind = λ w p k. behind-more delayed (h.sent.behind w p k);
       clear = λ w p k n above below c. h.sent.clear w p k n above below (covers-before delayed j w p.file p.block n tt c);
       top = λ w p k n c. h.sent.top w p k n (covers-before delayed j w p.file p.block n tt c);
       drawn = λ x sq f b first last base bd asked. let k = h.sent.drawn x sq f b first last base bd asked in let below = k.1 in (k.0, omega arith);
-      earlier = λ x sq f b first last base bd q asked i g c. earlier last f b (h.sent.drawn x sq f b first last (Some base) bd asked).1 (λ r k d e. h.sent.earlier x sq f b first last base bd r asked k d e) q (inside q i) g c;
+      earlier =
+          λ x sq f b first last base bd q asked i g c. earlier last f b (h.sent.drawn x sq f b first last (Some base) bd asked).1
+          (λ r k d e. h.sent.earlier x sq f b first last base bd r asked k d e) q (inside q i) g c;
     };
     under_way = h.under_way;
     drawn = h.drawn;
@@ -296,7 +322,9 @@ module _ {line : HostRow} {who : Who} {number seq : ℕ} {ticket : Option Ticket
 -- ---- packets, tickets and numbers
 
 -- all that is asked was asked
-pub facts-packets : {line : HostRow} {who : Who} {number seq : ℕ} {ticket : Option Ticket} {dirty : List Push} {push : Option Push} {packets : List Packet} {j : List Entry} (after : List Packet) → ((x : ℕ) (r : Request) → Asked after who.host x r → Asked packets who.host x r) → Facts line who number seq ticket dirty push packets j → Facts line who number seq ticket dirty push after j
+pub facts-packets : {line : HostRow} {who : Who} {number seq : ℕ} {ticket : Option Ticket} {dirty : List Push} {push : Option Push}
+    {packets : List Packet} {j : List Entry} (after : List Packet) → ((x : ℕ) (r : Request) → Asked after who.host x r → Asked packets who.host x r)
+    → Facts line who number seq ticket dirty push packets j → Facts line who number seq ticket dirty push after j
 facts-packets {line = line} {who = who} {packets = packets} after old h = record {
   list = h.list;
   pushed = h.pushed;
@@ -316,7 +344,9 @@ facts-packets {line = line} {who = who} {packets = packets} after old h = record
   before w p k = record { xid = k.xid; seq = k.seq; base = k.base; home = k.home; asked = old k.xid _ k.asked; kept = k.kept; above = k.above }
 
 -- more numbers were drawn
-pub facts-numbers : {line : HostRow} {who : Who} {number seq : ℕ} {ticket : Option Ticket} {dirty : List Push} {push : Option Push} {packets : List Packet} {j : List Entry} (m n : ℕ) → number ≤ m → seq ≤ n → Facts line who number seq ticket dirty push packets j → Facts line who m n ticket dirty push packets j
+pub facts-numbers : {line : HostRow} {who : Who} {number seq : ℕ} {ticket : Option Ticket} {dirty : List Push} {push : Option Push}
+    {packets : List Packet} {j : List Entry} (m n : ℕ) → number ≤ m → seq ≤ n → Facts line who number seq ticket dirty push packets j
+    → Facts line who m n ticket dirty push packets j
 facts-numbers m n more later h = record {
   list = record {
     listed = λ p i. let d = h.list.listed p i in record { behind = d.behind; below = let below = d.below in omega arith; above = d.above };
@@ -343,7 +373,11 @@ facts-numbers m n more later h = record {
 }
 
 -- the request under way is another, but where a push is under way of the same job and content
-pub facts-ticket : {line : HostRow} {who : Who} {number seq : ℕ} {ticket : Option Ticket} {dirty : List Push} {push : Option Push} {packets : List Packet} {j : List Entry} (after : Option Ticket) → ((p : Push) (t : Ticket) → push ≡ Some p → ticket ≡ Some t → push_in t.request ≡ Some p → (u : Ticket) × (after ≡ Some u) × (u.job ≡ t.job) × (u.request ≡ t.request)) → Facts line who number seq ticket dirty push packets j → Facts line who number seq after dirty push packets j
+pub facts-ticket : {line : HostRow} {who : Who} {number seq : ℕ} {ticket : Option Ticket} {dirty : List Push} {push : Option Push}
+    {packets : List Packet} {j : List Entry} (after : Option Ticket)
+    → ((p : Push) (t : Ticket) → push ≡ Some p → ticket ≡ Some t → push_in t.request ≡ Some p
+    → (u : Ticket) × (after ≡ Some u) × (u.job ≡ t.job) × (u.request ≡ t.request)) → Facts line who number seq ticket dirty push packets j
+    → Facts line who number seq after dirty push packets j
 facts-ticket after same h = record {
   list = h.list;
   pushed = λ p u n is asks sq.
@@ -362,12 +396,17 @@ facts-ticket after same h = record {
 }
 
 -- none is under way
-pub no-push : {line : HostRow} {who : Who} {number seq : ℕ} {ticket : Option Ticket} {dirty : List Push} {push : Option Push} {packets : List Packet} {j : List Entry} → ((t : Ticket) → ticket ≡ Some t → t.job ≡ pushing → ⊥) → Facts line who number seq ticket dirty push packets j → push ≡ None
+pub no-push : {line : HostRow} {who : Who} {number seq : ℕ} {ticket : Option Ticket} {dirty : List Push} {push : Option Push} {packets : List Packet}
+    {j : List Entry} → ((t : Ticket) → ticket ≡ Some t → t.job ≡ pushing → ⊥) → Facts line who number seq ticket dirty push packets j → push ≡ None
 no-push {push = None} other h = refl
 no-push {push = Some p} other h = let k = h.under_way p refl in absurd (other k.request k.asks k.job)
 
 -- a message is sent that is no WRITE of a push, and of numbers that were drawn
-pub facts-sends : {line : HostRow} {who : Who} {number seq : ℕ} {ticket : Option Ticket} {dirty : List Push} {push : Option Push} {packets : List Packet} {j : List Entry} (xid : ℕ) (r : Request) → push_in r ≡ None → ((sq f b first last : ℕ) (base : Option PushBase) (bd : List ℕ) → r ≡ Request.Write who sq f b first last base bd → (first ≤ last) × (last < number)) → Facts line who number seq ticket dirty push packets j → Facts line who number seq ticket dirty push (packets ++ from_host who.host (call xid r) ∷ []) j
+pub facts-sends : {line : HostRow} {who : Who} {number seq : ℕ} {ticket : Option Ticket} {dirty : List Push} {push : Option Push}
+    {packets : List Packet} {j : List Entry} (xid : ℕ) (r : Request) → push_in r ≡ None
+    → ((sq f b first last : ℕ) (base : Option PushBase) (bd : List ℕ) → r ≡ Request.Write who sq f b first last base bd
+    → (first ≤ last) × (last < number)) → Facts line who number seq ticket dirty push packets j
+    → Facts line who number seq ticket dirty push (packets ++ from_host who.host (call xid r) ∷ []) j
 facts-sends {line = line} {who = who} {number = number} {dirty = dirty} {packets = packets} {j = j} xid r no_push bounds h = record {
   list = h.list;
   pushed = h.pushed;
@@ -383,14 +422,20 @@ facts-sends {line = line} {who = who} {number = number} {dirty = dirty} {packets
   past = h.past;
   past_covers = h.past_covers;
 } where
-  before : (w : Who) (p : Push) (k : IsOpenPush line (packets ++ from_host who.host (call xid r) ∷ []) who.host w p) → Asked packets who.host k.xid (Request.Write w k.seq p.file p.block p.first p.last (Some k.base) p.body) ⊎ ((xid ≡ k.xid) × (r ≡ Request.Write w k.seq p.file p.block p.first p.last (Some k.base) p.body)) → IsOpenPush line packets who.host w p
+  before : (w : Who) (p : Push) (k : IsOpenPush line (packets ++ from_host who.host (call xid r) ∷ []) who.host w p)
+      → Asked packets who.host k.xid (Request.Write w k.seq p.file p.block p.first p.last (Some k.base) p.body)
+      ⊎ ((xid ≡ k.xid) × (r ≡ Request.Write w k.seq p.file p.block p.first p.last (Some k.base) p.body)) → IsOpenPush line packets who.host w p
   before w p k (inl there) = record { xid = k.xid; seq = k.seq; base = k.base; home = k.home; asked = there; kept = k.kept; above = k.above }
   before w p k (inr new) = none-some _ (sym no_push ∙ ap push_in new.1)
 
-  drawn : (x sq f b first last : ℕ) (base : Option PushBase) (bd : List ℕ) → Asked packets who.host x (Request.Write who sq f b first last base bd) ⊎ ((xid ≡ x) × (r ≡ Request.Write who sq f b first last base bd)) → (first ≤ last) × (last < number)
+  drawn : (x sq f b first last : ℕ) (base : Option PushBase) (bd : List ℕ)
+      → Asked packets who.host x (Request.Write who sq f b first last base bd) ⊎ ((xid ≡ x) × (r ≡ Request.Write who sq f b first last base bd))
+      → (first ≤ last) × (last < number)
   drawn x sq f b first last base bd (inl there) = h.sent.drawn x sq f b first last base bd there
   drawn x sq f b first last base bd (inr new) = bounds sq f b first last base bd new.1
 
-  earlier : (x sq f b first last : ℕ) (base : PushBase) (bd : List ℕ) (q : Push) → In dirty q → q.file ≡ f → q.block ≡ b → Asked packets who.host x (Request.Write who sq f b first last (Some base) bd) ⊎ ((xid ≡ x) × (r ≡ Request.Write who sq f b first last (Some base) bd)) → last < q.first
+  earlier : (x sq f b first last : ℕ) (base : PushBase) (bd : List ℕ) (q : Push) → In dirty q → q.file ≡ f → q.block ≡ b
+      → Asked packets who.host x (Request.Write who sq f b first last (Some base) bd)
+      ⊎ ((xid ≡ x) × (r ≡ Request.Write who sq f b first last (Some base) bd)) → last < q.first
   earlier x sq f b first last base bd q i g c (inl there) = h.sent.earlier x sq f b first last base bd q there i g c
   earlier x sq f b first last base bd q i g c (inr new) = none-some _ (sym no_push ∙ ap push_in new.1)

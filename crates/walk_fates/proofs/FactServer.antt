@@ -37,7 +37,8 @@ pub record Adds (who : Who) (number : ℕ) (dirty : List Push) (push : Option Pu
   -- and no later than those of a push under way
   pub tops : (f b n : ℕ) → Covers e (W who f b n 0 false) → (p : Push) → push ≡ Some p → p.file ≡ f → p.block ≡ b → n ≤ p.last
 
-list-adds : {who : Who} {number : ℕ} {dirty : List Push} {push : Option Push} {j : List Entry} (e : Entry) → Adds who number dirty push e → ListFits who number dirty push j → ListFits who number dirty push (e ∷ j)
+list-adds : {who : Who} {number : ℕ} {dirty : List Push} {push : Option Push} {j : List Entry} (e : Entry) → Adds who number dirty push e
+    → ListFits who number dirty push j → ListFits who number dirty push (e ∷ j)
 list-adds {who = who} {number = number} {dirty = dirty} {push = push} {j = j} e a h = record {
   listed = λ p i. let d = h.listed p i in record { behind = behind-more e d.behind; below = d.below; above = above p i d };
   apart = h.apart;
@@ -82,16 +83,19 @@ one-of-other host x o e (inl same) = subst (IsOfOther host) same o
 one-of-other host x o e (inr bad) = absurd bad
 
 -- what is known of a client, the kept line of its host and the packets before a step, and of the line after it
-pub record Before (line after : HostRow) (who : Who) (xid number seq : ℕ) (ticket : Option Ticket) (dirty : List Push) (push : Option Push) (ps : List Packet) (j : List Entry) : Type 0 where
+pub record Before (line after : HostRow) (who : Who) (xid number seq : ℕ) (ticket : Option Ticket) (dirty : List Push) (push : Option Push)
+    (ps : List Packet) (j : List Entry) : Type 0 where
   pub facts : Facts line who number seq ticket dirty push ps j
   pub mail : Mail who xid ticket ps
   pub above : (x : ℕ) (r : Request) (w : Who) → Asked ps who.host x r → asker r ≡ Some w → line.inc < w.inc → r ≡ Request.Attach w
-  pub settled : line.inc ≡ who.inc → (x : ℕ) (r : Request) (w : Who) (n : ℕ) → Asked ps who.host x r → asker r ≡ Some w → w.inc ≡ who.inc → sequence_of r ≡ Some n → IsSettled ticket line.seq x n
+  pub settled : line.inc ≡ who.inc → (x : ℕ) (r : Request) (w : Who) (n : ℕ) → Asked ps who.host x r → asker r ≡ Some w → w.inc ≡ who.inc
+      → sequence_of r ≡ Some n → IsSettled ticket line.seq x n
   pub pushing : (p : Push) → push ≡ Some p → line.inc ≡ who.inc
   pub one : OneOpenAt line ps who.host
   pub drawn : after.inc ≡ who.inc → after.seq < seq
 
-module _ (s : Server) (t : ServerStep) (who : Who) (xid number seq : ℕ) (ticket : Option Ticket) (dirty : List Push) (push : Option Push) (ps : List Packet) (j : List Entry)
+module _ (s : Server) (t : ServerStep) (who : Who) (xid number seq : ℕ) (ticket : Option Ticket) (dirty : List Push) (push : Option Push)
+    (ps : List Packet) (j : List Entry)
     (old : (x : ℕ) (r : Request) → Asked (ps ++ t.sends) who.host x r → Asked ps who.host x r)
     (b : Before (host_row s.kept who.host) (host_row t.server.kept who.host) who xid number seq ticket dirty push ps j) where
   abbrev line : HostRow
@@ -105,7 +109,9 @@ module _ (s : Server) (t : ServerStep) (who : Who) (xid number seq : ℕ) (ticke
 
   -- the line stays, and the entries are of others
   stays : after ≡ line → ((e : Entry) → In t.entries e → IsOfOther who.host e) → Result t.entries
-  stays same others = subst (λ l. Facts l who number seq ticket dirty push (ps ++ t.sends) (t.entries ++ j)) (sym same) (facts-packets (ps ++ t.sends) old (facts-others t.entries j others b.facts))
+  stays same others =
+      subst (λ l. Facts l who number seq ticket dirty push (ps ++ t.sends) (t.entries ++ j)) (sym same)
+      (facts-packets (ps ++ t.sends) old (facts-others t.entries j others b.facts))
 
   -- ---- a later incarnation begins
 
@@ -151,7 +157,9 @@ module _ (s : Server) (t : ServerStep) (who : Who) (xid number seq : ℕ) (ticke
 
   attached : (k : Attaches ps s t) → AllQuiet t.entries → (bool : Bool) → (who.host == k.w.host) ≡ bool → Result t.entries
   attached k quiet true e = attaches k quiet (same-number _ _ e)
-  attached k quiet false e = stays (k.others who.host (λ same. let yes : (who.host == k.w.host) ≡ true = number-same _ _ same in absurd (cc))) (all-of-other who.host t.entries quiet)
+  attached k quiet false e =
+      stays (k.others who.host (λ same. let yes : (who.host == k.w.host) ≡ true = number-same _ _ same in absurd (cc)))
+      (all-of-other who.host t.entries quiet)
 
   -- ---- a request of this host is decided
 
@@ -172,8 +180,10 @@ module _ (s : Server) (t : ServerStep) (who : Who) (xid number seq : ℕ) (ticke
         let below = here.was_below in
         let up = o.above in
         let kept = o.kept in
-        let mine : IsOpenAt line ps who.host k.x k.r = record { who = k.w; seq = k.seq; asked = here.asked; by = k.by; kept = here.was_inc; draws = k.draws; above = here.was_below } in
-        let other : IsOpenAt line ps who.host o.xid r = record { who = w; seq = o.seq; asked = old o.xid r o.asked; by = refl; kept = omega arith; draws = refl; above = omega arith } in
+        let mine : IsOpenAt line ps who.host k.x k.r = record
+        { who = k.w; seq = k.seq; asked = here.asked; by = k.by; kept = here.was_inc; draws = k.draws; above = here.was_below } in
+        let other : IsOpenAt line ps who.host o.xid r = record
+        { who = w; seq = o.seq; asked = old o.xid r o.asked; by = refl; kept = omega arith; draws = refl; above = omega arith } in
         let one = (b.one k.x o.xid k.r r mine other).1 in
         let number : k.seq ≡ o.seq = some-same k.seq o.seq (sym k.draws ∙ ap sequence_of one) in
         omega arith
@@ -218,7 +228,9 @@ module _ (s : Server) (t : ServerStep) (who : Who) (xid number seq : ℕ) (ticke
     inc-past = (b.mail.asked k.x k.r k.w here.asked k.by).inc
 
     -- the facts after it, but for the push under way
-    decides : (e : List Entry) → PastFits (e ++ j) → ListFits who number dirty push (e ++ j) → ((p : Push) (u : Ticket) (n : ℕ) → push ≡ Some p → ticket ≡ Some u → sequence_of u.request ≡ Some n → IsPushed line who number n j p → IsPushed after who number n (e ++ j) p) → Result e
+    decides : (e : List Entry) → PastFits (e ++ j) → ListFits who number dirty push (e ++ j)
+        → ((p : Push) (u : Ticket) (n : ℕ) → push ≡ Some p → ticket ≡ Some u → sequence_of u.request ≡ Some n → IsPushed line who number n j p
+        → IsPushed after who number n (e ++ j) p) → Result e
     decides e past list pushed = record {
       list = list;
       pushed = λ p u n is has sq. pushed p u n is has sq (b.facts.pushed p u n is has sq);
@@ -240,12 +252,16 @@ module _ (s : Server) (t : ServerStep) (who : Who) (xid number seq : ℕ) (ticke
 
     -- without effect
     quiets : (es : List Entry) → AllQuiet es → (push_in k.r ≡ None) ⊎ ((host_row t.server.kept k.w.host).verdict ≡ Verdict.Done → ⊥) → Result es
-    quiets es quiet why = decides es (record { writes = f.past; covers = f.past_covers }) f.list (λ p u n is has sq d. let g = f.pushed p u n is has sq in record { behind = g.behind; below = g.below; stands = stands p n is (seq-is p u n is has sq) g.stands })
+    quiets es quiet why =
+        decides es (record { writes = f.past; covers = f.past_covers }) f.list
+        (λ p u n is has sq d. let g = f.pushed p u n is has sq in
+        record { behind = g.behind; below = g.below; stands = stands p n is (seq-is p u n is has sq) g.stands })
       where
         f : Facts line who number seq ticket dirty push ps (es ++ j)
         f = facts-others es j (all-of-other who.host es quiet) b.facts
 
-        not-done : (p : Push) (n : ℕ) → push ≡ Some p → (push_in k.r ≡ None) ⊎ ((host_row t.server.kept k.w.host).verdict ≡ Verdict.Done → ⊥) → IsDecidedAs after who n Verdict.Done → ⊥
+        not-done : (p : Push) (n : ℕ) → push ≡ Some p → (push_in k.r ≡ None) ⊎ ((host_row t.server.kept k.w.host).verdict ≡ Verdict.Done → ⊥)
+            → IsDecidedAs after who n Verdict.Done → ⊥
         not-done p n is (inl none) d = none-some p (sym none ∙ (is-it p is).1)
         not-done p n is (inr other) d = other (verdict-is ∙ d.told)
 
@@ -255,20 +271,26 @@ module _ (s : Server) (t : ServerStep) (who : Who) (xid number seq : ℕ) (ticke
 
     -- a write goes through
     through : (sq f bl first last : ℕ) (bd : List ℕ) → k.r ≡ Request.Write k.w sq f bl first last None bd → Result (W k.w f bl first (value_of bd) true ∷ [])
-    through sq f bl first last bd asks = decides (entry ∷ []) (record { writes = late; covers = λ w home later g c n h. b.facts.past_covers w home later g c n (covers-before entry j w g c n tt h) }) (list-adds entry adds b.facts.list) (λ p u n is has sn d. none-some p (sym (ap push_in asks) ∙ (is-it p is).1))
+    through sq f bl first last bd asks =
+        decides (entry ∷ [])
+        (record { writes = late; covers = λ w home later g c n h. b.facts.past_covers w home later g c n (covers-before entry j w g c n tt h) })
+        (list-adds entry adds b.facts.list) (λ p u n is has sn d. none-some p (sym (ap push_in asks) ∙ (is-it p is).1))
       where
         entry : Entry
         entry = W k.w f bl first (value_of bd) true
 
         late : (w : Who) → w.host ≡ who.host → who.inc < w.inc → (g c n v : ℕ) (th : Bool) → In (W k.w f bl first (value_of bd) true ∷ j) (W w g c n v th) → ⊥
-        late w home later g c n v th (inl same) = let one : k.w ≡ w = cc in let inc : k.w.inc ≡ w.inc = ap (λ z. z.inc) one in let below = inc-past in omega arith
+        late w home later g c n v th (inl same) =
+            let one : k.w ≡ w = cc in let inc : k.w.inc ≡ w.inc = ap (λ z. z.inc) one in let below = inc-past in omega arith
         late w home later g c n v th (inr i) = b.facts.past w home later g c n v th i
 
         writes : (g c n v : ℕ) (th : Bool) → W k.w f bl first (value_of bd) true ≡ W who g c n v th → (n < number) × (th ≡ true)
         writes g c n v th e =
             let w : k.w ≡ who = cc in
             let m : first ≡ n = cc in
-            let drawn = b.facts.sent.drawn k.x sq f bl first last None bd (subst (λ z. Asked ps who.host k.x (Request.Write z sq f bl first last None bd)) w (subst (λ r. Asked ps who.host k.x r) asks here.asked)) in
+            let drawn = b.facts.sent.drawn k.x sq f bl first last None bd
+            (subst (λ z. Asked ps who.host k.x (Request.Write z sq f bl first last None bd)) w
+            (subst (λ r. Asked ps who.host k.x r) asks here.asked)) in
             let a = drawn.0 in
             let z = drawn.1 in
             (omega arith, cc)
@@ -277,8 +299,11 @@ module _ (s : Server) (t : ServerStep) (who : Who) (xid number seq : ℕ) (ticke
         adds = record { writes = writes; covers = λ g c n bad. absurd bad; tops = λ g c n bad. absurd bad }
 
     -- delayed writes are stored
-    stores : (sq f bl first last now : ℕ) (base : PushBase) (bd : List ℕ) → k.r ≡ Request.Write k.w sq f bl first last (Some base) bd → (host_row t.server.kept k.w.host).verdict ≡ Verdict.Done → Result (S k.w f bl first last now ∷ [])
-    stores sq f bl first last now base bd asks done = decides (S k.w f bl first last now ∷ []) (record { writes = late; covers = late-covers }) (list-adds (S k.w f bl first last now) adds b.facts.list) pushed
+    stores : (sq f bl first last now : ℕ) (base : PushBase) (bd : List ℕ) → k.r ≡ Request.Write k.w sq f bl first last (Some base) bd
+        → (host_row t.server.kept k.w.host).verdict ≡ Verdict.Done → Result (S k.w f bl first last now ∷ [])
+    stores sq f bl first last now base bd asks done =
+        decides (S k.w f bl first last now ∷ []) (record { writes = late; covers = late-covers })
+        (list-adds (S k.w f bl first last now) adds b.facts.list) pushed
       where
         late : (w : Who) → w.host ≡ who.host → who.inc < w.inc → (g c n v : ℕ) (th : Bool) → In (S k.w f bl first last now ∷ j) (W w g c n v th) → ⊥
         late w home later g c n v th (inl same) = cc
@@ -289,9 +314,11 @@ module _ (s : Server) (t : ServerStep) (who : Who) (xid number seq : ℕ) (ticke
         late-covers w home later g c n (inr h) = b.facts.past_covers w home later g c n h
 
         asked-by : k.w ≡ who → Asked ps who.host k.x (Request.Write who sq f bl first last (Some base) bd)
-        asked-by w = subst (λ z. Asked ps who.host k.x (Request.Write z sq f bl first last (Some base) bd)) w (subst (λ r. Asked ps who.host k.x r) asks here.asked)
+        asked-by w =
+            subst (λ z. Asked ps who.host k.x (Request.Write z sq f bl first last (Some base) bd)) w (subst (λ r. Asked ps who.host k.x r) asks here.asked)
 
-        covers : (g c n : ℕ) → Covers (S k.w f bl first last now) (W who g c n 0 false) → (n < number) × ((q : Push) → In dirty q → q.file ≡ g → q.block ≡ c → n < q.first)
+        covers : (g c n : ℕ) → Covers (S k.w f bl first last now) (W who g c n 0 false)
+            → (n < number) × ((q : Push) → In dirty q → q.file ≡ g → q.block ≡ c → n < q.first)
         covers g c n k' =
             let asked = asked-by (sym k'.0) in
             let drawn = (b.facts.sent.drawn k.x sq f bl first last (Some base) bd asked).1 in
@@ -307,15 +334,25 @@ module _ (s : Server) (t : ServerStep) (who : Who) (xid number seq : ℕ) (ticke
         adds : Adds who number dirty push (S k.w f bl first last now)
         adds = record { writes = λ g c n v th e. absurd (cc); covers = covers; tops = tops }
 
-        pushed : (p : Push) (u : Ticket) (n : ℕ) → push ≡ Some p → ticket ≡ Some u → sequence_of u.request ≡ Some n → IsPushed line who number n j p → IsPushed after who number n (S k.w f bl first last now ∷ j) p
+        pushed : (p : Push) (u : Ticket) (n : ℕ) → push ≡ Some p → ticket ≡ Some u → sequence_of u.request ≡ Some n → IsPushed line who number n j p
+            → IsPushed after who number n (S k.w f bl first last now ∷ j) p
         pushed p u n is has sn d =
             let it = is-it p is in
             let one : record { file = f; block = bl; first = first; last = last; body = bd } ≡ p = some-same _ p (ap push_in (sym asks) ∙ it.1) in
-            let own : In (S k.w f bl first last now ∷ j) (S who p.file p.block p.first p.last now) = subst (λ w. In (S k.w f bl first last now ∷ j) (S w p.file p.block p.first p.last now)) it.0 (subst (λ z. In (S k.w f bl first last now ∷ j) (S k.w z.file z.block z.first z.last now)) one (inl refl)) in
+            let own : In (S k.w f bl first last now ∷ j) (S who p.file p.block p.first p.last now) = subst
+            (λ w. In (S k.w f bl first last now ∷ j) (S w p.file p.block p.first p.last now)) it.0
+            (subst (λ z. In (S k.w f bl first last now ∷ j) (S k.w z.file z.block z.first z.last now)) one (inl refl)) in
             record {
               behind = behind-more (S k.w f bl first last now) d.behind;
               below = d.below;
-              stands = stored now (record { inc = here.is_inc ∙ ap (λ z. z.inc) it.0; decided = here.is_seq ∙ sym (seq-is p u n is has sn); told = sym verdict-is ∙ done }) own;
+              stands =
+                  stored now
+                  (record {
+                    inc = here.is_inc ∙ ap (λ z. z.inc) it.0;
+                    decided = here.is_seq ∙ sym (seq-is p u n is has sn);
+                    told = sym verdict-is
+                        ∙ done;
+                  }) own;
             }
 
     effects : Effects k.w k.r (host_row t.server.kept k.w.host).verdict t.entries → Result t.entries
@@ -324,10 +361,13 @@ module _ (s : Server) (t : ServerStep) (who : Who) (xid number seq : ℕ) (ticke
     effects (pushes sq f bl first last now base bd asks done is) = subst Result (sym is) (stores sq f bl first last now base bd asks done)
 
   -- a request of another host is decided
-  elsewhere : (k : Decides ps s t) → (who.host ≡ k.w.host → ⊥) → Effects k.w k.r (host_row t.server.kept k.w.host).verdict t.entries → (e : Entry) → In t.entries e → IsOfOther who.host e
+  elsewhere : (k : Decides ps s t) → (who.host ≡ k.w.host → ⊥) → Effects k.w k.r (host_row t.server.kept k.w.host).verdict t.entries → (e : Entry)
+      → In t.entries e → IsOfOther who.host e
   elsewhere k other (without quiet why) = all-of-other who.host t.entries quiet
-  elsewhere k other (goes_through sq f bl first last bd asks is) = subst (λ es. (e : Entry) → In es e → IsOfOther who.host e) (sym is) (one-of-other who.host _ (λ e. other (sym e)))
-  elsewhere k other (pushes sq f bl first last now base bd asks done is) = subst (λ es. (e : Entry) → In es e → IsOfOther who.host e) (sym is) (one-of-other who.host _ (λ e. other (sym e)))
+  elsewhere k other (goes_through sq f bl first last bd asks is) =
+      subst (λ es. (e : Entry) → In es e → IsOfOther who.host e) (sym is) (one-of-other who.host _ (λ e. other (sym e)))
+  elsewhere k other (pushes sq f bl first last now base bd asks done is) =
+      subst (λ es. (e : Entry) → In es e → IsOfOther who.host e) (sym is) (one-of-other who.host _ (λ e. other (sym e)))
 
   decided : (k : Decides ps s t) → (bool : Bool) → (who.host == k.w.host) ≡ bool → Result t.entries
   decided k true e = effects k (same-number _ _ e) k.effects

@@ -28,18 +28,24 @@ use Rattle.walk_server.proofs.Rows.{same-number, number-same}
 
 -- ---- what can be lost
 
-dirty-losable : (who : Who) (number : ℕ) (j : List Entry) (ps : List Push) → ((p : Push) → In ps p → IsDirty who number j p) → AreApart ps → AllLosable who number j ps
+dirty-losable : (who : Who) (number : ℕ) (j : List Entry) (ps : List Push) → ((p : Push) → In ps p → IsDirty who number j p) → AreApart ps
+    → AllLosable who number j ps
 dirty-losable who number j [] all apart = tt
 dirty-losable who number j (p ∷ ps) all apart =
-    let d = all p (inl refl) in
-    (record { behind = d.behind; below = d.below; clear = dirty-clear d }, (λ q i f b. absurd (apart.0 q i f b)), dirty-losable who number j ps (λ q i. all q (inr i)) apart.1)
+    let d = all p (inl refl) in (
+      record { behind = d.behind; below = d.below; clear = dirty-clear d },
+      (λ q i f b. absurd (apart.0 q i f b)),
+      dirty-losable who number j ps
+          (λ q i. all q (inr i)) apart.1,
+    )
 
 -- the delayed writes of a file: those of the push under way, then those of the list
 abbrev of_file : (file : ℕ) → List Push → Option Push → List Push
 of_file file dirty push = push_of file push ++ filter (is_push_of file) dirty
 
 push-of-in : (file : ℕ) (push : Option Push) (p : Push) → push ≡ Some p → p.file ≡ file → In (push_of file push) p
-push-of-in file push p is same = subst (λ o. In (push_of file o) p) (sym is) (subst (λ b. In (if b then p ∷ [] else []) p) (sym (number-same p.file file same)) (inl refl))
+push-of-in file push p is same =
+    subst (λ o. In (push_of file o) p) (sym is) (subst (λ b. In (if b then p ∷ [] else []) p) (sym (number-same p.file file same)) (inl refl))
 
 of-file-in : (file : ℕ) (dirty : List Push) (push : Option Push) (p : Push) → In (of_file file dirty push) p → (p.file ≡ file) × (In dirty p ⊎ (push ≡ Some p))
 of-file-in file dirty push p i = case (in-append (push_of file push) (filter (is_push_of file) dirty) p i)
@@ -49,15 +55,20 @@ of-file-in file dirty push p i = case (in-append (push_of file push) (filter (is
     case (inr k) = let h = in-filter (is_push_of file) dirty p k in (same-number p.file file h.1, inl h.0)
 
 in-of-file : (file : ℕ) (dirty : List Push) (push : Option Push) (p : Push) → In dirty p ⊎ (push ≡ Some p) → p.file ≡ file → In (of_file file dirty push) p
-in-of-file file dirty push p (inl i) same = in-right (push_of file push) (filter (is_push_of file) dirty) p (filter-in (is_push_of file) dirty p (number-same p.file file same) i)
+in-of-file file dirty push p (inl i) same =
+    in-right (push_of file push) (filter (is_push_of file) dirty) p (filter-in (is_push_of file) dirty p (number-same p.file file same) i)
 in-of-file file dirty push p (inr is) same = in-left (push_of file push) (filter (is_push_of file) dirty) p (push-of-in file push p is same)
 
 -- all of them can be lost, where the push under way can be
-file-losable : {line : HostRow} {who : Who} {number seq : ℕ} {ticket : Option Ticket} {dirty : List Push} {push : Option Push} {packets : List Packet} {j : List Entry} (file : ℕ) → ((p : Push) → push ≡ Some p → IsLosable who number j p) → Facts line who number seq ticket dirty push packets j → AllLosable who number j (of_file file dirty push)
+file-losable : {line : HostRow} {who : Who} {number seq : ℕ} {ticket : Option Ticket} {dirty : List Push} {push : Option Push} {packets : List Packet}
+    {j : List Entry} (file : ℕ) → ((p : Push) → push ≡ Some p → IsLosable who number j p) → Facts line who number seq ticket dirty push packets j
+    → AllLosable who number j (of_file file dirty push)
 file-losable {who = who} {number = number} {dirty = dirty} {push = push} {j = j} file can h = case push refl
   where
     rest : AllLosable who number j (filter (is_push_of file) dirty)
-    rest = dirty-losable who number j (filter (is_push_of file) dirty) (λ p i. h.list.listed p (in-filter (is_push_of file) dirty p i).0) (apart-filter (is_push_of file) dirty h.list.apart)
+    rest =
+        dirty-losable who number j (filter (is_push_of file) dirty) (λ p i. h.list.listed p (in-filter (is_push_of file) dirty p i).0)
+        (apart-filter (is_push_of file) dirty h.list.apart)
 
     case : (o : Option Push) → push ≡ o → AllLosable who number j (push_of file o ++ filter (is_push_of file) dirty)
     case None e = rest
@@ -67,12 +78,15 @@ file-losable {who = who} {number = number} {dirty = dirty} {push = push} {j = j}
         step true = (can p e, (λ q i f b. h.list.earlier p q e (in-filter (is_push_of file) dirty q i).0 f b), rest)
         step false = rest
 
-drawn-of : {line : HostRow} {who : Who} {number seq : ℕ} {ticket : Option Ticket} {dirty : List Push} {push : Option Push} {packets : List Packet} {j : List Entry} → ((p : Push) → push ≡ Some p → IsLosable who number j p) → Facts line who number seq ticket dirty push packets j → (p : Push) → In dirty p ⊎ (push ≡ Some p) → p.last < number
+drawn-of : {line : HostRow} {who : Who} {number seq : ℕ} {ticket : Option Ticket} {dirty : List Push} {push : Option Push} {packets : List Packet}
+    {j : List Entry} → ((p : Push) → push ≡ Some p → IsLosable who number j p) → Facts line who number seq ticket dirty push packets j → (p : Push)
+    → In dirty p ⊎ (push ≡ Some p) → p.last < number
 drawn-of can h p (inl i) = (h.list.listed p i).below
 drawn-of can h p (inr is) = (can p is).below
 
 -- losses in the order of the journal
-lost-own : (who : Who) (ps : List Push) (es : List Entry) → ((e : Entry) → In es e → IsOwn who e) → (e : Entry) → In (reverse (map (loss_entry who) ps) ++ es) e → IsOwn who e
+lost-own : (who : Who) (ps : List Push) (es : List Entry) → ((e : Entry) → In es e → IsOwn who e) → (e : Entry)
+    → In (reverse (map (loss_entry who) ps) ++ es) e → IsOwn who e
 lost-own who ps es all e i = step ps es all (subst (λ z. In z e) (lost-is who ps es) i)
   where
     step : (ps : List Push) (es : List Entry) → ((x : Entry) → In es x → IsOwn who x) → In (lost who ps es) e → IsOwn who e
@@ -91,13 +105,20 @@ module _ {line : HostRow} {ps : List Packet} {j : List Entry} where
   -- ---- small changes
 
   -- the delayed writes of a file are lost
-  pub mid-loses : {who : Who} {number seq : ℕ} {ticket : Option Ticket} {dirty : List Push} {push : Option Push} {sends : List Message} {entries : List Entry} (file : ℕ) → ((p : Push) → push ≡ Some p → IsLosable who number (entries ++ j) p) → ((w : Who) (q : Push) → IsOpenPush line (packets_with ps who.host sends) who.host w q → w ≡ who → ⊥) → MidAt line ps j who number seq ticket dirty push sends entries → MidAt line ps j who number seq ticket (other_dirty file dirty) (other_push file push) sends (reverse (map (loss_entry who) (of_file file dirty push)) ++ entries)
+  pub mid-loses : {who : Who} {number seq : ℕ} {ticket : Option Ticket} {dirty : List Push} {push : Option Push} {sends : List Message}
+      {entries : List Entry} (file : ℕ) → ((p : Push) → push ≡ Some p → IsLosable who number (entries ++ j) p)
+      → ((w : Who) (q : Push) → IsOpenPush line (packets_with ps who.host sends) who.host w q → w ≡ who → ⊥)
+      → MidAt line ps j who number seq ticket dirty push sends entries
+      → MidAt line ps j who number seq ticket (other_dirty file dirty) (other_push file push) sends
+      (reverse (map (loss_entry who) (of_file file dirty push)) ++ entries)
   mid-loses {who = who} {number = number} {seq = seq} {ticket = ticket} {dirty = dirty} {push = push} {sends = sends} {entries = entries} file can over m =
       let gone : List Push = of_file file dirty push in
-      let same : (reverse (map (loss_entry who) gone) ++ entries) ++ j ≡ lost who gone (entries ++ j) = append_assoc (reverse (map (loss_entry who) gone)) entries j ∙ lost-is who gone (entries ++ j) in
+      let same : (reverse (map (loss_entry who) gone) ++ entries) ++ j ≡ lost who gone (entries ++ j) = append_assoc
+      (reverse (map (loss_entry who) gone)) entries j ∙ lost-is who gone (entries ++ j) in
       record {
         facts = subst (λ z. Facts line who number seq ticket (other_dirty file dirty) (other_push file push) (packets_with ps who.host sends) z) (sym same)
-            (facts-loses file gone (of-file-in file dirty push) (in-of-file file dirty push) (λ p i. drawn-of can m.facts p (of-file-in file dirty push p i).1) over m.facts);
+            (facts-loses file gone (of-file-in file dirty push) (in-of-file file dirty push)
+            (λ p i. drawn-of can m.facts p (of-file-in file dirty push p i).1) over m.facts);
         journal = subst JournalFits (sym same) (lost-fits who number gone (entries ++ j) (file-losable file can m.facts) m.journal);
         own = lost-own who gone entries m.own;
       }
@@ -110,7 +131,9 @@ module _ {line : HostRow} {ps : List Packet} {j : List Entry} where
   pub mid-vacates : (t : ClientStep) (file : ℕ) (tag : Tag) → Mid line ps j t → Mid line ps j (vacates_lease t file tag)
   unfolding vacates_lease
   mid-vacates t file tag m = record {
-    facts = subst (λ qs. Facts line t.client.who t.client.number t.client.seq t.client.ticket t.client.dirty t.client.push qs (t.entries ++ j)) (sym (packets-last ps t.client.who.host t.sends (call t.client.xid (Request.Vacated t.client.who file tag))))
+    facts =
+        subst (λ qs. Facts line t.client.who t.client.number t.client.seq t.client.ticket t.client.dirty t.client.push qs (t.entries ++ j))
+        (sym (packets-last ps t.client.who.host t.sends (call t.client.xid (Request.Vacated t.client.who file tag))))
         (facts-sends t.client.xid (Request.Vacated t.client.who file tag) refl (λ sq f b first last base bd e. absurd (cc)) m.facts);
     journal = m.journal;
     own = m.own;
@@ -164,21 +187,30 @@ module _ {line : HostRow} {ps : List Packet} {j : List Entry} where
   -- ---- grants
 
   mid-breaks : (t : ClientStep) (file : ℕ) → t.client.push ≡ None → NoneOpen line ps t → Mid line ps j t → Mid line ps j (breaks_chain t file)
-  mid-breaks t file none over m = mid-reports (vacates_noticed (loses t file) file (notice_on file t.client.notices)) file (mid-noticed (loses t file) file (notice_on file t.client.notices) (loses-free t file none over m))
+  mid-breaks t file none over m =
+      mid-reports (vacates_noticed (loses t file) file (notice_on file t.client.notices)) file
+      (mid-noticed (loses t file) file (notice_on file t.client.notices) (loses-free t file none over m))
 
   mid-if-broken : (t : ClientStep) (file : ℕ) (g : Grant) → t.client.push ≡ None → NoneOpen line ps t → Mid line ps j t → Mid line ps j (if_broken t file g)
   mid-if-broken t file g none over m = if-broken-cases t file g (Mid line ps j) (λ e. m) (λ lease e below dirty. mid-breaks t file none over m)
 
-  pub mid-takes : (t : ClientStep) (file : ℕ) (o : Option Grant) (sent : ℕ) → t.client.push ≡ None → NoneOpen line ps t → Mid line ps j t → Mid line ps j (takes_optional t file o sent)
-  mid-takes t file o sent none over m = takes-optional-cases t file o sent (Mid line ps j) (λ e. m) (λ g e. mid-holds (if_broken t file g) file g sent (mid-if-broken t file g none over m))
+  pub mid-takes : (t : ClientStep) (file : ℕ) (o : Option Grant) (sent : ℕ) → t.client.push ≡ None → NoneOpen line ps t → Mid line ps j t
+      → Mid line ps j (takes_optional t file o sent)
+  mid-takes t file o sent none over m =
+      takes-optional-cases t file o sent (Mid line ps j) (λ e. m) (λ g e. mid-holds (if_broken t file g) file g sent (mid-if-broken t file g none over m))
 
-  pub mid-read-done : (t : ClientStep) (file block : ℕ) (body : List ℕ) (o : Option Grant) (sent k : ℕ) → t.client.push ≡ None → NoneOpen line ps t → Mid line ps j t → Mid line ps j (read_done t file block body o sent k)
+  pub mid-read-done : (t : ClientStep) (file block : ℕ) (body : List ℕ) (o : Option Grant) (sent k : ℕ) → t.client.push ≡ None → NoneOpen line ps t
+      → Mid line ps j t → Mid line ps j (read_done t file block body o sent k)
   mid-read-done t file block body o sent k none over m =
       mid-call (then_caches (takes_optional t file o sent) file block body o) (Answer.Ok (Value.Body body)) (Some k)
-      (then-caches-cases (takes_optional t file o sent) file block body o (Mid line ps j) (λ e. mid-caches (takes_optional t file o sent) file block body (mid-takes t file o sent none over m)) (λ e. mid-takes t file o sent none over m))
+      (then-caches-cases (takes_optional t file o sent) file block body o (Mid line ps j)
+      (λ e. mid-caches (takes_optional t file o sent) file block body (mid-takes t file o sent none over m)) (λ e. mid-takes t file o sent none over m))
 
-  pub mid-lease-done : (t : ClientStep) (file : ℕ) (o : Option Grant) (sent : ℕ) → t.client.push ≡ None → NoneOpen line ps t → Mid line ps j t → Mid line ps j (lease_done t file o sent)
-  mid-lease-done t file o sent none over m = lease-done-cases t file o sent (Mid line ps j) (λ e. mid-takes t file o sent none over m) (λ e. mid-through (takes_optional t file o sent) true (mid-takes t file o sent none over m))
+  pub mid-lease-done : (t : ClientStep) (file : ℕ) (o : Option Grant) (sent : ℕ) → t.client.push ≡ None → NoneOpen line ps t → Mid line ps j t
+      → Mid line ps j (lease_done t file o sent)
+  mid-lease-done t file o sent none over m =
+      lease-done-cases t file o sent (Mid line ps j) (λ e. mid-takes t file o sent none over m)
+      (λ e. mid-through (takes_optional t file o sent) true (mid-takes t file o sent none over m))
 
   pub mid-write-done : (t : ClientStep) (file block : ℕ) (body : List ℕ) (rev : ℕ) → Mid line ps j t → Mid line ps j (write_done t file block body rev)
   mid-write-done t file block body rev m =
@@ -193,10 +225,12 @@ module _ {line : HostRow} {ps : List Packet} {j : List Entry} where
   mid-ended t file block body rev m =
       let known : ClientStep = knows_revision (ends_push t) file rev in
       let cached : ClientStep = caches_push known file block body in
-      let held : Mid line ps j cached = caches-push-cases known file block body (Mid line ps j) (λ e. mid-knows (ends_push t) file rev m) (λ e. mid-caches known file block body (mid-knows (ends_push t) file rev m)) in
+      let held : Mid line ps j cached = caches-push-cases known file block body (Mid line ps j) (λ e. mid-knows (ends_push t) file rev m)
+      (λ e. mid-caches known file block body (mid-knows (ends_push t) file rev m)) in
       vacates-if-clean-cases cached file (Mid line ps j) held (λ n clean e. mid-vacates cached file n.tag held)
 
   pub mid-refused : (t : ClientStep) (file : ℕ) → Mid line ps j (loses t file) → Mid line ps j (push_refused t file)
   mid-refused t file m =
       let without : ClientStep = without_lease (loses t file) file in
-      mid-reports (vacates_noticed without file (notice_on file t.client.notices)) file (mid-noticed without file (notice_on file t.client.notices) (mid-without (loses t file) file m))
+      mid-reports (vacates_noticed without file (notice_on file t.client.notices)) file
+      (mid-noticed without file (notice_on file t.client.notices) (mid-without (loses t file) file m))

@@ -31,7 +31,8 @@ covers-none (Z w q' f from to) who file block n value q c = c
 covers-none (A w q' said) who file block n value q c = c
 
 -- one more entry that covers nothing
-pub covers-before : (e : Entry) (j : List Entry) (who : Who) (file block n : ℕ) → IsNoCover e → CoversNumber (e ∷ j) who file block n → CoversNumber j who file block n
+pub covers-before : (e : Entry) (j : List Entry) (who : Who) (file block n : ℕ) → IsNoCover e → CoversNumber (e ∷ j) who file block n
+    → CoversNumber j who file block n
 covers-before e j who file block n q (inl c) = absurd (covers-none e who file block n 0 q c)
 covers-before e j who file block n q (inr c) = c
 
@@ -50,15 +51,18 @@ covers-value (X boot now longest) who file block n v u c = c
 covers-value (Z w q f from to) who file block n v u c = c
 covers-value (A w q said) who file block n v u c = c
 
-pub covers-write : (j : List Entry) (who : Who) (file block n v u : ℕ) → Exists (λ e. Covers e (W who file block n v false)) j → Exists (λ e. Covers e (W who file block n u false)) j
+pub covers-write : (j : List Entry) (who : Who) (file block n v u : ℕ) → Exists (λ e. Covers e (W who file block n v false)) j
+    → Exists (λ e. Covers e (W who file block n u false)) j
 covers-write [] who file block n v u h = h
 covers-write (e ∷ j) who file block n v u (inl c) = inl (covers-value e who file block n v u c)
 covers-write (e ∷ j) who file block n v u (inr h) = inr (covers-write j who file block n v u h)
 
 -- an S in the journal covers its numbers
-pub store-covers : (j : List Entry) (who : Who) (file block first last now n : ℕ) → In j (S who file block first last now) → first ≤ n → n ≤ last → CoversNumber j who file block n
+pub store-covers : (j : List Entry) (who : Who) (file block first last now n : ℕ) → In j (S who file block first last now) → first ≤ n → n ≤ last
+    → CoversNumber j who file block n
 store-covers [] who file block first last now n h above below = h
-store-covers (e ∷ j) who file block first last now n (inl same) above below = inl (subst (λ x. Covers x (W who file block n 0 false)) (sym same) (refl, refl, refl, above, below))
+store-covers (e ∷ j) who file block first last now n (inl same) above below =
+    inl (subst (λ x. Covers x (W who file block n 0 false)) (sym same) (refl, refl, refl, above, below))
 store-covers (e ∷ j) who file block first last now n (inr h) above below = inr (store-covers j who file block first last now n h above below)
 
 -- more entries cover no less
@@ -68,18 +72,24 @@ covers-more more j who file block n c = exists-right (λ e. Covers e (W who file
 -- ---- the law
 
 -- no number that is covered here is covered before
-first-cover : (who : Who) (file block first last : ℕ) (entry : Entry) (before : List Entry) → ((w : Entry) → Covers entry w → Covers (L who file block first last) w) → IsClear before who file block first last → (w : Entry) → IsFirstToCover before entry w
+first-cover : (who : Who) (file block first last : ℕ) (entry : Entry) (before : List Entry)
+    → ((w : Entry) → Covers entry w → Covers (L who file block first last) w) → IsClear before who file block first last → (w : Entry)
+    → IsFirstToCover before entry w
 first-cover who file block first last entry before alike clear (W by f b n v false) c h =
     let k = alike (W by f b n v false) c in
     clear n k.3 k.4
-    (subst (λ z. CoversNumber before z file block n) k.0 (subst (λ z. CoversNumber before by z block n) k.1 (subst (λ z. CoversNumber before by f z n) k.2 (covers-write before by f b n v 0 h))))
+    (subst (λ z. CoversNumber before z file block n) k.0
+    (subst (λ z. CoversNumber before by z block n) k.1 (subst (λ z. CoversNumber before by f z n) k.2 (covers-write before by f b n v 0 h))))
 first-cover who file block first last entry before alike clear other c h = alike other c
 
-accounts-at : (whole : List Entry) (e : Entry) (before : List Entry) → ((x : Entry) → In before x → In whole x) → IsApart e before → IsAccountedAt whole e before
-accounts-at whole (S who file block first last now) before more clear = each-of _ whole (first-cover who file block first last (S who file block first last now) before (λ w c. c) clear)
+accounts-at : (whole : List Entry) (e : Entry) (before : List Entry) → ((x : Entry) → In before x → In whole x) → IsApart e before
+    → IsAccountedAt whole e before
+accounts-at whole (S who file block first last now) before more clear =
+    each-of _ whole (first-cover who file block first last (S who file block first last now) before (λ w c. c) clear)
 accounts-at whole (L who file block first last) before more a = (
   each-of _ whole (first-cover who file block first last (L who file block first last) before (λ w c. c) a.0),
-  in-exists (Covers (L who file block first last)) whole (W who file block first a.2.0 false) (more (W who file block first a.2.0 false) a.2.1) (refl, refl, refl, let o = a.1 in omega arith, a.1),
+  in-exists (Covers (L who file block first last)) whole (W who file block first a.2.0 false) (more (W who file block first a.2.0 false) a.2.1)
+      (refl, refl, refl, let o = a.1 in omega arith, a.1),
 )
 accounts-at whole (C who q told) before more a = tt
 accounts-at whole (W who file block n v t) before more a = tt

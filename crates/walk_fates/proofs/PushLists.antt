@@ -53,7 +53,11 @@ left-push file (Some q) p h = step (is_push_of file q) refl h
   where
     step : (b : Bool) → is_push_of file q ≡ b → (if b then None else Some q) ≡ Some p → (Some q ≡ Some p) × (p.file ≡ file → ⊥)
     step true e h = none-some p h
-    step false e h = (h, λ same. let one : q ≡ p = some-same q p h in let yes : is_push_of file q ≡ true = number-same q.file file (ap (λ z. z.file) one ∙ same) in absurd (cc))
+    step false e h = (
+      h,
+      λ same. let one : q ≡ p = some-same q p h in let yes : is_push_of file q ≡ true = number-same q.file file (ap (λ z. z.file) one ∙ same) in
+          absurd (cc),
+    )
 
 -- a write is delayed
 abbrev pub fresh_push : (file block number : ℕ) (body : List ℕ) → Push
@@ -66,11 +70,14 @@ pub data InWritten (file block number : ℕ) (body : List ℕ) (dirty : List Pus
   is_longer : (p : Push) → In dirty p → p.file ≡ file → p.block ≡ block → overwritten number body p ≡ q → InWritten file block number body dirty q
   is_new : ((p : Push) → In dirty p → p.file ≡ file → p.block ≡ block → ⊥) → fresh_push file block number body ≡ q → InWritten file block number body dirty q
 
-overwritten-is : (file block number : ℕ) (body : List ℕ) (dirty : List Push) (p q : Push) → In dirty p → (b : Bool) → is_push_at file block p ≡ b → (if b then overwritten number body p else p) ≡ q → InWritten file block number body dirty q
+overwritten-is : (file block number : ℕ) (body : List ℕ) (dirty : List Push) (p q : Push) → In dirty p → (b : Bool) → is_push_at file block p ≡ b
+    → (if b then overwritten number body p else p) ≡ q → InWritten file block number body dirty q
 overwritten-is file block number body dirty p q i true e same = let k = is-at file block p e in is_longer p i k.0 k.1 same
-overwritten-is file block number body dirty p q i false e same = is_other (subst (λ z. In dirty z) same i) (subst (λ z. z.file ≡ file → z.block ≡ block → ⊥) same (not-at file block p e))
+overwritten-is file block number body dirty p q i false e same =
+    is_other (subst (λ z. In dirty z) same i) (subst (λ z. z.file ≡ file → z.block ≡ block → ⊥) same (not-at file block p e))
 
-pub in-written : (file block number : ℕ) (body : List ℕ) (dirty : List Push) (o : Option Push) → dirty_at file block dirty ≡ o → (q : Push) → In (with_write file block number body dirty o) q → InWritten file block number body dirty q
+pub in-written : (file block number : ℕ) (body : List ℕ) (dirty : List Push) (o : Option Push) → dirty_at file block dirty ≡ o → (q : Push)
+    → In (with_write file block number body dirty o) q → InWritten file block number body dirty q
 in-written file block number body dirty None none q h = case (in-append dirty (fresh_push file block number body ∷ []) q h)
   where
     absent : (p : Push) → In dirty p → p.file ≡ file → p.block ≡ block → ⊥
@@ -85,26 +92,46 @@ in-written file block number body dirty (Some p) some q h =
     overwritten-is file block number body dirty k.0 q k.1 (is_push_at file block k.0) refl k.2
 
 -- and what was there is there, or longer
-pub written-in : (file block number : ℕ) (body : List ℕ) (dirty : List Push) (o : Option Push) (p : Push) → In dirty p → (q : Push) × In (with_write file block number body dirty o) q × ((q ≡ p) ⊎ (q ≡ overwritten number body p))
+pub written-in : (file block number : ℕ) (body : List ℕ) (dirty : List Push) (o : Option Push) (p : Push) → In dirty p
+    → (q : Push) × In (with_write file block number body dirty o) q × ((q ≡ p) ⊎ (q ≡ overwritten number body p))
 written-in file block number body dirty None p i = (p, in-left dirty (fresh_push file block number body ∷ []) p i, inl refl)
-written-in file block number body dirty (Some r) p i = (overwritten_at file block number body p, map-in (overwritten_at file block number body) dirty p i, step (is_push_at file block p))
+written-in file block number body dirty (Some r) p i =
+    (overwritten_at file block number body p, map-in (overwritten_at file block number body) dirty p i, step (is_push_at file block p))
   where
     step : (b : Bool) → ((if b then overwritten number body p else p) ≡ p) ⊎ ((if b then overwritten number body p else p) ≡ overwritten number body p)
     step true = inr refl
     step false = inl refl
 
 -- the block has an entry that ends with the new write
-pub written-there : (file block number : ℕ) (body : List ℕ) (dirty : List Push) (o : Option Push) → dirty_at file block dirty ≡ o → (q : Push) × In (with_write file block number body dirty o) q × (q.file ≡ file) × (q.block ≡ block) × (q.last ≡ number) × ((q.first ≡ number) ⊎ ((p : Push) × In dirty p × (p.file ≡ file) × (p.block ≡ block) × (q.first ≡ p.first)))
-written-there file block number body dirty None none = (fresh_push file block number body, in-right dirty (fresh_push file block number body ∷ []) (fresh_push file block number body) (inl refl), refl, refl, refl, inl refl)
+pub written-there : (file block number : ℕ) (body : List ℕ) (dirty : List Push) (o : Option Push) → dirty_at file block dirty ≡ o
+    → (q : Push) × In (with_write file block number body dirty o) q × (q.file ≡ file) × (q.block ≡ block) × (q.last ≡ number)
+    × ((q.first ≡ number) ⊎ ((p : Push) × In dirty p × (p.file ≡ file) × (p.block ≡ block) × (q.first ≡ p.first)))
+written-there file block number body dirty None none = (
+  fresh_push file block number body,
+  in-right dirty (fresh_push file block number body ∷ []) (fresh_push file block number body) (inl refl),
+  refl,
+  refl,
+  refl,
+  inl refl,
+)
 written-there file block number body dirty (Some p) some =
     let at : is_push_at file block p ≡ true = find-passes (is_push_at file block) p dirty some in
     let k = is-at file block p at in
-    let there : In dirty p = find-in (is_push_at file block) dirty p some in
-    (overwritten number body p, subst (λ z. In (map (overwritten_at file block number body) dirty) z) (ap (λ b. if b then overwritten number body p else p) at) (map-in (overwritten_at file block number body) dirty p there), k.0, k.1, refl, inr (p, there, k.0, k.1, refl))
+    let there : In dirty p = find-in (is_push_at file block) dirty p some in (
+      overwritten number body p,
+      subst (λ z. In (map (overwritten_at file block number body) dirty) z)
+          (ap (λ b. if b then overwritten number body p else p) at) (map-in (overwritten_at file block number body) dirty p there),
+      k.0,
+      k.1,
+      refl,
+      inr
+          (p, there, k.0, k.1, refl),
+    )
 
 -- ---- lists without two of one block
 
-apart-filter-step : (test : Push → Bool) (p : Push) (ps : List Push) (b : Bool) → ((q : Push) → In ps q → p.file ≡ q.file → p.block ≡ q.block → ⊥) → AreApart (filter test ps) → AreApart (if b then p ∷ filter test ps else filter test ps)
+apart-filter-step : (test : Push → Bool) (p : Push) (ps : List Push) (b : Bool) → ((q : Push) → In ps q → p.file ≡ q.file → p.block ≡ q.block → ⊥)
+    → AreApart (filter test ps) → AreApart (if b then p ∷ filter test ps else filter test ps)
 apart-filter-step test p ps true apart rest = (λ q i. apart q (in-filter test ps q i).0, rest)
 apart-filter-step test p ps false apart rest = rest
 
@@ -112,7 +139,8 @@ pub apart-filter : (test : Push → Bool) (ps : List Push) → AreApart ps → A
 apart-filter test [] h = tt
 apart-filter test (p ∷ ps) h = apart-filter-step test p ps (test p) h.0 (apart-filter test ps h.1)
 
-overwritten-same : (number : ℕ) (body : List ℕ) (p : Push) (b : Bool) → ((if b then overwritten number body p else p).file ≡ p.file) × ((if b then overwritten number body p else p).block ≡ p.block)
+overwritten-same : (number : ℕ) (body : List ℕ) (p : Push) (b : Bool)
+    → ((if b then overwritten number body p else p).file ≡ p.file) × ((if b then overwritten number body p else p).block ≡ p.block)
 overwritten-same number body p true = (refl, refl)
 overwritten-same number body p false = (refl, refl)
 
@@ -120,7 +148,8 @@ apart-map : (file block number : ℕ) (body : List ℕ) (ps : List Push) → Are
 apart-map file block number body [] h = tt
 apart-map file block number body (p ∷ ps) h = (apart, apart-map file block number body ps h.1)
   where
-    apart : (q : Push) → In (map (overwritten_at file block number body) ps) q → (overwritten_at file block number body p).file ≡ q.file → (overwritten_at file block number body p).block ≡ q.block → ⊥
+    apart : (q : Push) → In (map (overwritten_at file block number body) ps) q → (overwritten_at file block number body p).file ≡ q.file
+        → (overwritten_at file block number body p).block ≡ q.block → ⊥
     apart q i f b =
         let k = in-map (overwritten_at file block number body) ps q i in
         let mine = overwritten-same number body p (is_push_at file block p) in
@@ -139,6 +168,8 @@ apart-last p (x ∷ xs) other h = (apart, apart-last p xs (λ q i. other q (inr 
         case (inr (inl e)) = other x (inl refl) (f ∙ ap (λ z. z.file) (sym e)) (b ∙ ap (λ z. z.block) (sym e))
         case (inr (inr bad)) = bad
 
-pub apart-written : (file block number : ℕ) (body : List ℕ) (dirty : List Push) (o : Option Push) → dirty_at file block dirty ≡ o → AreApart dirty → AreApart (with_write file block number body dirty o)
-apart-written file block number body dirty None none h = apart-last (fresh_push file block number body) dirty (λ q i f b. not-at file block q (find-absent (is_push_at file block) dirty q none i) f b) h
+pub apart-written : (file block number : ℕ) (body : List ℕ) (dirty : List Push) (o : Option Push) → dirty_at file block dirty ≡ o → AreApart dirty
+    → AreApart (with_write file block number body dirty o)
+apart-written file block number body dirty None none h =
+    apart-last (fresh_push file block number body) dirty (λ q i f b. not-at file block q (find-absent (is_push_at file block) dirty q none i) f b) h
 apart-written file block number body dirty (Some p) some h = apart-map file block number body dirty h

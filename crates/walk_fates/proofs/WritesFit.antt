@@ -28,7 +28,8 @@ IsClear journal who file block first last = (n : ℕ) → first ≤ n → n ≤ 
 -- an S or L covers no number that is covered before it, and an L has its first write
 abbrev pub IsApart : Entry → (before : List Entry) → Type 0
 IsApart (S who file block first last now) before = IsClear before who file block first last
-IsApart (L who file block first last) before = IsClear before who file block first last × (first ≤ last) × ((value : ℕ) × In before (W who file block first value false))
+IsApart (L who file block first last) before =
+    IsClear before who file block first last × (first ≤ last) × ((value : ℕ) × In before (W who file block first value false))
 IsApart other before = Unit {0}
 
 -- the numbers of an incarnation's delayed writes rise with their place
@@ -110,7 +111,8 @@ pub record ListFits (who : Who) (number : ℕ) (dirty : List Push) (push : Optio
   pub numbers : (file block n value : ℕ) (through : Bool) → In journal (W who file block n value through) → n < number
   pub covered : (file block n : ℕ) → CoversNumber journal who file block n → n < number
   -- each delayed write of it is covered, or within unsaved delayed writes of its block
-  pub unsaved : (file block n value : ℕ) → In journal (W who file block n value false) → CoversNumber journal who file block n ⊎ LiesWithin dirty push file block n
+  pub unsaved : (file block n value : ℕ) → In journal (W who file block n value false)
+      → CoversNumber journal who file block n ⊎ LiesWithin dirty push file block n
 
 -- a push packet of the incarnation that the kept line of its host names, above the kept sequence
 pub record IsOpenPush (line : HostRow) (packets : List Packet) (host : ℕ) (w : Who) (p : Push) : Type 0 where
@@ -130,13 +132,17 @@ pub record PushesFit (line : HostRow) (who : Who) (number : ℕ) (dirty : List P
   -- and what is covered of its block is before
   pub top : (w : Who) (p : Push) → IsOpenPush line packets who.host w p → (n : ℕ) → CoversNumber journal w p.file p.block n → n ≤ p.last
   -- the numbers of each WRITE of the running incarnation were drawn, and are below those of a dirty entry of the same block
-  pub drawn : (x seq file block first last : ℕ) (push : Option PushBase) (body : List ℕ) → Asked packets who.host x (Request.Write who seq file block first last push body) → (first ≤ last) × (last < number)
-  pub earlier : (x seq file block first last : ℕ) (base : PushBase) (body : List ℕ) (q : Push) → Asked packets who.host x (Request.Write who seq file block first last (Some base) body) → In dirty q → q.file ≡ file → q.block ≡ block → last < q.first
+  pub drawn : (x seq file block first last : ℕ) (push : Option PushBase) (body : List ℕ)
+      → Asked packets who.host x (Request.Write who seq file block first last push body) → (first ≤ last) × (last < number)
+  pub earlier : (x seq file block first last : ℕ) (base : PushBase) (body : List ℕ) (q : Push)
+      → Asked packets who.host x (Request.Write who seq file block first last (Some base) body) → In dirty q → q.file ≡ file → q.block ≡ block
+      → last < q.first
 
 -- ---- a client
 
 -- the delayed writes of a client, of which the kept line of its host, the packets and the journal are these
-pub record Facts (line : HostRow) (who : Who) (number seq : ℕ) (ticket : Option Ticket) (dirty : List Push) (push : Option Push) (packets : List Packet) (journal : List Entry) : Type 0 where
+pub record Facts (line : HostRow) (who : Who) (number seq : ℕ) (ticket : Option Ticket) (dirty : List Push) (push : Option Push) (packets : List Packet)
+    (journal : List Entry) : Type 0 where
   pub list : ListFits who number dirty push journal
   pub pushed : (p : Push) (t : Ticket) (n : ℕ) → push ≡ Some p → ticket ≡ Some t → sequence_of t.request ≡ Some n → IsPushed line who number n journal p
   pub sent : PushesFit line who number dirty packets journal

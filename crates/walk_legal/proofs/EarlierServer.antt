@@ -39,11 +39,14 @@ pub record Around (line : HostRow) (c : Client) (ps : List Packet) (j : List Ent
   pub facts : WritesFit line c ps j
   pub mail : Mail c.who c.xid c.ticket ps
   pub above : (x : ℕ) (r : Request) (w : Who) → Asked ps c.who.host x r → asker r ≡ Some w → line.inc < w.inc → r ≡ Request.Attach w
-  pub settled : line.inc ≡ c.who.inc → (x : ℕ) (r : Request) (w : Who) (n : ℕ) → Asked ps c.who.host x r → asker r ≡ Some w → w.inc ≡ c.who.inc → sequence_of r ≡ Some n → IsSettled c.ticket line.seq x n
+  pub settled : line.inc ≡ c.who.inc → (x : ℕ) (r : Request) (w : Who) (n : ℕ) → Asked ps c.who.host x r → asker r ≡ Some w → w.inc ≡ c.who.inc
+      → sequence_of r ≡ Some n → IsSettled c.ticket line.seq x n
   pub pushing : (p : Push) → c.push ≡ Some p → line.inc ≡ c.who.inc
   pub one : OneOpenAt line ps c.who.host
 
-module _ (s : Server) (t : ServerStep) (c : Client) (ps : List Packet) (j : List Entry) (old : (x : ℕ) (r : Request) → Asked (ps ++ t.sends) c.who.host x r → Asked ps c.who.host x r) (b : Around (host_row s.kept c.who.host) c ps j) (h : Earlier (host_row s.kept c.who.host) c ps j) where
+module _ (s : Server) (t : ServerStep) (c : Client) (ps : List Packet) (j : List Entry)
+    (old : (x : ℕ) (r : Request) → Asked (ps ++ t.sends) c.who.host x r → Asked ps c.who.host x r) (b : Around (host_row s.kept c.who.host) c ps j)
+    (h : Earlier (host_row s.kept c.who.host) c ps j) where
   abbrev line : HostRow
   line = host_row s.kept c.who.host
 
@@ -54,20 +57,37 @@ module _ (s : Server) (t : ServerStep) (c : Client) (ps : List Packet) (j : List
   Result es = Earlier after c (ps ++ t.sends) (es ++ j)
 
   was-open : after ≡ line → (v : Who) (p : Push) → IsOpenPush after (ps ++ t.sends) c.who.host v p → IsOpenPush line ps c.who.host v p
-  was-open same v p o = record { xid = o.xid; seq = o.seq; base = o.base; home = o.home; asked = old o.xid _ o.asked; kept = ap (λ l. l.inc) (sym same) ∙ o.kept; above = subst (λ l. l.seq < o.seq) same o.above }
+  was-open same v p o =
+      record {
+        xid = o.xid;
+        seq = o.seq;
+        base = o.base;
+        home = o.home;
+        asked = old o.xid _ o.asked;
+        kept = ap (λ l. l.inc) (sym same)
+            ∙ o.kept;
+        above = subst (λ l. l.seq < o.seq) same o.above;
+      }
 
   -- the line stays, and nothing of this host is stored
-  stays : (es : List Entry) → after ≡ line → ((e : Entry) → In es e → (v : Who) (file block n : ℕ) → v.host ≡ c.who.host → Stores e (W v file block n 0 false) → ⊥) → Result es
+  stays : (es : List Entry) → after ≡ line
+      → ((e : Entry) → In es e → (v : Who) (file block n : ℕ) → v.host ≡ c.who.host → Stores e (W v file block n 0 false) → ⊥) → Result es
   stays es same none = record {
     sent = λ v p o n st. h.sent v p (was-open same v p o) n (stored-old es j (W v p.file p.block n 0 false) (λ e i. none e i v p.file p.block n o.home) st);
-    under_way = λ p is clear n st. h.under_way p is (λ m x y covered. clear m x y (covers-more es j c.who p.file p.block m covered)) n (stored-old es j (W c.who p.file p.block n 0 false) (λ e i. none e i c.who p.file p.block n refl) st);
+    under_way =
+        λ p is clear n st. h.under_way p is (λ m x y covered. clear m x y (covers-more es j c.who p.file p.block m covered)) n
+        (stored-old es j (W c.who p.file p.block n 0 false) (λ e i. none e i c.who p.file p.block n refl) st);
   }
 
   -- no push is open, and nothing but the push under way is stored
-  closed : (es : List Entry) → ((v : Who) (p : Push) → IsOpenPush after (ps ++ t.sends) c.who.host v p → ⊥) → ((p : Push) → c.push ≡ Some p → IsClear (es ++ j) c.who p.file p.block p.first p.last → (e : Entry) → In es e → (n : ℕ) → Stores e (W c.who p.file p.block n 0 false) → ⊥) → Result es
+  closed : (es : List Entry) → ((v : Who) (p : Push) → IsOpenPush after (ps ++ t.sends) c.who.host v p → ⊥)
+      → ((p : Push) → c.push ≡ Some p → IsClear (es ++ j) c.who p.file p.block p.first p.last → (e : Entry) → In es e → (n : ℕ)
+      → Stores e (W c.who p.file p.block n 0 false) → ⊥) → Result es
   closed es none_open none = record {
     sent = λ v p o. absurd (none_open v p o);
-    under_way = λ p is clear n st. h.under_way p is (λ m x y covered. clear m x y (covers-more es j c.who p.file p.block m covered)) n (stored-old es j (W c.who p.file p.block n 0 false) (λ e i. none p is clear e i n) st);
+    under_way =
+        λ p is clear n st. h.under_way p is (λ m x y covered. clear m x y (covers-more es j c.who p.file p.block m covered)) n
+        (stored-old es j (W c.who p.file p.block n 0 false) (λ e i. none p is clear e i n) st);
   }
 
   -- ---- a later incarnation begins
@@ -94,7 +114,8 @@ module _ (s : Server) (t : ServerStep) (c : Client) (ps : List Packet) (j : List
 
   attached : (k : Attaches ps s t) → AllQuiet t.entries → (bool : Bool) → (c.who.host == k.w.host) ≡ bool → Result t.entries
   attached k quiet true e = attaches k quiet (same-number _ _ e)
-  attached k quiet false e = stays t.entries (k.others c.who.host (λ same. let yes : (c.who.host == k.w.host) ≡ true = number-same _ _ same in absurd (cc))) (quiet-apart quiet)
+  attached k quiet false e =
+      stays t.entries (k.others c.who.host (λ same. let yes : (c.who.host == k.w.host) ≡ true = number-same _ _ same in absurd (cc))) (quiet-apart quiet)
 
   -- ---- a request of this host is decided
 
@@ -111,8 +132,10 @@ module _ (s : Server) (t : ServerStep) (c : Client) (ps : List Packet) (j : List
         let below = here.was_below in
         let up = o.above in
         let kept = o.kept in
-        let mine : IsOpenAt line ps c.who.host k.x k.r = record { who = k.w; seq = k.seq; asked = here.asked; by = k.by; kept = here.was_inc; draws = k.draws; above = here.was_below } in
-        let other : IsOpenAt line ps c.who.host o.xid r = record { who = w; seq = o.seq; asked = old o.xid r o.asked; by = refl; kept = omega arith; draws = refl; above = omega arith } in
+        let mine : IsOpenAt line ps c.who.host k.x k.r = record
+        { who = k.w; seq = k.seq; asked = here.asked; by = k.by; kept = here.was_inc; draws = k.draws; above = here.was_below } in
+        let other : IsOpenAt line ps c.who.host o.xid r = record
+        { who = w; seq = o.seq; asked = old o.xid r o.asked; by = refl; kept = omega arith; draws = refl; above = omega arith } in
         let one = (b.one k.x o.xid k.r r mine other).1 in
         let number : k.seq ≡ o.seq = some-same k.seq o.seq (sym k.draws ∙ ap sequence_of one) in
         omega arith
@@ -135,7 +158,9 @@ module _ (s : Server) (t : ServerStep) (c : Client) (ps : List Packet) (j : List
             let asks : u.0.request ≡ k.r = (b.mail.asked k.x k.r k.w here.asked k.by).same mine u.0 u.1 u.2 in
             ap push_in (sym asks ∙ ap (λ z. z.request) (sym one)) ∙ g.pushes
 
-    stores-own : (sq f bl first last now : ℕ) (base : PushBase) (bd : List ℕ) → k.r ≡ Request.Write k.w sq f bl first last (Some base) bd → (p : Push) → c.push ≡ Some p → IsClear (S k.w f bl first last now ∷ j) c.who p.file p.block p.first p.last → (n : ℕ) → Stores (S k.w f bl first last now) (W c.who p.file p.block n 0 false) → ⊥
+    stores-own : (sq f bl first last now : ℕ) (base : PushBase) (bd : List ℕ) → k.r ≡ Request.Write k.w sq f bl first last (Some base) bd → (p : Push)
+        → c.push ≡ Some p → IsClear (S k.w f bl first last now ∷ j) c.who p.file p.block p.first p.last → (n : ℕ)
+        → Stores (S k.w f bl first last now) (W c.who p.file p.block n 0 false) → ⊥
     stores-own sq f bl first last now base bd asks p is clear n st =
         let one : record { file = f; block = bl; first = first; last = last; body = bd } ≡ p = some-same _ p (ap push_in (sym asks) ∙ is-it p is) in
         let ordered = (push-behind line c ps j b.facts p is).ordered in
@@ -147,25 +172,32 @@ module _ (s : Server) (t : ServerStep) (c : Client) (ps : List Packet) (j : List
     effects (without quiet why) = closed t.entries none-open (λ p is clear e i n. quiet-stores e (W c.who p.file p.block n 0 false) (quiet e i))
     effects (goes_through sq f bl first last bd asks is) = subst Result (sym is) (closed (W k.w f bl first (value_of bd) true ∷ []) none-open none)
       where
-        none : (p : Push) → c.push ≡ Some p → IsClear (W k.w f bl first (value_of bd) true ∷ j) c.who p.file p.block p.first p.last → (e : Entry) → In (W k.w f bl first (value_of bd) true ∷ []) e → (n : ℕ) → Stores e (W c.who p.file p.block n 0 false) → ⊥
+        none : (p : Push) → c.push ≡ Some p → IsClear (W k.w f bl first (value_of bd) true ∷ j) c.who p.file p.block p.first p.last → (e : Entry)
+            → In (W k.w f bl first (value_of bd) true ∷ []) e → (n : ℕ) → Stores e (W c.who p.file p.block n 0 false) → ⊥
         none p has clear e (inl same_entry) n st = subst (λ x. Stores x (W c.who p.file p.block n 0 false)) (sym same_entry) st
         none p has clear e (inr bad) n st = bad
     effects (pushes sq f bl first last now base bd asks done is) = subst Result (sym is) (closed (S k.w f bl first last now ∷ []) none-open none)
       where
-        none : (p : Push) → c.push ≡ Some p → IsClear (S k.w f bl first last now ∷ j) c.who p.file p.block p.first p.last → (e : Entry) → In (S k.w f bl first last now ∷ []) e → (n : ℕ) → Stores e (W c.who p.file p.block n 0 false) → ⊥
-        none p has clear e (inl same_entry) n st = stores-own sq f bl first last now base bd asks p has clear n (subst (λ x. Stores x (W c.who p.file p.block n 0 false)) (sym same_entry) st)
+        none : (p : Push) → c.push ≡ Some p → IsClear (S k.w f bl first last now ∷ j) c.who p.file p.block p.first p.last → (e : Entry)
+            → In (S k.w f bl first last now ∷ []) e → (n : ℕ) → Stores e (W c.who p.file p.block n 0 false) → ⊥
+        none p has clear e (inl same_entry) n st =
+            stores-own sq f bl first last now base bd asks p has clear n (subst (λ x. Stores x (W c.who p.file p.block n 0 false)) (sym same_entry) st)
         none p has clear e (inr bad) n st = bad
 
   -- ---- a request of another host is decided
 
-  elsewhere : (k : Decides ps s t) → (c.who.host ≡ k.w.host → ⊥) → Effects k.w k.r (host_row t.server.kept k.w.host).verdict t.entries → (e : Entry) → In t.entries e → (v : Who) (file block n : ℕ) → v.host ≡ c.who.host → Stores e (W v file block n 0 false) → ⊥
+  elsewhere : (k : Decides ps s t) → (c.who.host ≡ k.w.host → ⊥) → Effects k.w k.r (host_row t.server.kept k.w.host).verdict t.entries → (e : Entry)
+      → In t.entries e → (v : Who) (file block n : ℕ) → v.host ≡ c.who.host → Stores e (W v file block n 0 false) → ⊥
   elsewhere k other (without quiet why) = quiet-apart quiet
-  elsewhere k other (goes_through sq f bl first last bd asks is) = subst (λ es. (e : Entry) → In es e → (v : Who) (file block n : ℕ) → v.host ≡ c.who.host → Stores e (W v file block n 0 false) → ⊥) (sym is) none
+  elsewhere k other (goes_through sq f bl first last bd asks is) =
+      subst (λ es. (e : Entry) → In es e → (v : Who) (file block n : ℕ) → v.host ≡ c.who.host → Stores e (W v file block n 0 false) → ⊥) (sym is) none
     where
-      none : (e : Entry) → In (W k.w f bl first (value_of bd) true ∷ []) e → (v : Who) (file block n : ℕ) → v.host ≡ c.who.host → Stores e (W v file block n 0 false) → ⊥
+      none : (e : Entry) → In (W k.w f bl first (value_of bd) true ∷ []) e → (v : Who) (file block n : ℕ) → v.host ≡ c.who.host
+          → Stores e (W v file block n 0 false) → ⊥
       none e (inl same) v file block n home st = subst (λ x. Stores x (W v file block n 0 false)) (sym same) st
       none e (inr bad) v file block n home st = bad
-  elsewhere k other (pushes sq f bl first last now base bd asks done is) = subst (λ es. (e : Entry) → In es e → (v : Who) (file block n : ℕ) → v.host ≡ c.who.host → Stores e (W v file block n 0 false) → ⊥) (sym is) none
+  elsewhere k other (pushes sq f bl first last now base bd asks done is) =
+      subst (λ es. (e : Entry) → In es e → (v : Who) (file block n : ℕ) → v.host ≡ c.who.host → Stores e (W v file block n 0 false) → ⊥) (sym is) none
     where
       own : (v : Who) (file block n : ℕ) → v.host ≡ c.who.host → Stores (S k.w f bl first last now) (W v file block n 0 false) → ⊥
       own v file block n home st = other (sym home ∙ ap (λ z. z.host) st.0)

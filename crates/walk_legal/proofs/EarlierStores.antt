@@ -51,19 +51,26 @@ module _ (line : HostRow) (c : Client) (ps : List Packet) (j : List Entry) (fact
 module _ (line : HostRow) (c : Client) (ps : List Packet) (j : List Entry) (facts : WritesFit line c ps j) (rests : Throughout Rests j) where
   module _ (es : List Entry) (rising : Throughout IsRising (es ++ j)) (idle : Each IsIdle es) (earlier : Earlier line c ps j) where
     -- an uncovered write that stood before, and a stored one of the block above it
-    none-above : (file block last v m : ℕ) → In j (W c.who file block last v false) → (CoversNumber (es ++ j) c.who file block last → ⊥) → StoresNumber j c.who file block m → last < m → ⊥
+    none-above : (file block last v m : ℕ) → In j (W c.who file block last v false) → (CoversNumber (es ++ j) c.who file block last → ⊥)
+        → StoresNumber j c.who file block m → last < m → ⊥
     none-above file block last v m there free stores above = case (facts.list.unsaved file block last v there)
       where
         within : LiesWithin c.dirty c.push file block last → ⊥
         within (in_list q i f b low high) =
-            let past : m < q.first = (facts.list.listed q i).above m (subst (λ z. CoversNumber j c.who z q.block m) (sym f) (subst (λ z. CoversNumber j c.who file z m) (sym b) (stored-covered j c.who file block m 0 stores))) in
+            let past : m < q.first = (facts.list.listed q i).above m
+            (subst (λ z. CoversNumber j c.who z q.block m) (sym f)
+            (subst (λ z. CoversNumber j c.who file z m) (sym b) (stored-covered j c.who file block m 0 stores))) in
             omega arith
         within (under_way q is f b low high) = stands (push-stands line c ps j facts q is).1
           where
             stands : {n : ℕ} → PushStands line c.who n j q → ⊥
-            stands (stored now d i) = free (covers-more es j c.who file block last (subst (λ z. CoversNumber j c.who z block last) f (subst (λ z. CoversNumber j c.who q.file z last) b (store-covers j c.who q.file q.block q.first q.last now last i low high))))
+            stands (stored now d i) =
+                free (covers-more es j c.who file block last
+                (subst (λ z. CoversNumber j c.who z block last) f
+                (subst (λ z. CoversNumber j c.who q.file z last) b (store-covers j c.who q.file q.block q.first q.last now last i low high))))
             stands (waits undone clear) =
-                let past : m < q.first = earlier.under_way q is clear m (subst (λ z. StoresNumber j c.who z q.block m) (sym f) (subst (λ z. StoresNumber j c.who file z m) (sym b) stores)) in
+                let past : m < q.first = earlier.under_way q is clear m
+                (subst (λ z. StoresNumber j c.who z q.block m) (sym f) (subst (λ z. StoresNumber j c.who file z m) (sym b) stores)) in
                 omega arith
 
         case : CoversNumber j c.who file block last ⊎ LiesWithin c.dirty c.push file block last → ⊥
@@ -71,7 +78,8 @@ module _ (line : HostRow) (c : Client) (ps : List Packet) (j : List Entry) (fact
         case (inr w) = within w
 
     -- after a step of the client: where its writes wait, what was stored of their block are earlier ones
-    pub own-after : (file block first last v : ℕ) → first ≤ last → In (es ++ j) (W c.who file block last v false) → IsClear (es ++ j) c.who file block first last → IsAfterStores (es ++ j) c.who file block first
+    pub own-after : (file block first last v : ℕ) → first ≤ last → In (es ++ j) (W c.who file block last v false)
+        → IsClear (es ++ j) c.who file block first last → IsAfterStores (es ++ j) c.who file block first
     own-after file block first last v ordered there clear m s = case (below-or-not m first) (below-or-not last m)
       where
         before : StoresNumber j c.who file block m
@@ -81,7 +89,8 @@ module _ (line : HostRow) (c : Client) (ps : List Packet) (j : List Entry) (fact
         drawn = stored-drawn j c.who file block m 0 rests before
 
         place : last < m → In es (W c.who file block last v false) ⊎ In j (W c.who file block last v false) → m < first
-        place above (inl new) = let at = rising-split es j c.who file block last v file block drawn.0 drawn.1 rising new drawn.3 in let most = drawn.2 in absurd (omega arith)
+        place above (inl new) =
+            let at = rising-split es j c.who file block last v file block drawn.0 drawn.1 rising new drawn.3 in let most = drawn.2 in absurd (omega arith)
         place above (inr old) = absurd (none-above file block last v m old (λ covered. clear last ordered (omega arith) covered) before above)
 
         case : (m < first) ⊎ (first ≤ m) → (last < m) ⊎ (m ≤ last) → m < first
@@ -96,7 +105,9 @@ pub data Goes (c : Client) (t : ClientStep) : Type 0 where
   goes_on : t.client.who ≡ c.who → ((x : ℕ) (r : Request) → In t.sends (call x r) → asker r ≡ Some c.who) → Goes c t
   begins : t.client.push ≡ None → ((x : ℕ) (r : Request) → In t.sends (call x r) → push_in r ≡ None) → Goes c t
 
-module _ (line : HostRow) (c : Client) (t : ClientStep) (ps : List Packet) (j : List Entry) (facts : WritesFit line c ps j) (rests : Throughout Rests j) (rising : Throughout IsRising (t.entries ++ j)) (idle : Each IsIdle t.entries) (earlier : Earlier line c ps j) (goes : Goes c t) (home : t.client.who.host ≡ c.who.host) (after : WritesFit line t.client (ps ++ map (from_host c.who.host) t.sends) (t.entries ++ j)) where
+module _ (line : HostRow) (c : Client) (t : ClientStep) (ps : List Packet) (j : List Entry) (facts : WritesFit line c ps j) (rests : Throughout Rests j)
+    (rising : Throughout IsRising (t.entries ++ j)) (idle : Each IsIdle t.entries) (earlier : Earlier line c ps j) (goes : Goes c t)
+    (home : t.client.who.host ≡ c.who.host) (after : WritesFit line t.client (ps ++ map (from_host c.who.host) t.sends) (t.entries ++ j)) where
   abbrev Packets : List Packet
   Packets = ps ++ map (from_host c.who.host) t.sends
 
@@ -116,12 +127,16 @@ module _ (line : HostRow) (c : Client) (t : ClientStep) (ps : List Packet) (j : 
       asks : Request
       asks = Request.Write v o.seq p.file p.block p.first p.last (Some o.base) p.body
 
-      case : Asked ps c.who.host o.xid asks ⊎ In (map (from_host c.who.host) t.sends) (from_host c.who.host (call o.xid asks)) → Goes c t → IsAfterStores (t.entries ++ j) v p.file p.block p.first
-      case (inl old) g = λ n s. earlier.sent v p (record { xid = o.xid; seq = o.seq; base = o.base; home = o.home; asked = old; kept = o.kept; above = o.above }) n (stored-skip t.entries j (W v p.file p.block n 0 false) idle s)
+      case : Asked ps c.who.host o.xid asks ⊎ In (map (from_host c.who.host) t.sends) (from_host c.who.host (call o.xid asks)) → Goes c t
+          → IsAfterStores (t.entries ++ j) v p.file p.block p.first
+      case (inl old) g =
+          λ n s. earlier.sent v p (record { xid = o.xid; seq = o.seq; base = o.base; home = o.home; asked = old; kept = o.kept; above = o.above }) n
+          (stored-skip t.entries j (W v p.file p.block n 0 false) idle s)
       case (inr new) (goes_on same own) = new-sent v p o (some-same v c.who (own o.xid asks (sent-calls c.who.host c.who.host t.sends o.xid asks new)))
       case (inr new) (begins none no_push) = none-some p (sym (no_push o.xid asks (sent-calls c.who.host c.who.host t.sends o.xid asks new)))
 
-  pushed-after : (p : Push) → t.client.push ≡ Some p → IsClear (t.entries ++ j) t.client.who p.file p.block p.first p.last → IsAfterStores (t.entries ++ j) t.client.who p.file p.block p.first
+  pushed-after : (p : Push) → t.client.push ≡ Some p → IsClear (t.entries ++ j) t.client.who p.file p.block p.first p.last
+      → IsAfterStores (t.entries ++ j) t.client.who p.file p.block p.first
   pushed-after p is clear = case goes
     where
       behind : IsBehind t.client.who (t.entries ++ j) p
@@ -142,11 +157,22 @@ module _ (line : HostRow) (c : Client) (t : ClientStep) (ps : List Packet) (j : 
   }
 
 -- another client's step
-pub earlier-other : (line : HostRow) (c : Client) (host : ℕ) (sends : List Message) (es : List Entry) (ps : List Packet) (j : List Entry) → host ≢ c.who.host → Each IsIdle es → Earlier line c ps j → Earlier line c (ps ++ map (from_host host) sends) (es ++ j)
+pub earlier-other : (line : HostRow) (c : Client) (host : ℕ) (sends : List Message) (es : List Entry) (ps : List Packet) (j : List Entry)
+    → host ≢ c.who.host → Each IsIdle es → Earlier line c ps j → Earlier line c (ps ++ map (from_host host) sends) (es ++ j)
 earlier-other line c host sends es ps j apart idle h = record {
-  sent = λ v p o n s. h.sent v p (was v p o (in-append ps (map (from_host host) sends) (from_host c.who.host (call o.xid (Request.Write v o.seq p.file p.block p.first p.last (Some o.base) p.body))) o.asked)) n (stored-skip es j (W v p.file p.block n 0 false) idle s);
-  under_way = λ p is clear n s. h.under_way p is (λ m a b covered. clear m a b (covers-more es j c.who p.file p.block m covered)) n (stored-skip es j (W c.who p.file p.block n 0 false) idle s);
+  sent =
+      λ v p o n s. h.sent v p (was v p o
+      (in-append ps (map (from_host host) sends)
+      (from_host c.who.host (call o.xid (Request.Write v o.seq p.file p.block p.first p.last (Some o.base) p.body))) o.asked)) n
+      (stored-skip es j (W v p.file p.block n 0 false) idle s);
+  under_way =
+      λ p is clear n s. h.under_way p is (λ m a b covered. clear m a b (covers-more es j c.who p.file p.block m covered)) n
+      (stored-skip es j (W c.who p.file p.block n 0 false) idle s);
 } where
-  was : (v : Who) (p : Push) (o : IsOpenPush line (ps ++ map (from_host host) sends) c.who.host v p) → Asked ps c.who.host o.xid (Request.Write v o.seq p.file p.block p.first p.last (Some o.base) p.body) ⊎ In (map (from_host host) sends) (from_host c.who.host (call o.xid (Request.Write v o.seq p.file p.block p.first p.last (Some o.base) p.body))) → IsOpenPush line ps c.who.host v p
+  was : (v : Who) (p : Push) (o : IsOpenPush line (ps ++ map (from_host host) sends) c.who.host v p)
+      → Asked ps c.who.host o.xid (Request.Write v o.seq p.file p.block p.first p.last (Some o.base) p.body)
+      ⊎ In (map (from_host host) sends) (from_host c.who.host (call o.xid (Request.Write v o.seq p.file p.block p.first p.last (Some o.base) p.body)))
+      → IsOpenPush line ps c.who.host v p
   was v p o (inl old) = record { xid = o.xid; seq = o.seq; base = o.base; home = o.home; asked = old; kept = o.kept; above = o.above }
-  was v p o (inr new) = absurd (apart (sent-host host c.who.host sends (call o.xid (Request.Write v o.seq p.file p.block p.first p.last (Some o.base) p.body)) new))
+  was v p o (inr new) =
+      absurd (apart (sent-host host c.who.host sends (call o.xid (Request.Write v o.seq p.file p.block p.first p.last (Some o.base) p.body)) new))

@@ -31,7 +31,8 @@ all-plain es a = each-map IsPlain IsIdle es plain-idle a
 pub accesses-idle : (who : Who) (t : ClientStep) → Accesses who t → Each IsIdle t.entries
 accesses-idle who t (neither plain) = all-plain t.entries plain
 accesses-idle who t (read q file block lease body rest is plain held lets has idle) = subst (Each IsIdle) (sym is) (tt, (tt, all-plain rest plain))
-accesses-idle who t (wrote file block number value lease more rest is plain others held lets calm) = subst (Each IsIdle) (sym is) (each-append IsIdle more (W who file block number value false ∷ rest) (all-plain more plain) (tt, all-plain rest others))
+accesses-idle who t (wrote file block number value lease more rest is plain others held lets calm) =
+    subst (Each IsIdle) (sym is) (each-append IsIdle more (W who file block number value false ∷ rest) (all-plain more plain) (tt, all-plain rest others))
 
 -- ---- what idle entries keep
 
@@ -64,16 +65,21 @@ inside-is first next (S who file block start last now) before h = h.1
 inside-is first next (W who file block n v true) before h = h.1
 inside-is first next other before h = tt
 
-pub inside-later : (first after : ℕ → ℕ) (next more : ℕ) → next ≤ more → ((file : ℕ) → file < next → after file ≡ first file) → (e : Entry) (before : List Entry) → IsInsideAt first next e before → IsInsideAt after more e before
-inside-later first after next more grows same (S who file block start last now) before h = let below = h.0 in (omega arith, subst (λ n. block < length (content before n file)) (sym (same file h.0)) h.1)
-inside-later first after next more grows same (W who file block n v true) before h = let below = h.0 in (omega arith, subst (λ n. block < length (content before n file)) (sym (same file h.0)) h.1)
+pub inside-later : (first after : ℕ → ℕ) (next more : ℕ) → next ≤ more → ((file : ℕ) → file < next → after file ≡ first file)
+    → (e : Entry) (before : List Entry) → IsInsideAt first next e before → IsInsideAt after more e before
+inside-later first after next more grows same (S who file block start last now) before h =
+    let below = h.0 in (omega arith, subst (λ n. block < length (content before n file)) (sym (same file h.0)) h.1)
+inside-later first after next more grows same (W who file block n v true) before h =
+    let below = h.0 in (omega arith, subst (λ n. block < length (content before n file)) (sym (same file h.0)) h.1)
 inside-later first after next more grows same other before h = tt
 
-pub throughout-weaker : (Fact Other : Entry → List Entry → Type 0) → ((e : Entry) (before : List Entry) → Fact e before → Other e before) → (j : List Entry) → Throughout Fact j → Throughout Other j
+pub throughout-weaker : (Fact Other : Entry → List Entry → Type 0) → ((e : Entry) (before : List Entry) → Fact e before → Other e before)
+    → (j : List Entry) → Throughout Fact j → Throughout Other j
 throughout-weaker Fact Other weaker [] t = tt
 throughout-weaker Fact Other weaker (e ∷ j) t = (weaker e j t.0, throughout-weaker Fact Other weaker j t.1)
 
-pub throughout-idle : (Fact : Entry → List Entry → Type 0) → ((e : Entry) (before : List Entry) → IsIdle e → Fact e before) → (es j : List Entry) → Each IsIdle es → Throughout Fact j → Throughout Fact (es ++ j)
+pub throughout-idle : (Fact : Entry → List Entry → Type 0) → ((e : Entry) (before : List Entry) → IsIdle e → Fact e before) → (es j : List Entry)
+    → Each IsIdle es → Throughout Fact j → Throughout Fact (es ++ j)
 throughout-idle Fact holds [] j idle t = t
 throughout-idle Fact holds (e ∷ es) j idle t = (holds e (es ++ j) idle.0, throughout-idle Fact holds es j idle.1 t)
 
@@ -89,7 +95,9 @@ stored-covered (e ∷ j) who file block n v (inl c) = inl (stores-covers e who f
 stored-covered (e ∷ j) who file block n v (inr h) = inr (stored-covered j who file block n v h)
 
 -- later writes have greater numbers
-pub rising-split : (es j : List Entry) (who : Who) (f b n v g k m u : ℕ) → Throughout IsRising (es ++ j) → In es (W who f b n v false) → In j (W who g k m u false) → m < n
+pub rising-split : (es j : List Entry) (who : Who) (f b n v g k m u : ℕ) → Throughout IsRising (es ++ j) → In es (W who f b n v false)
+    → In j (W who g k m u false) → m < n
 rising-split [] j who f b n v g k m u rising i there = absurd i
-rising-split (e ∷ es) j who f b n v g k m u rising (inl same) there = (subst (λ x. IsRising x (es ++ j)) same rising.0) g k m u (in-right es j (W who g k m u false) there)
+rising-split (e ∷ es) j who f b n v g k m u rising (inl same) there =
+    (subst (λ x. IsRising x (es ++ j)) same rising.0) g k m u (in-right es j (W who g k m u false) there)
 rising-split (e ∷ es) j who f b n v g k m u rising (inr i) there = rising-split es j who f b n v g k m u rising.1 i there

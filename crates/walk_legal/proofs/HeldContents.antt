@@ -28,8 +28,10 @@ use Rattle.nq_model.specs.Table.{same_who}
 
 -- an entry that does not change a file skips its blocks
 pub unchanged-skips : (e : Entry) (j : List Entry) (file block : ℕ) → IsRising e j → Throughout Rests j → changes e file ≡ false → Skips e j file block
-unchanged-skips (W who f b n v true) j file block rise rests no_change = record { uncut = refl; unheld = λ h. let same : (f == file) ≡ true = number-same _ _ h.0.0 in absurd (cc); stores = λ w on c. c }
-unchanged-skips (W who f b n v false) j file block rise rests no_change = record { uncut = refl; unheld = delayed-unheld who f b n v file block j rise rests; stores = λ w on c. c }
+unchanged-skips (W who f b n v true) j file block rise rests no_change =
+    record { uncut = refl; unheld = λ h. let same : (f == file) ≡ true = number-same _ _ h.0.0 in absurd (cc); stores = λ w on c. c }
+unchanged-skips (W who f b n v false) j file block rise rests no_change =
+    record { uncut = refl; unheld = delayed-unheld who f b n v file block j rise rests; stores = λ w on c. c }
 unchanged-skips (S who f b first last now) j file block rise rests no_change = record { uncut = refl; unheld = λ h. h.0; stores = apart }
   where
     apart : (w : Entry) → IsWriteOn file block w → Stores (S who f b first last now) w → ⊥
@@ -49,29 +51,40 @@ unchanged-skips (A w q' said) j file block rise rests no_change = record { uncut
 
 -- ---- the value of a delayed write
 
-tells_by : (who by : Who) (f file b block n number : ℕ) → Tells (same_who by who && f == file && b == block && n == number) ((by ≡ who) × (f ≡ file) × (b ≡ block) × (n ≡ number))
+tells_by : (who by : Who) (f file b block n number : ℕ)
+    → Tells (same_who by who && f == file && b == block && n == number) ((by ≡ who) × (f ≡ file) × (b ≡ block) × (n ≡ number))
 tells_by who by f file b block n number = tells_4 tells_who tells_same tells_same tells_same
 
 -- where none stands, none is found
-delayed-none : (j : List Entry) (who : Who) (file block number : ℕ) → ((v : ℕ) → In j (W who file block number v false) → ⊥) → delayed_value j who file block number ≡ None
+delayed-none : (j : List Entry) (who : Who) (file block number : ℕ) → ((v : ℕ) → In j (W who file block number v false) → ⊥)
+    → delayed_value j who file block number ≡ None
 delayed-none [] who file block number none = refl
-delayed-none (W by f b n v false ∷ j) who file block number none = step (same_who by who && f == file && b == block && n == number) refl (delayed-none j who file block number (λ u i. none u (inr i)))
+delayed-none (W by f b n v false ∷ j) who file block number none =
+    step (same_who by who && f == file && b == block && n == number) refl (delayed-none j who file block number (λ u i. none u (inr i)))
   where
-    step : (t : Bool) → (same_who by who && f == file && b == block && n == number) ≡ t → delayed_value j who file block number ≡ None → option_or (delayed_value j who file block number) (if t then Some v else None) ≡ None
+    step : (t : Bool) → (same_who by who && f == file && b == block && n == number) ≡ t → delayed_value j who file block number ≡ None
+        → option_or (delayed_value j who file block number) (if t then Some v else None) ≡ None
     step true is rest =
         let k = (tells_by who by f file b block n number).sound is in
-        absurd (none v (inl (ap (λ z. W z f b n v false) k.0 ∙ ap (λ z. W who z b n v false) k.1 ∙ ap (λ z. W who file z n v false) k.2 ∙ ap (λ z. W who file block z v false) k.3)))
+        absurd
+        (none v
+        (inl (ap (λ z. W z f b n v false) k.0 ∙ ap (λ z. W who z b n v false) k.1 ∙ ap (λ z. W who file z n v false) k.2
+        ∙ ap (λ z. W who file block z v false) k.3)))
     step false is rest = rw rest refl
 delayed-none (W by f b n v true ∷ j) who file block number none = rw (delayed-none j who file block number (λ u i. none u (inr i))) refl
 delayed-none (other ∷ j) who file block number none = rw (delayed-none j who file block number (λ u i. none u (inr i))) refl
 
-delayed-here : (who : Who) (file block number v : ℕ) (j : List Entry) → IsRising (W who file block number v false) j → delayed_value (W who file block number v false ∷ j) who file block number ≡ Some v
+delayed-here : (who : Who) (file block number v : ℕ) (j : List Entry) → IsRising (W who file block number v false) j
+    → delayed_value (W who file block number v false ∷ j) who file block number ≡ Some v
 delayed-here who file block number v j rise =
-    let first : delayed_value j who file block number ≡ None = delayed-none j who file block number (λ u i. let past = rise file block number u i in omega arith) in
-    let same : same_who who who && file == file && block == block && number == number ≡ true = (tells_by who who file file block block number number).complete (refl, refl, refl, refl) in
+    let first : delayed_value j who file block number ≡ None = delayed-none j who file block number
+    (λ u i. let past = rise file block number u i in omega arith) in
+    let same : same_who who who && file == file && block == block && number ==
+    number ≡ true = (tells_by who who file file block block number number).complete (refl, refl, refl, refl) in
     rw (first, same) refl
 
-pub delayed-is : (j : List Entry) (who : Who) (file block number v : ℕ) → Throughout IsRising j → In j (W who file block number v false) → delayed_value j who file block number ≡ Some v
+pub delayed-is : (j : List Entry) (who : Who) (file block number v : ℕ) → Throughout IsRising j → In j (W who file block number v false)
+    → delayed_value j who file block number ≡ Some v
 delayed-is [] who file block number v rising i = absurd i
 delayed-is (e ∷ j) who file block number v rising (inr i) = rw (delayed-is j who file block number v rising.1 i) refl
 delayed-is (e ∷ j) who file block number v rising (inl same) =
@@ -96,18 +109,21 @@ IsInside first (S who file block first_number last now) before = block < length 
 IsInside first other before = Unit {0}
 
 pub content-same : (e : Entry) (j : List Entry) (first file : ℕ) → changes e file ≡ false → content (e ∷ j) first file ≡ content j first file
-content-same e j first file is = ap (content_at (e ∷ j) first file) (count-unchanged e j file is) ∙ content-stays e j first file (changes_of j file) (omega arith)
+content-same e j first file is =
+    ap (content_at (e ∷ j) first file) (count-unchanged e j file is) ∙ content-stays e j first file (changes_of j file) (omega arith)
 
 pub content-next : (e : Entry) (j : List Entry) (first file : ℕ) → changes e file ≡ true → content (e ∷ j) first file ≡ after_change e j (content j first file)
 content-next e j first file is = ap (content_at (e ∷ j) first file) (count-changed e j file is) ∙ content-changed e j first file is
 
-pub skip-all : (e : Entry) (j : List Entry) (file : ℕ) (values : List ℕ) → ((block : ℕ) → Skips e j file block) → HeldBlocks j file values → HeldBlocks (e ∷ j) file values
+pub skip-all : (e : Entry) (j : List Entry) (file : ℕ) (values : List ℕ) → ((block : ℕ) → Skips e j file block) → HeldBlocks j file values
+    → HeldBlocks (e ∷ j) file values
 skip-all e j file values skips h = record {
   here = λ block v is. held-skip e j file block v (skips block) (h.here block v is);
   past = λ block above. held-skip e j file block 0 (skips block) (h.past block above);
 }
 
-pub set-block : (e : Entry) (j : List Entry) (file block value : ℕ) (values : List ℕ) → block < length values → HasHeld (e ∷ j) file block value → ((other : ℕ) → other ≢ block → Skips e j file other) → HeldBlocks j file values → HeldBlocks (e ∷ j) file (slice_set values block value)
+pub set-block : (e : Entry) (j : List Entry) (file block value : ℕ) (values : List ℕ) → block < length values → HasHeld (e ∷ j) file block value
+    → ((other : ℕ) → other ≢ block → Skips e j file other) → HeldBlocks j file values → HeldBlocks (e ∷ j) file (slice_set values block value)
 set-block e j file block value values inside now skips h = record { here = λ b v is. found b v is (cases_eq b block); past = λ b above. beyond b above }
   where
     found : (b v : ℕ) → slice_get (slice_set values block value) b ≡ Some v → (b ≡ block) ⊎ (b ≢ block) → HasHeld (e ∷ j) file b v
@@ -131,7 +147,8 @@ zeros-get (suc n) zero b v is = none-some v is
 zeros-get (suc n) (suc m) zero v is = sym (some-same 0 v is)
 zeros-get (suc n) (suc m) (suc b) v is = zeros-get n m b v is
 
-padded-get : (n m : ℕ) (values : List ℕ) (b v : ℕ) → slice_get (take n (values ++ replicate m 0)) b ≡ Some v → (slice_get values b ≡ Some v) ⊎ ((length values ≤ b) × (v ≡ 0))
+padded-get : (n m : ℕ) (values : List ℕ) (b v : ℕ) → slice_get (take n (values ++ replicate m 0)) b ≡ Some v
+    → (slice_get values b ≡ Some v) ⊎ ((length values ≤ b) × (v ≡ 0))
 padded-get n m [] b v is = inr (omega arith, zeros-get n m b v is)
 padded-get zero m (x ∷ values) b v is = none-some v is
 padded-get (suc n) m (x ∷ values) zero v is = inl is
@@ -141,8 +158,10 @@ padded-get (suc n) m (x ∷ values) (suc b) v is = next (padded-get n m values b
     next (inl a) = inl a
     next (inr p) = inr (let above = p.0 in omega arith, p.1)
 
-pub cut-blocks : (who : Who) (q file from to : ℕ) (j : List Entry) (values : List ℕ) → HeldBlocks j file values → HeldBlocks (Z who q file from to ∷ j) file (with_length to values)
-cut-blocks who q file from to j values h = record { here = λ b v is. found b v is (padded-get to to values b v is); past = λ b above. held-cut (Z who q file from to) j file b 0 (cut b above) }
+pub cut-blocks : (who : Who) (q file from to : ℕ) (j : List Entry) (values : List ℕ) → HeldBlocks j file values
+    → HeldBlocks (Z who q file from to ∷ j) file (with_length to values)
+cut-blocks who q file from to j values h =
+    record { here = λ b v is. found b v is (padded-get to to values b v is); past = λ b above. held-cut (Z who q file from to) j file b 0 (cut b above) }
   where
     kept : (b v : ℕ) → slice_get (with_length to values) b ≡ Some v → Skips (Z who q file from to) j file b
     kept b v is =
@@ -151,9 +170,11 @@ cut-blocks who q file from to j values h = record { here = λ b v is. found b v 
         let short : b < to = omega arith in
         record { uncut = grind (arith, nat_tests); unheld = λ x. x.0; stores = λ w on c. c }
 
-    found : (b v : ℕ) → slice_get (with_length to values) b ≡ Some v → (slice_get values b ≡ Some v) ⊎ ((length values ≤ b) × (v ≡ 0)) → HasHeld (Z who q file from to ∷ j) file b v
+    found : (b v : ℕ) → slice_get (with_length to values) b ≡ Some v → (slice_get values b ≡ Some v) ⊎ ((length values ≤ b) × (v ≡ 0))
+        → HasHeld (Z who q file from to ∷ j) file b v
     found b v is (inl old) = held-skip (Z who q file from to) j file b v (kept b v is) (h.here b v old)
-    found b v is (inr p) = subst (HasHeld (Z who q file from to ∷ j) file b) (sym p.1) (held-skip (Z who q file from to) j file b 0 (kept b v is) (h.past b p.0))
+    found b v is (inr p) =
+        subst (HasHeld (Z who q file from to ∷ j) file b) (sym p.1) (held-skip (Z who q file from to) j file b 0 (kept b v is) (h.past b p.0))
 
     cut : (b : ℕ) → length (with_length to values) ≤ b → cuts (Z who q file from to) file b ≡ true
     cut b above = let size = lengthened to values in let far : to ≤ b = omega arith in grind (arith, nat_tests)

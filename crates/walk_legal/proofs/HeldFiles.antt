@@ -23,42 +23,56 @@ pub record RestsOn (first : ℕ → ℕ) (journal : List Entry) : Type 0 where
 
 -- ---- one more change
 
-through-blocks : (first : ℕ → ℕ) (who : Who) (file block n v : ℕ) (j : List Entry) (values : List ℕ) → block < length values → HeldBlocks j file values → HeldBlocks (W who file block n v true ∷ j) file (slice_set values block v)
+through-blocks : (first : ℕ → ℕ) (who : Who) (file block n v : ℕ) (j : List Entry) (values : List ℕ) → block < length values → HeldBlocks j file values
+    → HeldBlocks (W who file block n v true ∷ j) file (slice_set values block v)
 through-blocks first who file block n v j values inside h =
     set-block (W who file block n v true) j file block v values inside (held-through who file block n v j)
     (λ other apart. record { uncut = refl; unheld = λ x. apart (sym x.0.1); stores = λ w on c. c }) h
 
-store-apart : (who : Who) (file block first last now other : ℕ) → other ≢ block → (w : Entry) → IsWriteOn file other w → Stores (S who file block first last now) w → ⊥
+store-apart : (who : Who) (file block first last now other : ℕ) → other ≢ block → (w : Entry) → IsWriteOn file other w
+    → Stores (S who file block first last now) w → ⊥
 store-apart who file block first last now other apart (W by g k n v false) on c = apart (sym on.1 ∙ c.2)
 store-apart who file block first last now other apart (W by g k n v true) on c = c
 store-apart who file block first last now other apart e on c = absurd on
 
-store-blocks : (who : Who) (file block first last now : ℕ) (j : List Entry) (values : List ℕ) → Throughout IsRising j → (fits : StoreFits who file block first last j) → block < length values → HeldBlocks j file values → HeldBlocks (S who file block first last now ∷ j) file (slice_set values block (unwrap_or (delayed_value j who file block last) 0))
+store-blocks : (who : Who) (file block first last now : ℕ) (j : List Entry) (values : List ℕ) → Throughout IsRising j
+    → (fits : StoreFits who file block first last j) → block < length values → HeldBlocks j file values
+    → HeldBlocks (S who file block first last now ∷ j) file (slice_set values block (unwrap_or (delayed_value j who file block last) 0))
 store-blocks who file block first last now j values rising fits inside h =
-    subst (λ o. HeldBlocks (S who file block first last now ∷ j) file (slice_set values block (unwrap_or o 0))) (sym (delayed-is j who file block last fits.value rising fits.last_there))
+    subst (λ o. HeldBlocks (S who file block first last now ∷ j) file (slice_set values block (unwrap_or o 0)))
+    (sym (delayed-is j who file block last fits.value rising fits.last_there))
     (set-block (S who file block first last now) j file block fits.value values inside (held-store who file block first last now j rising fits)
     (λ other apart. record { uncut = refl; unheld = λ x. x.0; stores = store-apart who file block first last now other apart }) h)
 
 -- the entry changes the file
-changed-blocks : (first : ℕ → ℕ) (e : Entry) (j : List Entry) (file : ℕ) → Throughout IsRising j → Rests e j → IsInside first e j → changes e file ≡ true → HeldBlocks j file (content j (first file) file) → HeldBlocks (e ∷ j) file (after_change e j (content j (first file) file))
+changed-blocks : (first : ℕ → ℕ) (e : Entry) (j : List Entry) (file : ℕ) → Throughout IsRising j → Rests e j → IsInside first e j
+    → changes e file ≡ true → HeldBlocks j file (content j (first file) file) → HeldBlocks (e ∷ j) file (after_change e j (content j (first file) file))
 changed-blocks first (W who f b n v true) j file rising rests inside is h =
     let same : f ≡ file = same-number f file is in
-    subst (λ k. b < length (content j (first k) k) → HeldBlocks j k (content j (first k) k) → HeldBlocks (W who f b n v true ∷ j) k (slice_set (content j (first k) k) b v)) same
+    subst (λ k. b < length (content j (first k) k) → HeldBlocks j k (content j (first k) k)
+    → HeldBlocks (W who f b n v true ∷ j) k (slice_set (content j (first k) k) b v)) same
     (through-blocks first who f b n v j (content j (first f) f)) (subst (λ k. b < length (content j (first k) k)) same inside) h
 changed-blocks first (W who f b n v false) j file rising rests inside is h = absurd (cc)
 changed-blocks first (S who f b start last now) j file rising rests inside is h =
     let same : f ≡ file = same-number f file is in
-    subst (λ k. HeldBlocks j k (content j (first k) k) → HeldBlocks (S who f b start last now ∷ j) k (slice_set (content j (first k) k) b (unwrap_or (delayed_value j who f b last) 0))) same
+    subst (λ k. HeldBlocks j k (content j (first k) k)
+    → HeldBlocks (S who f b start last now ∷ j) k (slice_set (content j (first k) k) b (unwrap_or (delayed_value j who f b last) 0))) same
     (store-blocks who f b start last now j (content j (first f) f) rising rests inside) h
 changed-blocks first (Z who q f from to) j file rising rests inside is h =
     subst (λ k. HeldBlocks (Z who q k from to ∷ j) file (after_change (Z who q f from to) j (content j (first file) file))) (sym (same-number f file is))
     (cut-blocks who q file from to j (content j (first file) file) h)
-changed-blocks first (F who f until heard now) j file rising rests inside is h = skip-all (F who f until heard now) j file _ (λ block. record { uncut = refl; unheld = λ x. x.0; stores = λ w on c. c }) h
+changed-blocks first (F who f until heard now) j file rising rests inside is h =
+    skip-all (F who f until heard now) j file _ (λ block. record { uncut = refl; unheld = λ x. x.0; stores = λ w on c. c }) h
 changed-blocks first other j file rising rests inside is h = absurd (cc)
 
-one-more : (first : ℕ → ℕ) (e : Entry) (j : List Entry) (file : ℕ) → IsRising e j → Throughout IsRising j → Rests e j → Throughout Rests j → IsInside first e j → (b : Bool) → changes e file ≡ b → HeldBlocks j file (content j (first file) file) → HeldBlocks (e ∷ j) file (content (e ∷ j) (first file) file)
-one-more first e j file rise rising rest rests inside true is h = subst (HeldBlocks (e ∷ j) file) (sym (content-next e j (first file) file is)) (changed-blocks first e j file rising rest inside is h)
-one-more first e j file rise rising rest rests inside false is h = subst (HeldBlocks (e ∷ j) file) (sym (content-same e j (first file) file is)) (skip-all e j file (content j (first file) file) (λ block. unchanged-skips e j file block rise rests is) h)
+one-more : (first : ℕ → ℕ) (e : Entry) (j : List Entry) (file : ℕ) → IsRising e j → Throughout IsRising j → Rests e j → Throughout Rests j
+    → IsInside first e j → (b : Bool) → changes e file ≡ b → HeldBlocks j file (content j (first file) file)
+    → HeldBlocks (e ∷ j) file (content (e ∷ j) (first file) file)
+one-more first e j file rise rising rest rests inside true is h =
+    subst (HeldBlocks (e ∷ j) file) (sym (content-next e j (first file) file is)) (changed-blocks first e j file rising rest inside is h)
+one-more first e j file rise rising rest rests inside false is h =
+    subst (HeldBlocks (e ∷ j) file) (sym (content-same e j (first file) file is))
+    (skip-all e j file (content j (first file) file) (λ block. unchanged-skips e j file block rise rests is) h)
 
 zeros-are : (n b v : ℕ) → slice_get (replicate n 0) b ≡ Some v → v ≡ 0
 zeros-are zero b v is = none-some v is
@@ -77,7 +91,8 @@ held-contents first (e ∷ j) r file =
 abbrev HasLength : List Entry → (first file : ℕ) → Type 0
 HasLength j first file = (n : ℕ) → last_length j file ≡ Some n → length (content j first file) ≡ n
 
-changed-length : (e : Entry) (j : List Entry) (first file : ℕ) → changes e file ≡ true → HasLength j first file → (n : ℕ) → last_length (e ∷ j) file ≡ Some n → length (after_change e j (content j first file)) ≡ n
+changed-length : (e : Entry) (j : List Entry) (first file : ℕ) → changes e file ≡ true → HasLength j first file → (n : ℕ)
+    → last_length (e ∷ j) file ≡ Some n → length (after_change e j (content j first file)) ≡ n
 changed-length (W who f b m v through) j first file is h n last = length-set (content j first file) b v ∙ h n last
 changed-length (S who f b start final now) j first file is h n last = length-set (content j first file) b _ ∙ h n last
 changed-length (Z who q f from to) j first file is h n last = lengthened to (content j first file) ∙ some-same to n (sym (rw is refl) ∙ last)

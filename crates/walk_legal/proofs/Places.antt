@@ -1,5 +1,5 @@
 -- Entries of a journal at their places, and the last value of which a fact holds.
-use Rattle.std.proofs.Common.{◌≡◌, ◌⊎◌, ℕ, Bool, true, false, List, [], ◌∷◌, ◌++◌, if◌then◌else◌, refl, sym, subst, inl, inr}
+use Rattle.std.proofs.Common.{◌≡◌, ◌⊎◌, ℕ, Bool, true, false, List, [], ◌∷◌, if◌then◌else◌, refl, sym, subst, inl, inr}
 use Rattle.nq_base.specs.declared.Entry.{Entry}
 use Rattle.nq_model.specs.Journal.{Exists, Throughout, cuts, since_cut, IsLastValue}
 use Rattle.walk_run.proofs.Packets.{In}
@@ -25,26 +25,25 @@ before-exists Fact e before [] p i = absurd p
 before-exists Fact e before (y ∷ j) (inl p) i = inr (subst (Exists Fact) (sym p.1) i)
 before-exists Fact e before (y ∷ j) (inr p) i = inr (before-exists Fact e before j p i)
 
-pub placed-more : (e : Entry) (before es j : List Entry) → IsPlaced e before j → IsPlaced e before (es ++ j)
-placed-more e before [] j p = p
-placed-more e before (x ∷ es) j p = inr (placed-more e before es j p)
-
 -- a fact of each entry at its place
 pub throughout-at : (Fact : Entry → List Entry → Type 0) (e : Entry) (before j : List Entry) → Throughout Fact j → IsPlaced e before j → Fact e before
 throughout-at Fact e before [] t p = absurd p
 throughout-at Fact e before (x ∷ j) t (inl p) = subst (λ y. Fact y before) p.0 (subst (Fact x) p.1 t.0)
 throughout-at Fact e before (x ∷ j) t (inr p) = throughout-at Fact e before j t.1 p
 
-pub throughout-of : (Fact : Entry → List Entry → Type 0) (j : List Entry) → ((e : Entry) (before : List Entry) → IsPlaced e before j → Fact e before) → Throughout Fact j
+pub throughout-of : (Fact : Entry → List Entry → Type 0) (j : List Entry) → ((e : Entry) (before : List Entry) → IsPlaced e before j → Fact e before)
+    → Throughout Fact j
 throughout-of Fact [] all = tt
 throughout-of Fact (e ∷ j) all = (all e j (inl (refl, refl)), throughout-of Fact j (λ x before p. all x before (inr p)))
 
 -- ---- last values
 
 -- two facts that hold of the same entries have the same last value
-pub last-same : (Fact Other : Entry → Type 0) (es : List Entry) (v : ℕ) → ((e : Entry) → In es e → Fact e → Other e) → ((e : Entry) → In es e → Other e → Fact e) → IsLastValue Fact es v → IsLastValue Other es v
+pub last-same : (Fact Other : Entry → Type 0) (es : List Entry) (v : ℕ) → ((e : Entry) → In es e → Fact e → Other e)
+    → ((e : Entry) → In es e → Other e → Fact e) → IsLastValue Fact es v → IsLastValue Other es v
 last-same Fact Other [] v to from h = h
-last-same Fact Other (e ∷ es) v to from h = (λ o. h.0 (from e (inl refl) o), λ none. last-same Fact Other es v (λ x i. to x (inr i)) (λ x i. from x (inr i)) (h.1 (λ f. none (to e (inl refl) f))))
+last-same Fact Other (e ∷ es) v to from h =
+    (λ o. h.0 (from e (inl refl) o), λ none. last-same Fact Other es v (λ x i. to x (inr i)) (λ x i. from x (inr i)) (h.1 (λ f. none (to e (inl refl) f))))
 
 -- what stands after the last cut stands in the journal
 pub cut-in : (j : List Entry) (file block : ℕ) (e : Entry) → In (since_cut j file block) e → In j e

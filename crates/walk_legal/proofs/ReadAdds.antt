@@ -52,8 +52,11 @@ module _ (w : World) (host : ℕ) (c : Client) (t : ClientStep) (k : ℕ) (m : M
     (after : (u : UnderWay) → t.client.call ≡ Some u → IsOpenAsTold t.client.who t.client.calls u (t.entries ++ w.journal))
     (rising : Throughout IsRising (t.entries ++ w.journal)) (rests : Throughout Rests (t.entries ++ w.journal))
     (accesses : Accesses c.who t) (done : Done c (ValuedBy c k m) t)
-    (heard : (x inc rev : ℕ) (body : List ℕ) (grant : Option Grant) → m ≡ reply x (Reply.Read inc rev body grant) → slice_get w.packets k ≡ Some (to_host host (reply x (Reply.Read inc rev body grant))))
-    (cached_stands : (file block : ℕ) (lease : Lease) (body : List ℕ) → IsHeld t.client file block lease → lets_read t.client.now lease ≡ true → cached_body t.client file block ≡ Some body → t.client.call ≡ None → IsStandingValue (t.entries ++ w.journal) (t.entries ++ w.journal) c.who file block (value_of body))
+    (heard : (x inc rev : ℕ) (body : List ℕ) (grant : Option Grant) → m ≡ reply x (Reply.Read inc rev body grant)
+    → slice_get w.packets k ≡ Some (to_host host (reply x (Reply.Read inc rev body grant))))
+    (cached_stands : (file block : ℕ) (lease : Lease) (body : List ℕ) → IsHeld t.client file block lease → lets_read t.client.now lease ≡ true
+    → cached_body t.client file block ≡ Some body → t.client.call ≡ None
+    → IsStandingValue (t.entries ++ w.journal) (t.entries ++ w.journal) c.who file block (value_of body))
     (fresh : (who : Who) (q file block : ℕ) (want : Option Want) → NewRead t who q file block want → NoneWaits (t.entries ++ w.journal) c.who file block)
     (h : ReadsFit w) where
   abbrev Now : List Entry
@@ -70,9 +73,15 @@ module _ (w : World) (host : ℕ) (c : Client) (t : ClientStep) (k : ℕ) (m : M
 
   -- a call that goes on was under way before, if it had begun
   before-too : (u : UnderWay) → t.client.call ≡ Some u → Exists (IsCall c.who u.q) w.journal → (v : UnderWay) × (c.call ≡ Some v) × (v.q ≡ u.q)
-  before-too u is began = (calls.clients host c there).calls_fit.alone u.q (began, λ answered. (after u is).is_open.1 (exists-right (IsAnswer t.client.who u.q) t.entries w.journal (subst (λ z. Exists (IsAnswer z u.q) w.journal) (sym same) answered)))
+  before-too u is began =
+      (calls.clients host c there).calls_fit.alone u.q (
+        began,
+        λ answered. (after u is).is_open.1
+            (exists-right (IsAnswer t.client.who u.q) t.entries w.journal (subst (λ z. Exists (IsAnswer z u.q) w.journal) (sym same) answered)),
+      )
 
-  own-old : (u : UnderWay) → t.client.call ≡ Some u → (x file block : ℕ) (want : Option Want) → Asked w.packets c.who.host x (Request.Read c.who u.q file block want) → NoneWaits Now c.who file block
+  own-old : (u : UnderWay) → t.client.call ≡ Some u → (x file block : ℕ) (want : Option Want)
+      → Asked w.packets c.who.host x (Request.Read c.who u.q file block want) → NoneWaits Now c.who file block
   own-old u is x file block want asked =
       let reads : Reads file block (call_of w.journal c.who u.q) = calls.reads c.who.host x (Request.Read c.who u.q file block want) asked in
       let v = before-too u is (reads-called w.journal c.who u.q file block reads) in
@@ -85,14 +94,19 @@ module _ (w : World) (host : ℕ) (c : Client) (t : ClientStep) (k : ℕ) (m : M
           let tells : call_of Now c.who u.q ≡ Some (told u.call) = subst (λ z. call_of Now z u.q ≡ Some (told u.call)) same (after u is).tells in
           put-reads-nothing file block u (subst IsCalm is d.calm) (subst (Reads file block) tells (reads-on t.entries w.journal c.who u.q file block reads))
 
-  own-waits : (u : UnderWay) → t.client.call ≡ Some u → (x file block : ℕ) (want : Option Want) → Asked (w.packets ++ map (from_host host) t.sends) c.who.host x (Request.Read c.who u.q file block want) → NoneWaits Now c.who file block
-  own-waits u is x file block want asked = case (in-append w.packets (map (from_host host) t.sends) (from_host c.who.host (call x (Request.Read c.who u.q file block want))) asked)
+  own-waits : (u : UnderWay) → t.client.call ≡ Some u → (x file block : ℕ) (want : Option Want)
+      → Asked (w.packets ++ map (from_host host) t.sends) c.who.host x (Request.Read c.who u.q file block want) → NoneWaits Now c.who file block
+  own-waits u is x file block want asked =
+      case (in-append w.packets (map (from_host host) t.sends) (from_host c.who.host (call x (Request.Read c.who u.q file block want))) asked)
     where
       either : OldRead c x (Request.Read c.who u.q file block want) ⊎ NewRead t c.who u.q file block want → NoneWaits Now c.who file block
-      either (inl o) = own-old u is x file block want (subst (λ r. Asked w.packets c.who.host x r) o.asks (subst (λ n. Asked w.packets c.who.host n o.ticket.request) o.number (a.mail.own o.ticket o.has).sent))
+      either (inl o) =
+          own-old u is x file block want (subst (λ r. Asked w.packets c.who.host x r) o.asks
+          (subst (λ n. Asked w.packets c.who.host n o.ticket.request) o.number (a.mail.own o.ticket o.has).sent))
       either (inr new) = fresh c.who u.q file block want new
 
-      case : Asked w.packets c.who.host x (Request.Read c.who u.q file block want) ⊎ In (map (from_host host) t.sends) (from_host c.who.host (call x (Request.Read c.who u.q file block want))) → NoneWaits Now c.who file block
+      case : Asked w.packets c.who.host x (Request.Read c.who u.q file block want)
+          ⊎ In (map (from_host host) t.sends) (from_host c.who.host (call x (Request.Read c.who u.q file block want))) → NoneWaits Now c.who file block
       case (inl old) = own-old u is x file block want old
       case (inr new) = either (done.reads x c.who u.q file block want (sent-calls host c.who.host t.sends x _ new))
 
@@ -104,25 +118,30 @@ module _ (w : World) (host : ℕ) (c : Client) (t : ClientStep) (k : ℕ) (m : M
       none (inr (inl x)) = x
       none (inr (inr x)) = x
 
-  own-standing : (u : UnderWay) → t.client.call ≡ Some u → (file block v n : ℕ) (before : List Entry) → IsPlaced (R c.who u.q file block v (Some n)) before Now → IsStandingValue Now before c.who file block v
+  own-standing : (u : UnderWay) → t.client.call ≡ Some u → (file block v n : ℕ) (before : List Entry)
+      → IsPlaced (R c.who u.q file block v (Some n)) before Now → IsStandingValue Now before c.who file block v
   own-standing u is file block v n before p = case (placed-append (R c.who u.q file block v (Some n)) before t.entries w.journal p)
     where
-      case : In t.entries (R c.who u.q file block v (Some n)) ⊎ IsPlaced (R c.who u.q file block v (Some n)) before w.journal → IsStandingValue Now before c.who file block v
+      case : In t.entries (R c.who u.q file block v (Some n)) ⊎ IsPlaced (R c.who u.q file block v (Some n)) before w.journal
+          → IsStandingValue Now before c.who file block v
       case (inl new) = absurd (unserved c.who u.q file block v n new)
       case (inr old) =
-          let o : IsServedInOrder before c.who u.q file block n = throughout-at Placed (R c.who u.q file block v (Some n)) before w.journal calls.journal.placed old in
+          let o : IsServedInOrder before c.who u.q file block n = throughout-at Placed (R c.who u.q file block v (Some n)) before w.journal
+          calls.journal.placed old in
           let x = before-too u is (before-exists (IsCall c.who u.q) (R c.who u.q file block v (Some n)) before w.journal old o.called) in
           standing-more t.entries w.journal rising rests c.who u.q file block v (Some n) before old
           (this.standing x.0 x.1 file block v n before (subst (λ q. IsPlaced (R c.who q file block v (Some n)) before w.journal) (sym x.2) old))
 
   -- ---- a cached read
 
-  cached-good : (who : Who) (q file block v : ℕ) (before : List Entry) → IsPlaced (R who q file block v None) before Now → In t.entries (R who q file block v None) → IsGood Now before who q file block v ⊎ IsPlaced (R who q file block v None) before w.journal
+  cached-good : (who : Who) (q file block v : ℕ) (before : List Entry) → IsPlaced (R who q file block v None) before Now
+      → In t.entries (R who q file block v None) → IsGood Now before who q file block v ⊎ IsPlaced (R who q file block v None) before w.journal
   cached-good who q file block v before p i = case accesses
     where
       case : Accesses c.who t → IsGood Now before who q file block v ⊎ IsPlaced (R who q file block v None) before w.journal
       case (neither plain) = absurd (plain-reads t.entries plain who q file block v None i)
-      case (wrote f b n u lease more rest es plain others hold lets calm) = absurd (none (in-append more (W c.who f b n u false ∷ rest) (R who q file block v None) (subst (λ zs. In zs (R who q file block v None)) es i)))
+      case (wrote f b n u lease more rest es plain others hold lets calm) =
+          absurd (none (in-append more (W c.who f b n u false ∷ rest) (R who q file block v None) (subst (λ zs. In zs (R who q file block v None)) es i)))
         where
           none : In more (R who q file block v None) ⊎ In (W c.who f b n u false ∷ rest) (R who q file block v None) → ⊥
           none (inl j) = plain-reads more plain who q file block v None j
@@ -145,11 +164,14 @@ module _ (w : World) (host : ℕ) (c : Client) (t : ClientStep) (k : ℕ) (m : M
             answer = subst (λ zs. Exists (IsAnswerWith c.who n (value_of body)) (zs ++ w.journal)) (sym es) (inl (refl, refl, refl));
           }
 
-          later : In rest (R who q file block v None) ⊎ IsPlaced (R who q file block v None) before w.journal → IsGood Now before who q file block v ⊎ IsPlaced (R who q file block v None) before w.journal
+          later : In rest (R who q file block v None) ⊎ IsPlaced (R who q file block v None) before w.journal
+              → IsGood Now before who q file block v ⊎ IsPlaced (R who q file block v None) before w.journal
           later (inl j) = absurd (plain-reads rest plain who q file block v None j)
           later (inr old) = inr old
 
-          at : IsPlaced (R who q file block v None) before (A c.who n (OkValue (value_of body)) ∷ R c.who n f b (value_of body) None ∷ rest ++ w.journal) → IsGood Now before who q file block v ⊎ IsPlaced (R who q file block v None) before w.journal
+          at : IsPlaced (R who q file block v None) before
+              (A c.who n (OkValue (value_of body)) ∷ R c.who n f b (value_of body) None ∷ rest ++ w.journal)
+              → IsGood Now before who q file block v ⊎ IsPlaced (R who q file block v None) before w.journal
           at (inl e) = absurd (cc)
           at (inr (inl e)) = inl (subst (λ z. IsGood Now z who q file block v) e.1 (subst (GoodFor Now (rest ++ w.journal)) e.0 good))
           at (inr (inr e)) = later (placed-append (R who q file block v None) before rest w.journal e)
@@ -159,10 +181,12 @@ module _ (w : World) (host : ℕ) (c : Client) (t : ClientStep) (k : ℕ) (m : M
   was-served : (who : Who) (q v n : ℕ) (sv : IsServedAnswer c k m who q v n) → IsServed w.packets w.journal k host sv.ticket.xid sv.inc sv.body
   was-served who q v n sv = h.served k host sv.ticket.xid sv.inc sv.rev sv.body sv.grant (heard sv.ticket.xid sv.inc sv.rev sv.body sv.grant sv.is)
 
-  served-good : (who : Who) (q file block v n : ℕ) (before : List Entry) → IsPlaced (R who q file block v (Some n)) before w.journal → Exists (IsAnswerBy who q n) t.entries → IsGood Now before who q file block v
+  served-good : (who : Who) (q file block v n : ℕ) (before : List Entry) → IsPlaced (R who q file block v (Some n)) before w.journal
+      → Exists (IsAnswerBy who q n) t.entries → IsGood Now before who q file block v
   served-good who q file block v n before p ans = let x = exists-in (IsAnswerBy who q n) t.entries ans in case x.0 x.1 x.2
     where
-      by-answer : (who2 : Who) (q2 v2 n2 : ℕ) → In t.entries (A who2 q2 (OkBy v2 n2)) → who2 ≡ who → q2 ≡ q → n2 ≡ n → ⊥ ⊎ IsServedAnswer c k m who2 q2 v2 n2 ⊎ ⊥ → IsGood Now before who q file block v
+      by-answer : (who2 : Who) (q2 v2 n2 : ℕ) → In t.entries (A who2 q2 (OkBy v2 n2)) → who2 ≡ who → q2 ≡ q → n2 ≡ n
+          → ⊥ ⊎ IsServedAnswer c k m who2 q2 v2 n2 ⊎ ⊥ → IsGood Now before who q file block v
       by-answer who2 q2 v2 n2 i e f g (inl bad) = absurd bad
       by-answer who2 q2 v2 n2 i e f g (inr (inr bad)) = absurd bad
       by-answer who2 q2 v2 n2 i e f g (inr (inl sv)) =
@@ -170,12 +194,17 @@ module _ (w : World) (host : ℕ) (c : Client) (t : ClientStep) (k : ℕ) (m : M
           let number : q ≡ sv.u.q = sym f ∙ sym sv.number in
           let packet : n ≡ k = sym g ∙ sv.packet_is in
           let s = was-served who2 q2 v2 n2 sv in
-          let value : v ≡ value_of sv.body = served-once w.journal k who q file block v s.by s.q s.file s.block (value_of sv.body) calls.journal.placed (subst (λ z. In w.journal (R who q file block v (Some z))) packet (placed-in (R who q file block v (Some n)) before w.journal p)) s.there in
+          let value : v ≡ value_of sv.body = served-once w.journal k who q file block v s.by s.q s.file s.block (value_of sv.body) calls.journal.placed
+          (subst (λ z. In w.journal (R who q file block v (Some z))) packet (placed-in (R who q file block v (Some n)) before w.journal p)) s.there in
           record {
             standing = standing-more t.entries w.journal rising rests who q file block v (Some n) before p
                 (subst (λ z. IsStandingValue w.journal before z file block v) (sym mine)
-                (this.standing sv.u sv.called file block v n before (subst (λ z. IsPlaced (R z sv.u.q file block v (Some n)) before w.journal) mine (subst (λ z. IsPlaced (R who z file block v (Some n)) before w.journal) number p))));
-            answer = in-exists (IsAnswerWith who q v) Now (A who2 q2 (OkBy v2 n2)) (in-left t.entries w.journal (A who2 q2 (OkBy v2 n2)) i) (e, f, sv.value ∙ sym value);
+                (this.standing sv.u sv.called file block v n before
+                (subst (λ z. IsPlaced (R z sv.u.q file block v (Some n)) before w.journal) mine
+                (subst (λ z. IsPlaced (R who z file block v (Some n)) before w.journal) number p))));
+            answer =
+                in-exists (IsAnswerWith who q v) Now (A who2 q2 (OkBy v2 n2)) (in-left t.entries w.journal (A who2 q2 (OkBy v2 n2)) i)
+                (e, f, sv.value ∙ sym value);
           }
 
       case : (x : Entry) → In t.entries x → IsAnswerBy who q n x → IsGood Now before who q file block v
@@ -187,7 +216,8 @@ module _ (w : World) (host : ℕ) (c : Client) (t : ClientStep) (k : ℕ) (m : M
   named-backed : (who : Who) (q v : ℕ) → IsNamedAnswer c who q → IsBacked Now who q v
   named-backed who q v nm =
       let tells : call_of w.journal c.who nm.u.q ≡ Some (told nm.u.call) = ((calls.clients host c there).calls_fit.under_way nm.u nm.called).tells in
-      let here : call_of w.journal who q ≡ Some (told nm.u.call) = subst (λ z. call_of w.journal z q ≡ Some (told nm.u.call)) (sym nm.who_is) (subst (λ z. call_of w.journal c.who z ≡ Some (told nm.u.call)) nm.number tells) in
+      let here : call_of w.journal who q ≡ Some (told nm.u.call) = subst (λ z. call_of w.journal z q ≡ Some (told nm.u.call)) (sym nm.who_is)
+      (subst (λ z. call_of w.journal c.who z ≡ Some (told nm.u.call)) nm.number tells) in
       reads_nothing (told nm.u.call) (call-later t.entries w.journal who q (told nm.u.call) here) (told-reads-nothing nm.u.call nm.nothing)
 
   served-backed : (who : Who) (q u v n : ℕ) → In t.entries (A who q (OkBy u n)) → u ≡ v → IsServedAnswer c k m who q u n → IsBacked Now who q v
@@ -195,11 +225,19 @@ module _ (w : World) (host : ℕ) (c : Client) (t : ClientStep) (k : ℕ) (m : M
       let s = was-served who q u n sv in
       let inc : s.by.inc ≡ c.who.inc = s.inc_is ∙ sv.inc_is in
       let mine : s.by ≡ who = one-who s.by c.who (s.home ∙ sym a.here) inc ∙ sym sv.who_is in
-      let asked : Asked w.packets c.who.host sv.ticket.xid (Request.Read s.by s.q s.file s.block s.want) = subst (λ z. Asked w.packets z sv.ticket.xid (Request.Read s.by s.q s.file s.block s.want)) (sym a.here) s.asked in
-      let one : sv.ticket.request ≡ Request.Read s.by s.q s.file s.block s.want = (a.mail.asked sv.ticket.xid (Request.Read s.by s.q s.file s.block s.want) s.by asked refl).same inc sv.ticket sv.has refl in
+      let asked : Asked w.packets c.who.host sv.ticket.xid (Request.Read s.by s.q s.file s.block s.want) = subst
+      (λ z. Asked w.packets z sv.ticket.xid (Request.Read s.by s.q s.file s.block s.want)) (sym a.here) s.asked in
+      let one : sv.ticket.request ≡ Request.Read s.by s.q s.file s.block
+      s.want = (a.mail.asked sv.ticket.xid (Request.Read s.by s.q s.file s.block s.want) s.by asked refl).same inc sv.ticket sv.has refl in
       let number : s.q ≡ q = asked-same s.by sv.by s.q q s.file sv.file s.block sv.block s.want sv.want (sym one ∙ sv.asks) in
-      counted_read (in-exists (IsCountedWith Now who q v) Now (R s.by s.q s.file s.block (value_of sv.body) (Some k)) (in-right t.entries w.journal _ s.there)
-      (sym sv.value ∙ gives, ((mine, number), in-exists (IsAnswerBy s.by s.q k) Now (A who q (OkBy u n)) (in-left t.entries w.journal _ i) (sym mine, sym number, sv.packet_is))))
+      counted_read (in-exists (IsCountedWith Now who q v) Now (R s.by s.q s.file s.block (value_of sv.body) (Some k)) (in-right t.entries w.journal _ s.there) (
+        sym sv.value ∙ gives,
+        (
+          (mine, number),
+          in-exists (IsAnswerBy s.by s.q k) Now (A who q (OkBy u n)) (in-left t.entries w.journal _ i)
+              (sym mine, sym number, sv.packet_is),
+        ),
+      ))
 
   answered-backed : (who : Who) (q v : ℕ) (said : Said) → In t.entries (A who q said) → GivesValue v said → IsBacked Now who q v
   answered-backed who q v (OkValue u) i gives = case (done.tells.fine (A who q (OkValue u)) i)
@@ -207,7 +245,8 @@ module _ (w : World) (host : ℕ) (c : Client) (t : ClientStep) (k : ℕ) (m : M
       case : ⊥ ⊎ IsNamedAnswer c who q ⊎ ((file : ℕ) × (block : ℕ) × In t.entries (R who q file block u None)) → IsBacked Now who q v
       case (inl bad) = absurd bad
       case (inr (inl nm)) = named-backed who q v nm
-      case (inr (inr x)) = counted_read (in-exists (IsCountedWith Now who q v) Now (R who q x.0 x.1 u None) (in-left t.entries w.journal _ x.2) (gives, ((refl, refl), tt)))
+      case (inr (inr x)) =
+          counted_read (in-exists (IsCountedWith Now who q v) Now (R who q x.0 x.1 u None) (in-left t.entries w.journal _ x.2) (gives, ((refl, refl), tt)))
   answered-backed who q v (OkBy u n) i gives = case (done.tells.fine (A who q (OkBy u n)) i)
     where
       case : ⊥ ⊎ IsServedAnswer c k m who q u n ⊎ ⊥ → IsBacked Now who q v
@@ -220,8 +259,13 @@ module _ (w : World) (host : ℕ) (c : Client) (t : ClientStep) (k : ℕ) (m : M
   step-adds = record {
     own = record {
       ticketed = done.tells.asks;
-      waits = λ u is x file block want asked. subst (λ z. NoneWaits Now z file block) (sym same) (own-waits u is x file block want (subst (λ z. Asked (w.packets ++ map (from_host host) t.sends) z.host x (Request.Read z u.q file block want)) same asked));
-      standing = λ u is file block v n before p. subst (λ z. IsStandingValue Now before z file block v) (sym same) (own-standing u is file block v n before (subst (λ z. IsPlaced (R z u.q file block v (Some n)) before Now) same p));
+      waits =
+          λ u is x file block want asked. subst (λ z. NoneWaits Now z file block) (sym same)
+          (own-waits u is x file block want
+          (subst (λ z. Asked (w.packets ++ map (from_host host) t.sends) z.host x (Request.Read z u.q file block want)) same asked));
+      standing =
+          λ u is file block v n before p. subst (λ z. IsStandingValue Now before z file block v) (sym same)
+          (own-standing u is file block v n before (subst (λ z. IsPlaced (R z u.q file block v (Some n)) before Now) same p));
     };
     unserved = unserved;
     delayed = λ who file block n v i. ap (λ z. z.host) (accesses-writes c.who t accesses who file block n v i).mine ∙ a.here;

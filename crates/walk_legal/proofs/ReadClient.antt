@@ -39,17 +39,23 @@ pub record Adds (w : World) (host : ℕ) (t : ClientStep) : Type 0 where
   pub own : ReadsOf (w.packets ++ map (from_host host) t.sends) (t.entries ++ w.journal) t.client
   pub unserved : (who : Who) (q file block v k : ℕ) → In t.entries (R who q file block v (Some k)) → ⊥
   pub delayed : (who : Who) (file block n v : ℕ) → In t.entries (W who file block n v false) → who.host ≡ host
-  pub cached : (who : Who) (q file block v : ℕ) (before : List Entry) → IsPlaced (R who q file block v None) before (t.entries ++ w.journal) → In t.entries (R who q file block v None) → IsGood (t.entries ++ w.journal) before who q file block v ⊎ IsPlaced (R who q file block v None) before w.journal
-  pub served : (who : Who) (q file block v k : ℕ) (before : List Entry) → IsPlaced (R who q file block v (Some k)) before w.journal → Exists (IsAnswerBy who q k) t.entries → IsGood (t.entries ++ w.journal) before who q file block v
+  pub cached : (who : Who) (q file block v : ℕ) (before : List Entry) → IsPlaced (R who q file block v None) before (t.entries ++ w.journal)
+      → In t.entries (R who q file block v None)
+      → IsGood (t.entries ++ w.journal) before who q file block v ⊎ IsPlaced (R who q file block v None) before w.journal
+  pub served : (who : Who) (q file block v k : ℕ) (before : List Entry) → IsPlaced (R who q file block v (Some k)) before w.journal
+      → Exists (IsAnswerBy who q k) t.entries → IsGood (t.entries ++ w.journal) before who q file block v
   pub answers : (who : Who) (q v : ℕ) (said : Said) → In t.entries (A who q said) → GivesValue v said → IsBacked (t.entries ++ w.journal) who q v
 
-pub good-more : (es j before : List Entry) → Throughout IsRising (es ++ j) → Throughout Rests (es ++ j) → (who : Who) (q file block v : ℕ) (by : Option ℕ) → IsPlaced (R who q file block v by) before j → IsGood j before who q file block v → IsGood (es ++ j) before who q file block v
+pub good-more : (es j before : List Entry) → Throughout IsRising (es ++ j) → Throughout Rests (es ++ j)
+    → (who : Who) (q file block v : ℕ) (by : Option ℕ) → IsPlaced (R who q file block v by) before j → IsGood j before who q file block v
+    → IsGood (es ++ j) before who q file block v
 good-more es j before rising rests who q file block v by p g = record {
   standing = standing-more es j rising rests who q file block v by before p g.standing;
   answer = exists-right (IsAnswerWith who q v) es j g.answer;
 }
 
-asked-other : (ps : List Packet) (host : ℕ) (ms : List Message) (other x : ℕ) (r : Request) → host ≢ other → Asked (ps ++ map (from_host host) ms) other x r → Asked ps other x r
+asked-other : (ps : List Packet) (host : ℕ) (ms : List Message) (other x : ℕ) (r : Request) → host ≢ other
+    → Asked (ps ++ map (from_host host) ms) other x r → Asked ps other x r
 asked-other ps host ms other x r apart i = case (in-append ps (map (from_host host) ms) (from_host other (call x r)) i)
   where
     none : (ns : List Message) → In (map (from_host host) ns) (from_host other (call x r)) → ⊥
@@ -61,53 +67,79 @@ asked-other ps host ms other x r apart i = case (in-append ps (map (from_host ho
     case (inl old) = old
     case (inr new) = absurd (none ms new)
 
-pub reads-after : (w : World) (host : ℕ) (t : ClientStep) → Holds w → Throughout IsRising (t.entries ++ w.journal) → Throughout Rests (t.entries ++ w.journal) → Adds w host t → ReadsFit w → ReadsFit (after_client w host t)
+pub reads-after : (w : World) (host : ℕ) (t : ClientStep) → Holds w → Throughout IsRising (t.entries ++ w.journal)
+    → Throughout Rests (t.entries ++ w.journal) → Adds w host t → ReadsFit w → ReadsFit (after_client w host t)
 unfolding after_client
 reads-after w host t held rising rests adds h = record {
-  served = λ k other x inc rev body grant at. served k other x inc rev body grant at (get-append w.packets (map (from_host host) t.sends) k (to_host other (reply x (Reply.Read inc rev body grant))) at);
+  served =
+      λ k other x inc rev body grant at. served k other x inc rev body grant at
+      (get-append w.packets (map (from_host host) t.sends) k (to_host other (reply x (Reply.Read inc rev body grant))) at);
   clients = clients-after (λ n d v. ReadsOf v.packets v.journal d) w host t adds.own others;
   counted = λ who q file block v by before p counted. good who q file block v by before p counted;
   answered = λ who q v said i gives. backed who q v said gives (in-append t.entries w.journal (A who q said) i);
 } where
-  served : (k other x inc rev : ℕ) (body : List ℕ) (grant : Option Grant) → slice_get (w.packets ++ map (from_host host) t.sends) k ≡ Some (to_host other (reply x (Reply.Read inc rev body grant))) → (slice_get w.packets k ≡ Some (to_host other (reply x (Reply.Read inc rev body grant)))) ⊎ ((n : ℕ) × (k ≡ length w.packets + n) × (slice_get (map (from_host host) t.sends) n ≡ Some (to_host other (reply x (Reply.Read inc rev body grant))))) → IsServed (w.packets ++ map (from_host host) t.sends) (t.entries ++ w.journal) k other x inc body
-  served k other x inc rev body grant at (inl old) = served-more w.packets (map (from_host host) t.sends) t.entries w.journal k other x inc body (h.served k other x inc rev body grant old)
-  served k other x inc rev body grant at (inr new) = absurd (none-to-host host other t.sends (reply x (Reply.Read inc rev body grant)) (in-get (map (from_host host) t.sends) new.0 _ new.2))
+  served : (k other x inc rev : ℕ) (body : List ℕ) (grant : Option Grant)
+      → slice_get (w.packets ++ map (from_host host) t.sends) k ≡ Some (to_host other (reply x (Reply.Read inc rev body grant)))
+      → (slice_get w.packets k ≡ Some (to_host other (reply x (Reply.Read inc rev body grant))))
+      ⊎ ((n : ℕ) × (k ≡ length w.packets + n)
+      × (slice_get (map (from_host host) t.sends) n ≡ Some (to_host other (reply x (Reply.Read inc rev body grant)))))
+      → IsServed (w.packets ++ map (from_host host) t.sends) (t.entries ++ w.journal) k other x inc body
+  served k other x inc rev body grant at (inl old) =
+      served-more w.packets (map (from_host host) t.sends) t.entries w.journal k other x inc body (h.served k other x inc rev body grant old)
+  served k other x inc rev body grant at (inr new) =
+      absurd (none-to-host host other t.sends (reply x (Reply.Read inc rev body grant)) (in-get (map (from_host host) t.sends) new.0 _ new.2))
 
-  others : (other : ℕ) (d : Client) → other ≢ host → slice_get w.clients other ≡ Some d → ReadsOf (w.packets ++ map (from_host host) t.sends) (t.entries ++ w.journal) d
+  others : (other : ℕ) (d : Client) → other ≢ host → slice_get w.clients other ≡ Some d
+      → ReadsOf (w.packets ++ map (from_host host) t.sends) (t.entries ++ w.journal) d
   others other d apart is =
       let k = h.clients other d is in
       let here : d.who.host ≡ other = (held.clients other d is).here in
       record {
         ticketed = k.ticketed;
-        waits = λ u called x file block want asked. waits-more t.entries w.journal d.who file block (λ n v i. apart (sym here ∙ adds.delayed d.who file block n v i)) (k.waits u called x file block want (asked-other w.packets host t.sends d.who.host x _ (λ e. apart (sym here ∙ sym e)) asked));
+        waits =
+            λ u called x file block want asked. waits-more t.entries w.journal d.who file block
+            (λ n v i. apart (sym here ∙ adds.delayed d.who file block n v i))
+            (k.waits u called x file block want (asked-other w.packets host t.sends d.who.host x _ (λ e. apart (sym here ∙ sym e)) asked));
         standing = λ u called file block v n before p. old u d called is file block v n before (placed-append _ before t.entries w.journal p);
       }
     where
-      old : (u : UnderWay) (d : Client) → d.call ≡ Some u → slice_get w.clients other ≡ Some d → (file block v n : ℕ) (before : List Entry) → In t.entries (R d.who u.q file block v (Some n)) ⊎ IsPlaced (R d.who u.q file block v (Some n)) before w.journal → IsStandingValue (t.entries ++ w.journal) before d.who file block v
+      old : (u : UnderWay) (d : Client) → d.call ≡ Some u → slice_get w.clients other ≡ Some d → (file block v n : ℕ) (before : List Entry)
+          → In t.entries (R d.who u.q file block v (Some n)) ⊎ IsPlaced (R d.who u.q file block v (Some n)) before w.journal
+          → IsStandingValue (t.entries ++ w.journal) before d.who file block v
       old u d called is file block v n before (inl new) = absurd (adds.unserved d.who u.q file block v n new)
-      old u d called is file block v n before (inr p) = standing-more t.entries w.journal rising rests d.who u.q file block v (Some n) before p ((h.clients other d is).standing u called file block v n before p)
+      old u d called is file block v n before (inr p) =
+          standing-more t.entries w.journal rising rests d.who u.q file block v (Some n) before p
+          ((h.clients other d is).standing u called file block v n before p)
 
-  good-old : (who : Who) (q file block v : ℕ) (by : Option ℕ) (before : List Entry) → IsPlaced (R who q file block v by) before w.journal → IsCounted w.journal (R who q file block v by) → IsGood (t.entries ++ w.journal) before who q file block v
-  good-old who q file block v by before p counted = good-more t.entries w.journal before rising rests who q file block v by p (h.counted who q file block v by before p counted)
+  good-old : (who : Who) (q file block v : ℕ) (by : Option ℕ) (before : List Entry) → IsPlaced (R who q file block v by) before w.journal
+      → IsCounted w.journal (R who q file block v by) → IsGood (t.entries ++ w.journal) before who q file block v
+  good-old who q file block v by before p counted =
+      good-more t.entries w.journal before rising rests who q file block v by p (h.counted who q file block v by before p counted)
 
-  good : (who : Who) (q file block v : ℕ) (by : Option ℕ) (before : List Entry) → IsPlaced (R who q file block v by) before (t.entries ++ w.journal) → IsCounted (t.entries ++ w.journal) (R who q file block v by) → IsGood (t.entries ++ w.journal) before who q file block v
+  good : (who : Who) (q file block v : ℕ) (by : Option ℕ) (before : List Entry) → IsPlaced (R who q file block v by) before (t.entries ++ w.journal)
+      → IsCounted (t.entries ++ w.journal) (R who q file block v by) → IsGood (t.entries ++ w.journal) before who q file block v
   good who q file block v None before p counted = case (placed-append _ before t.entries w.journal p)
     where
-      either : IsGood (t.entries ++ w.journal) before who q file block v ⊎ IsPlaced (R who q file block v None) before w.journal → IsGood (t.entries ++ w.journal) before who q file block v
+      either : IsGood (t.entries ++ w.journal) before who q file block v ⊎ IsPlaced (R who q file block v None) before w.journal
+          → IsGood (t.entries ++ w.journal) before who q file block v
       either (inl g) = g
       either (inr old) = good-old who q file block v None before old tt
 
-      case : In t.entries (R who q file block v None) ⊎ IsPlaced (R who q file block v None) before w.journal → IsGood (t.entries ++ w.journal) before who q file block v
+      case : In t.entries (R who q file block v None) ⊎ IsPlaced (R who q file block v None) before w.journal
+          → IsGood (t.entries ++ w.journal) before who q file block v
       case (inl new) = either (adds.cached who q file block v before p new)
       case (inr old) = good-old who q file block v None before old tt
-  good who q file block v (Some k) before p counted = case (placed-append _ before t.entries w.journal p) (exists-append (IsAnswerBy who q k) t.entries w.journal counted)
+  good who q file block v (Some k) before p counted =
+      case (placed-append _ before t.entries w.journal p) (exists-append (IsAnswerBy who q k) t.entries w.journal counted)
     where
-      case : In t.entries (R who q file block v (Some k)) ⊎ IsPlaced (R who q file block v (Some k)) before w.journal → Exists (IsAnswerBy who q k) t.entries ⊎ Exists (IsAnswerBy who q k) w.journal → IsGood (t.entries ++ w.journal) before who q file block v
+      case : In t.entries (R who q file block v (Some k)) ⊎ IsPlaced (R who q file block v (Some k)) before w.journal
+          → Exists (IsAnswerBy who q k) t.entries ⊎ Exists (IsAnswerBy who q k) w.journal → IsGood (t.entries ++ w.journal) before who q file block v
       case (inl new) other = absurd (adds.unserved who q file block v k new)
       case (inr old) (inl now) = adds.served who q file block v k before old now
       case (inr old) (inr was) = good-old who q file block v (Some k) before old was
 
-  backed : (who : Who) (q v : ℕ) (said : Said) → GivesValue v said → In t.entries (A who q said) ⊎ In w.journal (A who q said) → IsBacked (t.entries ++ w.journal) who q v
+  backed : (who : Who) (q v : ℕ) (said : Said) → GivesValue v said → In t.entries (A who q said) ⊎ In w.journal (A who q said)
+      → IsBacked (t.entries ++ w.journal) who q v
   backed who q v said gives (inl new) = adds.answers who q v said new gives
   backed who q v said gives (inr old) = backed-more t.entries w.journal who q v (h.answered who q v said old gives)
 
@@ -123,15 +155,21 @@ pub record IsDelaying (who by : Who) (t : ClientStep) : Type 0 where
   pub mine : who ≡ by
   pub calm : IsCalm t.client.call
 
-pub accesses-writes : (by : Who) (t : ClientStep) → Accesses by t → (who : Who) (file block n v : ℕ) → In t.entries (W who file block n v false) → IsDelaying who by t
+pub accesses-writes : (by : Who) (t : ClientStep) → Accesses by t → (who : Who) (file block n v : ℕ) → In t.entries (W who file block n v false)
+    → IsDelaying who by t
 accesses-writes by t (neither plain) who file block n v i = absurd (plain-no-write t.entries who file block n v plain i)
-accesses-writes by t (read q f b lease body rest es plain held lets has idle) who file block n v i = absurd (none (subst (λ zs. In zs (W who file block n v false)) es i))
+accesses-writes by t (read q f b lease body rest es plain held lets has idle) who file block n v i =
+    absurd (none (subst (λ zs. In zs (W who file block n v false)) es i))
   where
     none : In (A by q (Said.OkValue (value_of body)) ∷ R by q f b (value_of body) None ∷ rest) (W who file block n v false) → ⊥
     none (inl e) = cc
     none (inr (inl e)) = cc
     none (inr (inr j)) = plain-no-write rest who file block n v plain j
-accesses-writes by t (wrote f b m u lease more rest es plain others held lets calm) who file block n v i = record { mine = mine (in-append more (W by f b m u false ∷ rest) (W who file block n v false) (subst (λ zs. In zs (W who file block n v false)) es i)); calm = calm }
+accesses-writes by t (wrote f b m u lease more rest es plain others held lets calm) who file block n v i =
+    record {
+      mine = mine (in-append more (W by f b m u false ∷ rest) (W who file block n v false) (subst (λ zs. In zs (W who file block n v false)) es i));
+      calm = calm;
+    }
   where
     mine : In more (W who file block n v false) ⊎ In (W by f b m u false ∷ rest) (W who file block n v false) → who ≡ by
     mine (inl j) = absurd (plain-no-write more who file block n v plain j)

@@ -57,14 +57,18 @@ pub record ReadsOf (packets : List Packet) (journal : List Entry) (c : Client) :
   -- its call's request is made for its call
   pub ticketed : TicketOfCall c.ticket c.call
   -- where a READ of the call under way was sent, no own write on the block waits
-  pub waits : (u : UnderWay) → c.call ≡ Some u → (x file block : ℕ) (want : Option Want) → Asked packets c.who.host x (Request.Read c.who u.q file block want) → NoneWaits journal c.who file block
+  pub waits : (u : UnderWay) → c.call ≡ Some u → (x file block : ℕ) (want : Option Want)
+      → Asked packets c.who.host x (Request.Read c.who u.q file block want) → NoneWaits journal c.who file block
   -- and what was read for it stands
-  pub standing : (u : UnderWay) → c.call ≡ Some u → (file block v k : ℕ) (before : List Entry) → IsPlaced (R c.who u.q file block v (Some k)) before journal → IsStandingValue journal before c.who file block v
+  pub standing : (u : UnderWay) → c.call ≡ Some u → (file block v k : ℕ) (before : List Entry)
+      → IsPlaced (R c.who u.q file block v (Some k)) before journal → IsStandingValue journal before c.who file block v
 
 pub record ReadsFit (w : World) : Type 0 where
-  pub served : (k host x inc rev : ℕ) (body : List ℕ) (grant : Option Grant) → slice_get w.packets k ≡ Some (to_host host (reply x (Reply.Read inc rev body grant))) → IsServed w.packets w.journal k host x inc body
+  pub served : (k host x inc rev : ℕ) (body : List ℕ) (grant : Option Grant)
+      → slice_get w.packets k ≡ Some (to_host host (reply x (Reply.Read inc rev body grant))) → IsServed w.packets w.journal k host x inc body
   pub clients : (host : ℕ) (c : Client) → slice_get w.clients host ≡ Some c → ReadsOf w.packets w.journal c
-  pub counted : (who : Who) (q file block v : ℕ) (by : Option ℕ) (before : List Entry) → IsPlaced (R who q file block v by) before w.journal → IsCounted w.journal (R who q file block v by) → IsGood w.journal before who q file block v
+  pub counted : (who : Who) (q file block v : ℕ) (by : Option ℕ) (before : List Entry) → IsPlaced (R who q file block v by) before w.journal
+      → IsCounted w.journal (R who q file block v by) → IsGood w.journal before who q file block v
   pub answered : (who : Who) (q v : ℕ) (said : Said) → In w.journal (A who q said) → GivesValue v said → IsBacked w.journal who q v
 
 -- ---- places
@@ -82,12 +86,14 @@ placed-append e before (x ∷ es) j (inr p) = step (placed-append e before es j 
 
 -- ---- packets
 
-pub get-append : {Y : Type 0} (xs ys : List Y) (k : ℕ) (x : Y) → slice_get (xs ++ ys) k ≡ Some x → (slice_get xs k ≡ Some x) ⊎ ((n : ℕ) × (k ≡ length xs + n) × (slice_get ys n ≡ Some x))
+pub get-append : {Y : Type 0} (xs ys : List Y) (k : ℕ) (x : Y) → slice_get (xs ++ ys) k ≡ Some x
+    → (slice_get xs k ≡ Some x) ⊎ ((n : ℕ) × (k ≡ length xs + n) × (slice_get ys n ≡ Some x))
 get-append [] ys k x h = inr (k, (omega arith), h)
 get-append (y ∷ xs) ys zero x h = inl h
 get-append (y ∷ xs) ys (suc k) x h = step (get-append xs ys k x h)
   where
-    step : (slice_get xs k ≡ Some x) ⊎ ((n : ℕ) × (k ≡ length xs + n) × (slice_get ys n ≡ Some x)) → (slice_get xs k ≡ Some x) ⊎ ((n : ℕ) × (suc k ≡ suc (length xs) + n) × (slice_get ys n ≡ Some x))
+    step : (slice_get xs k ≡ Some x) ⊎ ((n : ℕ) × (k ≡ length xs + n) × (slice_get ys n ≡ Some x))
+        → (slice_get xs k ≡ Some x) ⊎ ((n : ℕ) × (suc k ≡ suc (length xs) + n) × (slice_get ys n ≡ Some x))
     step (inl a) = inl a
     step (inr b) = inr (b.0, (let e = b.1 in omega arith), b.2)
 
@@ -98,14 +104,27 @@ told-packet p host (by_server h m e) to =
     let one : h ≡ host = cc in
     e ∙ ap (λ n. to_host n m) one ∙ ap (to_host host) (sym (ap (λ z. z.message) e))
 
-pub served-more : (packets more : List Packet) (es j : List Entry) (k host x inc : ℕ) (body : List ℕ) → IsServed packets j k host x inc body → IsServed (packets ++ more) (es ++ j) k host x inc body
-served-more packets more es j k host x inc body h = record { by = h.by; q = h.q; file = h.file; block = h.block; want = h.want; asked = in-left packets more _ h.asked; home = h.home; inc_is = h.inc_is; there = in-right es j _ h.there }
+pub served-more : (packets more : List Packet) (es j : List Entry) (k host x inc : ℕ) (body : List ℕ) → IsServed packets j k host x inc body
+    → IsServed (packets ++ more) (es ++ j) k host x inc body
+served-more packets more es j k host x inc body h =
+    record {
+      by = h.by;
+      q = h.q;
+      file = h.file;
+      block = h.block;
+      want = h.want;
+      asked = in-left packets more _ h.asked;
+      home = h.home;
+      inc_is = h.inc_is;
+      there = in-right es j _ h.there;
+    }
 
 -- reads of one packet are one
 served-in : (k : ℕ) (who : Who) (q file block v : ℕ) (before : List Entry) → In before (R who q file block v (Some k)) → Exists (IsServedIn k) before
 served-in k who q file block v before i = in-exists (IsServedIn k) before (R who q file block v (Some k)) i refl
 
-pub served-once : (j : List Entry) (k : ℕ) (who : Who) (q file block v : ℕ) (other : Who) (n f b u : ℕ) → Throughout Placed j → In j (R who q file block v (Some k)) → In j (R other n f b u (Some k)) → v ≡ u
+pub served-once : (j : List Entry) (k : ℕ) (who : Who) (q file block v : ℕ) (other : Who) (n f b u : ℕ) → Throughout Placed j
+    → In j (R who q file block v (Some k)) → In j (R other n f b u (Some k)) → v ≡ u
 served-once [] k who q file block v other n f b u t i h = absurd i
 served-once (e ∷ j) k who q file block v other n f b u t (inl i) (inl h) = cc_value (sym i ∙ h)
   where
@@ -128,9 +147,12 @@ counted-with-more es j who q v other h = absurd h
 
 pub backed-more : (es j : List Entry) (who : Who) (q v : ℕ) → IsBacked j who q v → IsBacked (es ++ j) who q v
 backed-more es j who q v (reads_nothing t told none) = reads_nothing t (call-later es j who q t told) none
-backed-more es j who q v (counted_read h) = counted_read (exists-right (IsCountedWith (es ++ j) who q v) es j (exists-map (IsCountedWith j who q v) (IsCountedWith (es ++ j) who q v) j (counted-with-more es j who q v) h))
+backed-more es j who q v (counted_read h) =
+    counted_read (exists-right (IsCountedWith (es ++ j) who q v) es j
+    (exists-map (IsCountedWith j who q v) (IsCountedWith (es ++ j) who q v) j (counted-with-more es j who q v) h))
 
-pub waits-more : (es j : List Entry) (who : Who) (file block : ℕ) → ((n v : ℕ) → In es (W who file block n v false) → ⊥) → NoneWaits j who file block → NoneWaits (es ++ j) who file block
+pub waits-more : (es j : List Entry) (who : Who) (file block : ℕ) → ((n v : ℕ) → In es (W who file block n v false) → ⊥) → NoneWaits j who file block
+    → NoneWaits (es ++ j) who file block
 waits-more es j who file block none h n v i = case (in-append es j (W who file block n v false) i)
   where
     case : In es (W who file block n v false) ⊎ In j (W who file block n v false) → CoversNumber (es ++ j) who file block n
@@ -171,12 +193,21 @@ module _ (whole : List Entry) (e : Entry) (before : List Entry) (reader : Who) (
   stands-before w (on, inr (inl s)) = (on, inr (inl s))
   stands-before w (on, inr (inr own)) = (on, inr (inr (own.0, λ lost. own.1 (inr lost))))
 
-  tail-value : (b : Bool) → cuts e file block ≡ b → b ≡ false → IsLastValue (Stands whole (e ∷ before) reader file block) (if b then [] else e ∷ since_cut before file block) v → IsLastValue (Stands whole (e ∷ before) reader file block) (since_cut before file block) v
+  tail-value : (b : Bool) → cuts e file block ≡ b → b ≡ false
+      → IsLastValue (Stands whole (e ∷ before) reader file block) (if b then [] else e ∷ since_cut before file block) v
+      → IsLastValue (Stands whole (e ∷ before) reader file block) (since_cut before file block) v
   tail-value true is other h = absurd (cc)
   tail-value false is other h = h.1 (λ f. still-unwritten e file block still f.0)
 
   pub standing-after : IsStandingValue whole before reader file block v → IsStandingValue whole (e ∷ before) reader file block v
-  standing-after h = rw (still-uncut e file block still) (λ f. absurd (still-unwritten e file block still f.0), λ none. last-same (Stands whole before reader file block) (Stands whole (e ∷ before) reader file block) (since_cut before file block) v (λ w i. stands-after w) (λ w i. stands-before w) h)
+  standing-after h =
+      rw (still-uncut e file block still) (
+        λ f. absurd (still-unwritten e file block still f.0),
+        λ none. last-same (Stands whole before reader file block)
+            (Stands whole (e ∷ before) reader file block) (since_cut before file block) v (λ w i. stands-after w) (λ w i. stands-before w) h,
+      )
 
   pub standing-before : IsStandingValue whole (e ∷ before) reader file block v → IsStandingValue whole before reader file block v
-  standing-before h = last-same (Stands whole (e ∷ before) reader file block) (Stands whole before reader file block) (since_cut before file block) v (λ w i. stands-before w) (λ w i. stands-after w) (tail-value (cuts e file block) refl (still-uncut e file block still) h)
+  standing-before h =
+      last-same (Stands whole (e ∷ before) reader file block) (Stands whole before reader file block) (since_cut before file block) v
+      (λ w i. stands-before w) (λ w i. stands-after w) (tail-value (cuts e file block) refl (still-uncut e file block still) h)

@@ -16,7 +16,7 @@ use Rattle.walk_client.proofs.PartCases.{answers-call-cases, vacates-noticed-cas
 use Rattle.walk_client.proofs.SettleCases.{IsRead}
 use Rattle.walk_client.proofs.ClientMoves.{none-some, some-same}
 use Rattle.nq_model.specs.Client.{Client, ClientStep, for_call, Ticket, UnderWay, begun, notice_on}
-use Rattle.nq_model.specs.Hear.{vacates_lease, spends, attached, pauses, marks_through, loses, all_dirty, loss_entry, reports, without_lease, push_refused, breaks_chain, if_broken, holds, takes_grant, takes_optional, answers_call, answer_of, caches_block, purges, knows_revision, then_caches, read_done, lease_done, write_done, ends_push, caches_push, vacates_noticed, push_done, with_through}
+use Rattle.nq_model.specs.Hear.{vacates_lease, spends, attached, pauses, marks_through, loses, all_dirty, loss_entry, reports, without_lease, push_refused, breaks_chain, if_broken, holds, takes_grant, takes_optional, answers_call, answer_of, caches_block, purges, knows_revision, then_caches, read_done, lease_done, write_done, ends_push, caches_push, push_done, with_through}
 use Rattle.nq_model.specs.Message.{Message, call}
 use Rattle.nq_model.specs.Settle.{answers, names_losses, said}
 use Rattle.walk_run.proofs.Members.{in-reverse}
@@ -59,7 +59,8 @@ pub record IsLike (c : Client) (u : UnderWay) : Type 0 where
   pub same : u.call ≡ v.call
 
 -- what a reply's parts made so far; `Valued` are the answers with a value
-pub record Made (c : Client) (Valued : Entry → Type 0) (who : Who) (under : Option UnderWay) (ticket : Option Ticket) (sends : List Message) (entries : List Entry) : Type 0 where
+pub record Made (c : Client) (Valued : Entry → Type 0) (who : Who) (under : Option UnderWay) (ticket : Option Ticket) (sends : List Message)
+    (entries : List Entry) : Type 0 where
   pub who_is : who ≡ c.who
   pub fine : (e : Entry) → In entries e → IsDull e ⊎ Valued e
   pub called : (u : UnderWay) → under ≡ Some u → IsLike c u
@@ -69,8 +70,11 @@ pub record Made (c : Client) (Valued : Entry → Type 0) (who : Who) (under : Op
 abbrev pub MadeOf : Client → (Entry → Type 0) → ClientStep → Type 0
 MadeOf c Valued t = Made c Valued t.client.who t.client.call t.client.ticket t.sends t.entries
 
-pub made-adds : {c : Client} {Valued : Entry → Type 0} {who : Who} {under after : Option UnderWay} {ticket : Option Ticket} {sends : List Message} {entries : List Entry} (e : Entry) → IsDull e ⊎ Valued e → ((u : UnderWay) → after ≡ Some u → under ≡ Some u) → Made c Valued who under ticket sends entries → Made c Valued who after ticket sends (e ∷ entries)
-made-adds {Valued = Valued} {entries = entries} e fits fewer h = record { who_is = h.who_is; fine = fine; called = λ u is. h.called u (fewer u is); free = h.free; quiet = h.quiet }
+pub made-adds : {c : Client} {Valued : Entry → Type 0} {who : Who} {under after : Option UnderWay} {ticket : Option Ticket} {sends : List Message}
+    {entries : List Entry} (e : Entry) → IsDull e ⊎ Valued e → ((u : UnderWay) → after ≡ Some u → under ≡ Some u)
+    → Made c Valued who under ticket sends entries → Made c Valued who after ticket sends (e ∷ entries)
+made-adds {Valued = Valued} {entries = entries} e fits fewer h =
+    record { who_is = h.who_is; fine = fine; called = λ u is. h.called u (fewer u is); free = h.free; quiet = h.quiet }
   where
     fine : (x : Entry) → (e ≡ x) ⊎ In entries x → IsDull x ⊎ Valued x
     fine x (inl same) = subst (λ y. IsDull y ⊎ Valued y) same fits
@@ -96,7 +100,8 @@ module _ (c : Client) (Valued : Entry → Type 0) where
   abbrev P : ClientStep → Type 0
   P = MadeOf c Valued
 
-  pub made-answers : (t : ClientStep) (q : ℕ) (a : Answer) (by : Option ℕ) → IsDull (A t.client.who q (said a by)) ⊎ Valued (A t.client.who q (said a by)) → P t → P (answers t q a by)
+  pub made-answers : (t : ClientStep) (q : ℕ) (a : Answer) (by : Option ℕ)
+      → IsDull (A t.client.who q (said a by)) ⊎ Valued (A t.client.who q (said a by)) → P t → P (answers t q a by)
   unfolding answers
   made-answers t q a by fits h = made-adds (A t.client.who q (said a by)) fits (λ u is. none-some u is) h
 
@@ -106,7 +111,14 @@ module _ (c : Client) (Valued : Entry → Type 0) where
 
   made-loses : (t : ClientStep) (file : ℕ) → P t → P (loses t file)
   unfolding loses
-  made-loses t file h = record { who_is = h.who_is; fine = λ e i. case e (in-append (reverse (map (loss_entry t.client.who) (all_dirty t.client file))) t.entries e i); called = h.called; free = h.free; quiet = h.quiet }
+  made-loses t file h =
+      record {
+        who_is = h.who_is;
+        fine = λ e i. case e (in-append (reverse (map (loss_entry t.client.who) (all_dirty t.client file))) t.entries e i);
+        called = h.called;
+        free = h.free;
+        quiet = h.quiet;
+      }
     where
       case : (e : Entry) → In (reverse (map (loss_entry t.client.who) (all_dirty t.client file))) e ⊎ In t.entries e → IsDull e ⊎ Valued e
       case e (inl new) = inl (dull-losses t.client.who (all_dirty t.client file) e (in-reverse (map (loss_entry t.client.who) (all_dirty t.client file)) e new))
@@ -118,14 +130,19 @@ module _ (c : Client) (Valued : Entry → Type 0) where
 
   made-vacates : (t : ClientStep) (file : ℕ) (tag : Tag) → P t → P (vacates_lease t file tag)
   unfolding vacates_lease
-  made-vacates t file tag h = record { who_is = h.who_is; fine = h.fine; called = h.called; free = h.free; quiet = λ x r i. case x r (in-last t.sends (call t.client.xid (Request.Vacated t.client.who file tag)) (call x r) i) }
+  made-vacates t file tag h =
+      record {
+        who_is = h.who_is;
+        fine = h.fine;
+        called = h.called;
+        free = h.free;
+        quiet = λ x r i. case x r
+            (in-last t.sends (call t.client.xid (Request.Vacated t.client.who file tag)) (call x r) i);
+      }
     where
       case : (x : ℕ) (r : Request) → In t.sends (call x r) ⊎ (call t.client.xid (Request.Vacated t.client.who file tag) ≡ call x r) → is_read r ≡ false
       case x r (inl old) = h.quiet x r old
       case x r (inr same) = ap is_read (sym (call-same t.client.xid x _ r same).1)
-
-  made-noticed : (t : ClientStep) (file : ℕ) → P t → P (vacates_noticed t file (notice_on file t.client.notices))
-  made-noticed t file h = vacates-noticed-cases t file (notice_on file t.client.notices) P (λ e. h) (λ n e. made-vacates t file n.tag h)
 
   made-reports : (t : ClientStep) (file : ℕ) → P t → P (reports t file)
   made-reports t file h = reports-cases t file P (λ e. h) (λ u e f. h) (λ u e f. made-names t u.q file h)
@@ -134,7 +151,8 @@ module _ (c : Client) (Valued : Entry → Type 0) where
   unfolding without_lease vacates_lease loses
   made-refused t file h =
       let a : P (without_lease (loses t file) file) = made-without (loses t file) file (made-loses t file h) in
-      made-reports _ file (vacates-noticed-cases (without_lease (loses t file) file) file (notice_on file t.client.notices) P (λ e. a) (λ n e. made-vacates (without_lease (loses t file) file) file n.tag a))
+      made-reports _ file (vacates-noticed-cases (without_lease (loses t file) file) file (notice_on file t.client.notices) P (λ e. a)
+      (λ n e. made-vacates (without_lease (loses t file) file) file n.tag a))
 
   made-breaks : (t : ClientStep) (file : ℕ) → P t → P (breaks_chain t file)
   made-breaks t file h =
@@ -151,7 +169,9 @@ module _ (c : Client) (Valued : Entry → Type 0) where
   pub made-optional : (t : ClientStep) (file : ℕ) (g : Option Grant) (sent : ℕ) → P t → P (takes_optional t file g sent)
   made-optional t file o sent h = takes-optional-cases t file o sent P (λ e. h) (λ g e. made-takes t file g sent h)
 
-  pub made-call : (t : ClientStep) (a : Answer) (by : Option ℕ) → ((u : UnderWay) → t.client.call ≡ Some u → IsDull (A t.client.who u.q (said a by)) ⊎ Valued (A t.client.who u.q (said a by))) → P t → P (answers_call t a by)
+  pub made-call : (t : ClientStep) (a : Answer) (by : Option ℕ)
+      → ((u : UnderWay) → t.client.call ≡ Some u → IsDull (A t.client.who u.q (said a by)) ⊎ Valued (A t.client.who u.q (said a by))) → P t
+      → P (answers_call t a by)
   made-call t a by fits h = answers-call-cases t a by P (λ e. h) (λ u e. made-answers t u.q a by (fits u e) h)
 
   pub made-refusing : (t : ClientStep) (status : Refusal) → P t → P (answers_call t (answer_of status) None)
@@ -194,13 +214,25 @@ module _ (c : Client) (Valued : Entry → Type 0) where
 
   pub made-spends : P (spends (begun c))
   unfolding spends
-  made-spends = record { who_is = refl; fine = λ e i. absurd i; called = λ u is. record { v = u; called = is; number = refl; same = refl }; free = refl; quiet = λ x r i. absurd i }
+  made-spends =
+      record {
+        who_is = refl;
+        fine = λ e i. absurd i;
+        called = λ u is. record { v = u; called = is; number = refl; same = refl };
+        free = refl;
+        quiet = λ x r i. absurd i;
+      }
 
-  pub made-read : (t : ClientStep) (file block : ℕ) (body : List ℕ) (g : Option Grant) (sent number : ℕ) → ((u : UnderWay) → IsLike c u → IsDull (A c.who u.q (said (Answer.Ok (Value.Body body)) (Some number))) ⊎ Valued (A c.who u.q (said (Answer.Ok (Value.Body body)) (Some number)))) → P t → P (read_done t file block body g sent number)
+  pub made-read : (t : ClientStep) (file block : ℕ) (body : List ℕ) (g : Option Grant) (sent number : ℕ)
+      → ((u : UnderWay) → IsLike c u → IsDull (A c.who u.q (said (Answer.Ok (Value.Body body)) (Some number)))
+      ⊎ Valued (A c.who u.q (said (Answer.Ok (Value.Body body)) (Some number)))) → P t → P (read_done t file block body g sent number)
   made-read t file block body g sent number fits h =
       let a : P (takes_optional t file g sent) = made-optional t file g sent h in
-      let b : P (then_caches (takes_optional t file g sent) file block body g) = then-caches-cases (takes_optional t file g sent) file block body g P (λ e. made-caches _ file block body a) (λ e. a) in
-      made-call (then_caches (takes_optional t file g sent) file block body g) (Answer.Ok (Value.Body body)) (Some number) (λ u e. subst (λ w. IsDull (A w u.q (said (Answer.Ok (Value.Body body)) (Some number))) ⊎ Valued (A w u.q (said (Answer.Ok (Value.Body body)) (Some number)))) (sym b.who_is) (fits u (b.called u e))) b
+      let b : P (then_caches (takes_optional t file g sent) file block body g) = then-caches-cases (takes_optional t file g sent) file block body g P
+      (λ e. made-caches _ file block body a) (λ e. a) in
+      made-call (then_caches (takes_optional t file g sent) file block body g) (Answer.Ok (Value.Body body)) (Some number)
+      (λ u e. subst (λ w. IsDull (A w u.q (said (Answer.Ok (Value.Body body)) (Some number)))
+      ⊎ Valued (A w u.q (said (Answer.Ok (Value.Body body)) (Some number)))) (sym b.who_is) (fits u (b.called u e))) b
 
   pub made-leased : (t : ClientStep) (file : ℕ) (g : Option Grant) (sent : ℕ) → P t → P (lease_done t file g sent)
   made-leased t file g sent h =
@@ -209,10 +241,13 @@ module _ (c : Client) (Valued : Entry → Type 0) where
 
   pub made-written : (t : ClientStep) (file block : ℕ) (body : List ℕ) (rev : ℕ) → P t → P (write_done t file block body rev)
   made-written t file block body rev h =
-      made-call _ (Answer.Ok Value.Nothing) None (λ u e. inl tt) (made-knows _ file rev (caches-write-cases t file block body rev P (λ e f. made-caches t file block body h) (made-purges t file h)))
+      made-call _ (Answer.Ok Value.Nothing) None (λ u e. inl tt)
+      (made-knows _ file rev (caches-write-cases t file block body rev P (λ e f. made-caches t file block body h) (made-purges t file h)))
 
   pub made-pushed : (t : ClientStep) (file block : ℕ) (body : List ℕ) (rev : ℕ) → P t → P (push_done t file block body rev)
   made-pushed t file block body rev h =
       let a : P (knows_revision (ends_push t) file rev) = made-knows (ends_push t) file rev (made-ends t h) in
-      let b : P (caches_push (knows_revision (ends_push t) file rev) file block body) = caches-push-cases (knows_revision (ends_push t) file rev) file block body P (λ e. a) (λ e. made-caches _ file block body a) in
-      vacates-if-clean-cases (caches_push (knows_revision (ends_push t) file rev) file block body) file P b (λ n e f. made-vacates (caches_push (knows_revision (ends_push t) file rev) file block body) file n.tag b)
+      let b : P (caches_push (knows_revision (ends_push t) file rev) file block body) = caches-push-cases (knows_revision (ends_push t) file rev) file
+      block body P (λ e. a) (λ e. made-caches _ file block body a) in
+      vacates-if-clean-cases (caches_push (knows_revision (ends_push t) file rev) file block body) file P b
+      (λ n e f. made-vacates (caches_push (knows_revision (ends_push t) file rev) file block body) file n.tag b)

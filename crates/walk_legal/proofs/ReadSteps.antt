@@ -74,11 +74,13 @@ pub record OldRead (c : Client) (x : ℕ) (r : Request) : Type 0 where
 -- a whole step
 pub record Done (c : Client) (Valued : Entry → Type 0) (t : ClientStep) : Type 0 where
   pub tells : ToldOf c Valued t
-  pub reads : (x : ℕ) (who : Who) (q file block : ℕ) (want : Option Want) → In t.sends (call x (Request.Read who q file block want)) → OldRead c x (Request.Read who q file block want) ⊎ NewRead t who q file block want
+  pub reads : (x : ℕ) (who : Who) (q file block : ℕ) (want : Option Want) → In t.sends (call x (Request.Read who q file block want))
+      → OldRead c x (Request.Read who q file block want) ⊎ NewRead t who q file block want
 
 -- ---- settling
 
-told-adds : {c : Client} {Valued : Entry → Type 0} {who : Who} {under after : Option UnderWay} {ticket : Option Ticket} {entries : List Entry} (e : Entry) → IsDull e → TicketOfCall ticket after → Told c Valued who under ticket entries → Told c Valued who after ticket (e ∷ entries)
+told-adds : {c : Client} {Valued : Entry → Type 0} {who : Who} {under after : Option UnderWay} {ticket : Option Ticket} {entries : List Entry}
+    (e : Entry) → IsDull e → TicketOfCall ticket after → Told c Valued who under ticket entries → Told c Valued who after ticket (e ∷ entries)
 told-adds {Valued = Valued} {entries = entries} e dull asks h = record { who_is = h.who_is; fine = fine; asks = asks }
   where
     more : (x : Entry) → IsDull x ⊎ Valued x ⊎ IsCachedIn entries x → IsDull x ⊎ Valued x ⊎ IsCachedIn (e ∷ entries) x
@@ -90,15 +92,19 @@ told-adds {Valued = Valued} {entries = entries} e dull asks h = record { who_is 
     fine x (inl same) = inl (subst IsDull same dull)
     fine x (inr i) = more x (h.fine x i)
 
-told-cached : {c : Client} {Valued : Entry → Type 0} {who : Who} {under after : Option UnderWay} {ticket : Option Ticket} {entries : List Entry} (q file block v : ℕ) → TicketOfCall ticket after → Told c Valued who under ticket entries → Told c Valued who after ticket (A who q (OkValue v) ∷ R who q file block v None ∷ entries)
+told-cached : {c : Client} {Valued : Entry → Type 0} {who : Who} {under after : Option UnderWay} {ticket : Option Ticket} {entries : List Entry}
+    (q file block v : ℕ) → TicketOfCall ticket after → Told c Valued who under ticket entries
+    → Told c Valued who after ticket (A who q (OkValue v) ∷ R who q file block v None ∷ entries)
 told-cached {Valued = Valued} {who = who} {entries = entries} q file block v asks h = record { who_is = h.who_is; fine = fine; asks = asks }
   where
-    more : (x : Entry) → IsDull x ⊎ Valued x ⊎ IsCachedIn entries x → IsDull x ⊎ Valued x ⊎ IsCachedIn (A who q (OkValue v) ∷ R who q file block v None ∷ entries) x
+    more : (x : Entry) → IsDull x ⊎ Valued x ⊎ IsCachedIn entries x
+        → IsDull x ⊎ Valued x ⊎ IsCachedIn (A who q (OkValue v) ∷ R who q file block v None ∷ entries) x
     more x (inl d) = inl d
     more x (inr (inl y)) = inr (inl y)
     more x (inr (inr k)) = inr (inr (cached-more _ x (R who q file block v None ∷ entries) (cached-more _ x entries k)))
 
-    fine : (x : Entry) → (A who q (OkValue v) ≡ x) ⊎ ((R who q file block v None ≡ x) ⊎ In entries x) → IsDull x ⊎ Valued x ⊎ IsCachedIn (A who q (OkValue v) ∷ R who q file block v None ∷ entries) x
+    fine : (x : Entry) → (A who q (OkValue v) ≡ x) ⊎ ((R who q file block v None ≡ x) ⊎ In entries x)
+        → IsDull x ⊎ Valued x ⊎ IsCachedIn (A who q (OkValue v) ∷ R who q file block v None ∷ entries) x
     fine x (inl same) = inr (inr (subst (IsCachedIn (A who q (OkValue v) ∷ R who q file block v None ∷ entries)) same (file, block, inr (inl refl))))
     fine x (inr (inl same)) = inr (inr (subst (IsCachedIn (A who q (OkValue v) ∷ R who q file block v None ∷ entries)) same tt))
     fine x (inr (inr i)) = more x (h.fine x i)
@@ -128,13 +134,17 @@ module _ (c : Client) (Valued : Entry → Type 0) where
   unfolding reads_cached answers after_read
   settled-read t u file block body is h = told-cached u.q file block (value_of body) (no-call-ticket t.client.ticket None is.idle) h
 
-  settled-write : (t : ClientStep) (u : UnderWay) (file block : ℕ) (body : List ℕ) → IsSettling t u → T t → T (answers (delays t file block body) u.q (Answer.Ok Value.Nothing) None)
+  settled-write : (t : ClientStep) (u : UnderWay) (file block : ℕ) (body : List ℕ) → IsSettling t u → T t
+      → T (answers (delays t file block body) u.q (Answer.Ok Value.Nothing) None)
   unfolding answers after_write
-  settled-write t u file block body is h = told-adds (A t.client.who u.q Said.Ok) tt (no-call-ticket t.client.ticket None is.idle) (told-adds {after = None} (W t.client.who file block t.client.number (value_of body) false) tt (no-call-ticket t.client.ticket None is.idle) h)
+  settled-write t u file block body is h =
+      told-adds (A t.client.who u.q Said.Ok) tt (no-call-ticket t.client.ticket None is.idle)
+      (told-adds {after = None} (W t.client.who file block t.client.number (value_of body) false) tt (no-call-ticket t.client.ticket None is.idle) h)
 
   settled-put : (t : ClientStep) (u : UnderWay) (file block : ℕ) (body : List ℕ) → IsSettling t u → T t → T (marks_written (delays t file block body) u)
   unfolding marks_written after_write
-  settled-put t u file block body is h = told-adds (W t.client.who file block t.client.number (value_of body) false) tt (no-call-ticket t.client.ticket _ is.idle) h
+  settled-put t u file block body is h =
+      told-adds (W t.client.who file block t.client.number (value_of body) false) tt (no-call-ticket t.client.ticket _ is.idle) h
 
   pub told-settles : (t : ClientStep) → T t → T (settle t)
   told-settles t h = settle-cases t T (record {
@@ -155,26 +165,35 @@ module _ (c : Client) (Valued : Entry → Type 0) where
 
   settled-quiet : (t : ClientStep) → Quiet t.sends → Quiet (settle t).sends
   unfolding answers reads_cached marks_written
-  settled-quiet t h = settle-moves t (λ s. Quiet s.sends) (record { kept = h; answered = λ v q answer k. k; read = λ u file block body. h; delayed = λ file block body. h; marked = λ v u k. k })
+  settled-quiet t h =
+      settle-moves t (λ s. Quiet s.sends)
+      (record { kept = h; answered = λ v q answer k. k; read = λ u file block body. h; delayed = λ file block body. h; marked = λ v u k. k })
 
   -- ---- sending
 
-  quiet-read : (sends : List Message) (x : ℕ) (who : Who) (q file block : ℕ) (want : Option Want) → Quiet sends → In sends (call x (Request.Read who q file block want)) → ⊥
+  quiet-read : (sends : List Message) (x : ℕ) (who : Who) (q file block : ℕ) (want : Option Want) → Quiet sends
+      → In sends (call x (Request.Read who q file block want)) → ⊥
   quiet-read sends x who q file block want h i = let no = h x (Request.Read who q file block want) i in cc
 
   done-quiet : (t : ClientStep) → T t → Quiet t.sends → Done c Valued t
   done-quiet t h quiet = record { tells = h; reads = λ x who q file block want i. absurd (quiet-read t.sends x who q file block want quiet i) }
 
-  done-sends : (t : ClientStep) (job : Job) (r : Request) → T t → Quiet t.sends → (job ≡ for_call → (u : UnderWay) × (t.client.call ≡ Some u) × MadeFor r u) → ((who : Who) (q file block : ℕ) (want : Option Want) → r ≡ Request.Read who q file block want → NewRead (sends_request t job r) who q file block want) → Done c Valued (sends_request t job r)
+  done-sends : (t : ClientStep) (job : Job) (r : Request) → T t → Quiet t.sends
+      → (job ≡ for_call → (u : UnderWay) × (t.client.call ≡ Some u) × MadeFor r u)
+      → ((who : Who) (q file block : ℕ) (want : Option Want) → r ≡ Request.Read who q file block want
+      → NewRead (sends_request t job r) who q file block want) → Done c Valued (sends_request t job r)
   unfolding sends_request
   done-sends t job r h quiet made new = record {
     tells = record { who_is = h.who_is; fine = h.fine; asks = λ k is same. fits k (some-same _ k is) same };
     reads = λ x who q file block want i. case x who q file block want (in-last t.sends (call t.client.xid r) (call x (Request.Read who q file block want)) i);
   } where
-    fits : (k : Ticket) → record { xid = t.client.xid; first = t.client.now; last = t.client.now; request = r; job = job } ≡ k → k.job ≡ for_call → (u : UnderWay) × (t.client.call ≡ Some u) × MadeFor k.request u
+    fits : (k : Ticket) → record { xid = t.client.xid; first = t.client.now; last = t.client.now; request = r; job = job } ≡ k → k.job ≡ for_call
+        → (u : UnderWay) × (t.client.call ≡ Some u) × MadeFor k.request u
     fits k one same = let m = made (ap (λ z. z.job) one ∙ same) in (m.0, m.1, subst (λ q. MadeFor q m.0) (ap (λ z. z.request) one) m.2)
 
-    case : (x : ℕ) (who : Who) (q file block : ℕ) (want : Option Want) → In t.sends (call x (Request.Read who q file block want)) ⊎ (call t.client.xid r ≡ call x (Request.Read who q file block want)) → OldRead c x (Request.Read who q file block want) ⊎ NewRead (sends_request t job r) who q file block want
+    case : (x : ℕ) (who : Who) (q file block : ℕ) (want : Option Want)
+        → In t.sends (call x (Request.Read who q file block want)) ⊎ (call t.client.xid r ≡ call x (Request.Read who q file block want))
+        → OldRead c x (Request.Read who q file block want) ⊎ NewRead (sends_request t job r) who q file block want
     case x who q file block want (inl old) = absurd (quiet-read t.sends x who q file block want quiet old)
     case x who q file block want (inr same) = inr (new who q file block want (call-same t.client.xid x r _ same).1)
 
@@ -223,7 +242,8 @@ module _ (c : Client) (Valued : Entry → Type 0) where
   called-gives t file u h = h
 
   -- a READ
-  read-waits : (d : Client) (file block : ℕ) → ReadWaits d file block → (lease : Lease) → lease_on file d.leases ≡ Some lease → lets_read d.now lease ≡ true → cached_body d file block ≡ None
+  read-waits : (d : Client) (file block : ℕ) → ReadWaits d file block → (lease : Lease) → lease_on file d.leases ≡ Some lease
+      → lets_read d.now lease ≡ true → cached_body d file block ≡ None
   read-waits d file block (no_lease none) lease held lets = absurd (none lease (record { held = held; lets = lets }))
   read-waits d file block (no_block other can within none) lease held lets = none
 
@@ -231,7 +251,8 @@ module _ (c : Client) (Valued : Entry → Type 0) where
   ReadFor t (Request.Read who q file block want) = NewRead t who q file block want
   ReadFor t other = Unit {0}
 
-  this-read : (t : ClientStep) (u : UnderWay) (file block : ℕ) (asked : Option Want) → Settled t → IsFree t u → IsRead u.call file block → NewRead (sends_request t for_call (Request.Read t.client.who u.q file block asked)) t.client.who u.q file block asked
+  this-read : (t : ClientStep) (u : UnderWay) (file block : ℕ) (asked : Option Want) → Settled t → IsFree t u → IsRead u.call file block
+      → NewRead (sends_request t for_call (Request.Read t.client.who u.q file block asked)) t.client.who u.q file block asked
   unfolding sends_request
   this-read t u file block asked s is r = record {
     u = u;
@@ -245,28 +266,54 @@ module _ (c : Client) (Valued : Entry → Type 0) where
     nothing = is.nothing.ending;
   }
 
-  new-read : (t : ClientStep) (u : UnderWay) (file block : ℕ) (asked : Option Want) → Settled t → IsFree t u → IsRead u.call file block → (who : Who) (q f b : ℕ) (want : Option Want) → Request.Read t.client.who u.q file block asked ≡ Request.Read who q f b want → NewRead (sends_request t for_call (Request.Read t.client.who u.q file block asked)) who q f b want
-  new-read t u file block asked s is r who q f b want same = subst (ReadFor (sends_request t for_call (Request.Read t.client.who u.q file block asked))) same (this-read t u file block asked s is r)
+  new-read : (t : ClientStep) (u : UnderWay) (file block : ℕ) (asked : Option Want) → Settled t → IsFree t u → IsRead u.call file block
+      → (who : Who) (q f b : ℕ) (want : Option Want) → Request.Read t.client.who u.q file block asked ≡ Request.Read who q f b want
+      → NewRead (sends_request t for_call (Request.Read t.client.who u.q file block asked)) who q f b want
+  new-read t u file block asked s is r who q f b want same =
+      subst (ReadFor (sends_request t for_call (Request.Read t.client.who u.q file block asked))) same (this-read t u file block asked s is r)
 
-  nothing-read : {Goal : Type 0} (a : Request) → is_read a ≡ false → (who : Who) (q file block : ℕ) (want : Option Want) → a ≡ Request.Read who q file block want → Goal
+  nothing-read : {Goal : Type 0} (a : Request) → is_read a ≡ false → (who : Who) (q file block : ℕ) (want : Option Want)
+      → a ≡ Request.Read who q file block want → Goal
   nothing-read a other who q file block want same = let yes : is_read a ≡ true = ap is_read same in absurd (cc)
 
   pub told-sends : (in_tick : Bool) (t : ClientStep) → Settled t → T t → Quiet t.sends → Done c Valued (send_next in_tick t)
   told-sends in_tick t s h quiet = send-cases in_tick t (Done c Valued) (record {
     stays_asking = λ ticket e. done-quiet t h quiet;
     stays = λ free nothing. done-quiet t h quiet;
-    pushing = λ file p free first of. done-sends (after_seq (takes_push t p)) pushing _ (told-takes t p h) (quiet-takes t p quiet) (λ e. absurd (cc)) (λ w q f b n e. nothing-read _ refl w q f b n e);
-    creating = λ u name blocks is e. done-sends (after_seq t) for_call _ (told-seq t h) (quiet-seq t quiet) (λ j. (u, called-seq t u is.called, subst ReadsNothing (sym e) tt)) (λ w q f b n e. nothing-read _ refl w q f b n e);
-    looking_up = λ u name is e. done-sends t for_call _ h quiet (λ j. (u, is.called, subst ReadsNothing (sym e) tt)) (λ w q f b n e. nothing-read _ refl w q f b n e);
-    getting_attributes = λ u file is e. done-sends t for_call _ h quiet (λ j. (u, is.called, subst ReadsNothing (sym e) tt)) (λ w q f b n e. nothing-read _ refl w q f b n e);
-    reading = λ u file block is e. done-sends t for_call _ h quiet (λ j. (u, is.called, (refl, inl e))) (λ w q f b n same. new-read t u file block _ s is (inl e) w q f b n same);
-    fetching = λ u file block is e. done-sends t for_call _ h quiet (λ j. (u, is.called, (refl, inr e))) (λ w q f b n same. new-read t u file block _ s is (inr e) w q f b n same);
-    writing = λ u file block body is e f. done-sends (after_number t) for_call _ (told-number t h) (quiet-number t quiet) (λ j. (u, called-number t u is.called, tt)) (λ w q g b n e. nothing-read _ refl w q g b n e);
+    pushing =
+        λ file p free first of. done-sends (after_seq (takes_push t p)) pushing _ (told-takes t p h) (quiet-takes t p quiet) (λ e. absurd (cc))
+        (λ w q f b n e. nothing-read _ refl w q f b n e);
+    creating =
+        λ u name blocks is e. done-sends (after_seq t) for_call _ (told-seq t h) (quiet-seq t quiet)
+        (λ j. (u, called-seq t u is.called, subst ReadsNothing (sym e) tt)) (λ w q f b n e. nothing-read _ refl w q f b n e);
+    looking_up =
+        λ u name is e. done-sends t for_call _ h quiet (λ j. (u, is.called, subst ReadsNothing (sym e) tt))
+        (λ w q f b n e. nothing-read _ refl w q f b n e);
+    getting_attributes =
+        λ u file is e. done-sends t for_call _ h quiet (λ j. (u, is.called, subst ReadsNothing (sym e) tt))
+        (λ w q f b n e. nothing-read _ refl w q f b n e);
+    reading =
+        λ u file block is e. done-sends t for_call _ h quiet (λ j. (u, is.called, (refl, inl e)))
+        (λ w q f b n same. new-read t u file block _ s is (inl e) w q f b n same);
+    fetching =
+        λ u file block is e. done-sends t for_call _ h quiet (λ j. (u, is.called, (refl, inr e)))
+        (λ w q f b n same. new-read t u file block _ s is (inr e) w q f b n same);
+    writing =
+        λ u file block body is e f. done-sends (after_number t) for_call _ (told-number t h) (quiet-number t quiet)
+        (λ j. (u, called-number t u is.called, tt)) (λ w q g b n e. nothing-read _ refl w q g b n e);
     leasing = λ u file block body is e f g. done-sends t for_call _ h quiet (λ j. (u, is.called, tt)) (λ w q g b n e. nothing-read _ refl w q g b n e);
-    putting = λ u file block body is e f. done-sends (after_number t) for_call _ (told-number t h) (quiet-number t quiet) (λ j. (u, called-number t u is.called, tt)) (λ w q g b n e. nothing-read _ refl w q g b n e);
-    resizing = λ u file blocks is e clean. done-sends (after_seq (gives_up t file)) for_call _ (told-gives t file h) (quiet-gives t file quiet) (λ j. (u, called-gives t file u is.called, tt)) (λ w q g b n e. nothing-read _ refl w q g b n e);
-    removing = λ u file is e clean. done-sends (after_seq (gives_up t file)) for_call _ (told-gives t file h) (quiet-gives t file quiet) (λ j. (u, called-gives t file u is.called, tt)) (λ w q g b n e. nothing-read _ refl w q g b n e);
-    renewing = λ file lease tick free nothing unpaused due held of clean unnoticed. done-sends t renewing _ h quiet (λ e. absurd (cc)) (λ w q g b n e. nothing-read _ refl w q g b n e);
+    putting =
+        λ u file block body is e f. done-sends (after_number t) for_call _ (told-number t h) (quiet-number t quiet)
+        (λ j. (u, called-number t u is.called, tt)) (λ w q g b n e. nothing-read _ refl w q g b n e);
+    resizing =
+        λ u file blocks is e clean. done-sends (after_seq (gives_up t file)) for_call _ (told-gives t file h) (quiet-gives t file quiet)
+        (λ j. (u, called-gives t file u is.called, tt)) (λ w q g b n e. nothing-read _ refl w q g b n e);
+    removing =
+        λ u file is e clean. done-sends (after_seq (gives_up t file)) for_call _ (told-gives t file h) (quiet-gives t file quiet)
+        (λ j. (u, called-gives t file u is.called, tt)) (λ w q g b n e. nothing-read _ refl w q g b n e);
+    renewing =
+        λ file lease tick free nothing unpaused due held of clean unnoticed. done-sends t renewing _ h quiet (λ e. absurd (cc))
+        (λ w q g b n e. nothing-read _ refl w q g b n e);
   })
 
   pub told-goes-on : (in_tick : Bool) (t : ClientStep) → T t → Quiet t.sends → Done c Valued (send_next in_tick (settle t))
@@ -339,7 +386,8 @@ module _ (c : Client) (asks : TicketOfCall c.ticket c.call) where
 
   called-told : (op : Call) → c.call ≡ None → ToldOf c NoneValued (is_called (begins_call c op) op) × Quiet (is_called (begins_call c op) op).sends
   unfolding begins_call is_called
-  called-told op none = (record { who_is = refl; fine = λ e i. inl (one-dull (C c.who (c.calls + 1) (told op)) tt e i); asks = none-called none _ }, λ x r i. absurd i)
+  called-told op none =
+      (record { who_is = refl; fine = λ e i. inl (one-dull (C c.who (c.calls + 1) (told op)) tt e i); asks = none-called none _ }, λ x r i. absurd i)
 
   pub call-done : (op : Call) → Done c NoneValued (client_call c op)
   call-done op = call-cases c op (Done c NoneValued) (record {
@@ -348,7 +396,8 @@ module _ (c : Client) (asks : TicketOfCall c.ticket c.call) where
     going = λ none on nothing.
         let h = called-told op none in
         let t : ClientStep = is_called (begins_call c op) op in
-        unless-cached-cases (settle t) (Done c NoneValued) (λ e. done-quiet c NoneValued (settle t) (told-settles c NoneValued t h.0) (settled-quiet c NoneValued t h.1))
+        unless-cached-cases (settle t) (Done c NoneValued)
+        (λ e. done-quiet c NoneValued (settle t) (told-settles c NoneValued t h.0) (settled-quiet c NoneValued t h.1))
         (λ e. told-sends c NoneValued false (settle t) (settle-settles t) (told-settles c NoneValued t h.0) (settled-quiet c NoneValued t h.1));
   })
 
@@ -359,11 +408,19 @@ module _ (c : Client) (asks : TicketOfCall c.ticket c.call) where
   again-done : (now : ℕ) (ticket : Ticket) → c.ticket ≡ Some ticket → Done c NoneValued (sends_again (begun (at_time c now)) ticket)
   unfolding at_time sends_again
   again-done now ticket has = record {
-    tells = record { who_is = refl; fine = λ e i. absurd i; asks = λ k is job. let one = some-same _ k is in let m = asks ticket has (ap (λ z. z.job) one ∙ job) in (m.0, m.1, subst (λ q. MadeFor q m.0) (ap (λ z. z.request) one) m.2) };
+    tells =
+        record {
+          who_is = refl;
+          fine = λ e i. absurd i;
+          asks = λ k is job. let one = some-same _ k is in
+              let m = asks ticket has (ap (λ z. z.job) one ∙ job) in (m.0, m.1, subst (λ q. MadeFor q m.0) (ap (λ z. z.request) one) m.2);
+        };
     reads = λ x who q file block want i. inl (case x who q file block want i);
   } where
-    case : (x : ℕ) (who : Who) (q file block : ℕ) (want : Option Want) → (call ticket.xid ticket.request ≡ call x (Request.Read who q file block want)) ⊎ ⊥ → OldRead c x (Request.Read who q file block want)
-    case x who q file block want (inl same) = let p = call-same ticket.xid x ticket.request _ same in record { ticket = ticket; has = has; number = p.0; asks = p.1 }
+    case : (x : ℕ) (who : Who) (q file block : ℕ) (want : Option Want)
+        → (call ticket.xid ticket.request ≡ call x (Request.Read who q file block want)) ⊎ ⊥ → OldRead c x (Request.Read who q file block want)
+    case x who q file block want (inl same) =
+        let p = call-same ticket.xid x ticket.request _ same in record { ticket = ticket; has = has; number = p.0; asks = p.1 }
     case x who q file block want (inr bad) = absurd bad
 
   pub tick-done : (now : ℕ) → Done c NoneValued (client_tick c now)
@@ -384,21 +441,45 @@ module _ (c : Client) (asks : TicketOfCall c.ticket c.call) where
       of-call : ticket.job ≡ for_call → (u : UnderWay) × (c.call ≡ Some u) × MadeFor ticket.request u
       of-call job = asks ticket has job
 
-      named-valued : (answer : Answer) → ticket.job ≡ for_call → IsNamed ticket.request r answer → (who : Who) (u : UnderWay) → who ≡ c.who → IsLike c u → V (A who u.q (said answer None))
+      named-valued : (answer : Answer) → ticket.job ≡ for_call → IsNamed ticket.request r answer → (who : Who) (u : UnderWay) → who ≡ c.who → IsLike c u
+          → V (A who u.q (said answer None))
       named-valued answer job (looked_up w name inc file blocks a b) who u mine like =
           let o = of-call job in
           let one : o.0 ≡ like.v = some-same o.0 like.v (sym o.1 ∙ like.called) in
-          record { who_is = mine; u = like.v; called = like.called; number = sym like.number; nothing = subst (λ z. ReadsNothing z.call) one (subst (λ q. MadeFor q o.0) a o.2) }
+          record {
+            who_is = mine;
+            u = like.v;
+            called = like.called;
+            number = sym like.number;
+            nothing = subst (λ z. ReadsNothing z.call) one
+                (subst (λ q. MadeFor q o.0) a o.2);
+          }
       named-valued answer job (created w seq name blocks inc file a b) who u mine like =
           let o = of-call job in
           let one : o.0 ≡ like.v = some-same o.0 like.v (sym o.1 ∙ like.called) in
-          record { who_is = mine; u = like.v; called = like.called; number = sym like.number; nothing = subst (λ z. ReadsNothing z.call) one (subst (λ q. MadeFor q o.0) a o.2) }
+          record {
+            who_is = mine;
+            u = like.v;
+            called = like.called;
+            number = sym like.number;
+            nothing = subst (λ z. ReadsNothing z.call) one
+                (subst (λ q. MadeFor q o.0) a o.2);
+          }
       named-valued answer job (attributes w file inc blocks rev a b) who u mine like =
           let o = of-call job in
           let one : o.0 ≡ like.v = some-same o.0 like.v (sym o.1 ∙ like.called) in
-          record { who_is = mine; u = like.v; called = like.called; number = sym like.number; nothing = subst (λ z. ReadsNothing z.call) one (subst (λ q. MadeFor q o.0) a o.2) }
+          record {
+            who_is = mine;
+            u = like.v;
+            called = like.called;
+            number = sym like.number;
+            nothing = subst (λ z. ReadsNothing z.call) one
+                (subst (λ q. MadeFor q o.0) a o.2);
+          }
 
-      read-valued : (w : Who) (q file block : ℕ) (want : Option Want) (inc rev : ℕ) (body : List ℕ) (grant : Option Grant) → OfCall ticket (Request.Read w q file block want) → r ≡ Reply.Read inc rev body grant → (u : UnderWay) → IsLike c u → V (A c.who u.q (OkBy (value_of body) k))
+      read-valued : (w : Who) (q file block : ℕ) (want : Option Want) (inc rev : ℕ) (body : List ℕ) (grant : Option Grant)
+          → OfCall ticket (Request.Read w q file block want) → r ≡ Reply.Read inc rev body grant → (u : UnderWay) → IsLike c u
+          → V (A c.who u.q (OkBy (value_of body) k))
       read-valued w q file block want inc rev body grant of b u like =
           let o = of-call of.job in
           let one : o.0 ≡ like.v = some-same o.0 like.v (sym o.1 ∙ like.called) in
@@ -429,11 +510,17 @@ module _ (c : Client) (asks : TicketOfCall c.ticket c.call) where
       replied-made : fits_job ticket.job ticket.request ≡ true → reply_counts r ticket ≡ true → MadeOf c V (replied (begun c) k ticket r)
       replied-made fits counts = replied-cases c k ticket r (MadeOf c V) fits counts (record {
         attaching = λ who inc job a b. made-attached c V _ (made-spends c V);
-        named = λ answer job a. made-call c V _ answer None (λ u e. inr (named-valued answer job a _ u (made-spends c V).who_is ((made-spends c V).called u e))) (made-spends c V);
-        reading = λ who q file block want inc rev body grant of b. made-read c V _ file block body grant ticket.first k (λ u like. inr (read-valued who q file block want inc rev body grant of b u like)) (made-spends c V);
+        named =
+            λ answer job a. made-call c V _ answer None
+            (λ u e. inr (named-valued answer job a _ u (made-spends c V).who_is ((made-spends c V).called u e))) (made-spends c V);
+        reading =
+            λ who q file block want inc rev body grant of b. made-read c V _ file block body grant ticket.first k
+            (λ u like. inr (read-valued who q file block want inc rev body grant of b u like)) (made-spends c V);
         leasing = λ who file want inc grant of b. made-leased c V _ file grant ticket.first (made-spends c V);
         writing = λ who seq file block first last body inc rev of b. made-written c V _ file block body rev (made-spends c V);
-        resizing = λ who seq q file blocks inc rev of b. made-call c V _ (Answer.Ok Value.Nothing) None (λ u e. inl tt) (made-knows c V _ file rev (made-spends c V));
+        resizing =
+            λ who seq q file blocks inc rev of b. made-call c V _ (Answer.Ok Value.Nothing) None (λ u e. inl tt)
+            (made-knows c V _ file rev (made-spends c V));
         removing = λ who seq q file inc of b. made-call c V _ (Answer.Ok Value.Nothing) None (λ u e. inl tt) (made-spends c V);
         renewing = λ who file want inc grant job a b. made-optional c V _ file grant ticket.first (made-spends c V);
         pushed = λ who seq file block first last base body inc rev job a b. made-pushed c V _ file block body rev (made-spends c V);

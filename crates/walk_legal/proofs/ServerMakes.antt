@@ -35,11 +35,14 @@ pub record MakesStore (ps : List Packet) (s : Server) (f : File) (who : Who) (bl
 
 pub data Makes (ps : List Packet) (s : Server) (entries : List Entry) : Type 0 where
   idle : Each IsIdle entries → Makes ps s entries
-  writes : (f : File) (who : Who) (block n v : ℕ) → find_file f.id s.kept.files ≡ Some f → block < blocks_of f → entries ≡ W who f.id block n v true ∷ [] → Makes ps s entries
-  stored : (f : File) (who : Who) (block first last now : ℕ) → MakesStore ps s f who block first last → entries ≡ S who f.id block first last now ∷ [] → Makes ps s entries
+  writes : (f : File) (who : Who) (block n v : ℕ) → find_file f.id s.kept.files ≡ Some f → block < blocks_of f
+      → entries ≡ W who f.id block n v true ∷ [] → Makes ps s entries
+  stored : (f : File) (who : Who) (block first last now : ℕ) → MakesStore ps s f who block first last → entries ≡ S who f.id block first last now ∷ []
+      → Makes ps s entries
 
 -- a push over the opened boot and the kept revision is not fenced
-not-fenced : (kept : Kept) (f : File) (base : PushBase) → find_file f.id kept.files ≡ Some f → base.boot ≡ kept.opened → base.base ≡ f.rev → IsFenced kept f.id base.boot base.base → ⊥
+not-fenced : (kept : Kept) (f : File) (base : PushBase) → find_file f.id kept.files ≡ Some f → base.boot ≡ kept.opened → base.base ≡ f.rev
+    → IsFenced kept f.id base.boot base.base → ⊥
 not-fenced kept f base found boot rev (gone none) = none-some f (sym none ∙ found)
 not-fenced kept f base found boot rev (ahead g is above) = let one : g.rev ≡ f.rev = ap (λ z. z.rev) (some-same g f (sym is ∙ found)) in omega arith
 not-fenced kept f base found boot rev (earlier below) = omega arith
@@ -51,11 +54,13 @@ grants-idle : (s : Server) (who : Who) (file : ℕ) (o : Option Grant) → Each 
 grants-idle s who file None = tt
 grants-idle s who file (Some g) = (tt, tt)
 
-module _ (ps : List Packet) (s : Server) (sender next : ℕ) (d : Datagram) (sent : (xid : ℕ) (r : Request) → d ≡ request xid r → Asked ps sender xid r) (boots : BootsFitOf s) where
+module _ (ps : List Packet) (s : Server) (sender next : ℕ) (d : Datagram) (sent : (xid : ℕ) (r : Request) → d ≡ request xid r → Asked ps sender xid r)
+    (boots : BootsFitOf s) where
   abbrev MakesOf : ServerStep → Type 0
   MakesOf t = Makes ps s t.entries
 
-  serves-makes : (who : Who) (xid q block : ℕ) (f : File) (body : List ℕ) (table : _) (g : Option Grant) → MakesOf (serves s who xid next q f block body table g)
+  serves-makes : (who : Who) (xid q block : ℕ) (f : File) (body : List ℕ) (table : _) (g : Option Grant)
+      → MakesOf (serves s who xid next q f block body table g)
   unfolding serves
   serves-makes who xid q block f body table g = idle (tt, grants-idle s who f.id g)
 

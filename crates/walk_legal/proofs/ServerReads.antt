@@ -38,7 +38,9 @@ TellsNone sends = (host x inc rev : ℕ) (body : List ℕ) (grant : Option Grant
 
 pub data ServesRead (ps : List Packet) (s : Server) (next : ℕ) (t : ServerStep) : Type 0 where
   reads_none : TellsNone t.sends → Each IsUnread t.entries → ServesRead ps s next t
-  reads_one : (who : Who) (xid q block : ℕ) (f : File) (body : List ℕ) (want : Option Want) (table : Table) (g : Option Grant) → t ≡ serves s who xid next q f block body table g → Asked ps who.host xid (Request.Read who q f.id block want) → find_file f.id s.kept.files ≡ Some f → slice_get f.bodies block ≡ Some body → ServesRead ps s next t
+  reads_one : (who : Who) (xid q block : ℕ) (f : File) (body : List ℕ) (want : Option Want) (table : Table) (g : Option Grant)
+      → t ≡ serves s who xid next q f block body table g → Asked ps who.host xid (Request.Read who q f.id block want)
+      → find_file f.id s.kept.files ≡ Some f → slice_get f.bodies block ≡ Some body → ServesRead ps s next t
 
 -- ---- replies
 
@@ -53,7 +55,8 @@ one-told host x a other h y inc rev body grant (inr bad) = bad
 last-told : (more : List Packet) (host x : ℕ) (a : Reply) → TellsNone more → is_read_reply a ≡ false → TellsNone (more ++ to_host host (reply x a) ∷ [])
 last-told more host x a none other h y inc rev body grant i = case (in-append more (to_host host (reply x a) ∷ []) _ i)
   where
-    case : In more (to_host h (reply y (Reply.Read inc rev body grant))) ⊎ In (to_host host (reply x a) ∷ []) (to_host h (reply y (Reply.Read inc rev body grant))) → ⊥
+    case : In more (to_host h (reply y (Reply.Read inc rev body grant)))
+        ⊎ In (to_host host (reply x a) ∷ []) (to_host h (reply y (Reply.Read inc rev body grant))) → ⊥
     case (inl j) = none h y inc rev body grant j
     case (inr j) = one-told host x a other h y inc rev body grant j
 
@@ -69,7 +72,8 @@ notices-told n (row ∷ rows) h y inc rev body grant (inl e) = apart (told-same 
 notices-told n (row ∷ rows) h y inc rev body grant (inr i) = notices-told ((n + 1) % xid_end) rows h y inc rev body grant i
 
 error-told : (d : Datagram) (m : Message) (host : ℕ) → error_for d ≡ Some m → TellsNone (to_host host m ∷ [])
-error-told d m host is h y inc rev body grant (inl e) = error-no-reply d m y (Reply.Read inc rev body grant) is (told-same host h m (reply y (Reply.Read inc rev body grant)) e).1
+error-told d m host is h y inc rev body grant (inl e) =
+    error-no-reply d m y (Reply.Read inc rev body grant) is (told-same host h m (reply y (Reply.Read inc rev body grant)) e).1
 error-told d m host is h y inc rev body grant (inr bad) = bad
 
 done-unread : (inc value : ℕ) (r : Request) → is_read_reply (done_reply inc value r) ≡ false
@@ -121,8 +125,12 @@ module _ (ps : List Packet) (s : Server) (sender next : ℕ) (d : Datagram) (sen
   unfolding tells_later
   later who xid table rows = reads_none (last-told (notices s.notice rows) who.host xid (Reply.Refused who.inc _) (notices-told s.notice rows) refl) tt
 
-  serving-one : (who : Who) (xid q block : ℕ) (f : File) (body : List ℕ) (want : Option Want) (table : Table) (g : Option Grant) → who.host ≡ sender → d ≡ request xid (Request.Read who q f.id block want) → find_file f.id s.kept.files ≡ Some f → slice_get f.bodies block ≡ Some body → Q (serves s who xid next q f block body table g)
-  serving-one who xid q block f body want table g home e found there = reads_one who xid q block f body want table g refl (subst (λ n. Asked ps n xid (Request.Read who q f.id block want)) (sym home) (sent xid _ e)) found there
+  serving-one : (who : Who) (xid q block : ℕ) (f : File) (body : List ℕ) (want : Option Want) (table : Table) (g : Option Grant) → who.host ≡ sender
+      → d ≡ request xid (Request.Read who q f.id block want) → find_file f.id s.kept.files ≡ Some f → slice_get f.bodies block ≡ Some body
+      → Q (serves s who xid next q f block body table g)
+  serving-one who xid q block f body want table g home e found there =
+      reads_one who xid q block f body want table g refl (subst (λ n. Asked ps n xid (Request.Read who q f.id block want)) (sym home) (sent xid _ e))
+      found there
 
   leases-none : (who : Who) (xid file : ℕ) (table : Table) (g : Option Grant) → Q (leases s who xid file table g)
   unfolding leases
@@ -130,7 +138,8 @@ module _ (ps : List Packet) (s : Server) (sender next : ℕ) (d : Datagram) (sen
 
   committed : (who : Who) (seq xid : ℕ) (r : Request) (c : Decision) → TellsNone c.sends → Each IsUnread c.entries → Q (commits who seq xid r c)
   unfolding commits
-  committed who seq xid r c none unread = reads_none (last-told c.sends who.host xid (verdict_reply who.inc c.verdict c.value r) none (verdict-unread who.inc c.verdict c.value r)) unread
+  committed who seq xid r c none unread =
+      reads_none (last-told c.sends who.host xid (verdict_reply who.inc c.verdict c.value r) none (verdict-unread who.inc c.verdict c.value r)) unread
 
   pub receive-reads : Q (receive s sender next d)
   unfolding quiet drops attaches vacates decides creates writes_through stores wrote stores_recovering resizes removes puts_off
@@ -146,8 +155,12 @@ module _ (ps : List Packet) (s : Server) (sender next : ℕ) (d : Datagram) (sen
     putting_off_waiting = λ xid who r f clash want e by of w asking c own room. later who xid _ _;
     putting_off_by_own = λ xid who r f want own e by of w asking c o evicting. later who xid _ _;
     reading = λ xid who q block f body e asking there c. serving-one who xid q block f body None _ _ asking.current.from.host e asking.found there;
-    reading_full = λ xid who q block want f body e asking there c own room. serving-one who xid q block f body (Some want) _ _ asking.current.from.host e asking.found there;
-    reading_granted = λ xid who q block want f body row term e asking there c g. serving-one who xid q block f body (Some want) _ _ asking.current.from.host e asking.found there;
+    reading_full =
+        λ xid who q block want f body e asking there c own room. serving-one who xid q block f body (Some want) _ _ asking.current.from.host
+        e asking.found there;
+    reading_granted =
+        λ xid who q block want f body row term e asking there c g. serving-one who xid q block f body (Some want) _ _ asking.current.from.host
+        e asking.found there;
     leasing_full = λ xid who want f e asking c own room. leases-none who xid f.id _ _;
     leasing = λ xid who want f row term e asking c g. leases-none who xid f.id _ _;
     declining = λ xid who seq r verdict e by sq fresh declined. committed who seq xid r _ none-told tt;
@@ -155,7 +168,8 @@ module _ (ps : List Packet) (s : Server) (sender next : ℕ) (d : Datagram) (sen
     creating = λ xid who seq blocks name e fresh serves can. committed who seq xid _ _ none-told tt;
     writing_through = λ xid who seq block first last body f e changing below none. committed who seq xid _ _ none-told (tt, tt);
     storing = λ xid who seq block first last base body f row e changing below can. committed who seq xid _ _ none-told (tt, tt);
-    storing_recovering = λ xid who seq block first final base body f until heard last e fresh p found below boot rev. committed who seq xid _ _ none-told (tt, tt);
+    storing_recovering =
+        λ xid who seq block first final base body f until heard last e fresh p found below boot rev. committed who seq xid _ _ none-told (tt, tt);
     resizing = λ xid who seq q blocks f e changing can none. committed who seq xid _ _ none-told (tt, tt);
     removing = λ xid who seq q f e changing none. committed who seq xid _ _ none-told (tt, tt);
   })

@@ -37,7 +37,8 @@ none-filter : {Y : Type 0} (test : Y → Bool) (xs : List Y) → find test (filt
 none-filter test [] = refl
 none-filter {Y = Y} test (x ∷ xs) = case (test x) refl (none-filter test xs)
   where
-    case : (b : Bool) → test x ≡ b → find test (filter (λ y. not (test y)) xs) ≡ None → find test (if not b then x ∷ filter (λ y. not (test y)) xs else filter (λ y. not (test y)) xs) ≡ None
+    case : (b : Bool) → test x ≡ b → find test (filter (λ y. not (test y)) xs) ≡ None
+        → find test (if not b then x ∷ filter (λ y. not (test y)) xs else filter (λ y. not (test y)) xs) ≡ None
     case true e rest = rest
     case false e rest = rw e rest
 
@@ -54,23 +55,32 @@ IsCalm (Some u) = (file : ℕ) × (block : ℕ) × (body : List ℕ) × (u.call 
 -- what a step has read or written so far: nothing, a block that the client has, or one write that it delayed
 pub data Accesses (who : Who) (t : ClientStep) : Type 0 where
   neither : Each IsPlain t.entries → Accesses who t
-  read : (q file block : ℕ) (lease : Lease) (body : List ℕ) (rest : List Entry) → t.entries ≡ A who q (Said.OkValue (value_of body)) ∷ R who q file block (value_of body) None ∷ rest → Each IsPlain rest → IsHeld t.client file block lease → lets_read t.client.now lease ≡ true → cached_body t.client file block ≡ Some body → t.client.call ≡ None → Accesses who t
-  wrote : (file block number value : ℕ) (lease : Lease) (more rest : List Entry) → t.entries ≡ more ++ W who file block number value false ∷ rest → Each IsPlain more → Each IsPlain rest → IsHeld t.client file block lease → lets_write t.client.now lease ≡ true → IsCalm t.client.call → Accesses who t
+  read : (q file block : ℕ) (lease : Lease) (body : List ℕ) (rest : List Entry)
+      → t.entries ≡ A who q (Said.OkValue (value_of body)) ∷ R who q file block (value_of body) None ∷ rest → Each IsPlain rest
+      → IsHeld t.client file block lease → lets_read t.client.now lease ≡ true → cached_body t.client file block ≡ Some body → t.client.call ≡ None
+      → Accesses who t
+  wrote : (file block number value : ℕ) (lease : Lease) (more rest : List Entry) → t.entries ≡ more ++ W who file block number value false ∷ rest
+      → Each IsPlain more → Each IsPlain rest → IsHeld t.client file block lease → lets_write t.client.now lease ≡ true → IsCalm t.client.call
+      → Accesses who t
 
 -- ---- settling
 
 -- a block that a client reads is there still
-found-again : (file block : ℕ) (k : Clean) (clean : List Clean) → is_clean_at file block k ≡ true → clean_at file block (k ∷ drop_clean file block clean) ≡ Some k
+found-again : (file block : ℕ) (k : Clean) (clean : List Clean) → is_clean_at file block k ≡ true
+    → clean_at file block (k ∷ drop_clean file block clean) ≡ Some k
 found-again file block k clean same = rw same refl
 
 clean-passes : (file block : ℕ) (clean : List Clean) (k : Clean) → clean_at file block clean ≡ Some k → is_clean_at file block k ≡ true
 clean-passes file block clean k e = find-passes (is_clean_at file block) k clean e
 
-body-touched : (file block : ℕ) (clean : List Clean) (o : Option Clean) → clean_at file block clean ≡ o → clean_body (clean_at file block (touched file block o clean)) ≡ clean_body o
+body-touched : (file block : ℕ) (clean : List Clean) (o : Option Clean) → clean_at file block clean ≡ o
+    → clean_body (clean_at file block (touched file block o clean)) ≡ clean_body o
 body-touched file block clean None e = ap clean_body e
 body-touched file block clean (Some k) e = ap clean_body (found-again file block k clean (clean-passes file block clean k e))
 
-body-read : (c : Client) (file block : ℕ) (b : Bool) → clean_body (clean_at file block (if b then touched file block (clean_at file block c.clean) c.clean else c.clean)) ≡ clean_body (clean_at file block c.clean)
+body-read : (c : Client) (file block : ℕ) (b : Bool)
+    → clean_body (clean_at file block (if b then touched file block (clean_at file block c.clean) c.clean else c.clean)) ≡ clean_body
+    (clean_at file block c.clean)
 body-read c file block true = body-touched file block c.clean (clean_at file block c.clean) refl
 body-read c file block false = refl
 
@@ -79,7 +89,8 @@ unfolding after_read
 cached-after c file block = ap (held_body (dirty_at file block c.dirty) (pushed_body file block c.push)) (body-read c file block (reads_clean c file block))
 
 -- the lease that was used is held
-used-held : (c : Client) (leases : List Lease) (file block : ℕ) (lease : Lease) → c.leases ≡ used_lease file leases → lease_on file leases ≡ Some lease → block < lease.blocks → IsHeld c file block (marked_used file lease)
+used-held : (c : Client) (leases : List Lease) (file block : ℕ) (lease : Lease) → c.leases ≡ used_lease file leases → lease_on file leases ≡ Some lease
+    → block < lease.blocks → IsHeld c file block (marked_used file lease)
 used-held c leases file block lease same held within = record {
   held = ap (lease_on file) same ∙ used-lease-found file file leases ∙ ap (option_map (marked_used file)) held;
   within = more (lease.file == file);
@@ -102,7 +113,8 @@ used-writes now file lease lets = more (lease.file == file)
     more true = lets
     more false = lets
 
-settled-read : (t : ClientStep) (u : UnderWay) (file block : ℕ) (lease : Lease) (body : List ℕ) → CanRead t.client file lease → block < lease.blocks → cached_body t.client file block ≡ Some body → PlainOf t → Accesses t.client.who (reads_cached t u file block body)
+settled-read : (t : ClientStep) (u : UnderWay) (file block : ℕ) (lease : Lease) (body : List ℕ) → CanRead t.client file lease → block < lease.blocks
+    → cached_body t.client file block ≡ Some body → PlainOf t → Accesses t.client.who (reads_cached t u file block body)
 unfolding reads_cached answers after_read
 settled-read t u file block lease body can within has h =
     read u.q file block (marked_used file lease) body t.entries refl h
@@ -111,7 +123,8 @@ settled-read t u file block lease body can within has h =
     (cached-after t.client file block ∙ has)
     refl
 
-settled-write : (t : ClientStep) (u : UnderWay) (file block : ℕ) (body : List ℕ) (lease : Lease) → CanWrite t.client u file lease → block < lease.blocks → PlainOf t → Accesses t.client.who (answers (delays t file block body) u.q (Answer.Ok Value.Nothing) None)
+settled-write : (t : ClientStep) (u : UnderWay) (file block : ℕ) (body : List ℕ) (lease : Lease) → CanWrite t.client u file lease → block < lease.blocks
+    → PlainOf t → Accesses t.client.who (answers (delays t file block body) u.q (Answer.Ok Value.Nothing) None)
 unfolding answers after_write
 settled-write t u file block body lease can within h =
     wrote file block t.client.number (value_of body) (marked_used file lease) (A t.client.who u.q Said.Ok ∷ []) t.entries refl (tt, tt) h
@@ -119,7 +132,8 @@ settled-write t u file block body lease can within h =
     (used-writes t.client.now file lease can.lets)
     tt
 
-settled-put : (t : ClientStep) (u : UnderWay) (file block : ℕ) (body : List ℕ) (lease : Lease) → u.call ≡ Call.WriteSync file block body → CanWrite t.client u file lease → block < lease.blocks → PlainOf t → Accesses t.client.who (marks_written (delays t file block body) u)
+settled-put : (t : ClientStep) (u : UnderWay) (file block : ℕ) (body : List ℕ) (lease : Lease) → u.call ≡ Call.WriteSync file block body
+    → CanWrite t.client u file lease → block < lease.blocks → PlainOf t → Accesses t.client.who (marks_written (delays t file block body) u)
 unfolding marks_written after_write
 settled-put t u file block body lease is can within h =
     wrote file block t.client.number (value_of body) (marked_used file lease) [] t.entries refl tt h
@@ -147,15 +161,21 @@ settle-accesses t h = settle-cases t (Accesses t.client.who) (record {
 -- ---- sending
 
 -- a request that is sent leaves what was read or written
-still : (who : Who) (t s : ClientStep) → s.entries ≡ t.entries → s.client.leases ≡ t.client.leases → s.client.now ≡ t.client.now → s.client.call ≡ t.client.call → ((file block : ℕ) → cached_body s.client file block ≡ cached_body t.client file block) → Accesses who t → Accesses who s
+still : (who : Who) (t s : ClientStep) → s.entries ≡ t.entries → s.client.leases ≡ t.client.leases → s.client.now ≡ t.client.now
+    → s.client.call ≡ t.client.call → ((file block : ℕ) → cached_body s.client file block ≡ cached_body t.client file block) → Accesses who t
+    → Accesses who s
 still who t s entries leases now call cached (neither plain) = neither (subst (Each IsPlain) (sym entries) plain)
 still who t s entries leases now call cached (read q file block lease body rest es plain held lets has idle) =
-    read q file block lease body rest (entries ∙ es) plain (record { held = ap (lease_on file) leases ∙ held.held; within = held.within }) (ap (λ n. lets_read n lease) now ∙ lets) (cached file block ∙ has) (call ∙ idle)
+    read q file block lease body rest (entries ∙ es) plain (record { held = ap (lease_on file) leases ∙ held.held; within = held.within })
+    (ap (λ n. lets_read n lease) now ∙ lets) (cached file block ∙ has) (call ∙ idle)
 still who t s entries leases now call cached (wrote file block number value lease more rest es plain others held lets calm) =
-    wrote file block number value lease more rest (entries ∙ es) plain others (record { held = ap (lease_on file) leases ∙ held.held; within = held.within }) (ap (λ n. lets_write n lease) now ∙ lets) (subst IsCalm (sym call) calm)
+    wrote file block number value lease more rest (entries ∙ es) plain others
+    (record { held = ap (lease_on file) leases ∙ held.held; within = held.within }) (ap (λ n. lets_write n lease) now ∙ lets)
+    (subst IsCalm (sym call) calm)
 
 -- where a call other than a written put goes on nothing was read or written
-busy-plain : (who : Who) (t : ClientStep) (u : UnderWay) → t.client.call ≡ Some u → ((file block : ℕ) (body : List ℕ) → u.call ≡ Call.WriteSync file block body → u.written ≡ true → ⊥) → Accesses who t → PlainOf t
+busy-plain : (who : Who) (t : ClientStep) (u : UnderWay) → t.client.call ≡ Some u
+    → ((file block : ℕ) (body : List ℕ) → u.call ≡ Call.WriteSync file block body → u.written ≡ true → ⊥) → Accesses who t → PlainOf t
 busy-plain who t u is other (neither plain) = plain
 busy-plain who t u is other (read q file block lease body rest es plain held lets has idle) = none-some u (sym idle ∙ is)
 busy-plain who t u is other (wrote file block number value lease more rest es plain others held lets calm) =
@@ -193,28 +213,43 @@ not-moved file block p q apart there = case (is_push_at p.file p.block q) refl
         let yes : is_push_at file block p ≡ true = rw (f, g) refl in
         absurd (cc)
 
-moved : (file block : ℕ) (p : Push) (dirty : List Push) (clean : Option (List ℕ)) (b : Bool) → is_push_at file block p ≡ b → (dirty_at p.file p.block dirty ≡ Some p) → held_body (dirty_at file block (drop_dirty p.file p.block dirty)) (if b then Some p.body else None) clean ≡ held_body (dirty_at file block dirty) None clean
-moved file block p dirty clean false same first = ap (λ o. held_body o None clean) (find-filter (is_push_at file block) (λ q. not (is_push_at p.file p.block q)) dirty (λ q there. not-moved file block p q same there))
+moved : (file block : ℕ) (p : Push) (dirty : List Push) (clean : Option (List ℕ)) (b : Bool) → is_push_at file block p ≡ b
+    → (dirty_at p.file p.block dirty ≡ Some p)
+    → held_body (dirty_at file block (drop_dirty p.file p.block dirty)) (if b then Some p.body else None) clean ≡ held_body (dirty_at file block dirty)
+    None clean
+moved file block p dirty clean false same first =
+    ap (λ o. held_body o None clean)
+    (find-filter (is_push_at file block) (λ q. not (is_push_at p.file p.block q)) dirty (λ q there. not-moved file block p q same there))
 moved file block p dirty clean true same first =
     let a = is-at file block p same in
     let gone : dirty_at file block (drop_dirty file block dirty) ≡ None = none-filter (is_push_at file block) dirty in
-    let here : dirty_at file block (drop_dirty p.file p.block dirty) ≡ None = subst (λ f. dirty_at file block (drop_dirty f p.block dirty) ≡ None) (sym a.0) (subst (λ n. dirty_at file block (drop_dirty file n dirty) ≡ None) (sym a.1) gone) in
-    let there : dirty_at file block dirty ≡ Some p = subst (λ f. dirty_at f block dirty ≡ Some p) a.0 (subst (λ n. dirty_at p.file n dirty ≡ Some p) a.1 first) in
+    let here : dirty_at file block (drop_dirty p.file p.block dirty) ≡ None = subst (λ f. dirty_at file block (drop_dirty f p.block dirty) ≡ None)
+    (sym a.0) (subst (λ n. dirty_at file block (drop_dirty file n dirty) ≡ None) (sym a.1) gone) in
+    let there : dirty_at file block dirty ≡ Some p = subst (λ f. dirty_at f block dirty ≡ Some p) a.0
+    (subst (λ n. dirty_at p.file n dirty ≡ Some p) a.1 first) in
     ap (λ o. held_body o (Some p.body) clean) here ∙ ap (λ o. held_body o None clean) (sym there)
 
-moved-body : (t : ClientStep) (p : Push) (file block : ℕ) → dirty_at p.file p.block t.client.dirty ≡ Some p → held_body (dirty_at file block (drop_dirty p.file p.block t.client.dirty)) (pushed_body file block (Some p)) (clean_body (clean_at file block t.client.clean)) ≡ held_body (dirty_at file block t.client.dirty) (pushed_body file block None) (clean_body (clean_at file block t.client.clean))
+moved-body : (t : ClientStep) (p : Push) (file block : ℕ) → dirty_at p.file p.block t.client.dirty ≡ Some p
+    → held_body (dirty_at file block (drop_dirty p.file p.block t.client.dirty)) (pushed_body file block (Some p))
+    (clean_body (clean_at file block t.client.clean)) ≡ held_body (dirty_at file block t.client.dirty) (pushed_body file block None)
+    (clean_body (clean_at file block t.client.clean))
 moved-body t p file block first = moved file block p t.client.dirty (clean_body (clean_at file block t.client.clean)) (is_push_at file block p) refl first
 
-push-same : (who : Who) (t : ClientStep) (p : Push) (r : Request) → t.client.push ≡ None → dirty_at p.file p.block t.client.dirty ≡ Some p → Accesses who t → Accesses who (sends_request (after_seq (takes_push t p)) Job.pushing r)
+push-same : (who : Who) (t : ClientStep) (p : Push) (r : Request) → t.client.push ≡ None → dirty_at p.file p.block t.client.dirty ≡ Some p
+    → Accesses who t → Accesses who (sends_request (after_seq (takes_push t p)) Job.pushing r)
 unfolding sends_request after_seq takes_push
-push-same who t p r none first a = still who t (sends_request (after_seq (takes_push t p)) Job.pushing r) refl refl refl refl (λ file block. moved-body t p file block first ∙ ap (λ o. held_body (dirty_at file block t.client.dirty) (pushed_body file block o) (clean_body (clean_at file block t.client.clean))) (sym none)) a
+push-same who t p r none first a =
+    still who t (sends_request (after_seq (takes_push t p)) Job.pushing r) refl refl refl refl
+    (λ file block. moved-body t p file block first
+    ∙ ap (λ o. held_body (dirty_at file block t.client.dirty) (pushed_body file block o) (clean_body (clean_at file block t.client.clean))) (sym none)) a
 
 -- the first delayed writes of a file are the first of their block
 first-at : (file : ℕ) (dirty : List Push) (p : Push) → first_dirty file dirty ≡ Some p → p.file ≡ file → dirty_at p.file p.block dirty ≡ Some p
 first-at file [] p first of = none-some p first
 first-at file (q ∷ dirty) p first of = case (is_push_of file q) refl first (first-at file dirty p)
   where
-    case : (b : Bool) → is_push_of file q ≡ b → (if b then Some q else first_dirty file dirty) ≡ Some p → (first_dirty file dirty ≡ Some p → p.file ≡ file → dirty_at p.file p.block dirty ≡ Some p) → dirty_at p.file p.block (q ∷ dirty) ≡ Some p
+    case : (b : Bool) → is_push_of file q ≡ b → (if b then Some q else first_dirty file dirty) ≡ Some p
+        → (first_dirty file dirty ≡ Some p → p.file ≡ file → dirty_at p.file p.block dirty ≡ Some p) → dirty_at p.file p.block (q ∷ dirty) ≡ Some p
     case true e found rest =
         let one : q ≡ p = some-same q p found in
         let f : (p.file == p.file) ≡ true = number-same p.file p.file refl in
@@ -227,7 +262,8 @@ first-at file (q ∷ dirty) p first of = case (is_push_of file q) refl first (fi
         let no : is_push_at p.file p.block q ≡ false = rw apart refl in
         rw no (rest found of)
 
-pub send-accesses : (who : Who) (in_tick : Bool) (t : ClientStep) → (t.client.ticket ≡ None → t.client.push ≡ None) → Accesses who t → Accesses who (send_next in_tick t)
+pub send-accesses : (who : Who) (in_tick : Bool) (t : ClientStep) → (t.client.ticket ≡ None → t.client.push ≡ None) → Accesses who t
+    → Accesses who (send_next in_tick t)
 send-accesses who in_tick t unpushed a = send-cases in_tick t (Accesses who) (record {
   stays_asking = λ ticket e. a;
   stays = λ free nothing. a;
@@ -240,8 +276,14 @@ send-accesses who in_tick t unpushed a = send-cases in_tick t (Accesses who) (re
   writing = λ u file block body is e f. sent-same who (after_number t) Job.for_call _ (number-same-access who t a);
   leasing = λ u file block body is e f g. sent-same who t Job.for_call _ a;
   putting = λ u file block body is e f. sent-same who (after_number t) Job.for_call _ (number-same-access who t a);
-  resizing = λ u file blocks is e clean. neither (gives-plain t file Job.for_call _ (busy-plain who t u is.called (λ f b body other written. let no : Call.Resize file blocks ≡ Call.WriteSync f b body = sym e ∙ other in absurd (cc)) a));
-  removing = λ u file is e clean. neither (gives-plain t file Job.for_call _ (busy-plain who t u is.called (λ f b body other written. let no : Call.Remove file ≡ Call.WriteSync f b body = sym e ∙ other in absurd (cc)) a));
+  resizing =
+      λ u file blocks is e clean. neither
+      (gives-plain t file Job.for_call _
+      (busy-plain who t u is.called (λ f b body other written. let no : Call.Resize file blocks ≡ Call.WriteSync f b body = sym e ∙ other in
+      absurd (cc)) a));
+  removing =
+      λ u file is e clean. neither (gives-plain t file Job.for_call _
+      (busy-plain who t u is.called (λ f b body other written. let no : Call.Remove file ≡ Call.WriteSync f b body = sym e ∙ other in absurd (cc)) a));
   renewing = λ file lease tick free nothing unpaused due held of clean unnoticed. sent-same who t Job.renewing _ a;
 })
 
@@ -260,7 +302,9 @@ unpushed-alone c a free = case c.push refl
 
 settled-unpushed : (t : ClientStep) → Unpushed t.client → Unpushed (settle t).client
 unfolding answers after_read after_write marks_written reads_cached
-settled-unpushed t h = settle-moves t (λ s. Unpushed s.client) (record { kept = h; answered = λ v q answer k. k; read = λ u file block body. h; delayed = λ file block body. h; marked = λ v u k. k })
+settled-unpushed t h =
+    settle-moves t (λ s. Unpushed s.client)
+    (record { kept = h; answered = λ v q answer k. k; read = λ u file block body. h; delayed = λ file block body. h; marked = λ v u k. k })
 
 pub goes-on-accesses : (in_tick : Bool) (t : ClientStep) → PlainOf t → Unpushed t.client → Accesses t.client.who (send_next in_tick (settle t))
 goes-on-accesses in_tick t plain h = send-accesses t.client.who in_tick (settle t) (settled-unpushed t h) (settle-accesses t plain)
@@ -301,7 +345,8 @@ hear-accesses c k m t a hears = heard-cases c k m t (Accesses c.who) hears (reco
       subst (λ w. Accesses w (goes_on (replied (begun c) k ticket r))) h.2 (goes-on-accesses false (replied (begun c) k ticket r) h.0 (λ free. h.1));
   noticed = λ xid file tag is later.
       let t : ClientStep = evicted (cancels (begun c) file) file tag in
-      subst (λ w. Accesses w (goes_on t)) (evicted-who (cancels (begun c) file) file tag ∙ cancels-who c file) (goes-on-accesses false t (plain-evicted c file tag) (evicted-unpushed (cancels (begun c) file) file tag (cancelled-unpushed c file a)));
+      subst (λ w. Accesses w (goes_on t)) (evicted-who (cancels (begun c) file) file tag ∙ cancels-who c file)
+      (goes-on-accesses false t (plain-evicted c file tag) (evicted-unpushed (cancels (begun c) file) file tag (cancelled-unpushed c file a)));
 })
 
 begun-unpushed : (c : Client) (op : Call) → Alone c → Unpushed (is_called (begins_call c op) op).client
@@ -321,7 +366,8 @@ call-accesses c op a = call-cases c op (Accesses c.who) (record {
   telling = λ file loss losses none on changes has. neither (plain-named (begins_call c op) (begins_call c op).client.calls file (plain-begins c op));
   going = λ none on nothing.
       let t : ClientStep = is_called (begins_call c op) op in
-      cached-accesses c.who (settle t) (settled-unpushed t (begun-unpushed c op a)) (subst (λ w. Accesses w (settle t)) (begun-who c op) (settle-accesses t (plain-called (begins_call c op) op (plain-begins c op))));
+      cached-accesses c.who (settle t) (settled-unpushed t (begun-unpushed c op a))
+      (subst (λ w. Accesses w (settle t)) (begun-who c op) (settle-accesses t (plain-called (begins_call c op) op (plain-begins c op))));
 })
 
 again-accesses : (t : ClientStep) (ticket : Ticket) (who : Who) → PlainOf t → Accesses who (sends_again t ticket)
@@ -340,7 +386,9 @@ pub tick-accesses : (c : Client) (now : ℕ) → Alone c → Accesses c.who (cli
 tick-accesses c now a = tick-cases c now (Accesses c.who) (record {
   again = λ ticket e due. again-accesses (begun (at_time c now)) ticket c.who tt;
   quiet = λ ticket e early. neither tt;
-  free = λ e. subst (λ w. Accesses w (send_next true (settle (begun (at_time c now))))) (timed-who c now) (goes-on-accesses true (begun (at_time c now)) tt (timed-unpushed c now a));
+  free =
+      λ e. subst (λ w. Accesses w (send_next true (settle (begun (at_time c now))))) (timed-who c now)
+      (goes-on-accesses true (begun (at_time c now)) tt (timed-unpushed c now a));
 })
 
 pub restart-accesses : (c : Client) (who : Who) → Accesses who (restart c)

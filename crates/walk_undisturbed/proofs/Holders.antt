@@ -48,7 +48,8 @@ pub record KnownOf (hosts most : ℕ) (w : World) (events : List Event) : Type 0
   pub opens : OpensOne w
 
 -- the row of a chained lease over delayed writes lets its holder write
-pub chained-writes : (s : Server) (c : Client) (ps : List Packet) → ChainFits s c ps → (p : Push) → IsEntry c p → (l : Lease) (row : Row) → lease_on p.file c.leases ≡ Some l → IsChained (standing s) c.who p.file l.tag row → HasWriting (standing s) c.who p.file
+pub chained-writes : (s : Server) (c : Client) (ps : List Packet) → ChainFits s c ps → (p : Push) → IsEntry c p → (l : Lease) (row : Row)
+    → lease_on p.file c.leases ≡ Some l → IsChained (standing s) c.who p.file l.tag row → HasWriting (standing s) c.who p.file
 chained-writes s c ps f p entry l row held chained =
     let w = f.writes.held p.file (unclean-entry c p entry) in
     let one : w.0 ≡ l = some-same w.0 l (sym w.1 ∙ held) in
@@ -57,16 +58,22 @@ chained-writes s c ps f p entry l row held chained =
     record { row = row; stands = chained.own.stands; holder = chained.own.holder; writes = at-least-writing row.mode l.mode mode k.kind }
 
 -- a lease that runs has its row
-covered-row : (s : Server) (phase : Phase) (who : Who) (file : ℕ) (mode : Mode) (tag : Tag) (until : ℕ) → caches mode ≡ true → IsCovered s phase (claim_of who file mode tag until) → HasCaching (standing_in phase s.table) who file
-covered-row s serving who file mode tag until c k = record { row = k.row; stands = k.stands; holder = k.fits.holder; caching = at-least-caching k.row.mode mode c k.fits.kind }
-covered-row s (recovering end heard last) who file mode tag until c k = let f = k.fitting in record { row = f.row; stands = f.stands; holder = f.fits.holder; caching = at-least-caching f.row.mode mode c f.fits.kind }
+covered-row : (s : Server) (phase : Phase) (who : Who) (file : ℕ) (mode : Mode) (tag : Tag) (until : ℕ) → caches mode ≡ true
+    → IsCovered s phase (claim_of who file mode tag until) → HasCaching (standing_in phase s.table) who file
+covered-row s serving who file mode tag until c k =
+    record { row = k.row; stands = k.stands; holder = k.fits.holder; caching = at-least-caching k.row.mode mode c k.fits.kind }
+covered-row s (recovering end heard last) who file mode tag until c k =
+    let f = k.fitting in record { row = f.row; stands = f.stands; holder = f.fits.holder; caching = at-least-caching f.row.mode mode c f.fits.kind }
 
-pub live-row : (w : World) (events : List Event) (host : ℕ) (c : Client) (file : ℕ) (lease : Lease) → KeepsLeaseInterval w events → slice_get w.clients host ≡ Some c → lease_on file c.leases ≡ Some lease → caches lease.mode ≡ true → nat_lt c.now lease.expiry ≡ true → HasCaching (standing w.server) c.who file
+pub live-row : (w : World) (events : List Event) (host : ℕ) (c : Client) (file : ℕ) (lease : Lease) → KeepsLeaseInterval w events
+    → slice_get w.clients host ≡ Some c → lease_on file c.leases ≡ Some lease → caches lease.mode ≡ true → nat_lt c.now lease.expiry ≡ true
+    → HasCaching (standing w.server) c.who file
 live-row w events host c file lease covers is held caching runs =
     let of : lease.file ≡ file = same-number _ _ (find-passes (λ l. l.file == file) lease c.leases held) in
     let own : lease_on lease.file c.leases ≡ Some lease = ap (λ n. lease_on n c.leases) of ∙ held in
     subst (λ n. HasCaching (standing w.server) c.who n) of
-    (covered-row w.server w.server.phase c.who lease.file lease.mode lease.tag (cover_end host (lease.expiry - lease.term) lease.term events) caching (covers.held host c lease is own caching (grind (arith, nat_tests))))
+    (covered-row w.server w.server.phase c.who lease.file lease.mode lease.tag (cover_end host (lease.expiry - lease.term) lease.term events) caching
+    (covers.held host c lease is own caching (grind (arith, nat_tests))))
 
 plain-leaves : (who : Who) (file : ℕ) (e : Entry) → IsPlain e → LeavesAlone who file e
 plain-leaves who file (C w q told) h = tt
@@ -82,21 +89,37 @@ lets-writes : (now : ℕ) (lease : Lease) → lets_write now lease ≡ true → 
 lets-writes now lease h = let a = and_parts _ _ h in (writing-caches lease.mode a.0, a.1)
 
 -- what a client's step read and wrote leaves alone the delayed writes of every other whose row stands, after that step
-pub step-leaves : (hosts most : ℕ) (w : World) (events : List Event) → KnownOf hosts most w events → (host : ℕ) (t : ClientStep) → slice_get w.clients host ≡ Some t.client → (by : Who) → t.client.who ≡ by → Accesses by t → (who : Who) (file : ℕ) → HasWriting (standing w.server) who file → Each (LeavesAlone who file) t.entries
+pub step-leaves : (hosts most : ℕ) (w : World) (events : List Event) → KnownOf hosts most w events → (host : ℕ) (t : ClientStep)
+    → slice_get w.clients host ≡ Some t.client → (by : Who) → t.client.who ≡ by → Accesses by t → (who : Who) (file : ℕ)
+    → HasWriting (standing w.server) who file → Each (LeavesAlone who file) t.entries
 step-leaves hosts most w events k host t is by mine a who file h = case a
   where
     fits : TableFits w.server.kept.files (standing w.server).boot (standing w.server).drawn (standing w.server).rows
     fits = k.runs.served.stood
 
-    holder : (f : ℕ) (lease : Lease) → lease_on f t.client.leases ≡ Some lease → (caches lease.mode ≡ true) × (nat_lt t.client.now lease.expiry ≡ true) → f ≡ file → by ≡ who
-    holder f lease held lets same = one-holder w.server.kept.files (standing w.server) fits file who by h (subst (λ n. HasCaching (standing w.server) by n) same (subst (λ z. HasCaching (standing w.server) z f) mine (live-row w events host t.client f lease k.covers is held lets.0 lets.1)))
+    holder : (f : ℕ) (lease : Lease) → lease_on f t.client.leases ≡ Some lease → (caches lease.mode ≡ true) × (nat_lt t.client.now lease.expiry ≡ true)
+        → f ≡ file → by ≡ who
+    holder f lease held lets same =
+        one-holder w.server.kept.files (standing w.server) fits file who by h
+        (subst (λ n. HasCaching (standing w.server) by n) same
+        (subst (λ z. HasCaching (standing w.server) z f) mine (live-row w events host t.client f lease k.covers is held lets.0 lets.1)))
 
     case : Accesses by t → Each (LeavesAlone who file) t.entries
     case (neither plain) = each-map IsPlain (LeavesAlone who file) t.entries (plain-leaves who file) plain
     case (read q f block lease body rest es plain held lets has idle) =
-        subst (Each (LeavesAlone who file)) (sym es)
-        (tt, ((λ same. holder f lease held.held (lets-reads t.client.now lease lets) same), each-map IsPlain (LeavesAlone who file) rest (plain-leaves who file) plain))
+        subst (Each (LeavesAlone who file)) (sym es) (
+          tt,
+          (
+            (λ same. holder f lease held.held (lets-reads t.client.now lease lets) same),
+            each-map IsPlain (LeavesAlone who file) rest
+                (plain-leaves who file) plain,
+          ),
+        )
     case (wrote f block number value lease more rest es plain others held lets calm) =
         subst (Each (LeavesAlone who file)) (sym es)
-        (each-append (LeavesAlone who file) more (W by f block number value false ∷ rest) (each-map IsPlain (LeavesAlone who file) more (plain-leaves who file) plain)
-        ((λ same. (holder f lease held.held (lets-writes t.client.now lease lets) same, refl)), each-map IsPlain (LeavesAlone who file) rest (plain-leaves who file) others))
+        (each-append (LeavesAlone who file) more (W by f block number value false ∷ rest)
+        (each-map IsPlain (LeavesAlone who file) more (plain-leaves who file) plain) (
+          (λ same. (holder f lease held.held (lets-writes t.client.now lease lets) same, refl)),
+          each-map IsPlain (LeavesAlone who file) rest
+              (plain-leaves who file) others,
+        ))

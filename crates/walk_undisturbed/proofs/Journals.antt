@@ -6,6 +6,7 @@ use Rattle.nq_model.specs.Journal.{Each}
 use Rattle.nq_promises.specs.Undisturbed.{LeavesAlone, IsUndisturbed}
 
 -- more entries that leave them alone
-pub undisturbed-more : (who : Who) (file block number : ℕ) (es journal : List Entry) → Each (LeavesAlone who file) es → IsUndisturbed who file block number journal → IsUndisturbed who file block number (es ++ journal)
+pub undisturbed-more : (who : Who) (file block number : ℕ) (es journal : List Entry) → Each (LeavesAlone who file) es
+    → IsUndisturbed who file block number journal → IsUndisturbed who file block number (es ++ journal)
 undisturbed-more who file block number [] journal a u = u
 undisturbed-more who file block number (e ∷ es) journal a u = inr (a.0, undisturbed-more who file block number es journal a.1 u)

@@ -30,7 +30,8 @@ pub record OwnSends (who : Who) (k : Core) : Type 0 where
   pub ticket : (t : Ticket) → k.ticket ≡ Some t → asker t.request ≡ Some who
   pub sends : (m : Message) → In k.sends m → IsBy who m
 
-one-more : (who : Who) (sends : List Message) (m : Message) → IsBy who m → ((n : Message) → In sends n → IsBy who n) → (n : Message) → In (sends ++ m ∷ []) n → IsBy who n
+one-more : (who : Who) (sends : List Message) (m : Message) → IsBy who m → ((n : Message) → In sends n → IsBy who n) → (n : Message)
+    → In (sends ++ m ∷ []) n → IsBy who n
 one-more who sends m by all n h = step (in-last sends m n h)
   where
     step : In sends n ⊎ (m ≡ n) → IsBy who n
@@ -57,10 +58,25 @@ own-closed : (who : Who) (Heard : ℕ → Tag → Type 0) (Given : ℕ → Grant
 own-closed who Heard Given = record {
   uses = λ k file h. record { same = h.same; ticket = h.ticket; sends = h.sends };
   drops = λ k file h. record { same = h.same; ticket = h.ticket; sends = h.sends };
-  vacates = λ k file tag can h. record { same = h.same; ticket = h.ticket; sends = one-more who k.sends (call k.xid (Request.Vacated k.who file tag)) (record { xid = k.xid; asks = Request.Vacated k.who file tag; is = refl; by = ap Some h.same }) h.sends };
+  vacates =
+      λ k file tag can h. record {
+        same = h.same;
+        ticket = h.ticket;
+        sends = one-more who k.sends (call k.xid (Request.Vacated k.who file tag))
+            (record { xid = k.xid; asks = Request.Vacated k.who file tag; is = refl; by = ap Some h.same }) h.sends;
+      };
   asks = λ k job request no_seq can h. sent who k job request (can.asks ∙ ap Some h.same) h;
-  decides = λ k job request seq can h. let s = sent who k job request (can.asks ∙ ap Some h.same) h in record { same = s.same; ticket = s.ticket; sends = s.sends };
-  again = λ k t is h. record { same = h.same; ticket = λ u e. ap asker (ap (λ z. z.request) (sym (some-same _ u e))) ∙ h.ticket t is; sends = one-more who k.sends (call t.xid t.request) (record { xid = t.xid; asks = t.request; is = refl; by = h.ticket t is }) h.sends };
+  decides =
+      λ k job request seq can h. let s = sent who k job request (can.asks ∙ ap Some h.same) h in
+      record { same = s.same; ticket = s.ticket; sends = s.sends };
+  again =
+      λ k t is h. record {
+        same = h.same;
+        ticket = λ u e. ap asker (ap (λ z. z.request) (sym (some-same _ u e)))
+            ∙ h.ticket t is;
+        sends = one-more who k.sends (call t.xid t.request) (record { xid = t.xid; asks = t.request; is = refl; by = h.ticket t is })
+            h.sends;
+      };
   holds = λ k file g at given free unnoticed h. record { same = h.same; ticket = h.ticket; sends = h.sends };
   cancels = λ k file h. record { same = h.same; ticket = λ t e. h.ticket t (was-there file k.ticket t e); sends = h.sends };
   notes = λ k file tag heard h. record { same = h.same; ticket = h.ticket; sends = h.sends };
@@ -92,7 +108,8 @@ timed-own c now a = record { same = refl; ticket = λ t e. (a.asking.ticketed t 
 pub tick-own : (c : Client) → Alone c → OwnSends c.who (core_of (client_tick c (c.now + 1)))
 tick-own c a = (tick-keeps (own-closed c.who none-heard none-given) c (c.now + 1) (omega arith) a (timed-own c (c.now + 1) a)).core
 
-pub hear-own : (c : Client) (ps : List Packet) (k : ℕ) (m : Message) (t : ClientStep) → Alone c → Mail c.who c.xid c.ticket ps → Told ps c.who.host m → hear c k m ≡ Some t → OwnSends c.who (core_of t)
+pub hear-own : (c : Client) (ps : List Packet) (k : ℕ) (m : Message) (t : ClientStep) → Alone c → Mail c.who c.xid c.ticket ps → Told ps c.who.host m
+    → hear c k m ≡ Some t → OwnSends c.who (core_of t)
 hear-own c ps k m t a mail sent hears = heard-cases c k m t (λ z. OwnSends c.who (core_of z)) hears (record {
   answered = λ xid r ticket is asked number inc counts.
       (reply-keeps (own-closed c.who none-heard (given-by ticket)) c k ticket r (record {
@@ -101,7 +118,8 @@ hear-own c ps k m t a mail sent hears = heard-cases c k m t (λ z. OwnSends c.wh
         alone = a;
         spent = λ other. record { same = refl; ticket = λ u e. none-some u e; sends = λ n i. absurd i };
         attached = λ job. record { same = refl; ticket = λ u e. none-some u e; sends = λ n i. absurd i };
-        brings = λ file on g grants. (on, (mail.replied xid r (subst (λ n. Told ps c.who.host n) is sent) inc).wants ticket asked (sym number) g grants file on);
+        brings =
+            λ file on g grants. (on, (mail.replied xid r (subst (λ n. Told ps c.who.host n) is sent) inc).wants ticket asked (sym number) g grants file on);
         only = λ file g at given. given;
       })).core;
   noticed = λ xid file tag is later. (notice-keeps (own-closed c.who any-heard none-given) c file tag tt (λ g at bad. bad) a (begun-own c a)).core;

@@ -21,7 +21,7 @@ use Rattle.walk_client.proofs.ClientMoves.{some-same}
 use Rattle.nq_model.proofs.Lists.{each-append}
 use Rattle.nq_model.specs.Client.{Client, ClientStep, Job, Ticket, begun, notice_on}
 use Rattle.nq_model.specs.ClientStep.{begins_call, is_called, says_busy}
-use Rattle.nq_model.specs.Hear.{vacates_lease, notes_notice, evicted, cancels, spends, attached, pauses, marks_through, replied, reply_counts, loses, all_dirty, other_push, loss_entry, reports, without_lease, push_refused, breaks_chain, if_broken, holds, takes_grant, takes_optional, answers_call, caches_block, purges, knows_revision, read_done, lease_done, write_done, ends_push, caches_push, vacates_noticed, push_done}
+use Rattle.nq_model.specs.Hear.{vacates_lease, notes_notice, evicted, cancels, spends, attached, pauses, marks_through, replied, reply_counts, loses, all_dirty, other_push, loss_entry, reports, without_lease, push_refused, breaks_chain, if_broken, holds, takes_grant, takes_optional, answers_call, caches_block, purges, knows_revision, read_done, lease_done, write_done, ends_push, caches_push, push_done}
 use Rattle.nq_model.specs.Journal.{Each}
 use Rattle.nq_model.specs.Settle.{answers, names_losses}
 use Rattle.walk_server.proofs.Rows.{number-same}
@@ -49,19 +49,22 @@ plain-losses who [] = tt
 plain-losses who (p ∷ ps) = (tt, plain-losses who ps)
 
 -- the push under way is the request under way
-unpushed-job : (c : Client) (ticket : Ticket) → c.ticket ≡ Some ticket → Alone c → (ticket.job ≡ Job.pushing → ⊥) → (o : Option Push) → c.push ≡ o → c.push ≡ None
+unpushed-job : (c : Client) (ticket : Ticket) → c.ticket ≡ Some ticket → Alone c → (ticket.job ≡ Job.pushing → ⊥) → (o : Option Push) → c.push ≡ o
+    → c.push ≡ None
 unpushed-job c ticket is a other None e = e
 unpushed-job c ticket is a other (Some p) e =
     let k = a.delaying.under_way p e in
     let one : ticket ≡ k.request = some-same ticket k.request (sym is ∙ k.asks) in
     absurd (other (ap (λ z. z.job) one ∙ k.job))
 
-push-gone : (c : Client) (ticket : Ticket) (who : Who) (seq file block first last : ℕ) (base : PushBase) (body : List ℕ) → c.ticket ≡ Some ticket → Alone c → ticket.request ≡ Request.Write who seq file block first last (Some base) body → (o : Option Push) → c.push ≡ o → other_push file o ≡ None
+push-gone : (c : Client) (ticket : Ticket) (who : Who) (seq file block first last : ℕ) (base : PushBase) (body : List ℕ) → c.ticket ≡ Some ticket
+    → Alone c → ticket.request ≡ Request.Write who seq file block first last (Some base) body → (o : Option Push) → c.push ≡ o → other_push file o ≡ None
 push-gone c ticket who seq file block first last base body is a asks None e = refl
 push-gone c ticket who seq file block first last base body is a asks (Some p) e =
     let k = a.delaying.under_way p e in
     let one : ticket ≡ k.request = some-same ticket k.request (sym is ∙ k.asks) in
-    let mine : record { file = file; block = block; first = first; last = last; body = body } ≡ p = some-same _ p (ap push_in (sym asks ∙ ap (λ z. z.request) one) ∙ k.pushes) in
+    let mine : record { file = file; block = block; first = first; last = last; body = body } ≡ p = some-same _ p
+    (ap push_in (sym asks ∙ ap (λ z. z.request) one) ∙ k.pushes) in
     let of : (p.file == file) ≡ true = number-same p.file file (ap (λ z. z.file) (sym mine)) in
     rw of refl
 
@@ -80,7 +83,12 @@ module _ (c : Client) where
 
   plain-loses : (t : ClientStep) (file : ℕ) → PlainOf t → t.client.who ≡ c.who → other_push file t.client.push ≡ None → SpentOf (loses t file)
   unfolding loses
-  plain-loses t file h who none = (each-append IsPlain (reverse (map (loss_entry t.client.who) (all_dirty t.client file))) t.entries (plain-reverse (map (loss_entry t.client.who) (all_dirty t.client file)) (plain-losses t.client.who (all_dirty t.client file))) h, none, who)
+  plain-loses t file h who none = (
+    each-append IsPlain (reverse (map (loss_entry t.client.who) (all_dirty t.client file))) t.entries
+        (plain-reverse (map (loss_entry t.client.who) (all_dirty t.client file)) (plain-losses t.client.who (all_dirty t.client file))) h,
+    none,
+    who,
+  )
 
   plain-without : (t : ClientStep) (file : ℕ) → SpentOf t → SpentOf (without_lease t file)
   unfolding without_lease
@@ -90,9 +98,6 @@ module _ (c : Client) where
   unfolding vacates_lease
   plain-vacates t file tag h = h
 
-  plain-noticed : (t : ClientStep) (file : ℕ) → SpentOf t → SpentOf (vacates_noticed t file (notice_on file t.client.notices))
-  plain-noticed t file h = vacates-noticed-cases t file (notice_on file t.client.notices) SpentOf (λ e. h) (λ n e. plain-vacates t file n.tag h)
-
   plain-reports : (t : ClientStep) (file : ℕ) → SpentOf t → SpentOf (reports t file)
   plain-reports t file h = reports-cases t file SpentOf (λ e. h) (λ u e f. h) (λ u e f. plain-names t u.q file h)
 
@@ -100,7 +105,8 @@ module _ (c : Client) where
   unfolding without_lease vacates_lease loses
   plain-refused t file h who none =
       let a : SpentOf (without_lease (loses t file) file) = plain-without (loses t file) file (plain-loses t file h who none) in
-      plain-reports _ file (vacates-noticed-cases (without_lease (loses t file) file) file (notice_on file t.client.notices) SpentOf (λ e. a) (λ n e. plain-vacates (without_lease (loses t file) file) file n.tag a))
+      plain-reports _ file (vacates-noticed-cases (without_lease (loses t file) file) file (notice_on file t.client.notices) SpentOf (λ e. a)
+      (λ n e. plain-vacates (without_lease (loses t file) file) file n.tag a))
 
   plain-breaks : (t : ClientStep) (file : ℕ) → SpentOf t → SpentOf (breaks_chain t file)
   plain-breaks t file h =
@@ -160,7 +166,8 @@ module _ (c : Client) where
   unfolding ends_push
   plain-ends t h who = (h, refl, who)
 
-  plain-read : (t : ClientStep) (file block : ℕ) (body : List ℕ) (g : Option Grant) (sent number : ℕ) → SpentOf t → SpentOf (read_done t file block body g sent number)
+  plain-read : (t : ClientStep) (file block : ℕ) (body : List ℕ) (g : Option Grant) (sent number : ℕ) → SpentOf t
+      → SpentOf (read_done t file block body g sent number)
   plain-read t file block body g sent number h =
       let a : SpentOf (takes_optional t file g sent) = plain-optional t file g sent h in
       plain-call _ _ _ (then-caches-cases (takes_optional t file g sent) file block body g SpentOf (λ e. plain-caches _ file block body a) (λ e. a))
@@ -172,20 +179,25 @@ module _ (c : Client) where
 
   plain-written : (t : ClientStep) (file block : ℕ) (body : List ℕ) (rev : ℕ) → SpentOf t → SpentOf (write_done t file block body rev)
   plain-written t file block body rev h =
-      plain-call _ _ _ (plain-knows _ file rev (caches-write-cases t file block body rev SpentOf (λ e f. plain-caches t file block body h) (plain-purges t file h)))
+      plain-call _ _ _ (plain-knows _ file rev
+      (caches-write-cases t file block body rev SpentOf (λ e f. plain-caches t file block body h) (plain-purges t file h)))
 
   plain-pushed : (t : ClientStep) (file block : ℕ) (body : List ℕ) (rev : ℕ) → PlainOf t → t.client.who ≡ c.who → SpentOf (push_done t file block body rev)
   plain-pushed t file block body rev h who =
       let a : SpentOf (knows_revision (ends_push t) file rev) = plain-knows (ends_push t) file rev (plain-ends t h who) in
-      let b : SpentOf (caches_push (knows_revision (ends_push t) file rev) file block body) = caches-push-cases (knows_revision (ends_push t) file rev) file block body SpentOf (λ e. a) (λ e. plain-caches _ file block body a) in
-      vacates-if-clean-cases (caches_push (knows_revision (ends_push t) file rev) file block body) file SpentOf b (λ n e f. plain-vacates (caches_push (knows_revision (ends_push t) file rev) file block body) file n.tag b)
+      let b : SpentOf (caches_push (knows_revision (ends_push t) file rev) file block body) = caches-push-cases (knows_revision (ends_push t) file rev)
+      file block body SpentOf (λ e. a) (λ e. plain-caches _ file block body a) in
+      vacates-if-clean-cases (caches_push (knows_revision (ends_push t) file rev) file block body) file SpentOf b
+      (λ n e f. plain-vacates (caches_push (knows_revision (ends_push t) file rev) file block body) file n.tag b)
 
   -- what a reply does
-  pub plain-replied : (number : ℕ) (ticket : Ticket) (r : Reply) → c.ticket ≡ Some ticket → Alone c → fits_job ticket.job ticket.request ≡ true → reply_counts r ticket ≡ true → SpentOf (replied (begun c) number ticket r)
+  pub plain-replied : (number : ℕ) (ticket : Ticket) (r : Reply) → c.ticket ≡ Some ticket → Alone c → fits_job ticket.job ticket.request ≡ true
+      → reply_counts r ticket ≡ true → SpentOf (replied (begun c) number ticket r)
   plain-replied number ticket r asked a fits counts = replied-cases c number ticket r SpentOf fits counts (record {
     attaching = λ who inc job asks is. plain-attached _ (h (λ e. let no = job in absurd (cc)));
     named = λ answer job is. plain-call _ answer None (h (λ e. absurd (cc)));
-    reading = λ who q file block want inc rev body grant of is. plain-read _ file block body grant ticket.first number (h (λ e. let no = of.job in absurd (cc)));
+    reading =
+        λ who q file block want inc rev body grant of is. plain-read _ file block body grant ticket.first number (h (λ e. let no = of.job in absurd (cc)));
     leasing = λ who file want inc grant of is. plain-leased _ file grant ticket.first (h (λ e. let no = of.job in absurd (cc)));
     writing = λ who seq file block first last body inc rev of is. plain-written _ file block body rev (h (λ e. let no = of.job in absurd (cc)));
     resizing = λ who seq q file blocks inc rev of is. plain-call _ _ None (plain-knows _ file rev (h (λ e. let no = of.job in absurd (cc))));
@@ -195,7 +207,9 @@ module _ (c : Client) where
     putting_off = λ inc status job is off. plain-pauses _ (h (either job));
     refusing = λ inc status job is counted final. plain-call _ _ None (h (λ e. absurd (cc)));
     renewal_refused = λ inc status job is final. h (λ e. absurd (cc));
-    push_refused = λ who seq file block first last base body inc status job asks is final. plain-refused _ file plain-spent spent-who (ap (other_push file) spent-push ∙ push-gone c ticket who seq file block first last base body asked a asks c.push refl);
+    push_refused =
+        λ who seq file block first last base body inc status job asks is final. plain-refused _ file plain-spent spent-who
+        (ap (other_push file) spent-push ∙ push-gone c ticket who seq file block first last base body asked a asks c.push refl);
   }) where
     h : (ticket.job ≡ Job.pushing → ⊥) → SpentOf (spends (begun c))
     h other = (plain-spent, spent-push ∙ unpushed-job c ticket asked a other c.push refl, spent-who)

@@ -46,13 +46,15 @@ writing-conflicts Access.Write Mode.Reading w = cc
 writing-conflicts Access.Write Mode.NonCaching w = cc
 
 -- where no row conflicts with a host the writing row is its own
-pub own-row : (file host h : ℕ) (access : Access) (rows : List Row) (row : Row) → find (conflicts file host access) rows ≡ None → find_row file h rows ≡ Some row → is_writing row.mode ≡ true → h ≡ host
+pub own-row : (file host h : ℕ) (access : Access) (rows : List Row) (row : Row) → find (conflicts file host access) rows ≡ None
+    → find_row file h rows ≡ Some row → is_writing row.mode ≡ true → h ≡ host
 own-row file host h access rows row none found w = case (h == host) refl
   where
     case : (b : Bool) → (h == host) ≡ b → h ≡ host
     case true e = same-number _ _ e
     case false e =
-        let free : mode_conflicts access row.mode ≡ false = no-clash file host access h rows row none found (λ same. let yes : (h == host) ≡ true = number-same _ _ same in absurd (cc)) in
+        let free : mode_conflicts access row.mode ≡ false = no-clash file host access h rows row none found
+        (λ same. let yes : (h == host) ≡ true = number-same _ _ same in absurd (cc)) in
         let bars : mode_conflicts access row.mode ≡ true = writing-conflicts access row.mode w in
         absurd (cc)
 
@@ -69,7 +71,8 @@ pub record HasCaching (table : Table) (who : Who) (file : ℕ) : Type 0 where
   pub caching : caches row.mode ≡ true
 
 -- whoever has a caching row beside a writing one is its holder
-pub one-holder : (files : List File) (table : Table) → TableFits files table.boot table.drawn table.rows → (file : ℕ) (who other : Who) → HasWriting table who file → HasCaching table other file → other ≡ who
+pub one-holder : (files : List File) (table : Table) → TableFits files table.boot table.drawn table.rows → (file : ℕ) (who other : Who)
+    → HasWriting table who file → HasCaching table other file → other ≡ who
 one-holder files table fits file who other h k = case (other.host == who.host) refl
   where
     case : (b : Bool) → (other.host == who.host) ≡ b → other ≡ who
@@ -78,11 +81,13 @@ one-holder files table fits file who other h k = case (other.host == who.host) r
         let one : h.row ≡ k.row = some-same h.row k.row (sym h.stands ∙ ap (λ n. find_row file n table.rows) (sym same) ∙ k.stands) in
         sym k.holder ∙ ap (λ r. r.who) (sym one) ∙ h.holder
     case false e =
-        let free : caches k.row.mode ≡ false = fits.alone file who.host other.host h.row k.row h.stands k.stands (λ same. let yes : (other.host == who.host) ≡ true = number-same _ _ same in absurd (cc)) h.writes in
+        let free : caches k.row.mode ≡ false = fits.alone file who.host other.host h.row k.row h.stands k.stands
+        (λ same. let yes : (other.host == who.host) ≡ true = number-same _ _ same in absurd (cc)) h.writes in
         let bars = k.caching in
         absurd (cc)
 
-module _ (s : Server) (sender next : ℕ) (d : Datagram) (who : Who) (file : ℕ) (stood : StandingFitsOf s) (incs : IncsFitOf s) (has : HasWriting (standing s) who file) where
+module _ (s : Server) (sender next : ℕ) (d : Datagram) (who : Who) (file : ℕ) (stood : StandingFitsOf s) (incs : IncsFitOf s)
+    (has : HasWriting (standing s) who file) where
   served-table : s.phase ≡ serving → TableFits s.kept.files s.table.boot s.table.drawn s.table.rows
   served-table p = subst (λ p. StandingFits s.kept.files p s.table) p stood
 
@@ -90,7 +95,8 @@ module _ (s : Server) (sender next : ℕ) (d : Datagram) (who : Who) (file : ℕ
   has-served p = subst (λ p. HasWriting (standing_in p s.table) who file) p has
 
   -- one who is current and in whose way the row is not is its holder
-  holder-is : (other : Who) (access : Access) → s.phase ≡ serving → IsCurrent s sender other → find (conflicts file other.host access) s.table.rows ≡ None → other ≡ who
+  holder-is : (other : Who) (access : Access) → s.phase ≡ serving → IsCurrent s sender other
+      → find (conflicts file other.host access) s.table.rows ≡ None → other ≡ who
   holder-is other access p current none =
       let h = has-served p in
       let host : who.host ≡ other.host = own-row file other.host who.host access s.table.rows h.row none h.stands h.writes in
@@ -98,8 +104,11 @@ module _ (s : Server) (sender next : ℕ) (d : Datagram) (who : Who) (file : ℕ
       one-who other who (sym host) (current.inc ∙ ap (λ n. (host_row s.kept n).inc) (sym host) ∙ sym kept ∙ ap (λ w. w.inc) h.holder)
 
   -- one whose writing row stands on the file is its holder
-  writer-is : (table : Table) (fits : TableFits s.kept.files table.boot table.drawn table.rows) (other : Who) → HasWriting table who file → HasWriting table other file → other ≡ who
-  writer-is table fits other h k = one-holder s.kept.files table fits file who other h (record { row = k.row; stands = k.stands; holder = k.holder; caching = writing-caches k.row.mode k.writes })
+  writer-is : (table : Table) (fits : TableFits s.kept.files table.boot table.drawn table.rows) (other : Who) → HasWriting table who file
+      → HasWriting table other file → other ≡ who
+  writer-is table fits other h k =
+      one-holder s.kept.files table fits file who other h
+      (record { row = k.row; stands = k.stands; holder = k.holder; caching = writing-caches k.row.mode k.writes })
 
   abbrev LeftAlone : ServerStep → Type 0
   LeftAlone t = Each (LeavesAlone who file) t.entries
@@ -108,7 +117,8 @@ module _ (s : Server) (sender next : ℕ) (d : Datagram) (who : Who) (file : ℕ
   grants-alone other f None = tt
   grants-alone other f (Some g) = (tt, tt)
 
-  serves-alone : (other : Who) (xid q block : ℕ) (f : File) (body : List ℕ) (table : Table) (g : Option Grant) → (f.id ≡ file → other ≡ who) → LeftAlone (serves s other xid next q f block body table g)
+  serves-alone : (other : Who) (xid q block : ℕ) (f : File) (body : List ℕ) (table : Table) (g : Option Grant) → (f.id ≡ file → other ≡ who)
+      → LeftAlone (serves s other xid next q f block body table g)
   unfolding serves
   serves-alone other xid q block f body table g own = (own, grants-alone other f.id g)
 
@@ -116,8 +126,11 @@ module _ (s : Server) (sender next : ℕ) (d : Datagram) (who : Who) (file : ℕ
   unfolding leases
   leases-alone other xid f table g = grants-alone other f g
 
-  reader-is : (other : Who) (f : File) (want : Option Want) → IsAsking s sender other f → find (conflicts f.id other.host (access_of want)) s.table.rows ≡ None → f.id ≡ file → other ≡ who
-  reader-is other f want asking none same = holder-is other (access_of want) asking.serves asking.current (subst (λ n. find (conflicts n other.host (access_of want)) s.table.rows ≡ None) same none)
+  reader-is : (other : Who) (f : File) (want : Option Want) → IsAsking s sender other f
+      → find (conflicts f.id other.host (access_of want)) s.table.rows ≡ None → f.id ≡ file → other ≡ who
+  reader-is other f want asking none same =
+      holder-is other (access_of want) asking.serves asking.current
+      (subst (λ n. find (conflicts n other.host (access_of want)) s.table.rows ≡ None) same none)
 
   commits-alone : (other : Who) (seq xid : ℕ) (r : Request) (c : Decision) → Each (LeavesAlone who file) c.entries → LeftAlone (commits other seq xid r c)
   unfolding commits
@@ -125,12 +138,18 @@ module _ (s : Server) (sender next : ℕ) (d : Datagram) (who : Who) (file : ℕ
 
   -- what the holder asks for himself changes the file in no other way, and who pushes in a recovery has his row
   pub record AsksNothing : Type 0 where
-    pub own : (xid : ℕ) (r : Request) (seq : ℕ) → d ≡ request xid r → asker r ≡ Some who → sequence_of r ≡ Some seq → IsFresh s sender who seq → file_changed_by r ≡ Some file → base_in r ≡ None → ⊥
-    pub pushers : (xid : ℕ) (other : Who) (seq block first final : ℕ) (base : PushBase) (body : List ℕ) (f : File) → d ≡ request xid (Request.Write other seq file block first final (Some base) body) → IsFresh s sender other seq → find_file file s.kept.files ≡ Some f → base.boot ≡ s.kept.opened → base.base ≡ f.rev → HasWriting (standing s) other file
+    pub own : (xid : ℕ) (r : Request) (seq : ℕ) → d ≡ request xid r → asker r ≡ Some who → sequence_of r ≡ Some seq → IsFresh s sender who seq
+        → file_changed_by r ≡ Some file → base_in r ≡ None → ⊥
+    pub pushers : (xid : ℕ) (other : Who) (seq block first final : ℕ) (base : PushBase) (body : List ℕ) (f : File)
+        → d ≡ request xid (Request.Write other seq file block first final (Some base) body) → IsFresh s sender other seq
+        → find_file file s.kept.files ≡ Some f → base.boot ≡ s.kept.opened → base.base ≡ f.rev → HasWriting (standing s) other file
 
-  changer-is : (asks : AsksNothing) (xid : ℕ) (other : Who) (seq : ℕ) (r : Request) (f : File) → d ≡ request xid r → asker r ≡ Some other → sequence_of r ≡ Some seq → file_changed_by r ≡ Some f.id → base_in r ≡ None → IsChanging s sender other seq f → clash_with s f.id other.host ≡ None → f.id ≡ file → ⊥
+  changer-is : (asks : AsksNothing) (xid : ℕ) (other : Who) (seq : ℕ) (r : Request) (f : File) → d ≡ request xid r → asker r ≡ Some other
+      → sequence_of r ≡ Some seq → file_changed_by r ≡ Some f.id → base_in r ≡ None → IsChanging s sender other seq f
+      → clash_with s f.id other.host ≡ None → f.id ≡ file → ⊥
   changer-is asks xid other seq r f e by sq changes base changing free same =
-      let one : other ≡ who = holder-is other Access.Write changing.serves changing.fresh.current (subst (λ n. find (conflicts n other.host Access.Write) s.table.rows ≡ None) same free) in
+      let one : other ≡ who = holder-is other Access.Write changing.serves changing.fresh.current
+      (subst (λ n. find (conflicts n other.host Access.Write) s.table.rows ≡ None) same free) in
       asks.own xid r seq e (by ∙ ap Some one) sq (subst (λ w. IsFresh s sender w seq) one changing.fresh) (changes ∙ ap Some same) base
 
   pub receive-alone : AsksNothing → LeftAlone (receive s sender next d)
@@ -147,30 +166,48 @@ module _ (s : Server) (sender next : ℕ) (d : Datagram) (who : Who) (file : ℕ
     putting_off_waiting = λ xid other r f clash want e by of w asking c own room. tt;
     putting_off_by_own = λ xid other r f want own e by of w asking c o evicting. tt;
     reading = λ xid other q block f body e asking there c. serves-alone other xid q block f body s.table None (reader-is other f None asking c);
-    reading_full = λ xid other q block want f body e asking there c own room. serves-alone other xid q block f body s.table None (reader-is other f (Some want) asking c);
-    reading_granted = λ xid other q block want f body row term e asking there c g. serves-alone other xid q block f body _ _ (reader-is other f (Some want) asking c);
+    reading_full =
+        λ xid other q block want f body e asking there c own room. serves-alone other xid q block f body s.table None
+        (reader-is other f (Some want) asking c);
+    reading_granted =
+        λ xid other q block want f body row term e asking there c g. serves-alone other xid q block f body _ _ (reader-is other f (Some want) asking c);
     leasing_full = λ xid other want f e asking c own room. leases-alone other xid f.id s.table None;
     leasing = λ xid other want f row term e asking c g. leases-alone other xid f.id _ _;
     declining = λ xid other seq r verdict e by sq fresh declined. commits-alone other seq xid r (decides s verdict) tt;
     putting_off_change = λ xid other seq r f clash e by sq changes base changing c. commits-alone other seq xid r _ tt;
     creating = λ xid other seq blocks name e fresh serves can. commits-alone other seq xid _ (creates s name blocks) tt;
-    writing_through = λ xid other seq block first last body f e changing below free. commits-alone other seq xid _ (writes_through s other f block first body) ((λ same. absurd (changer-is asks xid other seq _ f e refl refl refl refl changing free same)), tt);
-    storing = λ xid other seq block first last base body f row e changing below can. commits-alone other seq xid _ (stores s other f row block first last body) (
-      (λ same. writer-is s.table (served-table changing.serves) other (has-served changing.serves) (record {
-        row = row;
-        stands = subst (λ n. find_row n other.host s.table.rows ≡ Some row) same can.row_found;
-        holder = one-who row.who other (found-row f.id other.host s.table.rows row can.row_found).1 can.inc;
-        writes = can.writes;
-      })),
-      tt,
-    );
-    storing_recovering = λ xid other seq block first final base body f until heard last e fresh p found below boot rev. commits-alone other seq xid _ (stores_recovering s until last other f block first final body)
-        ((λ same. writer-is (standing s) stood other has (asks.pushers xid other seq block first final base body f (subst (λ n. d ≡ request xid (Request.Write other seq n block first final (Some base) body)) same e) fresh (subst (λ n. find_file n s.kept.files ≡ Some f) same found) boot rev)), tt);
-    resizing = λ xid other seq q blocks f e changing can free. commits-alone other seq xid _ (resizes s other q f blocks) ((λ same. changer-is asks xid other seq _ f e refl refl refl refl changing free same), tt);
-    removing = λ xid other seq q f e changing free. commits-alone other seq xid _ (removes s other q f) ((λ same. changer-is asks xid other seq _ f e refl refl refl refl changing free same), tt);
+    writing_through =
+        λ xid other seq block first last body f e changing below free. commits-alone other seq xid _ (writes_through s other f block first body)
+        ((λ same. absurd (changer-is asks xid other seq _ f e refl refl refl refl changing free same)), tt);
+    storing =
+        λ xid other seq block first last base body f row e changing below can. commits-alone other seq xid _ (stores s other f row block first last body) (
+          (λ same. writer-is s.table (served-table changing.serves) other (has-served changing.serves) (record {
+            row = row;
+            stands = subst (λ n. find_row n other.host s.table.rows ≡ Some row) same can.row_found;
+            holder = one-who row.who other (found-row f.id other.host s.table.rows row can.row_found).1 can.inc;
+            writes = can.writes;
+          })),
+          tt,
+        );
+    storing_recovering =
+        λ xid other seq block first final base body f until heard last e fresh p found below boot rev. commits-alone other seq xid _
+        (stores_recovering s until last other f block first final body) (
+          (λ same. writer-is (standing s) stood other has
+              (asks.pushers xid other seq block first final base body f
+              (subst (λ n. d ≡ request xid (Request.Write other seq n block first final (Some base) body)) same e) fresh
+              (subst (λ n. find_file n s.kept.files ≡ Some f) same found) boot rev)),
+          tt,
+        );
+    resizing =
+        λ xid other seq q blocks f e changing can free. commits-alone other seq xid _ (resizes s other q f blocks)
+        ((λ same. changer-is asks xid other seq _ f e refl refl refl refl changing free same), tt);
+    removing =
+        λ xid other seq q f e changing free. commits-alone other seq xid _ (removes s other q f)
+        ((λ same. changer-is asks xid other seq _ f e refl refl refl refl changing free same), tt);
   })
 
-  ended : (now : ℕ) (due : Row) → s.phase ≡ serving → find (is_due now) (end_reading now s.table.rows) ≡ Some due → HasWriting (standing (ends_writing (at_time s now) (end_reading now s.table.rows) due).server) who file → due.file ≡ file → ⊥
+  ended : (now : ℕ) (due : Row) → s.phase ≡ serving → find (is_due now) (end_reading now s.table.rows) ≡ Some due
+      → HasWriting (standing (ends_writing (at_time s now) (end_reading now s.table.rows) due).server) who file → due.file ≡ file → ⊥
   unfolding ends_writing at_time keeping_with with_rows
   ended now due p ends after at = case (due.who.host == who.host) refl
     where
@@ -181,23 +218,31 @@ module _ (s : Server) (sender next : ℕ) (d : Datagram) (who : Who) (file : ℕ
       unique = unique-filtered (λ r. not (is_over now r)) s.table.rows table.unique
 
       found : find_row due.file due.who.host s.table.rows ≡ Some due
-      found = (found-kept (λ r. not (is_over now r)) due.file due.who.host s.table.rows due table.unique (found-any (is_due now) (end_reading now s.table.rows) due unique ends)).0
+      found =
+          (found-kept (λ r. not (is_over now r)) due.file due.who.host s.table.rows due table.unique
+          (found-any (is_due now) (end_reading now s.table.rows) due unique ends)).0
 
       writes : is_writing due.mode ≡ true
       writes = (and_parts _ _ (find-passes (is_due now) due (end_reading now s.table.rows) ends)).0
 
       stands : find_row file who.host (drop_row due.file due.who.host (end_reading now s.table.rows)) ≡ Some after.row
-      stands = subst (λ q. find_row file who.host (standing_in q (with_rows s.table (drop_row due.file due.who.host (end_reading now s.table.rows)))).rows ≡ Some after.row) p after.stands
+      stands =
+          subst (λ q. find_row file who.host
+          (standing_in q (with_rows s.table (drop_row due.file due.who.host (end_reading now s.table.rows)))).rows ≡ Some after.row) p after.stands
 
       case : (b : Bool) → (due.who.host == who.host) ≡ b → ⊥
       case true e =
           let host : due.who.host ≡ who.host = same-number _ _ e in
-          let gone : find_row file who.host (drop_row due.file due.who.host (end_reading now s.table.rows)) ≡ None = subst (λ n. find_row n who.host (drop_row due.file due.who.host (end_reading now s.table.rows)) ≡ None) at (subst (λ n. find_row due.file n (drop_row due.file due.who.host (end_reading now s.table.rows)) ≡ None) host (find-row-dropped due.file due.who.host (end_reading now s.table.rows))) in
+          let gone : find_row file who.host (drop_row due.file due.who.host (end_reading now s.table.rows)) ≡ None = subst
+          (λ n. find_row n who.host (drop_row due.file due.who.host (end_reading now s.table.rows)) ≡ None) at
+          (subst (λ n. find_row due.file n (drop_row due.file due.who.host (end_reading now s.table.rows)) ≡ None) host
+          (find-row-dropped due.file due.who.host (end_reading now s.table.rows))) in
           none-some after.row (sym gone ∙ stands)
       case false e =
           let h = has-served p in
           let here : find_row file due.who.host s.table.rows ≡ Some due = subst (λ n. find_row n due.who.host s.table.rows ≡ Some due) at found in
-          let free = table.alone file who.host due.who.host h.row due h.stands here (λ same. let yes : (due.who.host == who.host) ≡ true = number-same _ _ same in absurd (cc)) h.writes in
+          let free = table.alone file who.host due.who.host h.row due h.stands here
+          (λ same. let yes : (due.who.host == who.host) ≡ true = number-same _ _ same in absurd (cc)) h.writes in
           none-caches due.mode writes free
 
   -- a tick of the server's clock, after which the row stands still

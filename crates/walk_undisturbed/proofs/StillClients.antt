@@ -24,7 +24,7 @@ use Rattle.nq_promises.specs.OneRequestPerSequence.{IsOpenRequest, IsUnderWay}
 use Rattle.walk_run.proofs.RunCases.{OfClients, clients-after}
 use Rattle.walk_run.proofs.Mail.{other-asked}
 use Rattle.walk_run.proofs.Packets.{In, in-append, Asked, message-same, call-same}
-use Rattle.walk_run.proofs.Worlds.{get-set-other, set-there}
+use Rattle.walk_run.proofs.Worlds.{set-there}
 use Rattle.walk_server.proofs.Incarnations.{one-who}
 use Rattle.walk_server.proofs.Rows.{same-number, number-same}
 use Rattle.walk_undisturbed.proofs.Accesses.{Accesses}
@@ -46,14 +46,23 @@ in-place (y ∷ xs) x (inr h) = let k = in-place xs x h in (suc k.0, k.1)
 
 -- ---- what stands behind an entry
 
-behind-of : (line : HostRow) (c : Client) (ps : List Packet) (journal : List Entry) → WritesFit line c ps journal → (p : Push) → IsEntry c p → IsBehind c.who journal p
+behind-of : (line : HostRow) (c : Client) (ps : List Packet) (journal : List Entry) → WritesFit line c ps journal → (p : Push) → IsEntry c p
+    → IsBehind c.who journal p
 behind-of line c ps journal f p (inl i) = (f.list.listed p i).behind
-behind-of line c ps journal f p (inr e) = let k = f.under_way p e in let n = push-sequence k.request.request p k.pushes in (f.pushed p k.request n.0 e k.asks n.1).behind
+behind-of line c ps journal f p (inr e) =
+    let k = f.under_way p e in let n = push-sequence k.request.request p k.pushes in (f.pushed p k.request n.0 e k.asks n.1).behind
 
 -- ---- a push of the running incarnation that is not fenced is the push under way, of a chained file
 
-pub running-sent : (hosts most : ℕ) (w : World) (events : List Event) → KnownOf hosts most w events → (host : ℕ) (c : Client) → slice_get w.clients host ≡ Some c → c.who.host ≡ host → ((p : Push) → IsEntry c p → IsClear w.journal c.who p.file p.block p.first p.last → (l : Lease) (row : Row) → lease_on p.file c.leases ≡ Some l → IsChained (standing w.server) c.who p.file l.tag row → IsUndisturbed c.who p.file p.block p.first w.journal) → (x n file block first last : ℕ) (base : PushBase) (body : List ℕ) → Asked w.packets c.who.host x (Request.Write c.who n file block first last (Some base) body) → c.who.inc ≡ (host_row w.server.kept c.who.host).inc → (host_row w.server.kept c.who.host).seq < n → (IsFenced w.server.kept file base.boot base.base → ⊥) → IsUndisturbed c.who file block first w.journal
-running-sent hosts most w events k host c is here unsaved x n file block first last base body asked inc above free = by (k.opens.under_way host place.0 x c r n is opened)
+pub running-sent : (hosts most : ℕ) (w : World) (events : List Event) → KnownOf hosts most w events → (host : ℕ) (c : Client)
+    → slice_get w.clients host ≡ Some c → c.who.host ≡ host
+    → ((p : Push) → IsEntry c p → IsClear w.journal c.who p.file p.block p.first p.last → (l : Lease) (row : Row) → lease_on p.file c.leases ≡ Some l
+    → IsChained (standing w.server) c.who p.file l.tag row → IsUndisturbed c.who p.file p.block p.first w.journal)
+    → (x n file block first last : ℕ) (base : PushBase) (body : List ℕ)
+    → Asked w.packets c.who.host x (Request.Write c.who n file block first last (Some base) body) → c.who.inc ≡ (host_row w.server.kept c.who.host).inc
+    → (host_row w.server.kept c.who.host).seq < n → (IsFenced w.server.kept file base.boot base.base → ⊥) → IsUndisturbed c.who file block first w.journal
+running-sent hosts most w events k host c is here unsaved x n file block first last base body asked inc above free = by
+    (k.opens.under_way host place.0 x c r n is opened)
   where
     r : Request
     r = Request.Write c.who n file block first last (Some base) body
@@ -90,7 +99,10 @@ running-sent hosts most w events k host c is here unsaved x n file block first l
         chained entry q.lease q.held q.boot q.rev (f.writes.bound file q.lease (unclean-entry c p entry) q.held)
       where
         undone : done_at w.server.kept c.who c.ticket file ≡ false
-        undone = ap (has_done_write (host_row w.server.kept c.who.host) c.who.inc file) u.has ∙ ap (has_done (host_row w.server.kept c.who.host) c.who.inc file) u.request ∙ later (file == file) ((host_row w.server.kept c.who.host).inc == c.who.inc) ((host_row w.server.kept c.who.host).seq == n) (grind arith)
+        undone =
+            ap (has_done_write (host_row w.server.kept c.who.host) c.who.inc file) u.has
+            ∙ ap (has_done (host_row w.server.kept c.who.host) c.who.inc file) u.request
+            ∙ later (file == file) ((host_row w.server.kept c.who.host).inc == c.who.inc) ((host_row w.server.kept c.who.host).seq == n) (grind arith)
           where
             later : (a b d : Bool) → d ≡ false → (a && b && d && is_done (host_row w.server.kept c.who.host).verdict) ≡ false
             later true true false e = refl
@@ -98,11 +110,17 @@ running-sent hosts most w events k host c is here unsaved x n file block first l
             later false b d e = refl
             later true true true e = absurd (cc)
 
-        chained : IsEntry c p → (l : Lease) → lease_on file c.leases ≡ Some l → base.boot ≡ l.tag.boot → base.base ≡ rev_at c.revisions file → IsBoundOrFenced (standing w.server) w.server.kept c.who file l.tag (due (done_at w.server.kept c.who c.ticket file) (rev_at c.revisions file)) → IsUndisturbed c.who file block first w.journal
+        chained : IsEntry c p → (l : Lease) → lease_on file c.leases ≡ Some l → base.boot ≡ l.tag.boot → base.base ≡ rev_at c.revisions file
+            → IsBoundOrFenced (standing w.server) w.server.kept c.who file l.tag
+            (due (done_at w.server.kept c.who c.ticket file) (rev_at c.revisions file)) → IsUndisturbed c.who file block first w.journal
         chained entry l held boot rev (bound row z) = unsaved p entry clear l row held z
         chained entry l held boot rev (fenced (gone none)) = absurd (free (gone none))
         chained entry l held boot rev (fenced (earlier below)) = absurd (free (earlier (omega arith)))
-        chained entry l held boot rev (fenced (ahead g found more)) = absurd (free (ahead g found (let less : due false (rev_at c.revisions file) < g.rev = subst (λ b. due b (rev_at c.revisions file) < g.rev) undone more in omega arith)))
+        chained entry l held boot rev (fenced (ahead g found more)) =
+            absurd
+            (free
+            (ahead g found (let less : due false (rev_at c.revisions file) < g.rev = subst (λ b. due b (rev_at c.revisions file) < g.rev) undone more in
+            omega arith)))
 
 -- ---- the step
 
@@ -119,18 +137,11 @@ pub record Stepped (hosts most : ℕ) (w : World) (e : Event) (events : List Eve
   pub own : AllOwn c.who t
   pub follows : (q : Push) (lease : Lease) → IsEntry c q → lease_on q.file c.leases ≡ Some lease → Follows c q lease.tag (Takes c w.packets q) t
 
-module _ (hosts most : ℕ) (w : World) (e : Event) (events : List Event) (host : ℕ) (c : Client) (t : ClientStep) (z : Stepped hosts most w e events host c t) (g : OfClients F w) where
+module _ (hosts most : ℕ) (w : World) (e : Event) (events : List Event) (host : ℕ) (c : Client) (t : ClientStep)
+    (z : Stepped hosts most w e events host c t) (g : OfClients F w) where
   own-is : slice_get (after_client w host t).clients host ≡ Some t.client
   unfolding after_client
   own-is = set-there w.clients host t.client c z.is
-
-  other-is : (other : ℕ) (d : Client) → other ≢ host → slice_get w.clients other ≡ Some d → slice_get (after_client w host t).clients other ≡ Some d
-  unfolding after_client
-  other-is other d apart there = get-set-other w.clients host other t.client apart ∙ there
-
-  server-same : (after_client w host t).server ≡ w.server
-  unfolding after_client
-  server-same = refl
 
   -- what was read and written in the step
   leaves : (who : Who) (file : ℕ) → HasWriting (standing w.server) who file → Each (LeavesAlone who file) t.entries
@@ -138,13 +149,18 @@ module _ (hosts most : ℕ) (w : World) (e : Event) (events : List Event) (host 
   leaves who file h = step-leaves hosts most (after_client w host t) (e ∷ events) z.after host t own-is c.who z.who z.accesses who file h
 
   -- the entries of the client that stepped
-  own-entries : (p : Push) → IsEntry t.client p → IsClear (t.entries ++ w.journal) t.client.who p.file p.block p.first p.last → (l : Lease) (row : Row) → lease_on p.file t.client.leases ≡ Some l → IsChained (standing w.server) t.client.who p.file l.tag row → IsUndisturbed t.client.who p.file p.block p.first (t.entries ++ w.journal)
+  own-entries : (p : Push) → IsEntry t.client p → IsClear (t.entries ++ w.journal) t.client.who p.file p.block p.first p.last → (l : Lease) (row : Row)
+      → lease_on p.file t.client.leases ≡ Some l → IsChained (standing w.server) t.client.who p.file l.tag row
+      → IsUndisturbed t.client.who p.file p.block p.first (t.entries ++ w.journal)
   unfolding after_client
   own-entries p entry clear l row held chained =
-      let b : IsBehind t.client.who (t.entries ++ w.journal) p = behind-of (host_row w.server.kept host) t.client (w.packets ++ map (from_host host) t.sends) (t.entries ++ w.journal) (z.after.writes host t.client own-is) p entry in
-      let has : HasWriting (standing w.server) t.client.who p.file = chained-writes w.server t.client (w.packets ++ map (from_host host) t.sends) (z.after.chains host t.client own-is) p entry l row held chained in
+      let b : IsBehind t.client.who (t.entries ++ w.journal) p = behind-of (host_row w.server.kept host) t.client
+      (w.packets ++ map (from_host host) t.sends) (t.entries ++ w.journal) (z.after.writes host t.client own-is) p entry in
+      let has : HasWriting (standing w.server) t.client.who p.file = chained-writes w.server t.client (w.packets ++ map (from_host host) t.sends)
+      (z.after.chains host t.client own-is) p entry l row held chained in
       subst (λ v. IsUndisturbed v p.file p.block p.first (t.entries ++ w.journal)) (sym z.who)
-      (own-unsaved w.server (host_row w.server.kept host) c w.packets w.journal (z.before.chains host c z.is) z.before.runs.served.stood z.before.runs.served.boots (z.before.writes host c z.is) z.before.journal.rising (g host c z.is).unsaved t z.accesses z.follows p b.first_there.0
+      (own-unsaved w.server (host_row w.server.kept host) c w.packets w.journal (z.before.chains host c z.is) z.before.runs.served.stood
+      z.before.runs.served.boots (z.before.writes host c z.is) z.before.journal.rising (g host c z.is).unsaved t z.accesses z.follows p b.first_there.0
       (subst (λ v. In (t.entries ++ w.journal) (W v p.file p.block p.first b.first_there.0 false)) z.who b.first_there.1) b.ordered
       (subst (λ v. IsClear (t.entries ++ w.journal) v p.file p.block p.first p.last) z.who clear)
       (leaves c.who p.file (subst (λ v. HasWriting (standing w.server) v p.file) z.who has)) l row held
@@ -154,16 +170,24 @@ module _ (hosts most : ℕ) (w : World) (e : Event) (events : List Event) (host 
   here-now = ap (λ v. v.host) z.who ∙ (z.before.holds.clients host c z.is).here
 
   -- a push of another incarnation of its host
-  other-sent : (x : ℕ) (v : Who) (n file block first last : ℕ) (base : PushBase) (body : List ℕ) → Asked w.packets c.who.host x (Request.Write v n file block first last (Some base) body) → v.host ≡ c.who.host → v.inc ≡ (host_row w.server.kept c.who.host).inc → (host_row w.server.kept c.who.host).seq < n → (IsFenced w.server.kept file base.boot base.base → ⊥) → IsUndisturbed v file block first (t.entries ++ w.journal)
+  other-sent : (x : ℕ) (v : Who) (n file block first last : ℕ) (base : PushBase) (body : List ℕ)
+      → Asked w.packets c.who.host x (Request.Write v n file block first last (Some base) body) → v.host ≡ c.who.host
+      → v.inc ≡ (host_row w.server.kept c.who.host).inc → (host_row w.server.kept c.who.host).seq < n
+      → (IsFenced w.server.kept file base.boot base.base → ⊥) → IsUndisturbed v file block first (t.entries ++ w.journal)
   other-sent x v n file block first last base body asked of inc above free =
       let here = (z.before.holds.clients host c z.is).here in
       undisturbed-more v file block first t.entries w.journal
-      (leaves v file (push-writes w.server host w.packets (z.before.pushes host c z.is) x v n file block first last base body (subst (λ h. Asked w.packets h x (Request.Write v n file block first last (Some base) body)) here asked) (of ∙ here) (subst (λ h. v.inc ≡ (host_row w.server.kept h).inc) here inc) (subst (λ h. (host_row w.server.kept h).seq < n) here above) free))
+      (leaves v file (push-writes w.server host w.packets (z.before.pushes host c z.is) x v n file block first last base body
+      (subst (λ h. Asked w.packets h x (Request.Write v n file block first last (Some base) body)) here asked) (of ∙ here)
+      (subst (λ h. v.inc ≡ (host_row w.server.kept h).inc) here inc) (subst (λ h. (host_row w.server.kept h).seq < n) here above) free))
       ((g host c z.is).sent x v n file block first last base body asked of inc above free)
 
   -- what a client asked before and now
-  was-asked : (x : ℕ) (r : Request) (v : Who) → asker r ≡ Some v → Asked (w.packets ++ map (from_host host) t.sends) t.client.who.host x r → (v.inc ≡ t.client.who.inc → ⊥) → v.host ≡ t.client.who.host → Asked w.packets c.who.host x r
-  was-asked x r v by asked apart at = subst (λ h. Asked w.packets h x r) (ap (λ u. u.host) z.who) (case (in-append w.packets (map (from_host host) t.sends) (from_host t.client.who.host (call x r)) asked))
+  was-asked : (x : ℕ) (r : Request) (v : Who) → asker r ≡ Some v → Asked (w.packets ++ map (from_host host) t.sends) t.client.who.host x r
+      → (v.inc ≡ t.client.who.inc → ⊥) → v.host ≡ t.client.who.host → Asked w.packets c.who.host x r
+  was-asked x r v by asked apart at =
+      subst (λ h. Asked w.packets h x r) (ap (λ u. u.host) z.who)
+      (case (in-append w.packets (map (from_host host) t.sends) (from_host t.client.who.host (call x r)) asked))
     where
       mine : (sends : List Message) → ((m : Message) → In sends m → IsBy c.who m) → In (map (from_host host) sends) (from_host t.client.who.host (call x r)) → ⊥
       mine [] all i = i
@@ -174,7 +198,8 @@ module _ (hosts most : ℕ) (w : World) (e : Event) (events : List Event) (host 
           let one : c.who ≡ v = some-same c.who v (sym b.by ∙ ap asker (call-same b.xid x b.asks r same).1 ∙ by) in
           apart (ap (λ u. u.inc) (sym one) ∙ ap (λ u. u.inc) (sym z.who))
 
-      case : In w.packets (from_host t.client.who.host (call x r)) ⊎ In (map (from_host host) t.sends) (from_host t.client.who.host (call x r)) → Asked w.packets t.client.who.host x r
+      case : In w.packets (from_host t.client.who.host (call x r)) ⊎ In (map (from_host host) t.sends) (from_host t.client.who.host (call x r))
+          → Asked w.packets t.client.who.host x r
       case (inl old) = old
       case (inr new) = absurd (mine t.sends z.own new)
 
@@ -182,22 +207,32 @@ module _ (hosts most : ℕ) (w : World) (e : Event) (events : List Event) (host 
   unfolding after_client
   own-fits = record {
     unsaved = own-entries;
-    sent = λ x v n file block first last base body asked of inc above free. case x v n file block first last base body asked of inc above free (v.inc == t.client.who.inc) refl;
+    sent =
+        λ x v n file block first last base body asked of inc above free. case x v n file block first last base body asked of inc above free
+        (v.inc == t.client.who.inc) refl;
   } where
-    case : (x : ℕ) (v : Who) (n file block first last : ℕ) (base : PushBase) (body : List ℕ) → Asked (w.packets ++ map (from_host host) t.sends) t.client.who.host x (Request.Write v n file block first last (Some base) body) → v.host ≡ t.client.who.host → v.inc ≡ (host_row w.server.kept t.client.who.host).inc → (host_row w.server.kept t.client.who.host).seq < n → (IsFenced w.server.kept file base.boot base.base → ⊥) → (b : Bool) → (v.inc == t.client.who.inc) ≡ b → IsUndisturbed v file block first (t.entries ++ w.journal)
+    case : (x : ℕ) (v : Who) (n file block first last : ℕ) (base : PushBase) (body : List ℕ)
+        → Asked (w.packets ++ map (from_host host) t.sends) t.client.who.host x (Request.Write v n file block first last (Some base) body)
+        → v.host ≡ t.client.who.host → v.inc ≡ (host_row w.server.kept t.client.who.host).inc → (host_row w.server.kept t.client.who.host).seq < n
+        → (IsFenced w.server.kept file base.boot base.base → ⊥) → (b : Bool) → (v.inc == t.client.who.inc) ≡ b
+        → IsUndisturbed v file block first (t.entries ++ w.journal)
     case x v n file block first last base body asked of inc above free true now =
         let one : t.client.who ≡ v = one-who t.client.who v (sym of) (sym (same-number _ _ now)) in
         subst (λ u. IsUndisturbed u file block first (t.entries ++ w.journal)) one
         (running-sent hosts most (after_client w host t) (e ∷ events) z.after host t.client own-is here-now own-entries x n file block first last base body
-        (subst (λ u. Asked (w.packets ++ map (from_host host) t.sends) t.client.who.host x (Request.Write u n file block first last (Some base) body)) (sym one) asked)
+        (subst (λ u. Asked (w.packets ++ map (from_host host) t.sends) t.client.who.host x (Request.Write u n file block first last (Some base) body))
+        (sym one) asked)
         (subst (λ u. u.inc ≡ (host_row w.server.kept t.client.who.host).inc) (sym one) inc) above free)
     case x v n file block first last base body asked of inc above free false now =
         let same : t.client.who.host ≡ c.who.host = ap (λ u. u.host) z.who in
-        other-sent x v n file block first last base body (was-asked x (Request.Write v n file block first last (Some base) body) v refl asked (λ i. let yes : (v.inc == t.client.who.inc) ≡ true = number-same _ _ i in absurd (cc)) of)
+        other-sent x v n file block first last base body
+        (was-asked x (Request.Write v n file block first last (Some base) body) v refl asked
+        (λ i. let yes : (v.inc == t.client.who.inc) ≡ true = number-same _ _ i in absurd (cc)) of)
         (of ∙ same) (subst (λ h. v.inc ≡ (host_row w.server.kept h).inc) same inc) (subst (λ h. (host_row w.server.kept h).seq < n) same above) free
 
   -- the clients of other hosts
-  other-fits : (other : ℕ) (d : Client) → other ≢ host → slice_get w.clients other ≡ Some d → StillFits (after_client w host t).server d (after_client w host t).packets (after_client w host t).journal
+  other-fits : (other : ℕ) (d : Client) → other ≢ host → slice_get w.clients other ≡ Some d
+      → StillFits (after_client w host t).server d (after_client w host t).packets (after_client w host t).journal
   unfolding after_client
   other-fits other d apart there = record {
     unsaved = λ p entry clear l row held chained.
@@ -206,9 +241,12 @@ module _ (hosts most : ℕ) (w : World) (e : Event) (events : List Event) (host 
         ((g other d there).unsaved p entry (clear-less t.entries w.journal d.who p.file p.block p.first p.last clear) l row held chained);
     sent = λ x v n file block first last base body asked of inc above free.
         let here = (z.before.holds.clients other d there).here in
-        let old = other-asked w.packets host d.who.host t.sends x (Request.Write v n file block first last (Some base) body) (λ same. apart (sym here ∙ same)) asked in
+        let old = other-asked w.packets host d.who.host t.sends x (Request.Write v n file block first last (Some base) body)
+        (λ same. apart (sym here ∙ same)) asked in
         undisturbed-more v file block first t.entries w.journal
-        (leaves v file (push-writes w.server other w.packets (z.before.pushes other d there) x v n file block first last base body (subst (λ h. Asked w.packets h x (Request.Write v n file block first last (Some base) body)) here old) (of ∙ here) (subst (λ h. v.inc ≡ (host_row w.server.kept h).inc) here inc) (subst (λ h. (host_row w.server.kept h).seq < n) here above) free))
+        (leaves v file (push-writes w.server other w.packets (z.before.pushes other d there) x v n file block first last base body
+        (subst (λ h. Asked w.packets h x (Request.Write v n file block first last (Some base) body)) here old) (of ∙ here)
+        (subst (λ h. v.inc ≡ (host_row w.server.kept h).inc) here inc) (subst (λ h. (host_row w.server.kept h).seq < n) here above) free))
         ((g other d there).sent x v n file block first last base body old of inc above free);
   }
 

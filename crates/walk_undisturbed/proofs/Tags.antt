@@ -57,23 +57,31 @@ any-in file (y ∷ xs) x (inr h) of = more (is_push_of file y) (any-in file xs x
 -- a file of an entry is not clean, and all of it is lost where it is
 pub unclean-entry : (c : Client) (q : Push) → IsEntry c q → is_clean c q.file ≡ false
 unclean-entry c q (inl i) = let some : list_any (is_push_of q.file) c.dirty ≡ true = any-in q.file c.dirty q i refl in rw some refl
-unclean-entry c q (inr e) = let same : (q.file == q.file) ≡ true = number-same q.file q.file refl in both (list_any (is_push_of q.file) c.dirty) (ap (push_passes (is_push_of q.file)) e ∙ same)
+unclean-entry c q (inr e) =
+    let same : (q.file == q.file) ≡ true = number-same q.file q.file refl in
+    both (list_any (is_push_of q.file) c.dirty) (ap (push_passes (is_push_of q.file)) e ∙ same)
   where
     both : (b : Bool) → push_passes (is_push_of q.file) c.push ≡ true → (not b && not (push_passes (is_push_of q.file) c.push)) ≡ false
     both true p = refl
     both false p = rw p refl
 
 in-all : (c : Client) (q : Push) → IsEntry c q → In (all_dirty c q.file) q
-in-all c q (inl i) = in-right (push_of q.file c.push) (filter (is_push_of q.file) c.dirty) q (filter-in (is_push_of q.file) c.dirty q (number-same q.file q.file refl) i)
-in-all c q (inr e) = in-left (push_of q.file c.push) (filter (is_push_of q.file) c.dirty) q (subst (λ o. In (push_of q.file o) q) (sym e) (let same : (q.file == q.file) ≡ true = number-same q.file q.file refl in rw same (inl refl)))
+in-all c q (inl i) =
+    in-right (push_of q.file c.push) (filter (is_push_of q.file) c.dirty) q (filter-in (is_push_of q.file) c.dirty q (number-same q.file q.file refl) i)
+in-all c q (inr e) =
+    in-left (push_of q.file c.push) (filter (is_push_of q.file) c.dirty) q
+    (subst (λ o. In (push_of q.file o) q) (sym e) (let same : (q.file == q.file) ≡ true = number-same q.file q.file refl in rw same (inl refl)))
 
-entry-lost : (t : ClientStep) (c : Client) (q : Push) (file : ℕ) → t.client.who ≡ c.who → t.client.dirty ≡ c.dirty → t.client.push ≡ c.push → q.file ≡ file → IsEntry c q → In (loses t file).entries (L c.who q.file q.block q.first q.last)
+entry-lost : (t : ClientStep) (c : Client) (q : Push) (file : ℕ) → t.client.who ≡ c.who → t.client.dirty ≡ c.dirty → t.client.push ≡ c.push
+    → q.file ≡ file → IsEntry c q → In (loses t file).entries (L c.who q.file q.block q.first q.last)
 unfolding loses
 entry-lost t c q file who dirty push of i =
     let here : IsEntry t.client q = moved i in
     let all : In (all_dirty t.client file) q = subst (λ f. In (all_dirty t.client f) q) of (in-all t.client q here) in
     subst (λ w. In (loses t file).entries (L w q.file q.block q.first q.last)) who
-    (in-left (reverse (map (loss_entry t.client.who) (all_dirty t.client file))) t.entries (loss_entry t.client.who q) (reverse-in (map (loss_entry t.client.who) (all_dirty t.client file)) (loss_entry t.client.who q) (map-in (loss_entry t.client.who) (all_dirty t.client file) q all)))
+    (in-left (reverse (map (loss_entry t.client.who) (all_dirty t.client file))) t.entries (loss_entry t.client.who q)
+    (reverse-in (map (loss_entry t.client.who) (all_dirty t.client file)) (loss_entry t.client.who q)
+    (map-in (loss_entry t.client.who) (all_dirty t.client file) q all)))
   where
     moved : IsEntry c q → IsEntry t.client q
     moved (inl k) = inl (subst (λ d. In d q) (sym dirty) k)
@@ -88,7 +96,10 @@ unfolding vacates_lease
 vacated-in t file tag e i = i
 
 broken-in : (t : ClientStep) (file : ℕ) (e : Entry) → In (loses t file).entries e → In (breaks_chain t file).entries e
-broken-in t file e i = reported (vacates_noticed (loses t file) file (notice_on file t.client.notices)) (vacates-noticed-cases (loses t file) file (notice_on file t.client.notices) (λ s. In s.entries e) (λ n. i) (λ n f. vacated-in (loses t file) file n.tag e i))
+broken-in t file e i =
+    reported (vacates_noticed (loses t file) file (notice_on file t.client.notices))
+    (vacates-noticed-cases (loses t file) file (notice_on file t.client.notices) (λ s. In s.entries e) (λ n. i)
+    (λ n f. vacated-in (loses t file) file n.tag e i))
   where
     reported : (s : ClientStep) → In s.entries e → In (reports s file).entries e
     reported s j = reports-cases s file (λ z. In z.entries e) (λ f. j) (λ u f g. j) (λ u f g. named-in s u.q file e j)
@@ -124,11 +135,24 @@ module _ (c : Client) (q : Push) (tag : Tag) (Brings : Grant → Type 0) where
   plainly : (t s : ClientStep) (more : List Entry) → s.entries ≡ more ++ t.entries → s.client.leases ≡ t.client.leases → GoesOn q.file t s
   plainly t s more notes same = record { more = more; notes = notes; leases = λ l e. (l, ap (lease_on q.file) (sym same) ∙ e, refl) }
 
-  droppingly : (t s : ClientStep) (f : ℕ) (more : List Entry) → s.entries ≡ more ++ t.entries → s.client.leases ≡ drop_lease f t.client.leases → GoesOn q.file t s
-  droppingly t s f more notes same = record { more = more; notes = notes; leases = λ l e. (l, (lease-before-drop f q.file t.client.leases l (ap (lease_on q.file) (sym same) ∙ e)).1, refl) }
+  droppingly : (t s : ClientStep) (f : ℕ) (more : List Entry) → s.entries ≡ more ++ t.entries → s.client.leases ≡ drop_lease f t.client.leases
+      → GoesOn q.file t s
+  droppingly t s f more notes same =
+      record {
+        more = more;
+        notes = notes;
+        leases = λ l e.
+            (l, (lease-before-drop f q.file t.client.leases l (ap (lease_on q.file) (sym same) ∙ e)).1, refl);
+      }
 
   usingly : (t s : ClientStep) (f : ℕ) (more : List Entry) → s.entries ≡ more ++ t.entries → s.client.leases ≡ used_lease f t.client.leases → GoesOn q.file t s
-  usingly t s f more notes same = record { more = more; notes = notes; leases = λ l e. let m = marked-before q.file f t.client.leases l (ap (lease_on q.file) (sym same) ∙ e) in (m.before, m.found, ap (λ z. z.tag) m.same ∙ marked-tag f m.before) }
+  usingly t s f more notes same =
+      record {
+        more = more;
+        notes = notes;
+        leases = λ l e. let m = marked-before q.file f t.client.leases l (ap (lease_on q.file) (sym same) ∙ e) in
+            (m.before, m.found, ap (λ z. z.tag) m.same ∙ marked-tag f m.before);
+      }
 
   go-answers : (t : ClientStep) (n : ℕ) (a : Answer) (by : Option ℕ) → Follows t → Follows (answers t n a by)
   unfolding answers
@@ -150,9 +174,6 @@ module _ (c : Client) (q : Push) (tag : Tag) (Brings : Grant → Type 0) where
   unfolding vacates_lease
   go-vacates t file g h = go t (vacates_lease t file g) (droppingly t (vacates_lease t file g) file [] refl refl) h
 
-  go-noticed : (t : ClientStep) (file : ℕ) → Follows t → Follows (vacates_noticed t file (notice_on file t.client.notices))
-  go-noticed t file h = vacates-noticed-cases t file (notice_on file t.client.notices) Follows (λ e. h) (λ n e. go-vacates t file n.tag h)
-
   go-reports : (t : ClientStep) (file : ℕ) → Follows t → Follows (reports t file)
   go-reports t file h = reports-cases t file Follows (λ e. h) (λ u e f. h) (λ u e f. go-names t u.q file h)
 
@@ -160,10 +181,13 @@ module _ (c : Client) (q : Push) (tag : Tag) (Brings : Grant → Type 0) where
   unfolding without_lease vacates_lease loses
   go-refused t file h =
       let a : Follows (without_lease (loses t file) file) = go-without (loses t file) file (go-loses t file h) in
-      go-reports _ file (vacates-noticed-cases (without_lease (loses t file) file) file (notice_on file t.client.notices) Follows (λ e. a) (λ n e. go-vacates (without_lease (loses t file) file) file n.tag a))
+      go-reports _ file (vacates-noticed-cases (without_lease (loses t file) file) file (notice_on file t.client.notices) Follows (λ e. a)
+      (λ n e. go-vacates (without_lease (loses t file) file) file n.tag a))
 
   go-breaks : (t : ClientStep) (file : ℕ) → Follows (loses t file) → Follows (breaks_chain t file)
-  go-breaks t file a = go-reports _ file (vacates-noticed-cases (loses t file) file (notice_on file t.client.notices) Follows (λ e. a) (λ n e. go-vacates (loses t file) file n.tag a))
+  go-breaks t file a =
+      go-reports _ file (vacates-noticed-cases (loses t file) file (notice_on file t.client.notices) Follows (λ e. a)
+      (λ n e. go-vacates (loses t file) file n.tag a))
 
   go-call : (t : ClientStep) (a : Answer) (by : Option ℕ) → Follows t → Follows (answers_call t a by)
   go-call t a by h = answers-call-cases t a by Follows (λ e. h) (λ u e. go-answers t u.q a by h)
@@ -198,19 +222,20 @@ module _ (c : Client) (q : Push) (tag : Tag) (Brings : Grant → Type 0) where
 
   go-holds-other : (t : ClientStep) (file : ℕ) (g : Grant) (sent : ℕ) → (q.file ≡ file → ⊥) → Follows t → Follows (holds t file g sent)
   unfolding holds granted_lease
-  go-holds-other t file g sent apart h = go t (holds t file g sent) (record { more = []; notes = refl; leases = λ l e. case l (lease-after-put (granted_lease file g sent) q.file t.client.leases l e) }) h
+  go-holds-other t file g sent apart h =
+      go t (holds t file g sent) (record
+      { more = []; notes = refl; leases = λ l e. case l (lease-after-put (granted_lease file g sent) q.file t.client.leases l e) }) h
     where
-      case : (l : Lease) → ((q.file ≡ file) × (l ≡ granted_lease file g sent)) ⊎ ((q.file ≢ file) × (lease_on q.file t.client.leases ≡ Some l)) → (m : Lease) × (lease_on q.file t.client.leases ≡ Some m) × (l.tag ≡ m.tag)
+      case : (l : Lease) → ((q.file ≡ file) × (l ≡ granted_lease file g sent)) ⊎ ((q.file ≢ file) × (lease_on q.file t.client.leases ≡ Some l))
+          → (m : Lease) × (lease_on q.file t.client.leases ≡ Some m) × (l.tag ≡ m.tag)
       case l (inl k) = absurd (apart k.0)
       case l (inr k) = (l, k.1, refl)
 
-  go-holds-lost : (t : ClientStep) (file : ℕ) (g : Grant) (sent : ℕ) → In t.entries (L c.who q.file q.block q.first q.last) → Follows (holds t file g sent)
-  unfolding holds
-  go-holds-lost t file g sent i = lost i
-
   go-holds-own : (t : ClientStep) (file : ℕ) (g : Grant) (sent : ℕ) → q.file ≡ file → Brings g → tag_below tag g.since ≡ false → Follows (holds t file g sent)
   unfolding holds granted_lease
-  go-holds-own t file g sent of brings whole = granted (record { g = g; brings = brings; whole = whole; has = λ l e. case l (lease-after-put (granted_lease file g sent) q.file t.client.leases l e) })
+  go-holds-own t file g sent of brings whole =
+      granted
+      (record { g = g; brings = brings; whole = whole; has = λ l e. case l (lease-after-put (granted_lease file g sent) q.file t.client.leases l e) })
     where
       case : (l : Lease) → ((q.file ≡ file) × (l ≡ granted_lease file g sent)) ⊎ ((q.file ≢ file) × (lease_on q.file t.client.leases ≡ Some l)) → l.tag ≡ g.tag
       case l (inl k) = ap (λ z. z.tag) k.1
@@ -219,11 +244,13 @@ module _ (c : Client) (q : Push) (tag : Tag) (Brings : Grant → Type 0) where
   -- ---- grants
 
   module _ (lease : Lease) (held : lease_on q.file c.leases ≡ Some lease) (tagged : lease.tag ≡ tag) (entry : IsEntry c q) where
-    go-broken : (t : ClientStep) (file : ℕ) (g : Grant) (sent : ℕ) → t.client.who ≡ c.who → t.client.dirty ≡ c.dirty → t.client.push ≡ c.push → t.client.leases ≡ c.leases → q.file ≡ file → Brings g → Follows t → Follows (takes_grant t file g sent)
+    go-broken : (t : ClientStep) (file : ℕ) (g : Grant) (sent : ℕ) → t.client.who ≡ c.who → t.client.dirty ≡ c.dirty → t.client.push ≡ c.push
+        → t.client.leases ≡ c.leases → q.file ≡ file → Brings g → Follows t → Follows (takes_grant t file g sent)
     go-broken t file g sent who dirty push leases of brings h =
         if-broken-cases t file g (λ s. Follows (holds s file g sent))
         (λ whole. go-holds-own t file g sent of brings (unbroken whole))
-        (λ other e broken unclean. lost (holds-in (breaks_chain t file) file g sent mine (broken-in t file mine (entry-lost t c q file who dirty push of entry))))
+        (λ other e broken unclean. lost
+        (holds-in (breaks_chain t file) file g sent mine (broken-in t file mine (entry-lost t c q file who dirty push of entry))))
       where
         same-lease : lease_on file t.client.leases ≡ Some lease
         same-lease = subst (λ f. lease_on f t.client.leases ≡ Some lease) of (ap (lease_on q.file) leases ∙ held)
@@ -236,7 +263,9 @@ module _ (c : Client) (q : Push) (tag : Tag) (Brings : Grant → Type 0) where
             moved (inr e) = inr (push ∙ e)
 
         unbroken : (breaks g (lease_on file t.client.leases) && not (is_clean t.client file)) ≡ false → tag_below tag g.since ≡ false
-        unbroken e = subst (λ z. tag_below z g.since ≡ false) tagged (case (tag_below lease.tag g.since) (ap (λ o. breaks g o && not (is_clean t.client file)) (sym same-lease) ∙ e))
+        unbroken e =
+            subst (λ z. tag_below z g.since ≡ false) tagged
+            (case (tag_below lease.tag g.since) (ap (λ o. breaks g o && not (is_clean t.client file)) (sym same-lease) ∙ e))
           where
             case : (b : Bool) → (b && not (is_clean t.client file)) ≡ false → b ≡ false
             case false e = refl
@@ -254,10 +283,13 @@ module _ (c : Client) (q : Push) (tag : Tag) (Brings : Grant → Type 0) where
       pub entries : t.entries ≡ []
 
     start : (t : ClientStep) → t.client.leases ≡ c.leases → Follows t
-    start t leases = keeps_tag (λ l e. let one : lease ≡ l = some-same lease l (sym held ∙ ap (lease_on q.file) (sym leases) ∙ e) in ap (λ z. z.tag) (sym one) ∙ tagged)
+    start t leases =
+        keeps_tag (λ l e. let one : lease ≡ l = some-same lease l (sym held ∙ ap (lease_on q.file) (sym leases) ∙ e) in ap (λ z. z.tag) (sym one) ∙ tagged)
 
     go-other : (t : ClientStep) (file : ℕ) (g : Grant) (sent : ℕ) → (q.file ≡ file → ⊥) → Follows t → Follows (takes_grant t file g sent)
-    go-other t file g sent apart h = if-broken-cases t file g (λ s. Follows (holds s file g sent)) (λ e. go-holds-other t file g sent apart h) (λ other e broken unclean. go-holds-other (breaks_chain t file) file g sent apart (go-breaks t file (go-loses t file h)))
+    go-other t file g sent apart h =
+        if-broken-cases t file g (λ s. Follows (holds s file g sent)) (λ e. go-holds-other t file g sent apart h)
+        (λ other e broken unclean. go-holds-other (breaks_chain t file) file g sent apart (go-breaks t file (go-loses t file h)))
 
     go-takes : (t : ClientStep) (file : ℕ) (g : Grant) (sent : ℕ) → IsSpent t → (q.file ≡ file → Brings g) → Follows (takes_grant t file g sent)
     go-takes t file g sent k brings = case (q.file == file) refl
@@ -266,7 +298,8 @@ module _ (c : Client) (q : Push) (tag : Tag) (Brings : Grant → Type 0) where
         case true e = let of = same-number q.file file e in go-broken t file g sent k.who k.dirty k.push k.leases of (brings of) (start t k.leases)
         case false e = go-other t file g sent (is-other q.file file e) (start t k.leases)
 
-    go-optional : (t : ClientStep) (file : ℕ) (o : Option Grant) (sent : ℕ) → IsSpent t → ((g : Grant) → o ≡ Some g → q.file ≡ file → Brings g) → Follows (takes_optional t file o sent)
+    go-optional : (t : ClientStep) (file : ℕ) (o : Option Grant) (sent : ℕ) → IsSpent t → ((g : Grant) → o ≡ Some g → q.file ≡ file → Brings g)
+        → Follows (takes_optional t file o sent)
     go-optional t file o sent k brings = takes-optional-cases t file o sent Follows (λ e. start t k.leases) (λ g e. go-takes t file g sent k (brings g e))
 
     spent : IsSpent (spends (begun c))
@@ -274,20 +307,28 @@ module _ (c : Client) (q : Push) (tag : Tag) (Brings : Grant → Type 0) where
     spent = record { who = refl; dirty = refl; push = refl; leases = refl; entries = refl }
 
     -- what a reply does
-    go-replied : (number : ℕ) (ticket : Ticket) (r : Reply) → fits_job ticket.job ticket.request ≡ true → reply_counts r ticket ≡ true → ((g : Grant) → grant_in r ≡ Some g → requested_file ticket.request ≡ Some q.file → Brings g) → Follows (replied (begun c) number ticket r)
+    go-replied : (number : ℕ) (ticket : Ticket) (r : Reply) → fits_job ticket.job ticket.request ≡ true → reply_counts r ticket ≡ true
+        → ((g : Grant) → grant_in r ≡ Some g → requested_file ticket.request ≡ Some q.file → Brings g) → Follows (replied (begun c) number ticket r)
     go-replied number ticket r fits counts brings = replied-cases c number ticket r Follows fits counts (record {
       attaching = λ who inc job asks is. go-attached _ h;
       named = λ answer job is. go-call _ answer None h;
       reading = λ who n file block want inc rev body grant of is.
-          let a : Follows (takes_optional t file grant ticket.first) = go-optional t file grant ticket.first spent (λ g e same. brings g (ap grant_in is ∙ e) (ap requested_file of.asks ∙ ap Some (sym same))) in
-          go-call _ _ (Some number) (then-caches-cases (takes_optional t file grant ticket.first) file block body grant Follows (λ e. go-caches (takes_optional t file grant ticket.first) file block body a) (λ e. a));
+          let a : Follows (takes_optional t file grant ticket.first) = go-optional t file grant ticket.first spent
+          (λ g e same. brings g (ap grant_in is ∙ e) (ap requested_file of.asks ∙ ap Some (sym same))) in
+          go-call _ _ (Some number) (then-caches-cases (takes_optional t file grant ticket.first) file block body grant Follows
+          (λ e. go-caches (takes_optional t file grant ticket.first) file block body a) (λ e. a));
       leasing = λ who file want inc grant of is.
-          let a : Follows (takes_optional t file grant ticket.first) = go-optional t file grant ticket.first spent (λ g e same. brings g (ap grant_in is ∙ e) (ap requested_file of.asks ∙ ap Some (sym same))) in
+          let a : Follows (takes_optional t file grant ticket.first) = go-optional t file grant ticket.first spent
+          (λ g e same. brings g (ap grant_in is ∙ e) (ap requested_file of.asks ∙ ap Some (sym same))) in
           lease-done-cases t file grant ticket.first Follows (λ e. a) (λ e. go-marks true (takes_optional t file grant ticket.first) a);
-      writing = λ who seq file block first last body inc rev of is. go-call _ _ None (go-knows _ file rev (caches-write-cases t file block body rev Follows (λ e f. go-caches t file block body h) (go-purges t file h)));
+      writing =
+          λ who seq file block first last body inc rev of is. go-call _ _ None
+          (go-knows _ file rev (caches-write-cases t file block body rev Follows (λ e f. go-caches t file block body h) (go-purges t file h)));
       resizing = λ who seq n file blocks inc rev of is. go-call _ _ None (go-knows t file rev h);
       removing = λ who seq n file inc of is. go-call _ _ None h;
-      renewing = λ who file want inc grant job asks is. go-optional t file grant ticket.first spent (λ g e same. brings g (ap grant_in is ∙ e) (ap requested_file asks ∙ ap Some (sym same)));
+      renewing =
+          λ who file want inc grant job asks is. go-optional t file grant ticket.first spent
+          (λ g e same. brings g (ap grant_in is ∙ e) (ap requested_file asks ∙ ap Some (sym same)));
       pushed = λ who seq file block first last base body inc rev job asks is.
           let s : ClientStep = knows_revision (ends_push t) file rev in
           let a : Follows s = go-knows (ends_push t) file rev (go-ends t h) in
@@ -310,12 +351,18 @@ module _ (c : Client) (q : Push) (tag : Tag) (Brings : Grant → Type 0) where
       idle = λ e. h;
       asking = λ u e f. h;
       read_out = λ u file block lease is r can out. go-answers t u.q Answer.Range None h;
-      reading = λ u file block lease body is r can within has. go t (reads_cached t u file block body) (usingly t (reads_cached t u file block body) file (_ ∷ _ ∷ []) refl refl) h;
+      reading =
+          λ u file block lease body is r can within has. go t (reads_cached t u file block body)
+          (usingly t (reads_cached t u file block body) file (_ ∷ _ ∷ []) refl refl) h;
       read_waits = λ u file block is r waits. h;
       write_out = λ u sync file block body lease is w can out. go-answers t u.q Answer.Range None h;
       write_full = λ u sync file block body lease is w can within full. go-answers t u.q Answer.DirtyFull None h;
-      writing = λ u file block body lease is w can within room. let s : ClientStep = answers (delays t file block body) u.q (Answer.Ok Value.Nothing) None in go t s (usingly t s file (_ ∷ _ ∷ []) refl refl) h;
-      putting = λ u file block body lease is w unwritten can within room. let s : ClientStep = marks_written (delays t file block body) u in go t s (usingly t s file (_ ∷ []) refl refl) h;
+      writing =
+          λ u file block body lease is w can within room. let s : ClientStep = answers (delays t file block body) u.q (Answer.Ok Value.Nothing) None in
+          go t s (usingly t s file (_ ∷ _ ∷ []) refl refl) h;
+      putting =
+          λ u file block body lease is w unwritten can within room. let s : ClientStep = marks_written (delays t file block body) u in
+          go t s (usingly t s file (_ ∷ []) refl refl) h;
       write_waits = λ u sync file block body is w waits. h;
       syncing = λ u file is s clean. go-answers t u.q (Answer.Ok Value.Nothing) None h;
       sync_waits = λ u file is s dirty. h;
@@ -402,14 +449,18 @@ module _ (c : Client) (q : Push) (tag : Tag) (Brings : Grant → Type 0) where
     unfolding notes_notice
     go-notes t file g h = go t (notes_notice t file g) (plainly t (notes_notice t file g) [] refl refl) h
 
-    pub hear-follows : (k : ℕ) (m : Message) (t : ClientStep) → Alone c → hear c k m ≡ Some t → ((xid : ℕ) (r : Reply) (ticket : Ticket) → m ≡ reply xid r → c.ticket ≡ Some ticket → xid ≡ ticket.xid → inc_of r ≡ c.who.inc → (g : Grant) → grant_in r ≡ Some g → requested_file ticket.request ≡ Some q.file → Brings g) → Follows t
+    pub hear-follows : (k : ℕ) (m : Message) (t : ClientStep) → Alone c → hear c k m ≡ Some t
+        → ((xid : ℕ) (r : Reply) (ticket : Ticket) → m ≡ reply xid r → c.ticket ≡ Some ticket → xid ≡ ticket.xid → inc_of r ≡ c.who.inc → (g : Grant)
+        → grant_in r ≡ Some g → requested_file ticket.request ≡ Some q.file → Brings g) → Follows t
     hear-follows k m t a hears brings = heard-cases c k m t Follows hears (record {
       answered = λ xid r ticket is asked number inc counts.
           let s : ClientStep = replied (begun c) k ticket r in
-          go-sends false (settle s) (go-settles s (go-replied k ticket r ((a.asking.ticketed ticket asked).fits) counts (brings xid r ticket is asked number inc)));
+          go-sends false (settle s) (go-settles s
+          (go-replied k ticket r ((a.asking.ticketed ticket asked).fits) counts (brings xid r ticket is asked number inc)));
       noticed = λ xid file g is later.
           let z : ClientStep = cancels (begun c) file in
           let b : Follows z = start z (cancelled-leases file) in
-          let s : Follows (evicted z file g) = evicted-cases z file g Follows (record { clean = λ e. go-vacates z file g b; waiting = λ e. go-notes z file g b }) in
+          let s : Follows (evicted z file g) = evicted-cases z file g Follows
+          (record { clean = λ e. go-vacates z file g b; waiting = λ e. go-notes z file g b }) in
           go-sends false (settle (evicted z file g)) (go-settles (evicted z file g) s);
     })

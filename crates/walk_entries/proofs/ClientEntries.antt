@@ -1,0 +1,342 @@
+-- What a journal keeps when an entry of a client comes behind it, it keeps in each step of a client.
+use Rattle.std.proofs.Common.{◌≡◌, ℕ, ◌+◌, Bool, true, false, List, [], ◌∷◌, Option, Some, None, refl, sym, ◌∙◌}
+use Rattle.nq_base.specs.Block.{value_of}
+use Rattle.nq_base.specs.declared.Answer.{Answer}
+use Rattle.nq_base.specs.declared.Call.{Call}
+use Rattle.nq_base.specs.declared.Entry.{Entry}
+use Rattle.nq_base.specs.declared.Grant.{Grant}
+use Rattle.nq_base.specs.declared.Push.{Push}
+use Rattle.nq_base.specs.declared.Refusal.{Refusal}
+use Rattle.nq_base.specs.declared.Reply.{Reply}
+use Rattle.nq_base.specs.declared.Request.{Request}
+use Rattle.nq_base.specs.declared.Said.{Said}
+use Rattle.nq_base.specs.declared.Tag.{Tag}
+use Rattle.nq_base.specs.declared.Value.{Value}
+use Rattle.nq_base.specs.declared.Who.{Who}
+use Rattle.nq_model.specs.Client.{Client, ClientStep, Job, for_call, Notice, Ticket, UnderWay, begun, losses_of, loss_list, notice_on}
+use Rattle.nq_model.specs.ClientStep.{told, begins_call, is_called, says_busy, client_call, at_time, sends_again, client_tick, starts, fresh_client, next_incarnation, restart}
+use Rattle.nq_model.specs.Hear.{vacates_lease, vacates_noticed, loses, reports, without_lease, push_refused, breaks_chain, if_broken, holds, takes_grant, takes_optional, answers_call, caches_block, then_caches, purges, knows_revision, read_done, lease_done, marks_through, caches_write, write_done, ends_push, caches_push, push_done, spends, attached, pauses, cancels, notes_notice, evicted, replied, reply_counts, answer_of, goes_on, hear, inc_of, all_dirty}
+use Rattle.nq_model.specs.Message.{Message, reply}
+use Rattle.nq_model.specs.Send.{sends_request, after_seq, after_number, takes_push, sends_write, gives_up, send_next}
+use Rattle.nq_model.specs.Settle.{said, answers, reads_cached, after_read, delays, marks_written, names_losses, settle}
+use Rattle.walk_client.proofs.ClientFacts.{fits_job}
+use Rattle.walk_client.proofs.PartCases.{answers-call-cases, vacates-noticed-cases, reports-cases, if-broken-cases, takes-optional-cases, lease-done-cases, then-caches-cases, caches-write-cases, caches-push-cases, vacates-if-clean-cases}
+use Rattle.walk_client.proofs.RepliedCases.{IsNamed, RepliedCases, replied-cases}
+use Rattle.walk_client.proofs.SendCases.{send-moves, pushed}
+use Rattle.walk_client.proofs.SettleCases.{settle-cases}
+use Rattle.walk_client.proofs.StepCases.{call-cases, unless-cached-cases, tick-cases, evicted-cases, heard-cases}
+use Rattle.walk_entries.proofs.Losses.{fold-losses}
+
+-- whether an answer brings a value and names no packet
+abbrev pub has_value : Said → Bool
+has_value (Said.OkValue value) = true
+has_value other = false
+
+-- what a list of entries keeps behind each entry that a client makes
+pub record OfClient (P : List Entry → Type 0) : Type 0 where
+  pub nothing : P []
+  pub answered : (who : Who) (q : ℕ) (answer : Said) (before : List Entry) → has_value answer ≡ false → P before → P (Entry.A who q answer ∷ before)
+  -- a cached read, and the answer that brings its value
+  pub read : (who : Who) (q file block value : ℕ) (before : List Entry) → P before
+      → P (Entry.A who q (Said.OkValue value) ∷ Entry.R who q file block value None ∷ before)
+  pub delayed : (who : Who) (file block number value : ℕ) (before : List Entry) → P before → P (Entry.W who file block number value false ∷ before)
+  pub lost : (who : Who) (file block first last : ℕ) (before : List Entry) → P before → P (Entry.L who file block first last ∷ before)
+  -- a restart
+  pub started : (who : Who) → P (Entry.B who ∷ [])
+
+-- a refusal brings none
+refused-plain : (status : Refusal) → has_value (said (answer_of status) None) ≡ false
+refused-plain Refusal.NoEnt = refl
+refused-plain Refusal.Exist = refl
+refused-plain Refusal.Inval = refl
+refused-plain Refusal.NoSpc = refl
+refused-plain Refusal.Stale = refl
+refused-plain Refusal.TryLater = refl
+refused-plain Refusal.Fenced = refl
+refused-plain Refusal.NotAttached = refl
+refused-plain Refusal.Old = refl
+
+module _ (P : List Entry → Type 0) (o : OfClient P) where
+  abbrev Keeps : ClientStep → Type 0
+  Keeps t = P t.entries
+
+  -- ---- settling
+
+  answered : (t : ClientStep) (q : ℕ) (a : Answer) (by : Option ℕ) → has_value (said a by) ≡ false → Keeps t → Keeps (answers t q a by)
+  unfolding answers
+  answered t q a by plain h = o.answered t.client.who q (said a by) t.entries plain h
+
+  named : (t : ClientStep) (q file : ℕ) → Keeps t → Keeps (names_losses t q file)
+  unfolding answers
+  named t q file h = o.answered t.client.who q (said (Answer.Lost (loss_list (losses_of file t.client.losses))) None) t.entries refl h
+
+  cached : (t : ClientStep) (u : UnderWay) (file block : ℕ) (body : List ℕ) → Keeps t → Keeps (reads_cached t u file block body)
+  unfolding reads_cached answers after_read
+  cached t u file block body h = o.read t.client.who u.q file block (value_of body) t.entries h
+
+  delayed : (t : ClientStep) (file block : ℕ) (body : List ℕ) → Keeps t → Keeps (delays t file block body)
+  delayed t file block body h = o.delayed t.client.who file block t.client.number (value_of body) t.entries h
+
+  marked : (t : ClientStep) (u : UnderWay) → Keeps t → Keeps (marks_written t u)
+  unfolding marks_written
+  marked t u h = h
+
+  settled : (t : ClientStep) → Keeps t → Keeps (settle t)
+  settled t h = settle-cases t Keeps (record {
+    idle = λ none. h;
+    asking = λ u is own. h;
+    read_out = λ u file block lease is read can out. answered t u.q Answer.Range None refl h;
+    reading = λ u file block lease body is read can within has. cached t u file block body h;
+    read_waits = λ u file block is read waits. h;
+    write_out = λ u sync file block body lease is write can out. answered t u.q Answer.Range None refl h;
+    write_full = λ u sync file block body lease is write can within full. answered t u.q Answer.DirtyFull None refl h;
+    writing =
+        λ u file block body lease is write can within room. answered (delays t file block body) u.q (Answer.Ok Value.Nothing) None refl
+        (delayed t file block body h);
+    putting = λ u file block body lease is write unwritten can within room. marked (delays t file block body) u (delayed t file block body h);
+    write_waits = λ u sync file block body is write waits. h;
+    syncing = λ u file is sync clean. answered t u.q (Answer.Ok Value.Nothing) None refl h;
+    sync_waits = λ u file is sync dirty. h;
+    others = λ u is needs. h;
+  })
+
+  -- ---- the next request
+
+  asked : (t : ClientStep) (job : Job) (request : Request) → Keeps t → Keeps (sends_request t job request)
+  unfolding sends_request
+  asked t job request h = h
+
+  decided : (t : ClientStep) (job : Job) (request : Request) → Keeps t → Keeps (sends_request (after_seq t) job request)
+  unfolding sends_request after_seq
+  decided t job request h = h
+
+  through : (t : ClientStep) (file block : ℕ) (body : List ℕ) → Keeps t → Keeps (sends_write t file block body)
+  unfolding sends_request after_number
+  through t file block body h = h
+
+  pushes : (t : ClientStep) (p : Push) → Keeps t → Keeps (pushed t p)
+  unfolding sends_request after_seq takes_push
+  pushes t p h = h
+
+  given-up : (t : ClientStep) (file : ℕ) → Keeps t → Keeps (gives_up t file)
+  unfolding gives_up
+  given-up t file h = h
+
+  sent-next : (in_tick : Bool) (t : ClientStep) → Keeps t → Keeps (send_next in_tick t)
+  sent-next in_tick t h = send-moves in_tick t Keeps (record {
+    kept = h;
+    pushes = λ file p first. pushes t p h;
+    asks = λ job request. asked t job request h;
+    decides = λ request. decided t for_call request h;
+    writes = λ file block body. through t file block body h;
+    changes = λ file request. decided (gives_up t file) for_call request (given-up t file h);
+  })
+
+  -- ---- replies and notices
+
+  call-answered : (t : ClientStep) (a : Answer) (by : Option ℕ) → has_value (said a by) ≡ false → Keeps t → Keeps (answers_call t a by)
+  call-answered t a by plain h = answers-call-cases t a by Keeps (λ none. h) (λ u is. answered t u.q a by plain h)
+
+  reported : (t : ClientStep) (file : ℕ) → Keeps t → Keeps (reports t file)
+  reported t file h = reports-cases t file Keeps (λ none. h) (λ u is other. h) (λ u is waits. named t u.q file h)
+
+  vacated : (t : ClientStep) (file : ℕ) (tag : Tag) → Keeps t → Keeps (vacates_lease t file tag)
+  unfolding vacates_lease
+  vacated t file tag h = h
+
+  noticed-vacated : (t : ClientStep) (file : ℕ) (n : Option Notice) → Keeps t → Keeps (vacates_noticed t file n)
+  noticed-vacated t file n h = vacates-noticed-cases t file n Keeps (λ no. h) (λ notice is. vacated t file notice.tag h)
+
+  cached-block : (t : ClientStep) (file block : ℕ) (body : List ℕ) → Keeps t → Keeps (caches_block t file block body)
+  unfolding caches_block
+  cached-block t file block body h = h
+
+  purged : (t : ClientStep) (file : ℕ) → Keeps t → Keeps (purges t file)
+  unfolding purges
+  purged t file h = h
+
+  known : (t : ClientStep) (file rev : ℕ) → Keeps t → Keeps (knows_revision t file rev)
+  unfolding knows_revision
+  known t file rev h = h
+
+  marked-through : (on : Bool) (t : ClientStep) → Keeps t → Keeps (marks_through on t)
+  unfolding marks_through
+  marked-through on t h = h
+
+  paused : (t : ClientStep) → Keeps t → Keeps (pauses t)
+  unfolding pauses marks_through
+  paused t h = h
+
+  is-attached : (t : ClientStep) → Keeps t → Keeps (attached t)
+  unfolding attached
+  is-attached t h = h
+
+  push-ended : (t : ClientStep) → Keeps t → Keeps (ends_push t)
+  unfolding ends_push
+  push-ended t h = h
+
+  lost : (t : ClientStep) (file : ℕ) → Keeps t → Keeps (loses t file)
+  unfolding loses
+  lost t file h = fold-losses P t.client.who (all_dirty t.client file) t.entries (λ p more there k. o.lost t.client.who p.file p.block p.first p.last more k) h
+
+  without : (t : ClientStep) (file : ℕ) → Keeps t → Keeps (without_lease t file)
+  unfolding without_lease
+  without t file h = h
+
+  refused : (t : ClientStep) (file : ℕ) → Keeps t → Keeps (push_refused t file)
+  refused t file h =
+      let u : ClientStep = without_lease (loses t file) file in
+      reported (vacates_noticed u file (notice_on file t.client.notices)) file
+      (noticed-vacated u file (notice_on file t.client.notices) (without (loses t file) file (lost t file h)))
+
+  broken : (t : ClientStep) (file : ℕ) → Keeps t → Keeps (breaks_chain t file)
+  broken t file h =
+      let u : ClientStep = loses t file in
+      reported (vacates_noticed u file (notice_on file t.client.notices)) file (noticed-vacated u file (notice_on file t.client.notices) (lost t file h))
+
+  held : (t : ClientStep) (file : ℕ) (g : Grant) (sent : ℕ) → Keeps t → Keeps (holds t file g sent)
+  unfolding holds
+  held t file g sent h = h
+
+  taken : (t : ClientStep) (file : ℕ) (g : Grant) (sent : ℕ) → Keeps t → Keeps (takes_grant t file g sent)
+  taken t file g sent h = held (if_broken t file g) file g sent (if-broken-cases t file g Keeps (λ whole. h) (λ l is below dirty. broken t file h))
+
+  optional : (t : ClientStep) (file : ℕ) (g : Option Grant) (sent : ℕ) → Keeps t → Keeps (takes_optional t file g sent)
+  optional t file g sent h = takes-optional-cases t file g sent Keeps (λ none. h) (λ given is. taken t file given sent h)
+
+  module _ (c : Client) (number : ℕ) (ticket : Ticket) (r : Reply)
+      -- the answer that tells a file's id or length
+      (named-answer : (u : UnderWay) (answer : Answer) → c.call ≡ Some u → ticket.job ≡ for_call → IsNamed ticket.request r answer
+      → P (Entry.A c.who u.q (said answer None) ∷ [])) where
+    spent : Keeps (spends (begun c))
+    unfolding spends
+    spent = o.nothing
+
+    spent-call : (spends (begun c)).client.call ≡ c.call
+    unfolding spends
+    spent-call = refl
+
+    by-call : (u : UnderWay) (answer : Answer) → c.call ≡ Some u → ticket.job ≡ for_call → IsNamed ticket.request r answer
+        → Keeps (answers (spends (begun c)) u.q answer None)
+    unfolding spends answers
+    by-call u answer is job named = named-answer u answer is job named
+
+    by-name : (answer : Answer) → ticket.job ≡ for_call → IsNamed ticket.request r answer → Keeps (answers_call (spends (begun c)) answer None)
+    by-name answer job is = answers-call-cases (spends (begun c)) answer None Keeps (λ none. spent) (λ u here. by-call u answer (sym spent-call ∙ here) job is)
+
+    read : (file block : ℕ) (body : List ℕ) (g : Option Grant) → Keeps (read_done (spends (begun c)) file block body g ticket.first number)
+    read file block body g =
+        let t : ClientStep = takes_optional (spends (begun c)) file g ticket.first in
+        let h : Keeps t = optional (spends (begun c)) file g ticket.first spent in
+        call-answered (then_caches t file block body g) (Answer.Ok (Value.Body body)) (Some number) refl
+        (then-caches-cases t file block body g Keeps (λ caching. cached-block t file block body h) (λ other. h))
+
+    leased : (file : ℕ) (g : Option Grant) → Keeps (lease_done (spends (begun c)) file g ticket.first)
+    leased file g =
+        let h : Keeps (takes_optional (spends (begun c)) file g ticket.first) = optional (spends (begun c)) file g ticket.first spent in
+        lease-done-cases (spends (begun c)) file g ticket.first Keeps (λ caching. h)
+        (λ other. marked-through true (takes_optional (spends (begun c)) file g ticket.first) h)
+
+    wrote : (file block : ℕ) (body : List ℕ) (rev : ℕ) → Keeps (write_done (spends (begun c)) file block body rev)
+    wrote file block body rev =
+        let t : ClientStep = spends (begun c) in
+        call-answered (knows_revision (caches_write t file block body rev) file rev) (Answer.Ok Value.Nothing) None refl
+        (known (caches_write t file block body rev) file rev
+        (caches-write-cases t file block body rev Keeps (λ holding before. cached-block t file block body spent) (purged t file spent)))
+
+    stored : (file block : ℕ) (body : List ℕ) (rev : ℕ) → Keeps (push_done (spends (begun c)) file block body rev)
+    stored file block body rev =
+        let t : ClientStep = knows_revision (ends_push (spends (begun c))) file rev in
+        let a : Keeps t = known (ends_push (spends (begun c))) file rev (push-ended (spends (begun c)) spent) in
+        let b : Keeps (caches_push t file block body) = caches-push-cases t file block body Keeps (λ dirty. a) (λ clean. cached-block t file block body a) in
+        vacates-if-clean-cases (caches_push t file block body) file Keeps b (λ n clean is. vacated (caches_push t file block body) file n.tag b)
+
+    cases : RepliedCases c number ticket r Keeps
+    cases = record {
+      attaching = λ who inc job asks is. is-attached (spends (begun c)) spent;
+      named = λ answer job is. by-name answer job is;
+      reading = λ who q file block want inc rev body grant of_call is. read file block body grant;
+      leasing = λ who file want inc grant of_call is. leased file grant;
+      writing = λ who seq file block first last body inc rev of_call is. wrote file block body rev;
+      resizing =
+          λ who seq q file blocks inc rev of_call is. call-answered (knows_revision (spends (begun c)) file rev) (Answer.Ok Value.Nothing) None refl
+          (known (spends (begun c)) file rev spent);
+      removing = λ who seq q file inc of_call is. call-answered (spends (begun c)) (Answer.Ok Value.Nothing) None refl spent;
+      renewing = λ who file want inc grant job asks is. optional (spends (begun c)) file grant ticket.first spent;
+      pushed = λ who seq file block first last base body inc rev job asks is. stored file block body rev;
+      putting_off = λ inc status job is off. paused (spends (begun c)) spent;
+      refusing = λ inc status job is counts off. call-answered (spends (begun c)) (answer_of status) None (refused-plain status) spent;
+      renewal_refused = λ inc status job is off. spent;
+      push_refused = λ who seq file block first last base body inc status job asks is off. refused (spends (begun c)) file spent;
+    }
+
+    reply-keeps : fits_job ticket.job ticket.request ≡ true → reply_counts r ticket ≡ true → Keeps (replied (begun c) number ticket r)
+    reply-keeps fits counts = replied-cases c number ticket r Keeps fits counts cases
+
+  cancelled-none : (c : Client) (file : ℕ) → Keeps (cancels (begun c) file)
+  unfolding cancels
+  cancelled-none c file = o.nothing
+
+  noted : (t : ClientStep) (file : ℕ) (tag : Tag) → Keeps t → Keeps (notes_notice t file tag)
+  unfolding notes_notice
+  noted t file tag h = h
+
+  notice-keeps : (c : Client) (file : ℕ) (tag : Tag) → Keeps (evicted (cancels (begun c) file) file tag)
+  notice-keeps c file tag = evicted-cases (cancels (begun c) file) file tag Keeps (record {
+    clean = λ clean. vacated (cancels (begun c) file) file tag (cancelled-none c file);
+    waiting = λ dirty. noted (cancels (begun c) file) file tag (cancelled-none c file);
+  })
+
+  -- ---- each step
+
+  begins : (c : Client) (op : Call) → ((q : ℕ) → P (Entry.C c.who q (told op) ∷ [])) → Keeps (begins_call c op)
+  unfolding begins_call
+  begins c op call = call (c.calls + 1)
+
+  called : (t : ClientStep) (op : Call) → Keeps t → Keeps (is_called t op)
+  unfolding is_called
+  called t op h = h
+
+  busy : (t : ClientStep) → Keeps t → Keeps (says_busy t)
+  unfolding says_busy
+  busy t h = o.answered t.client.who t.client.calls Said.Busy t.entries refl h
+
+  pub call-keeps : (c : Client) (op : Call) → ((q : ℕ) → P (Entry.C c.who q (told op) ∷ [])) → Keeps (client_call c op)
+  call-keeps c op call = call-cases c op Keeps (record {
+    busy = λ why. busy (begins_call c op) (begins c op call);
+    telling = λ file loss losses none on changes has. named (begins_call c op) (begins_call c op).client.calls file (begins c op call);
+    going =
+        λ none on no_loss. let t : ClientStep = settle (is_called (begins_call c op) op) in
+        let k : Keeps t = settled (is_called (begins_call c op) op) (called (begins_call c op) op (begins c op call)) in
+        unless-cached-cases t Keeps (λ from_cache. k) (λ other. sent-next false t k);
+  })
+
+  again : (t : ClientStep) (ticket : Ticket) → Keeps t → Keeps (sends_again t ticket)
+  unfolding sends_again
+  again t ticket h = h
+
+  pub tick-keeps : (c : Client) (now : ℕ) → Keeps (client_tick c now)
+  tick-keeps c now = tick-cases c now Keeps (record {
+    again = λ ticket is due. again (begun (at_time c now)) ticket o.nothing;
+    quiet = λ ticket is soon. o.nothing;
+    free = λ none. sent-next true (settle (begun (at_time c now))) (settled (begun (at_time c now)) o.nothing);
+  })
+
+  went-on : (t : ClientStep) → Keeps t → Keeps (goes_on t)
+  went-on t h = sent-next false (settle t) (settled t h)
+
+  pub hear-keeps : (c : Client) (number : ℕ) (m : Message) (t : ClientStep) → hear c number m ≡ Some t
+      → ((ticket : Ticket) → c.ticket ≡ Some ticket → fits_job ticket.job ticket.request ≡ true)
+      → ((xid : ℕ) (r : Reply) (ticket : Ticket) (u : UnderWay) (answer : Answer) → m ≡ reply xid r → c.ticket ≡ Some ticket → xid ≡ ticket.xid
+      → inc_of r ≡ c.who.inc → c.call ≡ Some u → ticket.job ≡ for_call → IsNamed ticket.request r answer
+      → P (Entry.A c.who u.q (said answer None) ∷ [])) → Keeps t
+  hear-keeps c number m t hears fits gives = heard-cases c number m t Keeps hears (record {
+    answered =
+        λ xid r ticket is asked same inc counts. went-on (replied (begun c) number ticket r)
+        (reply-keeps c number ticket r (λ u answer has job named. gives xid r ticket u answer is asked same inc has job named) (fits ticket asked) counts);
+    noticed = λ xid file tag is later. went-on (evicted (cancels (begun c) file) file tag) (notice-keeps c file tag);
+  })
+
+  pub restart-keeps : (c : Client) → Keeps (restart c)
+  unfolding starts fresh_client
+  restart-keeps c = o.started (next_incarnation c.who)

@@ -1,0 +1,4 @@
+pub mod ServerEntries
+pub mod Losses
+pub mod ClientEntries
+pub mod GivenRuns
