@@ -26,7 +26,7 @@ use Rattle.walk_server.proofs.Rows.{choice, found-row, find-none, same-number, n
 use Rattle.walk_server.proofs.ServerMoves.{server-moves}
 use Rattle.walk_server.proofs.Tests.{is-other}
 use Rattle.law_calm.specs.SharingRows.{HasSharingRow, WhoIsPutOffShares}
-use Rattle.law_calm.specs.SharedFiles.{HasRow, HasCachingRow, SharedFilesStayShared, WhoIsPutOffHasRow}
+use Rattle.law_calm.specs.SharedFiles.{HasCachingRow, SharedFilesStayShared, WhoIsPutOffHasRow}
 
 none-any : {A : Type 0} (p : A → Bool) (xs : List A) → list_any p xs ≡ false → find p xs ≡ None
 none-any p [] h = refl

@@ -12,7 +12,7 @@ use Rattle.nq_model.specs.Ask.{ask}
 use Rattle.nq_model.specs.Message.{Message, Packet, call}
 use Rattle.nq_model.specs.Profile.{most_rows}
 use Rattle.nq_model.specs.Table.{Table, caches, find_row}
-use Rattle.nq_model.specs.World.{Head, run, step}
+use Rattle.nq_model.specs.World.{run, step}
 use Rattle.law_calm.specs.SharedFiles.{HasCachingRow}
 
 -- a host has a row of a file that does not let it cache

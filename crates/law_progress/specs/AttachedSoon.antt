@@ -1,6 +1,5 @@
 -- Who is not attached is so after three calm rounds, where their deliveries end; so it is in each recovery.
 use Rattle.std.specs.Prelude.{◌≡◌, ◌<◌, ℕ, ◌+◌, true, List, All, length}
-use Rattle.nq_base.specs.declared.Event.{Event}
 use Rattle.nq_promises.specs.Bounds.{InEveryRun}
 use Rattle.nq_model.specs.Client.{Client}
 use Rattle.nq_model.specs.Lines.{Play}
