@@ -10,7 +10,7 @@ use Rattle.law_progress.specs.CalmRoundsAreLawful.{IsLawful}
 use Rattle.law_progress.specs.DeliveryEnds.{IsDelivered}
 use Rattle.law_progress.specs.QuietDeliveries.{recovers}
 
--- the number of a client's incarnation can be kept. After 2^31 restarts it could not be, and the server would drop each ATTACH
+-- the number of a client's incarnation can be kept. After 2^31 - 1 restarts it could not be, and the server would drop each ATTACH
 abbrev pub CanBeKept : Client → Type 0
 CanBeKept c = c.who.inc < inc_end
 
