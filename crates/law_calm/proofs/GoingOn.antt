@@ -1,19 +1,18 @@
 -- In every run each client goes on.
-use Rattle.std.proofs.Common.{◌≡◌, ◌≢◌, ◌≤◌, ◌<◌, ◌⊎◌, ℕ, ◌+◌, ◌==◌, nat_lt, nat_le, Bool, true, false, List, [], ◌∷◌, Option, Some, None, is_some, refl, sym, ap, subst, ◌∙◌, arith, inl, inr}
+use Rattle.std.proofs.Common.{◌≡◌, ◌≢◌, ◌<◌, ◌⊎◌, ℕ, ◌+◌, ◌==◌, nat_le, Bool, true, false, List, [], ◌∷◌, Some, None, is_some, refl, sym, ap, subst, ◌∙◌, arith, inl, inr}
 use Rattle.std.specs.Prelude.{slice_get, slice_set}
-use Rattle.std.proofs.lemmas.Bool.{both_ways}
 use Rattle.nq_base.specs.declared.Call.{Call}
 use Rattle.nq_base.specs.declared.Event.{Event}
 use Rattle.nq_base.specs.declared.Request.{Request}
 use Rattle.nq_base.specs.declared.Who.{Who}
-use Rattle.nq_model.specs.Client.{Client, ClientStep, Job, Ticket, UnderWay, begun}
+use Rattle.nq_model.specs.Client.{Client, ClientStep, UnderWay, begun}
 use Rattle.nq_model.specs.ClientStep.{begins_call, is_called, says_busy, client_call, at_time, sends_again, client_tick, attached_client, starts, fresh_client, restart}
 use Rattle.nq_model.specs.Hear.{hear, replied, cancels, evicted}
 use Rattle.nq_model.specs.Message.{Message, asker}
-use Rattle.nq_model.specs.Send.{send_next, is_asking, sends_request, after_seq, after_number, takes_push, gives_up}
+use Rattle.nq_model.specs.Send.{send_next, is_asking, sends_request}
 use Rattle.nq_model.specs.Settle.{answers, names_losses, after_read, reads_cached, after_write, marks_written, settle}
 use Rattle.nq_model.specs.World.{Head, World, after_server, after_client, start, run}
-use Rattle.walk_client.proofs.ClientFacts.{Alone, IsWaiting, fits_attach, fits_job}
+use Rattle.walk_client.proofs.ClientFacts.{Alone, fits_attach, fits_job}
 use Rattle.walk_client.proofs.ClientMoves.{some-same, none-some}
 use Rattle.walk_client.proofs.SendCases.{send-moves}
 use Rattle.walk_client.proofs.SettleCases.{settle-cases, settle-settles}
@@ -22,7 +21,7 @@ use Rattle.walk_run.proofs.Steps.{Changes, nothing, by_client, by_server, Client
 use Rattle.walk_run.proofs.Worlds.{Holds, run-holds, get-set-same, get-set-other, set-there, first-client}
 use Rattle.walk_server.proofs.Rows.{same-number, number-same}
 use Rattle.walk_server.proofs.Tests.{is-at-most, is-not-at-most}
-use Rattle.law_calm.specs.CallsGoOn.{AsksToBeAttached, GoesOn, CallsGoOn}
+use Rattle.law_calm.specs.CallsGoOn.{AsksToBeAttached, CallsGoOn}
 use Rattle.law_calm.proofs.Busy.{Busy, asks-next}
 use Rattle.law_calm.proofs.Prompt.{Prompt, hear-prompt, call-prompt, tick-prompt, restart-prompt}
 

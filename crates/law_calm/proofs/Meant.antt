@@ -1,24 +1,22 @@
 -- In every run a request that wants a lease for a call is of the call that is under way.
-use Rattle.std.proofs.Common.{◌≡◌, ◌≢◌, ◌⊎◌, ℕ, ◌+◌, ◌==◌, ◌||◌, Bool, true, false, List, [], ◌∷◌, Option, Some, None, is_some, refl, sym, ap, subst, ◌∙◌, inl, inr}
+use Rattle.std.proofs.Common.{◌≡◌, ◌≢◌, ℕ, ◌+◌, ◌==◌, Bool, true, false, List, [], ◌∷◌, Option, Some, None, is_some, refl, sym, ap, subst, ◌∙◌}
 use Rattle.std.specs.Prelude.{slice_get, slice_set}
 use Rattle.nq_base.specs.declared.Answer.{Answer}
 use Rattle.nq_base.specs.declared.Call.{Call}
 use Rattle.nq_base.specs.declared.Event.{Event}
-use Rattle.nq_base.specs.declared.Loss.{Loss}
 use Rattle.nq_base.specs.declared.Mode.{Mode}
-use Rattle.nq_base.specs.declared.Push.{Push}
 use Rattle.nq_base.specs.declared.Reply.{Reply}
 use Rattle.nq_base.specs.declared.Request.{Request}
 use Rattle.nq_base.specs.declared.Tag.{Tag}
 use Rattle.nq_base.specs.declared.Value.{Value}
 use Rattle.nq_base.specs.declared.Want.{Want}
 use Rattle.nq_base.specs.declared.Who.{Who}
-use Rattle.nq_model.specs.Client.{Client, ClientStep, begun, Job, attaching, for_call, renewing, pushing, Lease, Ticket, UnderWay, lease_on}
+use Rattle.nq_model.specs.Client.{Client, ClientStep, begun, for_call, Ticket, UnderWay, lease_on}
 use Rattle.nq_model.specs.ClientStep.{begins_call, is_called, says_busy, client_call, at_time, sends_again, client_tick, attached_client, starts, fresh_client, restart}
-use Rattle.nq_model.specs.Hear.{hear, spends, answers_call, takes_optional, then_caches, knows_revision, caches_write, with_through, marks_through, push_done, push_refused, attached, pauses, replied, cancels, vacates_lease, notes_notice, evicted, reply_counts}
+use Rattle.nq_model.specs.Hear.{hear, spends, answers_call, takes_optional, then_caches, knows_revision, caches_write, marks_through, push_done, push_refused, attached, pauses, replied, cancels, vacates_lease, notes_notice, evicted, reply_counts}
 use Rattle.nq_model.specs.Message.{Message}
 use Rattle.nq_model.specs.Send.{sends_request, after_seq, after_number, takes_push, gives_up, want_of, read_want, shares_live, send_next}
-use Rattle.nq_model.specs.Settle.{answers, names_losses, after_read, reads_cached, after_write, marks_written, is_for_call, ticket_is_for_call, settle}
+use Rattle.nq_model.specs.Settle.{answers, after_read, reads_cached, after_write, marks_written, is_for_call, ticket_is_for_call, settle}
 use Rattle.nq_model.specs.World.{Head, World, after_server, after_client, start, run}
 use Rattle.walk_client.proofs.ClientFacts.{Alone}
 use Rattle.walk_client.proofs.ClientMoves.{some-same, none-some, keeps-or-cancels}
@@ -30,7 +28,7 @@ use Rattle.walk_client.proofs.StepCases.{call-cases, unless-cached-cases, tick-c
 use Rattle.walk_run.proofs.Steps.{Changes, nothing, by_client, by_server, ClientActs, called, ticked, restarted, heard, step-changes}
 use Rattle.walk_run.proofs.Worlds.{Holds, run-holds, get-set-same, get-set-other, first-client}
 use Rattle.walk_server.proofs.Rows.{same-number, number-same}
-use Rattle.law_calm.specs.RequestsAreMeant.{IsWriteTo, wanted, IsMeant, RequestsAreMeant}
+use Rattle.law_calm.specs.RequestsAreMeant.{wanted, IsMeant, RequestsAreMeant}
 use Rattle.law_calm.proofs.EffortReplies.{Goes, start as spent, start-same, known-goes, optional-goes, pushed-goes, refused-goes, read-goes, write-goes, attached-goes}
 
 -- a client's request is meant

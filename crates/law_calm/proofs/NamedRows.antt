@@ -1,13 +1,11 @@
 -- In every run a row whose latest tag was named, by a notice or in a VACATED, is to go.
-use Rattle.std.proofs.Common.{◌≡◌, ◌≢◌, ◌≤◌, ◌<◌, ◌⊎◌, ℕ, ◌+◌, ◌==◌, ◌&&◌, ◌++◌, not, nat_lt, Bool, true, false, zero, suc, List, [], ◌∷◌, Option, Some, None, if◌then◌else◌, length, refl, sym, ap, subst, ◌∙◌, arith, inl, inr}
+use Rattle.std.proofs.Common.{◌≡◌, ◌≢◌, ◌<◌, ◌⊎◌, ℕ, ◌+◌, ◌==◌, ◌&&◌, ◌++◌, nat_lt, Bool, true, false, zero, suc, List, [], ◌∷◌, Option, Some, None, if◌then◌else◌, length, refl, sym, ap, subst, ◌∙◌, arith, inl, inr}
 use Rattle.std.specs.List.{filter}
 use Rattle.std.specs.Prelude.{map, slice_get, slice_set}
 use Rattle.nq_base.specs.declared.Access.{Access}
 use Rattle.nq_base.specs.declared.Event.{Event}
 use Rattle.nq_base.specs.declared.Grant.{Grant}
-use Rattle.nq_base.specs.declared.Party.{Party}
 use Rattle.nq_base.specs.declared.Question.{Question}
-use Rattle.nq_base.specs.declared.Reply.{Reply}
 use Rattle.nq_base.specs.declared.Request.{Request}
 use Rattle.nq_base.specs.declared.Row.{Row}
 use Rattle.nq_base.specs.declared.Tag.{Tag}
@@ -16,12 +14,12 @@ use Rattle.nq_base.specs.declared.Who.{Who}
 use Rattle.nq_model.proofs.ClientLists.{notice-before-drop, notice-after-put}
 use Rattle.nq_model.specs.Ask.{marked, sharing_row, caching_row, shared_again, renewed_row}
 use Rattle.nq_model.specs.Client.{Client, ClientStep, begun, Job, Notice, Ticket, notice_on}
-use Rattle.nq_model.specs.ClientStep.{at_time, client_call, client_tick, starts, fresh_client, attached_client, next_incarnation, restart}
-use Rattle.nq_model.specs.Hear.{hear, noticed_tag, with_notice, inc_of}
-use Rattle.nq_model.specs.Message.{Message, Packet, Datagram, call, reply, error, datagram_of}
-use Rattle.nq_model.specs.Server.{Server, ServerStep, Phase, serving, standing, to_host, quiet, keeping_with, with_table}
-use Rattle.nq_model.specs.ServerStep.{access_of, to_read, vacated_rows, end_reading, at_time as at_server_time, opens, ends_writing, receive, tick, boot, crash}
-use Rattle.nq_model.specs.Table.{Table, caches, empty_table, next_tag, find_row, is_row_of, drop_row, put_row, same_tag, tag_below, later_tag, with_rows, after_draw}
+use Rattle.nq_model.specs.ClientStep.{at_time, starts, fresh_client, attached_client, next_incarnation, restart}
+use Rattle.nq_model.specs.Hear.{hear, noticed_tag}
+use Rattle.nq_model.specs.Message.{Message, Packet, Datagram, call, reply, datagram_of}
+use Rattle.nq_model.specs.Server.{Server, ServerStep, Phase, serving, standing, to_host, quiet}
+use Rattle.nq_model.specs.ServerStep.{access_of, to_read, vacated_rows, at_time as at_server_time, opens, ends_writing, receive, tick, boot, crash}
+use Rattle.nq_model.specs.Table.{Table, empty_table, next_tag, find_row, is_row_of, drop_row, put_row, same_tag, tag_below, later_tag, with_rows, after_draw}
 use Rattle.nq_model.specs.World.{Head, World, from_host, after_server, after_client, sending_host, start, run}
 use Rattle.nq_promises.specs.Bounds.{KeepsBounds}
 use Rattle.nq_promises.specs.RowsStandApart.{HasOneRowEach}
@@ -39,17 +37,16 @@ use Rattle.walk_run.proofs.Packets.{In, in-append, in-left, in-last, in-get, Ask
 use Rattle.walk_run.proofs.ServerSays.{IsSaid, said_reply, said_error, said_notice}
 use Rattle.walk_run.proofs.Steps.{Changes, nothing, by_client, by_server, ClientActs, called, ticked, restarted, heard, ServerActs, received, ticks, crashes, run-goes}
 use Rattle.walk_run.proofs.TagFacts.{IsDrawn}
-use Rattle.walk_run.proofs.Worlds.{IsAt, Holds, run-holds, given-by, get-set-same, get-set-other, first-client, received-said, to-told}
+use Rattle.walk_run.proofs.Worlds.{IsAt, run-holds, given-by, get-set-same, get-set-other, first-client, received-said, to-told}
 use Rattle.walk_server.proofs.AskCases.{IsGranted, shares_again, begins_sharing, begins_caching, renews_row}
-use Rattle.walk_server.proofs.RowChanges.{mark, mark-is, found-marked, find-put, of-key}
+use Rattle.walk_server.proofs.RowChanges.{mark-is, found-marked, find-put}
 use Rattle.walk_server.proofs.Rows.{choice, same-number, number-same, find-passes}
 use Rattle.walk_server.proofs.ServerCases.{server-ticks}
 use Rattle.walk_server.proofs.ServerMoves.{server-moves, tick-moves}
 use Rattle.walk_server.proofs.Tests.{is-below, is-not-below}
 use Rattle.law_calm.specs.NamedRows.{IsNamed, by_notice, by_vacated, NamedRowsAreToGo}
-use Rattle.law_calm.specs.NoticesMark.{IsToGo}
 use Rattle.law_calm.proofs.ClientCount.{client-count}
-use Rattle.law_calm.proofs.HostsBelow.{IsLocal, run-local, one-row-each}
+use Rattle.law_calm.proofs.HostsBelow.{run-local, one-row-each}
 use Rattle.law_calm.proofs.NoticeRows.{member-found, notices-mark}
 
 -- ---- tags that were named

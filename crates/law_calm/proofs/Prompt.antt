@@ -1,19 +1,16 @@
 -- No pause of a client is longer than 2 ticks, and its request under way was sent less than 2 ticks ago.
-use Rattle.std.proofs.Common.{◌≡◌, ◌≤◌, ◌<◌, ◌⊎◌, ℕ, ◌+◌, Bool, true, false, List, [], ◌∷◌, Option, Some, None, refl, sym, ap, subst, ◌∙◌, arith, inl, inr}
+use Rattle.std.proofs.Common.{◌≡◌, ◌≤◌, ◌<◌, ℕ, ◌+◌, Bool, true, false, Option, Some, None, refl, sym, ap, ◌∙◌, arith}
 use Rattle.nq_base.specs.declared.Answer.{Answer}
 use Rattle.nq_base.specs.declared.Call.{Call}
-use Rattle.nq_base.specs.declared.Loss.{Loss}
 use Rattle.nq_base.specs.declared.Reply.{Reply}
-use Rattle.nq_base.specs.declared.Request.{Request}
-use Rattle.nq_base.specs.declared.Tag.{Tag}
 use Rattle.nq_base.specs.declared.Value.{Value}
-use Rattle.nq_model.specs.Client.{Client, ClientStep, begun, Job, Ticket, UnderWay}
+use Rattle.nq_model.specs.Client.{Client, ClientStep, begun, Ticket}
 use Rattle.nq_model.specs.ClientStep.{begins_call, is_called, says_busy, client_call, at_time, sends_again, client_tick, starts, fresh_client, restart}
-use Rattle.nq_model.specs.Hear.{hear, spends, answers_call, takes_optional, then_caches, knows_revision, caches_write, with_through, marks_through, push_done, push_refused, attached, pauses, replied, cancels, evicted, reply_counts}
+use Rattle.nq_model.specs.Hear.{hear, spends, answers_call, takes_optional, then_caches, knows_revision, caches_write, marks_through, push_done, push_refused, attached, pauses, replied, cancels, evicted, reply_counts}
 use Rattle.nq_model.specs.Message.{Message}
 use Rattle.nq_model.specs.Profile.{patience}
 use Rattle.nq_model.specs.Send.{sends_request, after_seq, after_number, takes_push, gives_up, send_next}
-use Rattle.nq_model.specs.Settle.{answers, names_losses, after_read, reads_cached, after_write, marks_written, settle}
+use Rattle.nq_model.specs.Settle.{answers, after_read, reads_cached, after_write, marks_written, settle}
 use Rattle.walk_client.proofs.ClientFacts.{Alone}
 use Rattle.walk_client.proofs.ClientMoves.{some-same, none-some, keeps-or-cancels}
 use Rattle.walk_client.proofs.PartCases.{answers-call-cases, lease-done-cases}

@@ -1,5 +1,5 @@
 -- In every run each row ends soon, and each recovery.
-use Rattle.std.proofs.Common.{◌≡◌, ◌≤◌, ◌<◌, ◌⊎◌, ℕ, ◌+◌, ◌-◌, ◌==◌, ◌&&◌, not, max, min, nat_lt, Bool, true, false, List, [], ◌∷◌, Option, Some, None, if◌then◌else◌, length, refl, sym, ap, subst, ◌∙◌, arith, inl, inr}
+use Rattle.std.proofs.Common.{◌≡◌, ◌≤◌, ◌⊎◌, ℕ, ◌+◌, ◌==◌, ◌&&◌, not, max, Bool, true, false, List, [], ◌∷◌, Option, Some, None, if◌then◌else◌, length, refl, sym, subst, arith, inl, inr}
 use Rattle.std.specs.List.{filter}
 use Rattle.std.proofs.lemmas.Bool.Decides.{nat_tests}
 use Rattle.nq_base.specs.declared.Access.{Access}
@@ -15,20 +15,19 @@ use Rattle.nq_model.specs.Message.{Datagram, datagram_of}
 use Rattle.nq_model.specs.Profile.{skew, write_slack, shortest_term, granted_term}
 use Rattle.nq_model.specs.Server.{Phase, serving, recovering, Server, ServerStep}
 use Rattle.nq_model.specs.ServerStep.{access_of, to_read, vacated_rows, end_reading, fence, receive, tick, boot_phase, booted, boot, crash}
-use Rattle.nq_model.specs.Table.{Table, empty_table, find_row, is_row_of, is_writing, row_before, insert_row, drop_row, put_row, same_tag, with_rows, after_draw}
+use Rattle.nq_model.specs.Table.{Table, empty_table, is_row_of, is_writing, row_before, insert_row, drop_row, put_row, same_tag, with_rows, after_draw}
 use Rattle.nq_model.specs.World.{Head, World, after_server, after_client, sending_host, first_kept, start, run}
 use Rattle.nq_promises.specs.Bounds.{KeepsBounds}
 use Rattle.nq_model.specs.Skew.{IsWithinSkew}
 use Rattle.law_leases.proofs.LeaseIntervals.{run-runs}
 use Rattle.walk_run.proofs.Members.{in-filtered, in-map, find-in}
 use Rattle.walk_run.proofs.Packets.{In}
-use Rattle.walk_run.proofs.RunCases.{During}
 use Rattle.walk_run.proofs.Steps.{Changes, nothing, by_client, by_server, ServerActs, received, ticks, crashes, step-changes, run-goes}
 use Rattle.walk_server.proofs.AskCases.{IsGranted, shares_again, begins_sharing, begins_caching, renews_row}
 use Rattle.walk_server.proofs.RowChanges.{mark, mark-is}
 use Rattle.walk_server.proofs.Rows.{choice}
 use Rattle.walk_server.proofs.ServerMoves.{server-moves, phase-moves, receive-keeps, tick-moves, tick-keeps}
-use Rattle.law_calm.specs.EndsSoon.{EndsSoon, RowsEndSoon, RecoveriesEndSoon}
+use Rattle.law_calm.specs.EndsSoon.{RowsEndSoon, RecoveriesEndSoon}
 
 -- ---- rows
 

@@ -1,23 +1,18 @@
 -- Whom a notice makes cancel his call's request gives the lease up and sends the same request again, right behind.
-use Rattle.std.proofs.Common.{◌≡◌, ◌≢◌, ◌≤◌, ◌<◌, ◌⊎◌, ℕ, ◌+◌, ◌==◌, ◌&&◌, ◌||◌, ◌++◌, not, nat_le, Bool, true, false, List, [], ◌∷◌, Option, Some, None, is_some, if◌then◌else◌, refl, sym, ap, subst, ◌∙◌, arith, inl, inr}
-use Rattle.std.specs.Prelude.{slice_get}
+use Rattle.std.proofs.Common.{◌≡◌, ◌≤◌, ℕ, ◌+◌, ◌==◌, ◌&&◌, ◌||◌, ◌++◌, nat_le, Bool, true, false, List, [], ◌∷◌, Option, Some, None, is_some, refl, sym, ap, subst, ◌∙◌, arith}
 use Rattle.std.proofs.lemmas.Bool.{and_parts}
 use Rattle.nq_base.specs.declared.Call.{Call}
-use Rattle.nq_base.specs.declared.Event.{Event}
 use Rattle.nq_base.specs.declared.Grant.{Grant}
 use Rattle.nq_base.specs.declared.Mode.{Mode}
 use Rattle.nq_base.specs.declared.Push.{Push}
 use Rattle.nq_base.specs.declared.Request.{Request}
 use Rattle.nq_base.specs.declared.Tag.{Tag}
-use Rattle.nq_base.specs.declared.Want.{Want}
-use Rattle.nq_base.specs.declared.Who.{Who}
 use Rattle.nq_model.proofs.ClientLists.{lease-before-drop, notice-before-drop, put-notice-found}
 use Rattle.nq_model.specs.Client.{Client, ClientStep, begun, Job, for_call, pushing, Lease, Notice, Ticket, UnderWay, lease_on, drop_lease, notice_on, first_dirty, is_push_of, is_clean_in}
-use Rattle.nq_model.specs.Hear.{hear, vacates_lease, notes_notice, noticed_tag, evicted, cancels, cancelled, wants_of, goes_on}
+use Rattle.nq_model.specs.Hear.{vacates_lease, notes_notice, noticed_tag, evicted, cancels, cancelled, wants_of, goes_on}
 use Rattle.nq_model.specs.Message.{Message, call}
 use Rattle.nq_model.specs.Send.{sends_request, after_seq, after_number, takes_push, gives_up, want_of, read_want, shares_live, noticed_in, is_asking, send_next}
 use Rattle.nq_model.specs.Settle.{answers, after_read, reads_cached, after_write, marks_written, is_for_call, settle}
-use Rattle.nq_model.specs.World.{Head, run}
 use Rattle.walk_client.proofs.ClientCases.{Core, Closed}
 use Rattle.walk_client.proofs.ClientFacts.{Alone, DelayingOf}
 use Rattle.walk_client.proofs.ClientMoves.{some-same, none-some}
@@ -26,10 +21,9 @@ use Rattle.walk_client.proofs.SendCases.{NothingToPush, noticed-one, no-noticed,
 use Rattle.walk_client.proofs.SettleCases.{settle-moves, settle-settles, Settled}
 use Rattle.walk_client.proofs.StepCases.{evicted-cases, heard-cases}
 use Rattle.walk_run.proofs.Worlds.{run-holds}
-use Rattle.walk_server.proofs.Rows.{choice, same-number}
+use Rattle.walk_server.proofs.Rows.{same-number}
 use Rattle.walk_server.proofs.Tests.{is-at-most, is-not-at-most, there-is}
-use Rattle.law_calm.specs.SendsAgain.{is_cancelled}
-use Rattle.law_calm.specs.RequestsAreMeant.{IsWriteTo, wanted, IsMeant}
+use Rattle.law_calm.specs.RequestsAreMeant.{wanted, IsMeant}
 use Rattle.law_calm.specs.SendsAgain.{SendsAgain, the_same, delayed_writes, nothing_now, NoticesAreAnsweredAtOnce}
 use Rattle.law_calm.proofs.Busy.{any-found, dirty-listed, asks-next}
 use Rattle.law_calm.proofs.Meant.{requests-are-meant}

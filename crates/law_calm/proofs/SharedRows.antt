@@ -24,9 +24,9 @@ use Rattle.walk_server.proofs.RowChanges.{mark, of-key, find-row-dropped, find-o
 use Rattle.nq_model.proofs.Finding.{number-other}
 use Rattle.walk_server.proofs.Rows.{choice, found-row, find-none, same-number, number-same}
 use Rattle.walk_server.proofs.ServerMoves.{server-moves}
-use Rattle.walk_server.proofs.Tests.{is-other}
-use Rattle.law_calm.specs.SharingRows.{HasSharingRow, WhoIsPutOffShares}
-use Rattle.law_calm.specs.SharedFiles.{HasRow, HasCachingRow, SharedFilesStayShared, WhoIsPutOffHasRow}
+use Rattle.walk_server.proofs.Tests.{is-not-below, is-other}
+use Rattle.law_calm.specs.SharingRows.{HasSharingRow, WhoAsksHasRow, WhoIsPutOffShares}
+use Rattle.law_calm.specs.SharedFiles.{HasRow, HasCachingRow, SharedFilesStayShared}
 
 none-any : {A : Type 0} (p : A → Bool) (xs : List A) → list_any p xs ≡ false → find p xs ≡ None
 none-any p [] h = refl
@@ -217,10 +217,48 @@ module _ (table : Table) (q : Question) (want : Want) (wants : q.want ≡ Some w
   past-waits clash None = freely-waits clash q.want (find_row q.file q.who.host table.rows) refl
   past-waits clash (Some other) = λ e. subst (λ w. WaitsWith table.rows (with_waiting (with_rows table rows_then) q w (find_row q.file q.who.host table.rows)).rows q.file q.who.host) (sym wants) (waits (find_row q.file q.who.host table.rows) refl)
 
-pub put-off-has-row : WhoIsPutOffHasRow
-put-off-has-row table q want clash wants room e =
-    let w = past-waits table q want wants room clash (find (conflicts q.file q.who.host q.access) table.rows) e in
-    record { row = w.row; there = w.there }
+  -- whoever asks has a row
+
+  Has : Reply → Type 0
+  Has r = HasRow r.table.rows q.file q.who.host
+
+  granted-has : (row : Row) (term : ℕ) → row.file ≡ q.file → row.who.host ≡ q.who.host → Has (granted table q row term)
+  unfolding Has granted after_draw
+  granted-has row term file host = record {
+    row = row;
+    there = subst (λ h. find_row q.file h (put_row row table.rows) ≡ Some row) host (subst (λ f. find_row f row.who.host (put_row row table.rows) ≡ Some row) file (find-put-same row table.rows));
+  }
+
+  begins-has : (v : Want) → Has (begin table q v)
+  unfolding sharing_row caching_row
+  begins-has v =
+      choice Has (nat_lt (length table.rows) most_rows) (if list_any (shares q.file q.who.host) table.rows then granted table q (sharing_row table q (term_of q v)) (term_of q v) else granted table q (caching_row table q v.mode (term_of q v)) (term_of q v)) (no_lease table)
+      (λ e. choice Has (list_any (shares q.file q.who.host) table.rows) (granted table q (sharing_row table q (term_of q v)) (term_of q v)) (granted table q (caching_row table q v.mode (term_of q v)) (term_of q v)) (λ f. granted-has (sharing_row table q (term_of q v)) (term_of q v) refl refl) (λ f. granted-has (caching_row table q v.mode (term_of q v)) (term_of q v) refl refl))
+      (λ e. absurd (let full = is-not-below (length table.rows) most_rows e in omega arith))
+
+  own-has : (v : Want) (own : Row) → find_row q.file q.who.host table.rows ≡ Some own → Has (ask_for table q v (Some own))
+  unfolding Has put_off_by_own shared_again renewed_row
+  own-has v own is =
+      let k = found-row q.file q.who.host table.rows own is in
+      choice Has own.evicting (put_off_by_own table own) (if caches own.mode then renew table q v own else share_again table q own)
+      (λ e. record { row = own; there = is })
+      (λ e. choice Has (caches own.mode) (renew table q v own) (share_again table q own) (λ f. granted-has _ _ k.0 k.1) (λ f. granted-has _ _ k.0 k.1))
+
+  freely-has : (own : Option Row) → find_row q.file q.who.host table.rows ≡ own → Has (ask_freely table q (Some want) own)
+  freely-has None is = begins-has want
+  freely-has (Some own) is = own-has want own is
+
+  past-has : (o : Option Row) → Has (ask_past table q o (find_row q.file q.who.host table.rows))
+  unfolding Has put_off
+  past-has None = subst (λ w. Has (ask_freely table q w (find_row q.file q.who.host table.rows))) (sym wants) (freely-has (find_row q.file q.who.host table.rows) refl)
+  past-has (Some other) =
+      let w = waits (find_row q.file q.who.host table.rows) refl in
+      let has : HasRow (with_waiting (with_rows table rows_then) q (Some want) (find_row q.file q.who.host table.rows)).rows q.file q.who.host = record { row = w.row; there = w.there } in
+      subst (λ v. HasRow (with_waiting (with_rows table rows_then) q v (find_row q.file q.who.host table.rows)).rows q.file q.who.host) (sym wants) has
+
+pub asks-has-row : WhoAsksHasRow
+unfolding Has
+asks-has-row table q want wants room = past-has table q want wants room (find (conflicts q.file q.who.host q.access) table.rows)
 
 pub put-off-shares : WhoIsPutOffShares
 put-off-shares table q want clash wants room none e = by (past-waits table q want wants room clash (find (conflicts q.file q.who.host q.access) table.rows) e)

@@ -1,10 +1,9 @@
 -- A row that does not cache is taken by no datagram but a REMOVE of its file and an ATTACH of its host.
-use Rattle.std.proofs.Common.{◌≡◌, ◌≢◌, ◌<◌, ◌⊎◌, ℕ, ◌==◌, ◌&&◌, Bool, true, false, List, [], ◌∷◌, Option, Some, None, if◌then◌else◌, length, refl, sym, ap, subst, ◌∙◌, arith, inl, inr}
+use Rattle.std.proofs.Common.{◌≡◌, ◌≢◌, ◌<◌, ℕ, ◌==◌, ◌&&◌, Bool, true, false, List, [], Option, Some, None, if◌then◌else◌, length, refl, sym, ap, subst, ◌∙◌, arith}
 use Rattle.std.specs.Option.{option_map}
 use Rattle.std.specs.Prelude.{slice_get}
 use Rattle.std.proofs.lemmas.Bool.{and_parts}
 use Rattle.nq_base.specs.declared.Access.{Access}
-use Rattle.nq_base.specs.declared.Event.{Event}
 use Rattle.nq_base.specs.declared.Mode.{Mode}
 use Rattle.nq_base.specs.declared.Party.{Party}
 use Rattle.nq_base.specs.declared.Question.{Question}
@@ -17,20 +16,20 @@ use Rattle.nq_model.specs.Ask.{marked, sharing_row, caching_row, shared_again, r
 use Rattle.nq_model.specs.Client.{Client, ClientStep}
 use Rattle.nq_model.specs.Decide.{decides, creates, writes_through, stores, stores_recovering, wrote, resizes, removes, puts_off, commits}
 use Rattle.nq_model.specs.Hear.{hear}
-use Rattle.nq_model.specs.Message.{Message, Packet, Datagram, call, request, datagram_of}
+use Rattle.nq_model.specs.Message.{Message, Packet, call, datagram_of}
 use Rattle.nq_model.specs.Profile.{most_hosts}
 use Rattle.nq_model.specs.Server.{Server, Phase, standing_in, serving, recovering, after_notices, keeping, keeping_with, with_table, quiet, drops, says}
 use Rattle.nq_model.specs.ServerStep.{access_of, to_read, attaches, vacates, vacated_rows, tells_later, serves, leases, receive}
 use Rattle.nq_model.specs.Table.{Table, caches, is_writing, same_tag, find_row, is_row_of, drop_host, drop_rows_of, drop_row, put_row, with_rows, after_draw}
-use Rattle.nq_model.specs.World.{Head, World, from_host, after_server, after_client, after_hearing, sending_host, deliver, deliver_to, deliver_to_client, step, run}
+use Rattle.nq_model.specs.World.{World, from_host, after_server, after_client, after_hearing, sending_host, deliver, deliver_to, deliver_to_client, run}
 use Rattle.law_leases.proofs.LeaseIntervals.{run-runs}
 use Rattle.walk_client.proofs.ClientMoves.{some-same, none-some}
 use Rattle.walk_leases.proofs.Runs.{none-served}
 use Rattle.walk_tables.proofs.ServerTables.{NoneRecovering}
-use Rattle.walk_run.proofs.Packets.{In, in-get}
-use Rattle.walk_run.proofs.Worlds.{Holds, IsSent, by_host, by_server, run-holds}
+use Rattle.walk_run.proofs.Packets.{in-get}
+use Rattle.walk_run.proofs.Worlds.{IsSent, by_host, by_server, run-holds}
 use Rattle.walk_server.proofs.AskCases.{IsGranted, shares_again, begins_sharing, begins_caching, renews_row}
-use Rattle.walk_server.proofs.RowChanges.{mark, mark-is, find-marked, find-put, found-put, of-key, find-other-dropped, find-other-host-dropped, find-other-file-dropped}
+use Rattle.walk_server.proofs.RowChanges.{mark, mark-is, find-marked, find-put, of-key, find-other-dropped, find-other-host-dropped, find-other-file-dropped}
 use Rattle.walk_server.proofs.Rows.{choice, found-row, same-number, number-same}
 use Rattle.walk_server.proofs.ServerCases.{server-hears}
 use Rattle.walk_server.proofs.TableFits.{TableFits}

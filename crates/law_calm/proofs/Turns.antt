@@ -1,5 +1,5 @@
 -- What a client hears costs it a turn, but for notices that it answers by VACATED alone, or by VACATED and the same request.
-use Rattle.std.proofs.Common.{◌≡◌, ◌≢◌, ◌≤◌, ◌<◌, ◌⊎◌, ℕ, ◌+◌, ◌==◌, ◌&&◌, nat_lt, nat_le, Bool, true, false, List, [], ◌∷◌, Option, Some, None, is_some, refl, sym, ap, subst, ◌∙◌, arith, inl, inr}
+use Rattle.std.proofs.Common.{◌≡◌, ◌≤◌, ◌<◌, ◌⊎◌, ℕ, ◌+◌, nat_lt, Bool, true, false, List, [], ◌∷◌, Option, Some, None, is_some, refl, sym, ap, ◌∙◌, arith, inl, inr}
 use Rattle.std.specs.Prelude.{slice_get}
 use Rattle.std.proofs.lemmas.Bool.{and_parts}
 use Rattle.nq_base.specs.declared.Event.{Event}
@@ -8,7 +8,7 @@ use Rattle.nq_base.specs.declared.Push.{Push}
 use Rattle.nq_base.specs.declared.Reply.{Reply}
 use Rattle.nq_base.specs.declared.Request.{Request}
 use Rattle.nq_base.specs.declared.Tag.{Tag}
-use Rattle.nq_model.specs.Client.{Client, ClientStep, begun, for_call, Ticket, UnderWay}
+use Rattle.nq_model.specs.Client.{Client, ClientStep, begun, Ticket, UnderWay}
 use Rattle.nq_model.specs.Hear.{hear, replied, cancels, cancelled, wants_of, vacates_lease, notes_notice, evicted, goes_on, reply_counts}
 use Rattle.nq_model.specs.Message.{Message, call, reply}
 use Rattle.nq_model.specs.Send.{sends_request, after_seq, after_number, takes_push, gives_up, base_of, want_of, read_want, noticed_file, ending_file, is_asking, then_pushes, then_ending, then_calls, send_next}
@@ -16,17 +16,16 @@ use Rattle.nq_model.specs.Settle.{answers, after_read, reads_cached, after_write
 use Rattle.nq_model.specs.Table.{is_writing}
 use Rattle.nq_model.specs.World.{Head, run}
 use Rattle.walk_client.proofs.ClientFacts.{Alone}
-use Rattle.walk_client.proofs.ClientMoves.{some-same, none-some}
+use Rattle.walk_client.proofs.ClientMoves.{none-some}
 use Rattle.walk_client.proofs.SendCases.{send-cases}
 use Rattle.walk_client.proofs.SettleCases.{settle-cases}
 use Rattle.walk_client.proofs.StepCases.{evicted-cases, heard-cases}
 use Rattle.walk_run.proofs.Worlds.{run-holds}
-use Rattle.walk_server.proofs.Rows.{choice}
 use Rattle.walk_server.proofs.Tests.{is-not-below, there-is}
 use Rattle.law_calm.specs.SendsAgain.{is_cancelled}
-use Rattle.law_calm.specs.Efforts.{effort, requests_left, is_idle}
+use Rattle.law_calm.specs.Efforts.{effort, requests_left}
 use Rattle.law_calm.specs.SendsAgain.{SendsAgain, the_same, delayed_writes, nothing_now}
-use Rattle.law_calm.specs.Turns.{asking_turns, turns_left, IsOfUse, TakesTurn, fewer, again, silent, TurnsFall}
+use Rattle.law_calm.specs.Turns.{asking_turns, IsOfUse, TakesTurn, fewer, again, silent, TurnsFall}
 use Rattle.law_calm.proofs.EffortParts.{settle-cheap, send-cheap}
 use Rattle.law_calm.proofs.EffortReplies.{CancelCosts, cancels-cost, hear-costs, cancel-costs, uncancelled-costs}
 use Rattle.law_calm.proofs.Efforts.{total, total-more, lease_weight, reply_weight, want_weight, weight, sent_weight, cost}

@@ -1,6 +1,5 @@
 -- A row that was ever named to be given up is to go: it is not granted again, and waits for the VACATED.
 use Rattle.std.specs.Prelude.{◌≡◌, ℕ, true, List, Some, slice_get}
-use Rattle.nq_base.specs.declared.Event.{Event}
 use Rattle.nq_base.specs.declared.Request.{Request}
 use Rattle.nq_base.specs.declared.Row.{Row}
 use Rattle.nq_base.specs.declared.Tag.{Tag}
@@ -9,7 +8,7 @@ use Rattle.nq_promises.specs.Bounds.{InEveryRun}
 use Rattle.nq_model.specs.Message.{Packet, call}
 use Rattle.nq_model.specs.Server.{to_host}
 use Rattle.nq_model.specs.Table.{find_row}
-use Rattle.nq_model.specs.World.{Head, from_host, run}
+use Rattle.nq_model.specs.World.{from_host, run}
 
 -- a tag was named: in a notice to a host, or by its client in a VACATED
 pub data IsNamed (packets : List Packet) (file host : ℕ) (tag : Tag) : Type 0 where

@@ -1,17 +1,10 @@
--- What keeps notices few: a file that somebody shares or waits for comes to be cached by nobody, until his row goes; and whoever is put
--- off waits with a row.
-use Rattle.std.specs.Prelude.{◌≡◌, ◌<◌, ℕ, true, false, List, Some, length}
-use Rattle.nq_base.specs.declared.Asked.{Asked}
-use Rattle.nq_base.specs.declared.Clash.{Clash}
-use Rattle.nq_base.specs.declared.Question.{Question}
+-- What keeps notices few: a file that somebody shares or waits for comes to be cached by nobody, until his row goes.
+use Rattle.std.specs.Prelude.{◌≡◌, ℕ, true, false, List, Some}
 use Rattle.nq_base.specs.declared.Row.{Row}
-use Rattle.nq_base.specs.declared.Want.{Want}
-use Rattle.nq_model.specs.Ask.{ask}
 use Rattle.nq_model.specs.Message.{Datagram}
-use Rattle.nq_model.specs.Profile.{most_rows}
 use Rattle.nq_model.specs.Server.{Server}
 use Rattle.nq_model.specs.ServerStep.{receive}
-use Rattle.nq_model.specs.Table.{Table, caches, find_row}
+use Rattle.nq_model.specs.Table.{caches, find_row}
 
 -- a host has a row of a file
 pub record HasRow (rows : List Row) (file host : ℕ) : Type 0 where
@@ -34,12 +27,3 @@ SharedFilesStayShared =
     → (other : ℕ)
     → HasCachingRow (receive s sender next d).server.table.rows file other
     → HasCachingRow s.table.rows file other
-
--- whoever wants a lease and is put off has a row of the file then, where the table had room for one more
-abbrev pub WhoIsPutOffHasRow : Type 0
-WhoIsPutOffHasRow =
-    (table : Table) (q : Question) (want : Want) (clash : Clash)
-    → q.want ≡ Some want
-    → length table.rows < most_rows
-    → (ask table q).asked ≡ Asked.TryLater clash
-    → HasRow (ask table q).table.rows q.file q.who.host

@@ -12,8 +12,8 @@ use Rattle.nq_model.specs.Ask.{ask}
 use Rattle.nq_model.specs.Message.{Message, Packet, call}
 use Rattle.nq_model.specs.Profile.{most_rows}
 use Rattle.nq_model.specs.Table.{Table, caches, find_row}
-use Rattle.nq_model.specs.World.{Head, run, step}
-use Rattle.law_calm.specs.SharedFiles.{HasCachingRow}
+use Rattle.nq_model.specs.World.{run, step}
+use Rattle.law_calm.specs.SharedFiles.{HasRow, HasCachingRow}
 
 -- a host has a row of a file that does not let it cache
 pub record HasSharingRow (rows : List Row) (file host : ℕ) : Type 0 where
@@ -53,3 +53,11 @@ WhoIsPutOffShares =
     → (HasCachingRow table.rows q.file q.who.host → ⊥)
     → (ask table q).asked ≡ Asked.TryLater clash
     → HasSharingRow (ask table q).table.rows q.file q.who.host
+
+-- whoever wants a lease has a row of the file then, whatever he is told, where the table had room for one more
+abbrev pub WhoAsksHasRow : Type 0
+WhoAsksHasRow =
+    (table : Table) (q : Question) (want : Want)
+    → q.want ≡ Some want
+    → length table.rows < most_rows
+    → HasRow (ask table q).table.rows q.file q.who.host

@@ -8,18 +8,13 @@ ghost use Rattle.law_calm.specs.NamedRows.{NamedRowsAreToGo};
 ghost use Rattle.law_calm.specs.NoticesMark.{NoticesMarkRows};
 ghost use Rattle.law_calm.specs.RequestsAreMeant.{RequestsAreMeant};
 ghost use Rattle.law_calm.specs.SendsAgain.{NoticesAreAnsweredAtOnce};
-ghost use Rattle.law_calm.specs.SharedFiles.{SharedFilesStayShared, WhoIsPutOffHasRow};
-ghost use Rattle.law_calm.specs.SharingRows.{RowsToGoCache, SharingRowsStay, WhoIsPutOffShares};
+ghost use Rattle.law_calm.specs.SharedFiles.{SharedFilesStayShared};
+ghost use Rattle.law_calm.specs.SharingRows.{RowsToGoCache, SharingRowsStay, WhoAsksHasRow, WhoIsPutOffShares};
 ghost use Rattle.law_calm.specs.Turns.{TurnsFall};
 
 /// Where a host has a row of a file that does not let it cache, nobody's row comes to let him cache the file by a datagram.
 pub fn shared_files_stay_shared()
     ensures { SharedFilesStayShared }
-{}
-
-/// Whoever wants a lease and is put off has a row of the file then, where the table had room for one more.
-pub fn who_is_put_off_has_row()
-    ensures { WhoIsPutOffHasRow }
 {}
 
 /// The row that a notice names is marked as one that is to go.
@@ -80,4 +75,9 @@ pub fn who_is_put_off_shares()
 /// the same request.
 pub fn turns_fall()
     ensures { TurnsFall }
+{}
+
+/// Whoever wants a lease has a row of the file then, whatever he is told, where the table had room for one more.
+pub fn who_asks_has_row()
+    ensures { WhoAsksHasRow }
 {}

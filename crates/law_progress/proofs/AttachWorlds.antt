@@ -1,8 +1,7 @@
 -- Who is not attached is so after three calm rounds: in one of the first two his ATTACH is sent again, and in the next delivery it is
 -- answered.
 use Rattle.std.proofs.Common.{◌≡◌, ◌≢◌, ◌≤◌, ◌<◌, ◌⊎◌, ℕ, ◌+◌, ◌-◌, ◌==◌, ◌++◌, not, nat_lt, Bool, true, false, zero, suc, List, [], ◌∷◌, Option, Some, None, length, refl, sym, ap, subst, ◌∙◌, arith, inl, inr}
-use Rattle.std.specs.Prelude.{All, map, slice_get, slice_set, slice_index_or}
-use Rattle.std.proofs.lemmas.Bool.{both_ways}
+use Rattle.std.specs.Prelude.{All, map, slice_get, slice_index_or}
 use Rattle.std.proofs.lemmas.List.{append-nil, length-append}
 use Rattle.nq_base.specs.declared.Event.{Event}
 use Rattle.nq_base.specs.declared.Party.{Party}
@@ -14,9 +13,9 @@ use Rattle.nq_model.specs.Client.{Client, ClientStep, Ticket}
 use Rattle.nq_model.specs.ClientStep.{client_tick}
 use Rattle.nq_model.specs.Hear.{hear}
 use Rattle.nq_model.specs.Kept.{host_row}
-use Rattle.nq_model.specs.Lines.{Play, play, play_flow, flow_first, play_hosts, play_rounds, delivered, numbers_from, without, added}
+use Rattle.nq_model.specs.Lines.{Play, play, play_flow, flow_first, play_hosts, play_rounds, delivered, numbers_from, added}
 use Rattle.nq_model.specs.Message.{Message, Packet, call, reply, datagram_of}
-use Rattle.nq_model.specs.Profile.{patience, inc_end, most_hosts}
+use Rattle.nq_model.specs.Profile.{patience, inc_end}
 use Rattle.nq_model.specs.Server.{Server, ServerStep, to_host}
 use Rattle.nq_model.specs.ServerStep.{receive, tick}
 use Rattle.nq_model.specs.World.{Head, World, from_host, after_server, after_client, at_client, after_hearing, sending_host, deliver, deliver_to, deliver_to_client, step, run}
@@ -26,12 +25,12 @@ use Rattle.walk_client.proofs.ClientMoves.{some-same, none-some}
 use Rattle.walk_run.proofs.Members.{filter-in}
 use Rattle.walk_run.proofs.Packets.{In, in-left, in-right, in-get, Told}
 use Rattle.walk_run.proofs.Steps.{Changes, nothing, by_client, by_server, step-changes}
-use Rattle.walk_run.proofs.Worlds.{Holds, IsAt, run-holds, get-set-same, get-set-other, set-there, to-told}
+use Rattle.walk_run.proofs.Worlds.{Holds, run-holds, get-set-other, set-there, to-told}
 use Rattle.walk_server.proofs.Rows.{same-number, number-same}
 use Rattle.walk_server.proofs.ServerMoves.{tick-moves}
 use Rattle.walk_server.proofs.Tests.{is-below, is-not-below}
 use Rattle.law_progress.specs.AttachedSoon.{CanBeKept, IsAttached, AttachedOnceDelivered, AttachedInRecovery}
-use Rattle.law_progress.specs.CalmRound.{AreUnderWay, calmed, calm_round, calm_rounds, most_deliveries}
+use Rattle.law_progress.specs.CalmRound.{calmed, calm_round, calm_rounds, most_deliveries}
 use Rattle.law_progress.specs.CalmRoundsAreLawful.{IsLawful}
 use Rattle.law_progress.specs.DeliveryEnds.{IsDelivered}
 use Rattle.law_progress.specs.QuietDeliveries.{recovers}

@@ -1,23 +1,21 @@
 -- A client that is not attached asks to be, until it is; then it stays so. And each ATTACH of it is answered.
-use Rattle.std.proofs.Common.{◌≡◌, ◌≤◌, ◌<◌, ◌⊎◌, ℕ, ◌+◌, ◌==◌, ◌&&◌, nat_lt, Bool, true, false, List, [], ◌∷◌, Option, Some, None, if◌then◌else◌, refl, sym, ap, subst, ◌∙◌, arith, inl, inr}
-use Rattle.std.specs.Prelude.{slice_get}
+use Rattle.std.proofs.Common.{◌≡◌, ◌≤◌, ◌<◌, ◌⊎◌, ℕ, ◌+◌, ◌==◌, ◌&&◌, nat_lt, true, false, List, [], ◌∷◌, Some, if◌then◌else◌, refl, sym, ap, subst, ◌∙◌, arith, inl, inr}
 use Rattle.std.proofs.lemmas.Bool.{and_from}
 use Rattle.std.proofs.lemmas.Bool.Decides.{nat_tests}
 use Rattle.nq_base.specs.declared.Grant.{Grant}
-use Rattle.nq_base.specs.declared.HostRow.{HostRow}
 use Rattle.nq_base.specs.declared.Reply.{Reply}
 use Rattle.nq_base.specs.declared.Request.{Request}
 use Rattle.nq_base.specs.declared.Tag.{Tag}
 use Rattle.nq_base.specs.declared.Who.{Who}
 use Rattle.nq_model.specs.Client.{Client, ClientStep, begun, Job, Ticket}
 use Rattle.nq_model.specs.ClientStep.{at_time, sends_again, client_tick}
-use Rattle.nq_model.specs.Hear.{hear, goes_on, spends, attached, replied, inc_of, reply_counts}
+use Rattle.nq_model.specs.Hear.{hear, goes_on, spends, attached, replied, reply_counts}
 use Rattle.nq_model.specs.Kept.{can_be_kept, host_row}
 use Rattle.nq_model.specs.Message.{Message, Packet, call, reply, datagram_of, out_of_bounds, old_incarnation, wrong_host}
 use Rattle.nq_model.specs.Profile.{inc_end, most_hosts}
 use Rattle.nq_model.specs.Send.{sends_request, after_seq, after_number, takes_push, gives_up, send_next}
 use Rattle.nq_model.specs.Server.{Server, ServerStep, drops, says, replies, to_host}
-use Rattle.nq_model.specs.ServerStep.{row_of_attach, attaches, attach_later, attach, admit, receive}
+use Rattle.nq_model.specs.ServerStep.{row_of_attach, attaches, attach_later, admit, receive}
 use Rattle.nq_model.specs.Settle.{answers, after_read, reads_cached, after_write, marks_written, settle}
 use Rattle.walk_client.proofs.ClientCases.{Core, Closed}
 use Rattle.walk_client.proofs.ClientFacts.{Alone}

@@ -11,3 +11,4 @@ pub mod QuietFlows
 pub mod CancelFlows
 pub mod Attaching
 pub mod AttachWorlds
+pub mod LeasesOfUse

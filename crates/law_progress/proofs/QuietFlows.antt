@@ -172,7 +172,7 @@ record Spared (head : Head) (p : Play) : Type 0 where
 abbrev pub price_for : Head → ℕ
 price_for head = (head.hosts + head.hosts) + 3
 
-notices-most : (price xid : ℕ) (rows : List Row) → packets_weight price 2 (notices xid rows) ≤ length rows + length rows
+pub notices-most : (price xid : ℕ) (rows : List Row) → packets_weight price 2 (notices xid rows) ≤ length rows + length rows
 notices-most price xid [] = omega arith
 notices-most price xid (row ∷ rows) = let rest = notices-most price ((xid + 1) % xid_end) rows in omega arith
 

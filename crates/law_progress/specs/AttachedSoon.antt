@@ -1,6 +1,5 @@
 -- Who is not attached is so after three calm rounds, where their deliveries end; so it is in each recovery.
 use Rattle.std.specs.Prelude.{◌≡◌, ◌<◌, ℕ, ◌+◌, true, List, All, length}
-use Rattle.nq_base.specs.declared.Event.{Event}
 use Rattle.nq_promises.specs.Bounds.{InEveryRun}
 use Rattle.nq_model.specs.Client.{Client}
 use Rattle.nq_model.specs.Lines.{Play}
@@ -11,7 +10,7 @@ use Rattle.law_progress.specs.CalmRoundsAreLawful.{IsLawful}
 use Rattle.law_progress.specs.DeliveryEnds.{IsDelivered}
 use Rattle.law_progress.specs.QuietDeliveries.{recovers}
 
--- the number of a client's incarnation can be kept. After 2^31 restarts it could not be, and the server would drop each ATTACH
+-- the number of a client's incarnation can be kept. After 2^31 - 1 restarts it could not be, and the server would drop each ATTACH
 abbrev pub CanBeKept : Client → Type 0
 CanBeKept c = c.who.inc < inc_end
 

@@ -1,13 +1,11 @@
 -- A calm delivery goes on longer than is stated only where notices cancel requests of calls: so much longer for each.
-use Rattle.std.specs.Prelude.{◌≡◌, ◌≤◌, ℕ, ◌+◌, ◌*◌, Bool, true, false, ◌&&◌, List, [], ◌∷◌, Option, Some, None, length, slice_get, zero, suc}
+use Rattle.std.specs.Prelude.{◌≡◌, ◌≤◌, ℕ, ◌+◌, ◌*◌, Bool, true, false, List, [], ◌∷◌, Option, Some, None, length, slice_get, zero, suc}
 use Rattle.nq_base.specs.declared.Party.{Party}
 use Rattle.nq_base.specs.declared.Request.{Request}
 use Rattle.nq_promises.specs.Bounds.{InEveryRun}
 use Rattle.nq_model.specs.Client.{Client, Ticket}
-use Rattle.nq_model.specs.Hear.{wants_of}
 use Rattle.nq_model.specs.Lines.{Play, play_flow, flow_first}
 use Rattle.nq_model.specs.Message.{Message, Packet, call}
-use Rattle.nq_model.specs.Settle.{is_for_call}
 use Rattle.nq_model.specs.World.{World, run}
 use Rattle.law_calm.specs.SendsAgain.{is_cancelled}
 use Rattle.law_progress.specs.CalmRound.{AreUnderWay, calmed, calm_rounds, most_deliveries}

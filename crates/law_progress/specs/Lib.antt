@@ -9,3 +9,4 @@ pub mod SomeNeedHalf
 pub mod QuietDeliveries
 pub mod CancelledDeliveries
 pub mod AttachedSoon
+pub mod LeasesOfUse

@@ -7,6 +7,7 @@ ghost use Rattle.law_progress.specs.AttachedSoon.{AttachedInRecovery, AttachedOn
 ghost use Rattle.law_progress.specs.CalmRoundsAreLawful.{CalmRoundsAreLawful};
 ghost use Rattle.law_progress.specs.CancelledDeliveries.{DeliveryEndsButForCancels};
 ghost use Rattle.law_progress.specs.ClocksTickOnce.{ClocksTickOnce};
+ghost use Rattle.law_progress.specs.LeasesOfUse.{WritersGetLeasesOfUse};
 ghost use Rattle.law_progress.specs.QuietDeliveries.{RecoveringDeliveryEnds, SparedDeliveryEnds};
 ghost use Rattle.law_progress.specs.SomeNeedHalf.{NeedsHalf};
 
@@ -59,4 +60,9 @@ pub fn attached_once_delivered()
 /// Where a server recovers for three calm rounds, all clients are attached after them.
 pub fn attached_in_recovery()
     ensures { AttachedInRecovery }
+{}
+
+/// In every state of the server, whoever wants to write is never granted a lease by which no write can be delayed.
+pub fn writers_get_leases_of_use()
+    ensures { WritersGetLeasesOfUse }
 {}
