@@ -3,3 +3,13 @@ pub mod KeptWalks
 pub mod Names
 pub mod Places
 pub mod Walks
+mod Holding
+mod Filing
+mod Giving
+mod Within
+mod Spelling
+mod FileRows
+mod Tabling
+mod Bodying
+mod Imaging
+pub mod Emptying

@@ -2,6 +2,7 @@
 //! for what they stand. No disk is in it: each function reads one part of an image from bytes that it is given.
 #![tactic(auto)]
 
+mod bounds;
 mod fault;
 mod fields;
 mod heads;
@@ -11,9 +12,12 @@ mod image;
 mod kept;
 mod order;
 mod rows;
+mod spelling;
 mod tables;
 mod whole;
+mod writing;
 
+pub use bounds::what_opens_is_within_bounds;
 pub use fault::{ImageFault, WrongField};
 pub use heads::{Boots, Front, read_boots, read_front, version_of};
 pub use hosts::{read_host, read_hosts};
@@ -22,5 +26,10 @@ pub use image::{ImageOne, ImageTwo, Rows, Tables, read_one, read_two};
 pub use kept::{FoundFile, KeptImage, kept_of, read_kept};
 pub use order::{first_wrong_is_least, heads_are_in_order, rows_are_in_order, tables_are_in_order};
 pub use rows::{Slot, Version, read_row, read_rows};
+pub use spelling::{
+    HEADS_PLACE, block_place, host_place, id_place, row_place, spell_heads, spell_host, spell_row,
+    spell_table,
+};
 pub use tables::{PHYSICAL_BLOCKS, TABLE_BLOCKS, read_table, read_tables};
 pub use whole::{Image, read_image};
+pub use writing::{each_kept_state_has_an_image, nothing_is_kept_in_zeros};
