@@ -168,7 +168,7 @@ others name (f ∷ files) none =
 abbrev pub IsNew : List (Option Slot) → File → Type 0
 IsNew before f = is_named f.name before ≡ false
 
-false-unless : (b : Bool) → (b ≡ true → ⊥) → b ≡ false
+pub false-unless : (b : Bool) → (b ≡ true → ⊥) → b ≡ false
 false-unless true no = absurd (no refl)
 false-unless false no = refl
 
@@ -201,12 +201,12 @@ slots_for zero files = []
 slots_for (suc count) [] = None ∷ slots_for count []
 slots_for (suc count) (file ∷ files) = Some (slot_for file) ∷ slots_for count files
 
-unused-holds : (place : ℕ) (before : List (Option Slot)) → Hold (row_checks Version.Two place before (zeros_of 96))
+pub unused-holds : (place : ℕ) (before : List (Option Slot)) → Hold (row_checks Version.Two place before (zeros_of 96))
 unfolding row_checks
 unused-holds place before =
     hold-if (are_zeros (zeros_of 96)) [] (used_checks Version.Two place before (zeros_of 96)) (zeros-are 96) tt
 
-unused-is : slot_of (zeros_of 96) ≡ None
+pub unused-is : slot_of (zeros_of 96) ≡ None
 unfolding slot_of
 unused-is = ap (λ (b : Bool). if b then None else Some (used_slot (zeros_of 96))) (zeros-are 96)
 

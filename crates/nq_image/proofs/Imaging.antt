@@ -31,10 +31,10 @@ use Rattle.nq_image.proofs.Giving.{tables-length}
 use Rattle.nq_image.proofs.Spelling.{Hold, and-two, ge-true, hold-tested, hosts-are, hosts-hold, le-both, le-true, length-hosts_bytes, length-zeros, lt-true, piece-there, zeros-are}
 use Rattle.nq_image.proofs.Tabling.{AreFree, all-held, ids-are, ids-hold, ids_for, length-ids, length-tables, tables-back}
 
-then-goes : {A B : Type 0} (r : Result A ℕ) (x : A) (f : A → Result B ℕ) → r ≡ Ok x → (r >>= f) ≡ f x
+pub then-goes : {A B : Type 0} (r : Result A ℕ) (x : A) (f : A → Result B ℕ) → r ≡ Ok x → (r >>= f) ≡ f x
 then-goes r x f is = ap (λ (a : Result _ ℕ). a >>= f) is
 
-goes-if : {A : Type 0} (b : Bool) (x y : A) → b ≡ true → (if b then x else y) ≡ x
+pub goes-if : {A : Type 0} (b : Bool) (x y : A) → b ≡ true → (if b then x else y) ≡ x
 goes-if true x y e = refl
 goes-if false x y e = cc
 
@@ -121,7 +121,7 @@ module _ (tables : ℕ) (kept : Kept) (near : tables ≤ 16384) (w : IsWithinBou
 abbrev rows-with : List HostRow → List (Option Slot) → FoundRows
 rows-with hosts slots = record { hosts = hosts; slots = slots }
 
-rows-are : (bytes host_bytes file_bytes gap : List ℕ) (hosts : List HostRow) (slots : List (Option Slot)) → piece 64 2048 bytes ≡ host_bytes → piece 2112 24576 bytes ≡ file_bytes → piece 26688 1984 bytes ≡ gap → Hold (hosts_checks 64 64 host_bytes) → hosts_of 64 host_bytes ≡ hosts → Hold (rows_checks Version.Two 256 2112 [] file_bytes) → slots_of 256 file_bytes ≡ slots → are_zeros gap ≡ true → rows_in Version.Two bytes ≡ Ok (rows-with hosts slots)
+pub rows-are : (bytes host_bytes file_bytes gap : List ℕ) (hosts : List HostRow) (slots : List (Option Slot)) → piece 64 2048 bytes ≡ host_bytes → piece 2112 24576 bytes ≡ file_bytes → piece 26688 1984 bytes ≡ gap → Hold (hosts_checks 64 64 host_bytes) → hosts_of 64 host_bytes ≡ hosts → Hold (rows_checks Version.Two 256 2112 [] file_bytes) → slots_of 256 file_bytes ≡ slots → are_zeros gap ≡ true → rows_in Version.Two bytes ≡ Ok (rows-with hosts slots)
 unfolding rows_in
 rows-are bytes host_bytes file_bytes gap hosts slots one two three hold-hosts same-hosts hold-rows same-rows zeros =
     let hosts_at : List ℕ → Result (List HostRow) ℕ = λ p. tested (hosts_checks 64 64 p) (hosts_of 64 p) in
@@ -136,13 +136,13 @@ rows-are bytes host_bytes file_bytes gap hosts slots one two three hold-hosts sa
 abbrev tables-with : (ids blocks : List ℕ) → List Bool → FoundTables
 tables-with ids blocks marks = record { ids = ids; blocks = blocks; marks = marks }
 
-ids-there : (place next : ℕ) (slots : List (Option Slot)) (bytes table ids : List ℕ) → place + 4096 ≤ length bytes → piece place 4096 bytes ≡ table → Hold (ids_checks next place [] slots table) → ids_of slots table ≡ ids → ids_in place next slots bytes ≡ Ok ids
+pub ids-there : (place next : ℕ) (slots : List (Option Slot)) (bytes table ids : List ℕ) → place + 4096 ≤ length bytes → piece place 4096 bytes ≡ table → Hold (ids_checks next place [] slots table) → ids_of slots table ≡ ids → ids_in place next slots bytes ≡ Ok ids
 ids-there place next slots bytes table ids long is hold same =
     let at : List ℕ → Result (List ℕ) ℕ = λ p. tested (ids_checks next place [] slots p) (ids_of slots p) in
     goes-if (nat_le (place + 4096) (length bytes)) (at (piece place 4096 bytes)) (Err place) (le-true (place + 4096) (place + 4096) (length bytes) refl long)
     ∙ ap at is ∙ tested-as (ids_checks next place [] slots table) (ids_of slots table) ids hold same
 
-tables-are : (front : Front) (slots : List (Option Slot)) (marks : List Bool) (bytes blocks ids : List ℕ) → Hold (tables_checks front.tables (block_place front.tables) slots marks bytes) → tables_blocks (block_place front.tables) slots bytes ≡ blocks → ids_in (block_place front.tables + 1048576) front.next slots bytes ≡ Ok ids → held (length bytes) (tables_marks (block_place front.tables) slots marks bytes) ≡ Ok tt → tables_in front slots marks bytes ≡ Ok (tables-with ids blocks (tables_marks (block_place front.tables) slots marks bytes))
+pub tables-are : (front : Front) (slots : List (Option Slot)) (marks : List Bool) (bytes blocks ids : List ℕ) → Hold (tables_checks front.tables (block_place front.tables) slots marks bytes) → tables_blocks (block_place front.tables) slots bytes ≡ blocks → ids_in (block_place front.tables + 1048576) front.next slots bytes ≡ Ok ids → held (length bytes) (tables_marks (block_place front.tables) slots marks bytes) ≡ Ok tt → tables_in front slots marks bytes ≡ Ok (tables-with ids blocks (tables_marks (block_place front.tables) slots marks bytes))
 unfolding tables_in
 tables-are front slots marks bytes blocks ids hold same ids_is held_is =
     let place = block_place front.tables in
@@ -155,7 +155,7 @@ tables-are front slots marks bytes blocks ids hold same ids_is held_is =
 abbrev two-with : Front → FoundRows → FoundTables → FoundTwo
 two-with front rows tables = record { front = front; rows = rows; tables = tables }
 
-two-are : (marks : List Bool) (bytes first : List ℕ) (front : Front) (rows : FoundRows) (tables : FoundTables) → piece 0 64 bytes ≡ first → Hold (front_checks first) → front_of first ≡ front → rows_in Version.Two bytes ≡ Ok rows → tables_in front rows.slots marks bytes ≡ Ok tables → image_two marks bytes ≡ Ok (two-with front rows tables)
+pub two-are : (marks : List Bool) (bytes first : List ℕ) (front : Front) (rows : FoundRows) (tables : FoundTables) → piece 0 64 bytes ≡ first → Hold (front_checks first) → front_of first ≡ front → rows_in Version.Two bytes ≡ Ok rows → tables_in front rows.slots marks bytes ≡ Ok tables → image_two marks bytes ≡ Ok (two-with front rows tables)
 unfolding image_two
 two-are marks bytes first front rows tables is hold same rows_are tables_are =
     let at : List ℕ → Result Front ℕ = λ p. tested (front_checks p) (front_of p) in
@@ -174,14 +174,14 @@ opens-as bytes found kept long name version is same =
     ∙ ap (λ (r : Result Found ℕ). Some r) (then-goes (image_two (no_marks 16641) bytes) found (λ f. Ok (of_two f)) is))
     ∙ ap (λ (k : Kept). Some (Ok k)) same
 
-no-marks : (count k : ℕ) → is_marked (no_marks count) k ≡ false
+pub no-marks : (count k : ℕ) → is_marked (no_marks count) k ≡ false
 unfolding no_marks
 no-marks count k = elim (cases_lt k count) [
   | inl lt ↦ get_or-replicate count k false false lt
   | inr le ↦ get_or_past (no_marks count) k false (omega (arith, length-replicate count false))
 ]
 
-length-marks : (count : ℕ) → length (no_marks count) ≡ count
+pub length-marks : (count : ℕ) → length (no_marks count) ≡ count
 unfolding no_marks
 length-marks count = length-replicate count false
 

@@ -13,3 +13,13 @@ mod Tabling
 mod Bodying
 mod Imaging
 pub mod Emptying
+mod Pieces
+mod Parting
+mod Gathering
+mod Agreeing
+mod Changing
+mod Rowing
+mod Numbering
+mod Allotting
+mod Replacing
+mod Placing

@@ -162,7 +162,7 @@ pub length-host : (row : HostRow) → length (host_bytes row) ≡ 32
 unfolding host_bytes
 length-host row = refl
 
-host-holds : (place : ℕ) (row : HostRow) → IsHostWithin row → Hold (host_checks place (host_bytes row))
+pub host-holds : (place : ℕ) (row : HostRow) → IsHostWithin row → Hold (host_checks place (host_bytes row))
 host-holds place row within =
     let back = host-back row within in (
       lt-true (word_in 0 (host_bytes row)) row.inc 2147483648 back.inc within.inc,
@@ -185,7 +185,7 @@ same-host row inc seq value verdict a b c d =
     ∙ ap (λ (x : ℕ). host-with row.inc row.seq x verdict) c
     ∙ ap (λ (x : Option Verdict). host-with row.inc row.seq row.value x) d
 
-host-is : (row : HostRow) → IsHostWithin row → host_of (host_bytes row) ≡ row
+pub host-is : (row : HostRow) → IsHostWithin row → host_of (host_bytes row) ≡ row
 unfolding host_of
 host-is row within =
     let back = host-back row within in

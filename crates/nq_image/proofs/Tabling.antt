@@ -236,11 +236,11 @@ unfolding ids_of
 one-id-is word slot slots bytes rest ids is behind more =
     ap (λ (w : ℕ). w ∷ ids_of slots (drop 4 bytes)) is ∙ ap (λ (d : List ℕ). word ∷ ids_of slots d) behind ∙ ap (λ (l : List ℕ). word ∷ l) more
 
-zero-word : (rest : List ℕ) → word_in 0 (0 ∷ 0 ∷ 0 ∷ 0 ∷ rest) ≡ 0
+pub zero-word : (rest : List ℕ) → word_in 0 (0 ∷ 0 ∷ 0 ∷ 0 ∷ rest) ≡ 0
 unfolding word_in
 zero-word rest = refl
 
-id-word : (id : ℕ) (rest : List ℕ) → id < 2 ^ 32 → word_in 0 (to_be_bytes w32 id ++ rest) ≡ id
+pub id-word : (id : ℕ) (rest : List ℕ) → id < 2 ^ 32 → word_in 0 (to_be_bytes w32 id ++ rest) ≡ id
 unfolding word_in
 id-word id rest lt = from_be_bytes-to_be_bytes_4 id lt
 
@@ -308,7 +308,7 @@ first-mark [] free = omega arith
 first-mark (true ∷ marks) free = let wrong : true ≡ false = free 0 in cc
 first-mark (false ∷ marks) free = let rest = first-mark marks (λ k. free (suc k)) in omega (arith, rest)
 
-none-marked : (marks : List Bool) → ((k : ℕ) → get_or marks k false ≡ false) → position (λ mark. mark) marks ≡ None
+pub none-marked : (marks : List Bool) → ((k : ℕ) → get_or marks k false ≡ false) → position (λ mark. mark) marks ≡ None
 none-marked marks free =
     let n = prefix_len (λ mark. not mark) marks in
     no-mark (nat_lt n (length marks)) n (length marks) (Some n) (not-lt n (length marks) (first-mark marks free))

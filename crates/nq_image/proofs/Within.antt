@@ -160,11 +160,11 @@ pub record AreRowsWithin (version : Version) (rows : FoundRows) : Type 0 where
   pub right : AreRowsRight version [] rows.slots
   pub all_slots : length rows.slots ≡ 256
 
-then-ok : {A B : Type 0} (r : Result A ℕ) (f : A → Result B ℕ) (z : B) → (r >>= f) ≡ Ok z → (x : A) × (r ≡ Ok x) × (f x ≡ Ok z)
+pub then-ok : {A B : Type 0} (r : Result A ℕ) (f : A → Result B ℕ) (z : B) → (r >>= f) ≡ Ok z → (x : A) × (r ≡ Ok x) × (f x ≡ Ok z)
 then-ok (Ok x) f z h = (x, refl, h)
 then-ok (Err p) f z h = cc
 
-if-ok : {A : Type 0} (b : Bool) (x z : A) (p : ℕ) → (if b then Ok x else Err p) ≡ Ok z → (b ≡ true) × (x ≡ z)
+pub if-ok : {A : Type 0} (b : Bool) (x z : A) (p : ℕ) → (if b then Ok x else Err p) ≡ Ok z → (b ≡ true) × (x ≡ z)
 if-ok true x z p h = (refl, cc)
 if-ok false x z p h = cc
 

@@ -9,6 +9,7 @@ pub mod Nothing
 pub mod Reading
 pub mod Rows
 pub mod Seen
+pub mod Standing
 pub mod Tables
 pub mod Whole
 pub mod Writing
