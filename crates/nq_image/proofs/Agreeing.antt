@@ -126,24 +126,27 @@ pub record HaveSameTables (tables : ℕ) (old new : List ℕ) : Type 0 where
   pub each : SameFrom (block_place tables) 256 old new
   pub ids : piece (block_place tables + 1048576) 4096 new ≡ piece (block_place tables + 1048576) 4096 old
 
-pub same-tables : (s : Standing) (old new : List ℕ) → HaveSameBlocks s old new → HaveSameTables s.tables old new
-same-tables s old new same = record {
-  no_shorter = same.no_shorter;
+pub tables-by : (tables : ℕ) (old new : List ℕ) → length old ≤ length new → ((n : ℕ) → n < 257 → body_in new (tables + n) ≡ body_in old (tables + n)) → HaveSameTables tables old new
+tables-by tables old new longer same = record {
+  no_shorter = longer;
   each = at;
   ids = last;
 }
   where
-    at : SameFrom (block_place s.tables) 256 old new
+    at : SameFrom (block_place tables) 256 old new
     at k lt =
-        let e : block_place (s.tables + k) ≡ block_place s.tables + 4096 * k = omega arith in
+        let e : block_place (tables + k) ≡ block_place tables + 4096 * k = omega arith in
         let P : ℕ → Type 0 = λ p. piece p 4096 new ≡ piece p 4096 old in
-        subst P e (same.tables k (omega arith))
+        subst P e (same k (omega arith))
 
-    last : piece (block_place s.tables + 1048576) 4096 new ≡ piece (block_place s.tables + 1048576) 4096 old
+    last : piece (block_place tables + 1048576) 4096 new ≡ piece (block_place tables + 1048576) 4096 old
     last =
-        let e : block_place (s.tables + 256) ≡ block_place s.tables + 1048576 = omega arith in
+        let e : block_place (tables + 256) ≡ block_place tables + 1048576 = omega arith in
         let P : ℕ → Type 0 = λ p. piece p 4096 new ≡ piece p 4096 old in
-        subst P e (same.tables 256 (omega arith))
+        subst P e (same 256 (omega arith))
+
+pub same-tables : (s : Standing) (old new : List ℕ) → HaveSameBlocks s old new → HaveSameTables s.tables old new
+same-tables s old new same = tables-by s.tables old new same.no_shorter same.tables
 
 pub begins-same : (old new : List ℕ) → length old ≤ length new → piece 0 8 new ≡ piece 0 8 old → BeginsAsTwo old → BeginsAsTwo new
 begins-same old new longer same b = record {
@@ -163,16 +166,15 @@ begins-same old new longer same b = record {
 
 -- ---- the law of free bytes
 
-agree-parts : (s : Standing) (old new : List ℕ) → length (map row_slot s.rows) ≡ 256 → Agree s old new → HasParts old (found_of s) → HasParts new (found_of s)
-agree-parts s old new all agree p =
-    let blocks = same-tables s old new agree.blocks in
+agree-parts : (s : Standing) (old new : List ℕ) → length (map row_slot s.rows) ≡ 256 → rows_of_image new ≡ rows_of_image old → HaveSameTables s.tables old new → HasParts old (found_of s) → HasParts new (found_of s)
+agree-parts s old new all same_rows blocks p =
     let longer = blocks.no_shorter in
     let place = block_place s.tables in
     let slots = map row_slot s.rows in
-    let front = piece-by-first 28672 0 64 new old (omega arith) agree.rows in
-    let hosts = piece-by-first 28672 64 2048 new old (omega arith) agree.rows in
-    let rows = piece-by-first 28672 2112 24576 new old (omega arith) agree.rows in
-    let gap = piece-by-first 28672 26688 1984 new old (omega arith) agree.rows in
+    let front = piece-by-first 28672 0 64 new old (omega arith) same_rows in
+    let hosts = piece-by-first 28672 64 2048 new old (omega arith) same_rows in
+    let rows = piece-by-first 28672 2112 24576 new old (omega arith) same_rows in
+    let gap = piece-by-first 28672 26688 1984 new old (omega arith) same_rows in
     let From : ℕ → Type 0 = λ n. SameFrom place n old new in
     let tables = tables-same s.tables place slots (no_marks 16641) old new longer (subst From (sym all) blocks.each) p.tables in
     let Front : List ℕ → Type 0 = λ b. Hold (front_checks b) in
@@ -205,18 +207,21 @@ agree-parts s old new all agree p =
 pub all-rows : (s : Standing) (bytes : List ℕ) → HasParts bytes (found_of s) → length (map row_slot s.rows) ≡ 256
 all-rows s bytes p = ap length (sym p.rows_are) ∙ length-slots 256 (piece 2112 24576 bytes)
 
-pub agree-stands : (s : Standing) (old new : List ℕ) → Stands old s → Agree s old new → Stands new s
-agree-stands s old new stands agree =
+pub stands-by-tables : (s : Standing) (old new : List ℕ) → Stands old s → rows_of_image new ≡ rows_of_image old → HaveSameTables s.tables old new → Stands new s
+stands-by-tables s old new stands same_rows tables =
     let image = parts-of old (found_of s) stands.found in
-    let first = piece-by-first 28672 0 8 new old (omega arith) agree.rows in
+    let first = piece-by-first 28672 0 8 new old (omega arith) same_rows in
     record {
-      found = image-of-parts new (found_of s) (begins-same old new agree.blocks.no_shorter first image.begins) (agree-parts s old new (all-rows s old image.parts) agree image.parts);
+      found = image-of-parts new (found_of s) (begins-same old new tables.no_shorter first image.begins) (agree-parts s old new (all-rows s old image.parts) same_rows tables image.parts);
       numbered = stands.numbered;
     }
 
+pub agree-stands : (s : Standing) (old new : List ℕ) → Stands old s → Agree s old new → Stands new s
+agree-stands s old new stands agree = stands-by-tables s old new stands agree.rows (same-tables s old new agree.blocks)
+
 -- ---- what is kept
 
-all-put : (P : PlacedFile → Type 0) (x : PlacedFile) (files : List PlacedFile) → P x → All P files → All P (put_file x files)
+pub all-put : (P : PlacedFile → Type 0) (x : PlacedFile) (files : List PlacedFile) → P x → All P files → All P (put_file x files)
 all-put P x [] own all = All-cons P x [] own (All-nil P)
 all-put P x (f ∷ files) own all =
     either (nat_lt x.id f.id) (All-cons P x (f ∷ files) own all) (All-cons P f (put_file x files) (All-head P f files all) (all-put P x files own (All-tail P f files all)))

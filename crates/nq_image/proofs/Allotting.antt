@@ -79,7 +79,7 @@ once tables marks (block ∷ blocks) long given =
       );
     }
 
-both-of : (P Q R : ℕ → Type 0) (xs : List ℕ) → ((x : ℕ) → P x → Q x → R x) → All P xs → All Q xs → All R xs
+pub both-of : (P Q R : ℕ → Type 0) (xs : List ℕ) → ((x : ℕ) → P x → Q x → R x) → All P xs → All Q xs → All R xs
 both-of P Q R xs both one two = λ k d lt. both (get_or xs k d) (one k d lt) (two k d lt)
 
 pub given-if-once : (tables : ℕ) (marks : List Bool) (blocks : List ℕ) → AreGivenOnce tables marks blocks → AllGiven tables marks blocks
@@ -259,7 +259,7 @@ table-written blocks tables place marks given = entries-written blocks tables pl
 
 -- ---- the tables of rows
 
-length-table : (count : ℕ) (rest : List ℕ) → length (table_of count rest) ≡ count
+pub length-table : (count : ℕ) (rest : List ℕ) → length (table_of count rest) ≡ count
 unfolding table_of
 length-table zero rest = refl
 length-table (suc count) rest = let e = length-table count (drop 4 rest) in omega (arith, e)

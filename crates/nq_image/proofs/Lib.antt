@@ -23,3 +23,7 @@ mod Numbering
 mod Allotting
 mod Replacing
 mod Placing
+mod Sorting
+mod Retaining
+mod Finding
+mod Owning

@@ -254,7 +254,7 @@ used-ids next known (row ∷ rows) all = All-cons (IsOtherId 0) row rows (own ro
     own (Some file) new = let some = new.0 in omega arith
 
 -- rows that are right have not too many blocks
-few-new : (before slots : List (Option Slot)) → AllNew before slots → sum_by blocks_of before ≤ 16384 → sum_by blocks_of before + sum_by blocks_of slots ≤ 16384
+pub few-new : (before slots : List (Option Slot)) → AllNew before slots → sum_by blocks_of before ≤ 16384 → sum_by blocks_of before + sum_by blocks_of slots ≤ 16384
 few-new before [] new few = omega (arith, few)
 few-new before (slot ∷ slots) new few =
     let sums = sum_by-append blocks_of before (slot ∷ []) in

@@ -1,16 +1,17 @@
 -- Where each part of a kept state stands in an image of version 2, and what a change writes of it.
-use Rattle.std.specs.Prelude.{◌≡◌, ◌≢◌, ◌≤◌, ◌<◌, ◌^◌, ◌+◌, ◌*◌, ℕ, suc, Bool, false, List, [], ◌∷◌, ◌++◌, Option, Some, None, Ok, All, length, map, take, drop, nat_lt, slice_set, if◌then◌else◌}
+use Rattle.std.specs.Prelude.{◌≡◌, ◌≢◌, ◌≤◌, ◌<◌, ◌^◌, ◌+◌, ◌*◌, ℕ, suc, Bool, false, List, [], ◌∷◌, ◌++◌, Option, Some, None, Ok, All, length, map, take, drop, nat_lt, slice_index_or, slice_set, if◌then◌else◌}
 use Rattle.std.specs.Int.{w32, to_be_bytes}
 use Rattle.nq_base.specs.Name.{IsName}
+use Rattle.nq_base.specs.declared.FileRow.{FileRow}
 use Rattle.nq_base.specs.declared.Heads.{Heads}
 use Rattle.nq_base.specs.declared.HostRow.{HostRow}
-use Rattle.nq_model.specs.Kept.{File, Kept}
+use Rattle.nq_model.specs.Kept.{File, Kept, resized}
 use Rattle.nq_image.specs.declared.heads.Front.{Front}
 use Rattle.nq_image.specs.declared.rows.Slot.{Slot}
 use Rattle.nq_image.specs.Image.{FoundTwo, no_marks}
 use Rattle.nq_image.specs.Kept.{body_in}
 use Rattle.nq_image.specs.Layout.{block_place, piece}
-use Rattle.nq_image.specs.Tables.{is_of_tables}
+use Rattle.nq_image.specs.Tables.{is_of_tables, table_of}
 use Rattle.nq_image.specs.Whole.{of_two, image_in}
 use Rattle.nq_image.specs.Writing.{row_bytes, table_of_blocks, zeros_of}
 
@@ -200,3 +201,46 @@ pub record IsRowCleared (s : Standing) (slot : ℕ) (old new : List ℕ) : Type 
   pub tables : (n : ℕ) → n < 256 → n ≢ slot → body_in new (s.tables + n) ≡ body_in old (s.tables + n)
   pub id : body_in new (s.tables + 256) ≡ overwritten (4 * slot) (zeros_of 4) (body_in old (s.tables + 256))
   pub bodies : All (λ block. body_in new block ≡ body_in old block) (blocks_in (others slot s.rows))
+
+-- what the row of a file says of it, as it is kept
+abbrev pub row_for : PlacedFile → FileRow
+row_for file = record { id = file.id; name = file.name; blocks = length file.blocks; rev = file.rev }
+
+-- the file in a row
+abbrev pub row_at : Standing → (slot : ℕ) → Option PlacedFile
+row_at s slot = slice_index_or s.rows slot None
+
+-- the new bytes have these bodies in the blocks of a file: those that the file had in its row, cut, or with zeros behind them
+abbrev pub HasBodies : (s : Standing) (file : PlacedFile) (old new : List ℕ) → Type 0
+HasBodies s file old new = map (body_in new) file.blocks ≡ resized (length file.blocks) (map (body_in old) (row_blocks (row_at s file.slot)))
+
+-- the new bytes have another body in a block of a file, and are the same wherever else something stands
+pub record IsBodyWritten (s : Standing) (block : ℕ) (body old new : List ℕ) : Type 0 where
+  pub no_shorter : length old ≤ length new
+  pub rows : rows_of_image new ≡ rows_of_image old
+  pub tables : (n : ℕ) → n < 257 → body_in new (s.tables + n) ≡ body_in old (s.tables + n)
+  pub body : body_in new block ≡ body
+  pub bodies : All (λ other. other ≢ block → body_in new other ≡ body_in old other) (blocks_in s.rows)
+
+-- the files that are read in these rows with these ids, of which the first row has a number and its table stands at a place
+unfoldable pub placed_rows : (slot place : ℕ) → List (Option Slot) → (ids bytes : List ℕ) → List (Option PlacedFile)
+placed_rows slot place [] ids bytes = []
+placed_rows slot place (None ∷ slots) ids bytes = None ∷ placed_rows (slot + 1) (place + 4096) slots (drop 1 ids) bytes
+placed_rows slot place (Some own ∷ slots) ids bytes =
+    Some (record {
+      id = slice_index_or ids 0 0;
+      name = own.name;
+      rev = own.rev;
+      slot = slot;
+      blocks = table_of own.blocks (piece place 4096 bytes);
+    })
+    ∷ placed_rows (slot + 1) (place + 4096) slots (drop 1 ids) bytes
+
+-- where what was read stands
+abbrev pub standing_in : (bytes : List ℕ) → FoundTwo → Standing
+standing_in bytes found = record {
+  heads = record { boot = found.front.boot; opened = found.front.opened; longest = found.front.longest; next = found.front.next };
+  tables = found.front.tables;
+  hosts = found.rows.hosts;
+  rows = placed_rows 0 (block_place found.front.tables) found.rows.slots found.tables.ids bytes;
+}

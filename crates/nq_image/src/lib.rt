@@ -3,6 +3,7 @@
 #![tactic(auto)]
 
 mod bounds;
+mod changes;
 mod fault;
 mod fields;
 mod heads;
@@ -13,11 +14,17 @@ mod kept;
 mod order;
 mod rows;
 mod spelling;
+mod standing;
 mod tables;
 mod whole;
 mod writing;
 
 pub use bounds::what_opens_is_within_bounds;
+pub use changes::{
+    a_body_is_its_block, a_cleared_row_is_no_file, a_file_is_changed_by_its_row,
+    a_file_is_its_row_id_and_table, a_file_is_kept_once_it_is_written, a_host_is_its_row,
+    heads_are_sixteen_bytes,
+};
 pub use fault::{ImageFault, WrongField};
 pub use heads::{Boots, Front, read_boots, read_front, version_of};
 pub use hosts::{read_host, read_hosts};
@@ -29,6 +36,9 @@ pub use rows::{Slot, Version, read_row, read_rows};
 pub use spelling::{
     HEADS_PLACE, block_place, host_place, id_place, row_place, spell_heads, spell_host, spell_row,
     spell_table,
+};
+pub use standing::{
+    free_bytes_may_be_any, what_is_read_stands, what_stands_is_apart, what_stands_opens,
 };
 pub use tables::{PHYSICAL_BLOCKS, TABLE_BLOCKS, read_table, read_tables};
 pub use whole::{Image, read_image};
