@@ -75,10 +75,10 @@ found-same bytes found p =
     let ids = ids-back found.rows.slots 0 place found.front.next (place + 1048576) [] (piece (place + 1048576) 4096 bytes) found.tables.ids bytes p.ids_are p.ids in
     let blocks = sym p.blocks_are ∙ blocks-back found.rows.slots 0 place found.tables.ids bytes in
     let marks = sym p.marks_are
-        ∙ ap (λ (l : List (Option Slot)). tables_marks place l (no_marks 16641) bytes) (sym slots)
-        ∙ tables-marks-are place rows (no_marks 16641) bytes
-        ∙ ap (λ (l : List (Option Slot)). marks_with (no_marks 16641) (tables_blocks place l bytes)) slots
-        ∙ ap (λ (l : List ℕ). marks_with (no_marks 16641) l) (p.blocks_are ∙ blocks) in
+    ∙ ap (λ (l : List (Option Slot)). tables_marks place l (no_marks 16641) bytes) (sym slots)
+    ∙ tables-marks-are place rows (no_marks 16641) bytes
+    ∙ ap (λ (l : List (Option Slot)). marks_with (no_marks 16641) (tables_blocks place l bytes)) slots
+    ∙ ap (λ (l : List ℕ). marks_with (no_marks 16641) l) (p.blocks_are ∙ blocks) in
     ap (λ (x : List (Option Slot)). found-with found x found.tables.ids found.tables.blocks found.tables.marks) (sym slots)
     ∙ ap (λ (x : List ℕ). found-with found (map row_slot rows) x found.tables.blocks found.tables.marks) (sym ids)
     ∙ ap (λ (x : List ℕ). found-with found (map row_slot rows) (map row_id rows) x found.tables.marks) blocks

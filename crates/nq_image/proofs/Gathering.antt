@@ -69,11 +69,11 @@ module _ (bytes all : List ℕ) where
       let own = same-file start file before (blocks_in rows) is at in
       let placed = insert-is-put file.id x found in
       let both : map (file_in bytes all) (insert found (place_of file.id found) x) ≡ map (file_at bytes) (put_file file files) =
-          ap (λ (l : List FoundFile). map (file_in bytes all) l) placed
-          ∙ found-puts file.id x found
-          ∙ ap (λ (f : File). put_kept file.id f (map (file_in bytes all) found)) own
-          ∙ ap (λ (l : List File). put_kept file.id (file_at bytes file) l) same
-          ∙ sym (placed-puts file files) in
+      ap (λ (l : List FoundFile). map (file_in bytes all) l) placed
+      ∙ found-puts file.id x found
+      ∙ ap (λ (f : File). put_kept file.id f (map (file_in bytes all) found)) own
+      ∙ ap (λ (l : List File). put_kept file.id (file_at bytes file) l) same
+      ∙ sym (placed-puts file files) in
       gathers rows (insert found (place_of file.id found) x) (put_file file files) (start + length file.blocks) (before ++ file.blocks) both (is ∙ sym (append_assoc before file.blocks (blocks_in rows))) (omega (arith, at, length-append before file.blocks))
 
 kept-with : List File → Standing → Kept

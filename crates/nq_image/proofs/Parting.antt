@@ -6,7 +6,7 @@ use Rattle.nq_base.specs.declared.HostRow.{HostRow}
 use Rattle.nq_image.specs.Check.{Check, tested}
 use Rattle.nq_image.specs.Heads.{front_checks, front_of, version_of}
 use Rattle.nq_image.specs.Hosts.{hosts_checks, hosts_of}
-use Rattle.nq_image.specs.Image.{FoundRows, FoundTables, FoundTwo, ◌>>=◌, ids_in, image_one, image_two, no_marks, rows_in, tables_in}
+use Rattle.nq_image.specs.Image.{FoundOne, FoundRows, FoundTables, FoundTwo, ◌>>=◌, ids_in, image_one, image_two, no_marks, rows_in, tables_in}
 use Rattle.nq_image.specs.Layout.{are_zeros, block_place, piece, word_in}
 use Rattle.nq_image.specs.Rows.{rows_checks, slots_of}
 use Rattle.nq_image.specs.Standing.{Standing, blocks_in, found_of, front_for, marks_with, row_id, row_slot}
@@ -55,8 +55,8 @@ pub record BeginsAsTwo (bytes : List ℕ) : Type 0 where
 
 -- ---- from an image to its parts
 
-ok-is : {A : Type 0} (x z : A) → Ok {A = A} {B = ℕ} x ≡ Ok z → x ≡ z
-ok-is x z h = cc
+ok-is : {A : Type 0} (x z : A) (r : Result A ℕ) → r ≡ Ok x → r ≡ Ok z → x ≡ z
+ok-is x z r is h = cc
 
 pub record HasRowParts (bytes : List ℕ) (rows : FoundRows) : Type 0 where
   pub hosts : Hold (hosts_checks 64 64 (piece 64 2048 bytes))
@@ -128,7 +128,7 @@ table-parts front slots bytes found h =
     let three = then-ok (held (length bytes) last) (λ holds. Ok (made one.0 two.0)) found two.2 in
     let own = id-parts (place + 1048576) front.next slots bytes two.0 (nat_le (place + 1048576 + 4096) (length bytes)) refl two.1 in
     let Holds : FoundTables → Type 0 = λ t. HasTableParts bytes front slots t in
-    subst Holds (ok-is (made one.0 two.0) found three.2) (record {
+    subst Holds (ok-is (made one.0 two.0) found (Ok (made one.0 two.0)) refl three.2) (record {
       tables = hold-from checks blocks one.0 one.1;
       blocks_are = tested-value checks blocks one.0 one.1;
       marks_are = refl;
@@ -152,7 +152,7 @@ two-parts bytes found h =
     let rows = row-parts bytes two.0 two.1 in
     let tables = table-parts one.0 two.0.slots bytes three.0 three.1 in
     let Holds : FoundTwo → Type 0 = λ f. HasParts bytes f in
-    subst Holds (ok-is (two-made one.0 two.0 three.0) found three.2) (record {
+    subst Holds (ok-is (two-made one.0 two.0 three.0) found (Ok (two-made one.0 two.0 three.0)) refl three.2) (record {
       front = hold-from (front_checks start) (front_of start) one.0 one.1;
       front_is = tested-value (front_checks start) (front_of start) one.0 one.1;
       hosts = rows.hosts;
@@ -180,7 +180,7 @@ by-version bytes found (Some Version.One) h = absurd (not-one (image_one bytes) 
     some-is : (a b : Result Found ℕ) → Some a ≡ Some b → a ≡ b
     some-is a b h = cc
 
-    not-one : (r : Result _ ℕ) → (r >>= λ f. Ok (of_one f)) ≡ Ok (of_two found) → ⊥
+    not-one : (r : Result FoundOne ℕ) → (r >>= λ f. Ok (of_one f)) ≡ Ok (of_two found) → ⊥
     not-one (Ok x) h = cc
     not-one (Err p) h = cc
 by-version bytes found (Some Version.Two) h = (refl, two-parts bytes found (by-two (image_two (no_marks 16641) bytes) h))

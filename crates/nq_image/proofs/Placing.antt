@@ -29,11 +29,11 @@ use Rattle.nq_image.proofs.Spelling.{Hold, length-zeros}
 
 -- ---- rows around one
 
-abbrev pub RowsBefore : Standing → ℕ → List (Option PlacedFile)
-RowsBefore s slot = take slot s.rows
+abbrev pub rows_before : Standing → ℕ → List (Option PlacedFile)
+rows_before s slot = take slot s.rows
 
-abbrev pub RowsBehind : Standing → ℕ → List (Option PlacedFile)
-RowsBehind s slot = drop (suc slot) s.rows
+abbrev pub rows_behind : Standing → ℕ → List (Option PlacedFile)
+rows_behind s slot = drop (suc slot) s.rows
 
 abbrev with-rows-of : Standing → List (Option PlacedFile) → Standing
 with-rows-of s rows = record { heads = s.heads; tables = s.tables; hosts = s.hosts; rows = rows }
@@ -103,10 +103,10 @@ apart-row file (Some other) apart = apart.0
 
 module _ (s : Standing) (file : PlacedFile) (can : CanStand s file) where
   abbrev before : List (Option PlacedFile)
-  before = RowsBefore s file.slot
+  before = rows_before s file.slot
 
   abbrev behind : List (Option PlacedFile)
-  behind = RowsBehind s file.slot
+  behind = rows_behind s file.slot
 
   abbrev own-slot : Slot
   own-slot = record { name = file.name; blocks = length file.blocks; rev = file.rev }
@@ -156,16 +156,16 @@ module _ (s : Standing) (file : PlacedFile) (can : CanStand s file) where
 
 -- ---- the law of a file
 
-length-sides : (s : Standing) (slot : ℕ) → slot < length s.rows → (length (RowsBefore s slot) ≡ slot) × (slot + 1 + length (RowsBehind s slot) ≡ length s.rows)
+length-sides : (s : Standing) (slot : ℕ) → slot < length s.rows → (length (rows_before s slot) ≡ slot) × (slot + 1 + length (rows_behind s slot) ≡ length s.rows)
 length-sides s slot lt = (length-take-le slot s.rows (omega arith), omega (arith, length-drop (suc slot) s.rows, lt))
 
 -- an image in which the rows are others around one
 module _ (s : Standing) (slot : ℕ) (two : Option PlacedFile) (part old new : List ℕ) (lt : slot < 256) (stands : Stands old s) (number : IsNumberedRow slot two) where
   abbrev front : List (Option PlacedFile)
-  front = RowsBefore s slot
+  front = rows_before s slot
 
   abbrev rest : List (Option PlacedFile)
-  rest = RowsBehind s slot
+  rest = rows_behind s slot
 
   abbrev one : Option PlacedFile
   one = get_or s.rows slot None
@@ -206,8 +206,8 @@ file-stands s file old new stands can w =
     let part = row_bytes file.name (length file.blocks) file.rev in
     let all = all-of s slot (Some file) part old new lt stands refl in
     let sides = length-sides s slot (omega (arith, lt, all)) in
-    let front = RowsBefore s slot in
-    let rest = RowsBehind s slot in
+    let front = rows_before s slot in
+    let rest = rows_behind s slot in
     let one = get_or s.rows slot None in
     let Slot : ℕ → Type 0 = λ n. rows_of_image new ≡ overwritten (2112 + 96 * n) part (rows_of_image old) in
     let Ids : ℕ → Type 0 = λ n. piece (block_place s.tables + 1048576) 4096 new ≡ overwritten (4 * n) (to_be_bytes w32 file.id) (piece (block_place s.tables + 1048576) 4096 old) in
@@ -288,8 +288,8 @@ cleared-stands s slot old new lt stands w =
     let image = parts-of old (found_of s) stands.found in
     let all = all-of s slot None (zeros_of 96) old new lt stands tt in
     let sides = length-sides s slot (omega (arith, lt, all)) in
-    let front = RowsBefore s slot in
-    let rest = RowsBehind s slot in
+    let front = rows_before s slot in
+    let rest = rows_behind s slot in
     let one = get_or s.rows slot None in
     let place = block_place s.tables in
     let split = ids-split s.rows s.heads.next (place + 1048576) [] (piece (place + 1048576) 4096 old) image.parts.ids_are image.parts.ids in
@@ -359,8 +359,8 @@ same-ids front rest was file bytes same h =
 held-from-old : (s : Standing) (old : List ℕ) (slot : ℕ) (was : PlacedFile) → HasParts old (found_of s) → slot < length s.rows → get_or s.rows slot None ≡ Some was → All (IsHeld (length old)) was.blocks
 held-from-old s old slot was p lt is =
     let rows_are = around-row slot s.rows lt in
-    let front = RowsBefore s slot in
-    let rest = RowsBehind s slot in
+    let front = rows_before s slot in
+    let rest = rows_behind s slot in
     let each = held-all s old p in
     let One : List (Option PlacedFile) → Type 0 = λ rows. All (IsHeld (length old)) (blocks_in rows) in
     let parted = subst One (rows_are ∙ ap (λ (row : Option PlacedFile). front ++ row ∷ rest) is) each in
@@ -376,8 +376,8 @@ row-stands s was file old new stands can is same_id same_blocks agree =
     let image = parts-of old (found_of s) stands.found in
     let all = all-of s slot (Some file) part old new lt stands refl in
     let sides = length-sides s slot (omega (arith, lt, all)) in
-    let front = RowsBefore s slot in
-    let rest = RowsBehind s slot in
+    let front = rows_before s slot in
+    let rest = rows_behind s slot in
     let one = get_or s.rows slot None in
     let place = block_place s.tables in
     let few = sides.1 in

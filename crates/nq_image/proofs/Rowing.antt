@@ -182,8 +182,7 @@ swap-rest front mid (x ∷ rest) one two apart few new =
     let One : List (Option Slot) → Type 0 = λ l. AllNew l rest in
     let more = front ++ two ∷ (mid ++ x ∷ []) in
     let long = sum_by-append blocks_of (front ++ two ∷ mid) (x ∷ []) in
-    let same = ap (λ (l : List (Option Slot)). sum_by blocks_of l) (append_assoc front (two ∷ mid) (x ∷ [])) in
-    (
+    let same = ap (λ (l : List (Option Slot)). sum_by blocks_of l) (append_assoc front (two ∷ mid) (x ∷ [])) in (
       swap-one front mid one two x (All-head (IsApartRow two) x rest apart) (omega (arith, few, sums)) new.0,
       subst One (sym (append_assoc front (two ∷ mid) (x ∷ [])))
           (swap-rest front (mid ++ x ∷ []) rest one two (All-tail (IsApartRow two) x rest apart) (omega (arith, few, sums, long, same, sum_by-cons blocks_of x []))

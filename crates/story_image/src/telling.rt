@@ -72,6 +72,15 @@ fn tell_file(rt: &HostRuntime, file: &FoundFile, blocks: &[u32], bytes: &[u8]) -
     Ok(())
 }
 
+/// The number of these bytes, the highest first.
+fn number_in(word: &[u8]) -> u64 {
+    let mut number: u64 = 0;
+    for byte in word {
+        number = number.saturating_mul(256).saturating_add(u64::from(*byte));
+    }
+    number
+}
+
 /// Prints a block that is not all zeros: the word that it repeats, or all its bytes.
 fn tell_block(rt: &HostRuntime, file: u32, number: usize, body: &[u8]) -> Result<()> {
     if body.iter().all(|byte| *byte == 0) {
@@ -79,10 +88,7 @@ fn tell_block(rt: &HostRuntime, file: u32, number: usize, body: &[u8]) -> Result
     }
     let word = body.get(..4).context("no word")?;
     if body.chunks(4).all(|other| other == word) {
-        println!(rt;
-            "  block {file} {number} fill {}",
-            hex::encode(rt.alloc(), word)?
-        )?;
+        println!(rt; "  block {file} {number} fill {}", number_in(word))?;
     } else {
         println!(rt;
             "  block {file} {number} bytes {}",
