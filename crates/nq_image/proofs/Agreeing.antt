@@ -25,7 +25,7 @@ use Rattle.nq_image.proofs.Giving.{IsGiven, IsHeld, given-is-held}
 use Rattle.nq_image.proofs.Holding.{length-slots, test-le}
 use Rattle.nq_image.proofs.Parting.{BeginsAsTwo, HasParts, image-of-parts, parts-of}
 use Rattle.nq_image.proofs.Pieces.{at-piece, length-piece, piece-by-first}
-use Rattle.nq_image.proofs.Spelling.{Hold, hold-append, le-true}
+use Rattle.nq_image.proofs.ReadBack.{Hold, hold-append, le-true}
 use Rattle.nq_image.proofs.Tabling.{none-marked}
 
 -- ---- checks of two lists
@@ -46,7 +46,7 @@ le-longer m n o le h = let a = test-le m n h in le-true m m o refl (omega arith)
 pub record AreTablesSame (tables place : ℕ) (slots : List (Option Slot)) (marks : List Bool) (old new : List ℕ) : Type 0 where
   pub holds : Hold (tables_checks tables place slots marks new)
   pub blocks : tables_blocks place slots new ≡ tables_blocks place slots old
-  pub marks : tables_marks place slots marks new ≡ tables_marks place slots marks old
+  pub marks_same : tables_marks place slots marks new ≡ tables_marks place slots marks old
 
 -- so many blocks from a place on are the same
 abbrev pub SameFrom : (place count : ℕ) (old new : List ℕ) → Type 0
@@ -66,7 +66,7 @@ same-rest place count old new same k lt =
 
 pub tables-same : (tables place : ℕ) (slots : List (Option Slot)) (marks : List Bool) (old new : List ℕ) → length old ≤ length new → SameFrom place (length slots) old new → Hold (tables_checks tables place slots marks old) → AreTablesSame tables place slots marks old new
 unfolding tables_checks tables_blocks tables_marks
-tables-same tables place [] marks old new longer same hold = record { holds = tt; blocks = refl; marks = refl }
+tables-same tables place [] marks old new longer same hold = record { holds = tt; blocks = refl; marks_same = refl }
 tables-same tables place (slot ∷ slots) marks old new longer same hold =
     let table = piece place 4096 old in
     let own = same-first place (length slots) old new same in
@@ -81,7 +81,7 @@ tables-same tables place (slot ∷ slots) marks old new longer same hold =
         subst P (sym own) (hold-append front (tables_checks tables (place + 4096) slots after new) (hold-front front behind hold.1) rest.holds),
       );
       blocks = ap (λ (t : List ℕ). slot_table slot t ++ tables_blocks (place + 4096) slots new) own ∙ ap (λ (l : List ℕ). slot_table slot table ++ l) rest.blocks;
-      marks = ap (λ (t : List ℕ). tables_marks (place + 4096) slots (slot_marks slot marks t) new) own ∙ rest.marks;
+      marks_same = ap (λ (t : List ℕ). tables_marks (place + 4096) slots (slot_marks slot marks t) new) own ∙ rest.marks_same;
     }
 
 -- ---- what is held
@@ -97,8 +97,8 @@ given-below marks block given = elim (cases_lt block (length marks)) [
 ]
 
 not-given : (b : Bool) → (b ≡ true → ⊥) → b ≡ false
-not-given true no = absurd (no refl)
-not-given false no = refl
+not-given true never = absurd (never refl)
+not-given false never = refl
 
 pub held-by : (size : ℕ) (marks : List Bool) → ((block : ℕ) → IsGiven marks block → IsHeld size block) → held size marks ≡ Ok tt
 unfolding held
@@ -148,21 +148,18 @@ tables-by tables old new longer same = record {
 pub same-tables : (s : Standing) (old new : List ℕ) → HaveSameBlocks s old new → HaveSameTables s.tables old new
 same-tables s old new same = tables-by s.tables old new same.no_shorter same.tables
 
+eighth : (old new : List ℕ) → piece 0 8 new ≡ piece 0 8 old → slice_index_or new 7 0 ≡ slice_index_or old 7 0
+eighth old new same = sym (at-piece 0 8 7 new (omega arith)) ∙ ap (λ (b : List ℕ). get_or b 7 0) same ∙ at-piece 0 8 7 old (omega arith)
+
 pub begins-same : (old new : List ℕ) → length old ≤ length new → piece 0 8 new ≡ piece 0 8 old → BeginsAsTwo old → BeginsAsTwo new
-begins-same old new longer same b = record {
-  long = let a = b.long in omega arith;
-  name = subst Named (sym (piece-by-first 8 0 7 new old (omega arith) same)) b.name;
-  version = subst Two (sym eighth) b.version;
-}
-  where
-    abbrev Named : List ℕ → Type 0
-    Named part = pointwise nat_eq part (78 ∷ 81 ∷ 78 ∷ 70 ∷ 83 ∷ 73 ∷ 77 ∷ []) ≡ true
-
-    abbrev Two : ℕ → Type 0
-    Two byte = version_of byte ≡ Some Version.Two
-
-    eighth : slice_index_or new 7 0 ≡ slice_index_or old 7 0
-    eighth = sym (at-piece 0 8 7 new (omega arith)) ∙ ap (λ (b : List ℕ). get_or b 7 0) same ∙ at-piece 0 8 7 old (omega arith)
+begins-same old new longer same b =
+    let Named : List ℕ → Type 0 = λ part. pointwise nat_eq part (78 ∷ 81 ∷ 78 ∷ 70 ∷ 83 ∷ 73 ∷ 77 ∷ []) ≡ true in
+    let Two : ℕ → Type 0 = λ byte. version_of byte ≡ Some Version.Two in
+    record {
+      long = let a = b.long in omega arith;
+      name = subst Named (sym (piece-by-first 8 0 7 new old (omega arith) same)) b.name;
+      version = subst Two (sym (eighth old new same)) b.version;
+    }
 
 -- ---- the law of free bytes
 
@@ -196,7 +193,7 @@ agree-parts s old new all same_rows blocks p =
       gap = subst Gap (sym gap) p.gap;
       tables = tables.holds;
       blocks_are = tables.blocks ∙ p.blocks_are;
-      marks_are = tables.marks ∙ p.marks_are;
+      marks_are = tables.marks_same ∙ p.marks_are;
       ids_whole = let whole = p.ids_whole in omega (arith, whole, longer);
       ids = subst Ids (sym blocks.ids) p.ids;
       ids_are = subst IdsAre (sym blocks.ids) p.ids_are;

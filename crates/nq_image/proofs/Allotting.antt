@@ -18,7 +18,7 @@ use Rattle.nq_image.specs.declared.rows.Slot.{Slot}
 use Rattle.nq_image.proofs.Agreeing.{SameFrom, all-front, all-rest, hold-behind, hold-front, le-longer, same-first, same-rest}
 use Rattle.nq_image.proofs.Giving.{IsGiven}
 use Rattle.nq_image.proofs.Holding.{not-true, test-le}
-use Rattle.nq_image.proofs.Spelling.{Hold, and-two, and-three, ge-true, hold-append, le-true, zeros-are}
+use Rattle.nq_image.proofs.ReadBack.{Hold, and-two, and-three, ge-true, hold-append, le-true, zeros-are}
 
 -- ---- blocks given one after another
 
@@ -51,10 +51,10 @@ length-with marks (block ∷ blocks) = length-with (slice_set marks block true) 
 not-set : (marks : List Bool) (block other : ℕ) → block < length marks → is_marked (slice_set marks block true) other ≡ false → (other ≢ block) × (is_marked marks other ≡ false)
 not-set marks block other lt free = elim (cases_eq other block) [
   | inl e ↦
-    let given = get_or-set_same marks block true false lt in
-    let P : ℕ → Type 0 = λ k. is_marked (slice_set marks block true) k ≡ false in
-    let wrong : true ≡ false = sym given ∙ subst P e free in
-    cc
+      let given = get_or-set_same marks block true false lt in
+      let P : ℕ → Type 0 = λ k. is_marked (slice_set marks block true) k ≡ false in
+      let wrong : true ≡ false = sym given ∙ subst P e free in
+      cc
   | inr ne ↦ (ne, sym (get_or-set_other marks block other true false ne) ∙ free)
 ]
 
@@ -217,9 +217,9 @@ marks-are (suc count) marks rest = marks-are count (marked marks (word_in 0 rest
 
 -- ---- a table as it is written
 
-record IsTableWritten (tables place : ℕ) (marks : List Bool) (blocks rest : List ℕ) : Type 0 where
-  holds : Hold (table_checks (length blocks) tables place marks rest)
-  blocks_are : table_of (length blocks) rest ≡ blocks
+pub record IsTableWritten (tables place : ℕ) (marks : List Bool) (blocks rest : List ℕ) : Type 0 where
+  pub holds : Hold (table_checks (length blocks) tables place marks rest)
+  pub blocks_are : table_of (length blocks) rest ≡ blocks
 
 entry-written : (tables block word : ℕ) (marks : List Bool) → word ≡ block + 1 → IsFileBlock tables block → is_marked marks block ≡ false → is_entry tables marks word ≡ true
 unfolding is_entry
@@ -301,13 +301,13 @@ unfolding marks_with
 with-append marks [] ys = refl
 with-append marks (x ∷ xs) ys = with-append (slice_set marks x true) xs ys
 
+no-more : (marks : List Bool) → marks ≡ marks_with marks []
+unfolding marks_with
+no-more marks = refl
+
 pub tables-marks-are : (place : ℕ) (rows : List (Option PlacedFile)) (marks : List Bool) (bytes : List ℕ) → tables_marks place (map row_slot rows) marks bytes ≡ marks_with marks (tables_blocks place (map row_slot rows) bytes)
 unfolding tables_marks tables_blocks
-tables-marks-are place [] marks bytes = refl-with marks
-  where
-    refl-with : (marks : List Bool) → marks ≡ marks_with marks []
-    unfolding marks_with
-    refl-with marks = refl
+tables-marks-are place [] marks bytes = no-more marks
 tables-marks-are place (row ∷ rows) marks bytes =
     let table = piece place 4096 bytes in
     let own = slot_table (row_slot row) table in
@@ -380,18 +380,18 @@ unfolding blocks_in
 given-parts tables marks row rows given = (given-front tables marks (row_blocks row) (blocks_in rows) given, given-behind tables marks (row_blocks row) (blocks_in rows) given)
 
 -- the same tables, behind other marks
-same-before : (tables place : ℕ) (row : Option PlacedFile) (rows : List (Option PlacedFile)) (marks other : List Bool) (old new : List ℕ) → length old ≤ length new → piece place 4096 new ≡ piece place 4096 old → AreTablesParted tables place row rows marks old → AllGiven tables other (row_blocks row) → AreTablesAllotted tables (place + 4096) rows (marks_with other (row_blocks row)) new → AreTablesAllotted tables place (row ∷ rows) other new
-same-before tables place row rows marks other old new longer same p given more =
+same-before : (tables place : ℕ) (row : Option PlacedFile) (rows : List (Option PlacedFile)) (marks other : List Bool) (old new : List ℕ) → length old ≤ length new → piece place 4096 new ≡ piece place 4096 old → nat_le (place + 4096) (length old) ≡ true → Hold (slot_checks tables place (row_slot row) marks (piece place 4096 old)) → slot_table (row_slot row) (piece place 4096 old) ≡ row_blocks row → AllGiven tables other (row_blocks row) → AreTablesAllotted tables (place + 4096) rows (marks_with other (row_blocks row)) new → AreTablesAllotted tables place (row ∷ rows) other new
+same-before tables place row rows marks other old new longer same whole own blocks given more =
     let Given : List ℕ → Type 0 = λ l. AllGiven tables other l in
-    row-before tables place row rows other new (piece place 4096 old) same (le-longer (place + 4096) (length old) (length new) longer p.whole)
-    (slot-behind tables place row marks other (piece place 4096 old) (subst Given (sym p.blocks) given) p.own) p.blocks more
+    row-before tables place row rows other new (piece place 4096 old) same (le-longer (place + 4096) (length old) (length new) longer whole)
+    (slot-behind tables place row marks other (piece place 4096 old) (subst Given (sym blocks) given) own) blocks more
 
 pub tables-behind : (tables place : ℕ) (rows : List (Option PlacedFile)) (marks other : List Bool) (old new : List ℕ) → length old ≤ length new → SameFrom place (length rows) old new → AllGiven tables other (blocks_in rows) → AreTablesAllotted tables place rows marks old → AreTablesAllotted tables place rows other new
 tables-behind tables place [] marks other old new longer same given all = none-allotted tables place other new
 tables-behind tables place (row ∷ rows) marks other old new longer same given all =
     let p = parted tables place row rows marks old all in
     let g = given-parts tables other row rows given in
-    same-before tables place row rows marks other old new longer (same-first place (length rows) old new same) p g.0
+    same-before tables place row rows marks other old new longer (same-first place (length rows) old new same) p.whole p.own p.blocks g.0
     (tables-behind tables (place + 4096) rows (slot_marks (row_slot row) marks (piece place 4096 old)) (marks_with other (row_blocks row)) old new longer (same-rest place (length rows) old new same) g.1 p.behind)
 
 -- the table of a row, of which any is right where the row is unused
@@ -452,6 +452,6 @@ tables-over (row ∷ front) rest one two tables place marks other old new same g
     let e : place + 4096 * length (row ∷ front) ≡ place + 4096 + 4096 * length front = omega arith in
     let Own : ℕ → Type 0 = λ p. TableBecomes tables p one two old new in
     let From : ℕ → Type 0 = λ p. SameFrom (p + 4096) (length rest) old new in
-    same-before tables place row (front ++ two ∷ rest) marks other old new same.no_shorter (same-first place (length front) old new same.front) p g.0
+    same-before tables place row (front ++ two ∷ rest) marks other old new same.no_shorter (same-first place (length front) old new same.front) p.whole p.own p.blocks g.0
     (tables-over front rest one two tables (place + 4096) (slot_marks (row_slot row) marks (piece place 4096 old)) (marks_with other (row_blocks row)) old new
     (record { no_shorter = same.no_shorter; front = same-rest place (length front) old new same.front; own = subst Own e same.own; rest = subst From e same.rest }) g.1 p.behind)

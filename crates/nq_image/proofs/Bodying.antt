@@ -17,7 +17,7 @@ use Rattle.nq_image.specs.declared.rows.Slot.{Slot}
 use Rattle.nq_image.proofs.FileRows.{slot_for, slots_for}
 use Rattle.nq_image.proofs.Filing.{insert-is-put, put}
 use Rattle.nq_image.proofs.Giving.{length-numbers}
-use Rattle.nq_image.proofs.Spelling.{piece-there}
+use Rattle.nq_image.proofs.ReadBack.{piece-there}
 use Rattle.nq_image.proofs.Tabling.{ids_for, numbers-append}
 
 -- ---- files in their order

@@ -25,7 +25,7 @@ use Rattle.nq_image.proofs.Agreeing.{AreTablesSame, HaveSameTables, SameFrom, al
 use Rattle.nq_image.proofs.Holding.{each-three, test-le, test-lt}
 use Rattle.nq_image.proofs.Parting.{BeginsAsTwo, HasParts, image-of-parts, parts-of}
 use Rattle.nq_image.proofs.Pieces.{drop-first, drop-over, length-over, length-piece, piece-around, piece-beside, piece-by-first, piece-of-first, take-first, take-over}
-use Rattle.nq_image.proofs.Spelling.{Hold, and-three, and-two, ge-true, hold-append, host-holds, host-is, le-both, le-true, length-host, lt-true, subst-two}
+use Rattle.nq_image.proofs.ReadBack.{Hold, and-three, and-two, ge-true, hold-append, host-holds, host-is, le-both, le-true, length-host, lt-true, subst-two}
 
 -- ---- one part of the numbers and rows is overwritten
 
@@ -214,7 +214,7 @@ heads-parts s heads old new long within agree p =
       gap = subst Gap (sym gap) p.gap;
       tables = tables.holds;
       blocks_are = tables.blocks ∙ p.blocks_are;
-      marks_are = tables.marks ∙ p.marks_are;
+      marks_are = tables.marks_same ∙ p.marks_are;
       ids_whole = let whole = p.ids_whole in omega (arith, whole, longer);
       ids = ids-later s.heads.next heads.next (place + 1048576) [] slots (piece (place + 1048576) 4096 new) later (subst Ids (sym blocks.ids) p.ids);
       ids_are = subst IdsAre (sym blocks.ids) p.ids_are;
@@ -316,7 +316,7 @@ host-parts s host row old new lt long within agree p =
       gap = subst Gap (sym gap) p.gap;
       tables = tables.holds;
       blocks_are = tables.blocks ∙ p.blocks_are;
-      marks_are = tables.marks ∙ p.marks_are;
+      marks_are = tables.marks_same ∙ p.marks_are;
       ids_whole = let whole = p.ids_whole in omega (arith, whole, longer);
       ids = subst Ids (sym blocks.ids) p.ids;
       ids_are = subst IdsAre (sym blocks.ids) p.ids_are;

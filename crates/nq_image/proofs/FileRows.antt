@@ -22,7 +22,7 @@ use Rattle.nq_image.specs.Rows.{behind_name, blocks_of, has_name, is_count, is_l
 use Rattle.nq_image.specs.Writing.{numbers_bytes, row_bytes, rows_bytes, zeros_of}
 use Rattle.nq_image.specs.declared.rows.Slot.{Slot}
 use Rattle.nq_image.specs.declared.rows.Version.{Version}
-use Rattle.nq_image.proofs.Spelling.{Hold, and-three, and-two, ge-true, hold-append, hold-if, hold-if-not, le-true, length-zeros, lt-true, not-zeros, subst-two, zeros-are}
+use Rattle.nq_image.proofs.ReadBack.{Hold, and-three, and-two, ge-true, hold-append, hold-if, hold-if-not, le-true, length-zeros, lt-true, not-zeros, subst-two, zeros-are}
 
 -- ---- one row
 
@@ -155,7 +155,7 @@ none-step true x rest h = cc
 none-step false x rest h = (refl, h)
 
 differs : (a b : List ℕ) → same_bytes a b ≡ false → a ≢ b
-differs a b no e = let P : List ℕ → Type 0 = λ x. same_bytes a x ≡ true in let yes = subst P e (own-bytes a) in cc
+differs a b never e = let P : List ℕ → Type 0 = λ x. same_bytes a x ≡ true in let granted = subst P e (own-bytes a) in cc
 
 -- no file has a name that none was found by
 pub others : (name : List ℕ) (files : List File) → find_name name files ≡ None → All (λ f. f.name ≢ name) files
@@ -169,8 +169,8 @@ abbrev pub IsNew : List (Option Slot) → File → Type 0
 IsNew before f = is_named f.name before ≡ false
 
 pub false-unless : (b : Bool) → (b ≡ true → ⊥) → b ≡ false
-false-unless true no = absurd (no refl)
-false-unless false no = refl
+false-unless true never = absurd (never refl)
+false-unless false never = refl
 
 or-false : (a b : Bool) → a ≡ false → b ≡ false → (a || b) ≡ false
 or-false true b e f = cc
@@ -178,7 +178,7 @@ or-false false b e f = f
 
 still-new : (before : List (Option Slot)) (slot : Slot) (f : File) → IsNew before f → f.name ≢ slot.name → IsNew (before ++ Some slot ∷ []) f
 still-new before slot f new other =
-    let other_name : pointwise nat_eq slot.name f.name ≡ false = false-unless (pointwise nat_eq slot.name f.name) (λ yes. other (sym ((bytes_eq-Decides slot.name f.name).0 yes))) in
+    let other_name : pointwise nat_eq slot.name f.name ≡ false = false-unless (pointwise nat_eq slot.name f.name) (λ granted. other (sym ((bytes_eq-Decides slot.name f.name).0 granted))) in
     list_any-append (has_name f.name) before (Some slot ∷ [])
     ∙ or-false (is_named f.name before) (is_named f.name (Some slot ∷ [])) new (or-false (pointwise nat_eq slot.name f.name) false other_name refl)
 

@@ -10,7 +10,7 @@ use Rattle.nq_image.specs.Whole.{image_in, of_two}
 use Rattle.nq_image.specs.declared.rows.Slot.{Slot}
 use Rattle.nq_image.proofs.Allotting.{length-table, tables-marks-are}
 use Rattle.nq_image.proofs.Parting.{HasParts, parts-of}
-use Rattle.nq_image.proofs.Spelling.{Hold}
+use Rattle.nq_image.proofs.ReadBack.{Hold}
 
 pub numbered : (slots : List (Option Slot)) (slot place : ℕ) (ids bytes : List ℕ) → AreNumbered slot (placed_rows slot place slots ids bytes)
 unfolding placed_rows

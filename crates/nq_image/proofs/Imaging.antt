@@ -28,7 +28,7 @@ use Rattle.nq_image.specs.declared.rows.Version.{Version}
 use Rattle.nq_image.proofs.Bodying.{files-are, found-are, found_for, length-all-bodies}
 use Rattle.nq_image.proofs.FileRows.{IsNew, length-rows, rows-hold, slots-are, slots_for}
 use Rattle.nq_image.proofs.Giving.{tables-length}
-use Rattle.nq_image.proofs.Spelling.{Hold, and-two, ge-true, hold-tested, hosts-are, hosts-hold, le-both, le-true, length-hosts_bytes, length-zeros, lt-true, piece-there, zeros-are}
+use Rattle.nq_image.proofs.ReadBack.{Hold, and-two, ge-true, hold-tested, hosts-are, hosts-hold, le-both, le-true, length-hosts_bytes, length-zeros, lt-true, piece-there, zeros-are}
 use Rattle.nq_image.proofs.Tabling.{AreFree, all-held, ids-are, ids-hold, ids_for, length-ids, length-tables, tables-back}
 
 pub then-goes : {A B : Type 0} (r : Result A ℕ) (x : A) (f : A → Result B ℕ) → r ≡ Ok x → (r >>= f) ≡ f x

@@ -7,7 +7,7 @@ mod Holding
 mod Filing
 mod Giving
 mod Within
-mod Spelling
+mod ReadBack
 mod FileRows
 mod Tabling
 mod Bodying
@@ -25,5 +25,6 @@ mod Replacing
 mod Placing
 mod Sorting
 mod Retaining
+mod Entering
 mod Finding
 mod Owning

@@ -14,7 +14,7 @@ use Rattle.nq_image.specs.Tables.{ids_checks, ids_of, is_id}
 use Rattle.nq_image.specs.declared.rows.Slot.{Slot}
 use Rattle.nq_image.proofs.Holding.{each-three, not-true, test-le, test-lt}
 use Rattle.nq_image.proofs.Pieces.{drop-first, drop-over, over-before, take-first}
-use Rattle.nq_image.proofs.Spelling.{Hold, and-three, ge-true, lt-true}
+use Rattle.nq_image.proofs.ReadBack.{Hold, and-three, ge-true, lt-true}
 use Rattle.nq_image.proofs.Tabling.{id-word}
 
 -- ---- ids that are new

@@ -30,7 +30,7 @@ use Rattle.nq_image.proofs.Placing.{few-new}
 use Rattle.nq_image.proofs.Replacing.{all-once, around-row, blocks-append, blocks-around, sum-blocks}
 use Rattle.nq_image.proofs.Retaining.{block-kept, body-kept, cleared-kept, new-kept, same-kept}
 use Rattle.nq_image.proofs.Rowing.{AllNew, IsNewTo, rows-new}
-use Rattle.nq_image.proofs.Spelling.{Hold}
+use Rattle.nq_image.proofs.ReadBack.{Hold}
 
 -- ---- each row by itself
 
@@ -70,7 +70,7 @@ or-parts true b h = cc
 or-parts false b h = (refl, h)
 
 differs : (a b : List ℕ) → pointwise nat_eq a b ≡ false → a ≢ b
-differs a b no e = let yes = (bytes_eq-Decides a b).1 e in cc
+differs a b never e = let granted = (bytes_eq-Decides a b).1 e in cc
 
 abbrev IsNamedApart : (name : List ℕ) → Option Slot → Type 0
 IsNamedApart name None = Unit {0}

@@ -18,7 +18,7 @@ use Rattle.nq_image.specs.declared.rows.Version.{Version}
 use Rattle.nq_image.proofs.Checks.{tested-value}
 use Rattle.nq_image.proofs.Imaging.{goes-if, ids-there, rows-are, tables-are, then-goes, two-are}
 use Rattle.nq_image.proofs.Holding.{test-le}
-use Rattle.nq_image.proofs.Spelling.{Hold, and-two, ge-true}
+use Rattle.nq_image.proofs.ReadBack.{Hold, and-two, ge-true}
 use Rattle.nq_image.proofs.Within.{if-ok, then-ok}
 
 -- where the first wrong field is none, each field is right
@@ -58,11 +58,11 @@ pub record BeginsAsTwo (bytes : List ℕ) : Type 0 where
 ok-is : {A : Type 0} (x z : A) (r : Result A ℕ) → r ≡ Ok x → r ≡ Ok z → x ≡ z
 ok-is x z r is h = cc
 
-pub record HasRowParts (bytes : List ℕ) (rows : FoundRows) : Type 0 where
+pub record HasRowParts (bytes : List ℕ) (all : FoundRows) : Type 0 where
   pub hosts : Hold (hosts_checks 64 64 (piece 64 2048 bytes))
-  pub hosts_are : hosts_of 64 (piece 64 2048 bytes) ≡ rows.hosts
+  pub hosts_are : hosts_of 64 (piece 64 2048 bytes) ≡ all.hosts
   pub rows : Hold (rows_checks Version.Two 256 2112 [] (piece 2112 24576 bytes))
-  pub rows_are : slots_of 256 (piece 2112 24576 bytes) ≡ rows.slots
+  pub rows_are : slots_of 256 (piece 2112 24576 bytes) ≡ all.slots
   pub gap : are_zeros (piece 26688 1984 bytes) ≡ true
 
 row-parts : (bytes : List ℕ) (rows : FoundRows) → rows_in Version.Two bytes ≡ Ok rows → HasRowParts bytes rows

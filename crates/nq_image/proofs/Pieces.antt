@@ -89,38 +89,35 @@ piece-beside from size place part bytes fits within side =
 -- a piece around the part has it overwritten
 pub piece-around : (from size place : ℕ) (part bytes : List ℕ) → from + size ≤ length bytes → from ≤ place → place + length part ≤ from + size → piece from size (overwritten place part bytes) ≡ overwritten (place - from) part (piece from size bytes)
 piece-around from size place part bytes within begins ends =
-    ext_get_or 0 (piece from size (overwritten place part bytes)) (overwritten (place - from) part own)
-    (long ∙ sym (length-over (place - from) part own inside ∙ length-piece from size bytes within))
+    ext_get_or 0 (piece from size (overwritten place part bytes)) (overwritten (place - from) part (piece from size bytes))
+    (long ∙ sym (length-over (place - from) part (piece from size bytes) inside ∙ length-piece from size bytes within))
     (λ k lt. at k (omega (arith, lt, long)))
   where
-    abbrev own : List ℕ
-    own = piece from size bytes
-
     fits : place + length part ≤ length bytes
     fits = omega arith
 
-    inside : place - from + length part ≤ length own
+    inside : place - from + length part ≤ length (piece from size bytes)
     inside = omega (arith, length-piece from size bytes within)
 
     long : length (piece from size (overwritten place part bytes)) ≡ size
     long = length-piece from size (overwritten place part bytes) (omega (arith, within, length-over place part bytes fits))
 
-    at-by : (k : ℕ) → k < size → (from + k < place) ⊎ ((place ≤ from + k) × (from + k < place + length part)) ⊎ (place + length part ≤ from + k) → get_or (overwritten place part bytes) (from + k) 0 ≡ get_or (overwritten (place - from) part own) k 0
+    at-by : (k : ℕ) → k < size → (from + k < place) ⊎ ((place ≤ from + k) × (from + k < place + length part)) ⊎ (place + length part ≤ from + k) → get_or (overwritten place part bytes) (from + k) 0 ≡ get_or (overwritten (place - from) part (piece from size bytes)) k 0
     at-by k lt (inl before) =
         over-before place part bytes fits (from + k) before
         ∙ sym (at-piece from size k bytes lt)
-        ∙ sym (over-before (place - from) part own inside k (omega arith))
+        ∙ sym (over-before (place - from) part (piece from size bytes) inside k (omega arith))
     at-by k lt (inr (inl here)) =
         let first = here.0 in
         let last = here.1 in
         let e : from + k - place ≡ k - (place - from) = omega arith in
         over-within place part bytes fits (from + k) first last
         ∙ ap (λ (i : ℕ). get_or part i 0) e
-        ∙ sym (over-within (place - from) part own inside k (omega arith) (omega arith))
+        ∙ sym (over-within (place - from) part (piece from size bytes) inside k (omega arith) (omega arith))
     at-by k lt (inr (inr after)) =
         over-after place part bytes fits (from + k) after
         ∙ sym (at-piece from size k bytes lt)
-        ∙ sym (over-after (place - from) part own inside k (omega arith))
+        ∙ sym (over-after (place - from) part (piece from size bytes) inside k (omega arith))
 
     where-is : (k : ℕ) → (from + k < place) ⊎ ((place ≤ from + k) × (from + k < place + length part)) ⊎ (place + length part ≤ from + k)
     where-is k = elim (cases_lt (from + k) place) [
@@ -128,7 +125,7 @@ piece-around from size place part bytes within begins ends =
       | inr le ↦ elim (cases_lt (from + k) (place + length part)) [ inl lt ↦ inr (inl (le, lt)) | inr past ↦ inr (inr past) ]
     ]
 
-    at : (k : ℕ) → k < size → get_or (piece from size (overwritten place part bytes)) k 0 ≡ get_or (overwritten (place - from) part own) k 0
+    at : (k : ℕ) → k < size → get_or (piece from size (overwritten place part bytes)) k 0 ≡ get_or (overwritten (place - from) part (piece from size bytes)) k 0
     at k lt = at-piece from size k (overwritten place part bytes) lt ∙ at-by k lt (where-is k)
 
 -- ---- one record of so many bytes after another

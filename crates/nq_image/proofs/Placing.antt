@@ -25,7 +25,7 @@ use Rattle.nq_image.proofs.Numbering.{AllNewIds, IsNewId, IsOtherId, ids-of-any,
 use Rattle.nq_image.proofs.Parting.{HasParts, image-of-parts, parts-of}
 use Rattle.nq_image.proofs.Replacing.{CanStandBetween, IsBecome, IsSpelled, around-row, become-begins, become-parts, blocks-append, blocks-around, held-all, ids-behind, ids-written, sum-blocks}
 use Rattle.nq_image.proofs.Rowing.{AllNew, IsApartRow, IsNewTo, apart-named, has-not, rows-new}
-use Rattle.nq_image.proofs.Spelling.{Hold, length-zeros}
+use Rattle.nq_image.proofs.ReadBack.{Hold, length-zeros}
 
 -- ---- rows around one
 

@@ -31,7 +31,7 @@ use Rattle.nq_image.proofs.Numbering.{AllNewIds, IsNewId, IsOtherId, ids-join, i
 use Rattle.nq_image.proofs.Parting.{BeginsAsTwo, HasParts, image-of-parts, parts-of}
 use Rattle.nq_image.proofs.Pieces.{drop-past, length-piece}
 use Rattle.nq_image.proofs.Rowing.{AllNew, IsApartRow, IsNewTo, apart-named, has-not, rows-new, rows-over, slots-over, swap}
-use Rattle.nq_image.proofs.Spelling.{Hold, length-zeros}
+use Rattle.nq_image.proofs.ReadBack.{Hold, length-zeros}
 
 -- ---- rows in two parts around one
 
@@ -41,7 +41,7 @@ blocks-append [] ys = refl
 blocks-append (x ∷ xs) ys =
     ap (λ (l : List ℕ). row_blocks x ++ l) (blocks-append xs ys) ∙ sym (append_assoc (row_blocks x) (blocks_in xs) (blocks_in ys))
 
-blocks-around : (front rest : List (Option PlacedFile)) (row : Option PlacedFile) → blocks_in (front ++ row ∷ rest) ≡ blocks_in front ++ (row_blocks row ++ blocks_in rest)
+pub blocks-around : (front rest : List (Option PlacedFile)) (row : Option PlacedFile) → blocks_in (front ++ row ∷ rest) ≡ blocks_in front ++ (row_blocks row ++ blocks_in rest)
 unfolding blocks_in
 blocks-around front rest row = blocks-append front (row ∷ rest)
 

@@ -35,8 +35,8 @@ module _ (bytes : List ℕ) where
   id-of f = refl
 
   find-step : (b : Bool) (f : PlacedFile) (rest : Option File) → b ≡ false → (if b then Some (kept f) else rest) ≡ rest
-  find-step true f rest no = cc
-  find-step false f rest no = refl
+  find-step true f rest never = cc
+  find-step false f rest never = refl
 
   find-none : (id : ℕ) (files : List PlacedFile) → All (λ f. f.id ≢ id) files → find_file id (map (file_at bytes) files) ≡ None
   find-none id [] all = refl
@@ -46,8 +46,8 @@ module _ (bytes : List ℕ) where
       ∙ find-none id files (All-tail (λ g. g.id ≢ id) f files all)
 
   find-own : (b : Bool) (f : PlacedFile) (rest : Option File) → b ≡ true → (if b then Some (kept f) else rest) ≡ Some (kept f)
-  find-own true f rest yes = refl
-  find-own false f rest yes = cc
+  find-own true f rest granted = refl
+  find-own false f rest granted = cc
 
   find-first : (x : PlacedFile) (files : List PlacedFile) → find_file x.id (map (file_at bytes) (x ∷ files)) ≡ Some (file_at bytes x)
   find-first x files = find-own ((file_at bytes x).id == x.id) x (find_file x.id (map (file_at bytes) files)) (ap (λ (n : ℕ). n == x.id) (id-of x) ∙ same-id x.id)
@@ -108,29 +108,29 @@ dropped-none bytes id (f ∷ files) all =
     stays ((file_at bytes f).id == id) own ∙ ap (λ (l : List File). file_at bytes f ∷ l) (dropped-none bytes id files (All-tail (λ g. g.id ≢ id) f files all))
   where
     stays : (b : Bool) → b ≡ false → (if not b then file_at bytes f ∷ drop_file id (map (file_at bytes) files) else drop_file id (map (file_at bytes) files)) ≡ file_at bytes f ∷ drop_file id (map (file_at bytes) files)
-    stays true no = cc
-    stays false no = refl
+    stays true never = cc
+    stays false never = refl
 
 dropped-first : (bytes : List ℕ) (x : PlacedFile) (files : List PlacedFile) → drop_file x.id (map (file_at bytes) (x ∷ files)) ≡ drop_file x.id (map (file_at bytes) files)
 dropped-first bytes x files = goes ((file_at bytes x).id == x.id) (ap (λ (n : ℕ). n == x.id) (id-of bytes x) ∙ same-id x.id)
   where
     goes : (b : Bool) → b ≡ true → (if not b then file_at bytes x ∷ drop_file x.id (map (file_at bytes) files) else drop_file x.id (map (file_at bytes) files)) ≡ drop_file x.id (map (file_at bytes) files)
-    goes true yes = refl
-    goes false yes = cc
+    goes true granted = refl
+    goes false granted = cc
 
 dropped-put : (bytes : List ℕ) (x : PlacedFile) (files : List PlacedFile) → All (λ f. f.id ≢ x.id) files → drop_file x.id (map (file_at bytes) (put_file x files)) ≡ map (file_at bytes) files
 dropped-put bytes x [] all = dropped-first bytes x []
 dropped-put bytes x (f ∷ files) all = by (nat_lt x.id f.id) (dropped-put bytes x files (All-tail (λ g. g.id ≢ x.id) f files all))
   where
+    stays : (b : Bool) → b ≡ false → (if not b then file_at bytes f ∷ drop_file x.id (map (file_at bytes) (put_file x files)) else drop_file x.id (map (file_at bytes) (put_file x files))) ≡ file_at bytes f ∷ drop_file x.id (map (file_at bytes) (put_file x files))
+    stays true never = cc
+    stays false never = refl
+
     by : (b : Bool) → drop_file x.id (map (file_at bytes) (put_file x files)) ≡ map (file_at bytes) files → drop_file x.id (map (file_at bytes) (if b then x ∷ f ∷ files else f ∷ put_file x files)) ≡ map (file_at bytes) (f ∷ files)
     by true more = dropped-first bytes x (f ∷ files) ∙ dropped-none bytes x.id (f ∷ files) all
     by false more =
         let own = ap (λ (n : ℕ). n == x.id) (id-of bytes f) ∙ not-equal f.id x.id (λ e. All-head (λ g. g.id ≢ x.id) f files all (sym e)) in
         stays ((file_at bytes f).id == x.id) own ∙ ap (λ (l : List File). file_at bytes f ∷ l) more
-
-    stays : (b : Bool) → b ≡ false → (if not b then file_at bytes f ∷ drop_file x.id (map (file_at bytes) (put_file x files)) else drop_file x.id (map (file_at bytes) (put_file x files))) ≡ file_at bytes f ∷ drop_file x.id (map (file_at bytes) (put_file x files))
-    stays true no = cc
-    stays false no = refl
 
 -- ---- the rows but one
 
@@ -221,10 +221,8 @@ kept-files bytes s = refl
 made-file : (s : Standing) (file : PlacedFile) (old new : List ℕ) → HasBodies s file old new → file_at new file ≡ file_of (row_for file) (map (body_in old) (row_blocks (row_at s file.slot)))
 unfolding file_at file_of
 made-file s file old new bodies =
-    ap (λ (b : List (List ℕ)). file-with file b) bodies
-  where
-    file-with : PlacedFile → List (List ℕ) → File
-    file-with file b = record { id = file.id; name = file.name; rev = file.rev; bodies = b }
+    let made : List (List ℕ) → File = λ b. record { id = file.id; name = file.name; rev = file.rev; bodies = b } in
+    ap made bodies
 
 other-bodies : (s : Standing) (slot : ℕ) (old new : List ℕ) → All (λ block. body_in new block ≡ body_in old block) (blocks_in (others slot s.rows)) → map (file_at new) (other-files s slot) ≡ map (file_at old) (other-files s slot)
 other-bodies s slot old new all = same-files old new (others slot s.rows) all
@@ -240,15 +238,19 @@ new-kept s file old new lt is apart last bodies rest =
     let found = find-none old file.id (files_in s) other in
     let is_files = kept-files old s in
     let all =
-        ap (λ (l : List PlacedFile). map (file_at new) l) (new-is-last s file lt is apart last)
-        ∙ map-append (file_at new) (files_in s) (file ∷ [])
-        ∙ ap (λ (l : List PlacedFile). map (file_at new) l ++ file_at new file ∷ []) none
-        ∙ ap (λ (l : List File). l ++ file_at new file ∷ []) (other-bodies s slot old new rest)
-        ∙ ap (λ (l : List PlacedFile). map (file_at old) l ++ file_at new file ∷ []) (sym none)
-        ∙ ap (λ (f : File). files ++ f ∷ []) made
-        ∙ sym (ap (λ (f : Option File). with_file_at row files f) found)
-        ∙ sym (ap (λ (l : List File). with_file row l) is_files) in
+    ap (λ (l : List PlacedFile). map (file_at new) l) (new-is-last s file lt is apart last)
+    ∙ map-append (file_at new) (files_in s) (file ∷ [])
+    ∙ ap (λ (l : List PlacedFile). map (file_at new) l ++ file_at new file ∷ []) none
+    ∙ ap (λ (l : List File). l ++ file_at new file ∷ []) (other-bodies s slot old new rest)
+    ∙ ap (λ (l : List PlacedFile). map (file_at old) l ++ file_at new file ∷ []) (sym none)
+    ∙ ap (λ (f : File). files ++ f ∷ []) made
+    ∙ sym (ap (λ (f : Option File). with_file_at row files f) found)
+    ∙ sym (ap (λ (l : List File). with_file row l) is_files) in
     from-files s slot (Some file) old new (with_file row (kept_at old s).files) all
+
+bodies-at : (bytes : List ℕ) (f : PlacedFile) → (file_at bytes f).bodies ≡ map (body_in bytes) f.blocks
+unfolding file_at
+bodies-at bytes f = refl
 
 pub same-kept : (s : Standing) (was file : PlacedFile) (old new : List ℕ) → file.slot < length s.rows → row_at s file.slot ≡ Some was → was.id ≡ file.id → All (IsApartFrom file) (others file.slot s.rows) → HasBodies s file old new → All (λ block. body_in new block ≡ body_in old block) (blocks_in (others file.slot s.rows)) → kept_at new (with_placed s file.slot (Some file)) ≡ with_files (kept_at old s) (with_file (row_for file) (kept_at old s).files)
 same-kept s was file old new lt is same apart bodies rest =
@@ -264,23 +266,19 @@ same-kept s was file old new lt is same apart bodies rest =
     let apart_files = others-apart s slot file.id ids in
     let put_found = find-put old was (other-files s slot) (subst Others (sym same) apart_files) in
     let found : find_file file.id files ≡ Some (file_at old was) =
-        ap (λ (id : ℕ). find_file id files) (sym same) ∙ ap (λ (l : List PlacedFile). find_file was.id (map (file_at old) l)) now ∙ put_found in
+    ap (λ (id : ℕ). find_file id files) (sym same) ∙ ap (λ (l : List PlacedFile). find_file was.id (map (file_at old) l)) now ∙ put_found in
     let but = all-but s slot was file.id old new same rest in
     let But : List PlacedFile → Type 0 = λ l. All (IsSameBut old new file.id) l in
     let is_files = kept-files old s in
     let bodies_of_was : (file_at old was).bodies ≡ bodies_were = bodies-at old was in
     let all =
-        ap (λ (l : List PlacedFile). map (file_at new) l) (same-takes-place s was file lt is same apart)
-        ∙ in-place old new file (file_of row bodies_were) (files_in s) made (subst But (sym now) but)
-        ∙ ap (λ (b : List (List ℕ)). replace_file (file_of row b) files) (sym bodies_of_was)
-        ∙ sym (ap (λ (f : Option File). with_file_at row files f) found)
-        ∙ sym (ap (λ (l : List File). with_file row l) is_files) in
+    ap (λ (l : List PlacedFile). map (file_at new) l) (same-takes-place s was file lt is same apart)
+    ∙ in-place old new file (file_of row bodies_were) (files_in s) made (subst But (sym now) but)
+    ∙ ap (λ (b : List (List ℕ)). replace_file (file_of row b) files) (sym bodies_of_was)
+    ∙ sym (ap (λ (f : Option File). with_file_at row files f) found)
+    ∙ sym (ap (λ (l : List File). with_file row l) is_files) in
     from-files s slot (Some file) old new (with_file row (kept_at old s).files) all
   where
-    bodies-at : (bytes : List ℕ) (f : PlacedFile) → (file_at bytes f).bodies ≡ map (body_in bytes) f.blocks
-    unfolding file_at
-    bodies-at bytes f = refl
-
     all-but : (s : Standing) (slot : ℕ) (was : PlacedFile) (id : ℕ) (old new : List ℕ) → was.id ≡ id → All (λ block. body_in new block ≡ body_in old block) (blocks_in (others slot s.rows)) → All (IsSameBut old new id) (put_file was (other-files s slot))
     all-but s slot was id old new same rest =
         let Same : ℕ → Type 0 = λ block. body_in new block ≡ body_in old block in
@@ -293,11 +291,11 @@ cleared-kept s slot was old new lt is apart rest =
     let ids = apart-ids was (others slot s.rows) apart in
     let now = files-some s slot lt was is ids in
     let all =
-        ap (λ (l : List PlacedFile). map (file_at new) l) (files-without s slot lt)
-        ∙ other-bodies s slot old new rest
-        ∙ sym (dropped-put old was (other-files s slot) (others-apart s slot was.id ids))
-        ∙ sym (ap (λ (l : List PlacedFile). drop_file was.id (map (file_at old) l)) now)
-        ∙ sym (ap (λ (l : List File). drop_file was.id l) (kept-files old s)) in
+    ap (λ (l : List PlacedFile). map (file_at new) l) (files-without s slot lt)
+    ∙ other-bodies s slot old new rest
+    ∙ sym (dropped-put old was (other-files s slot) (others-apart s slot was.id ids))
+    ∙ sym (ap (λ (l : List PlacedFile). drop_file was.id (map (file_at old) l)) now)
+    ∙ sym (ap (λ (l : List File). drop_file was.id l) (kept-files old s)) in
     from-files s slot None old new (drop_file was.id (kept_at old s).files) all
 
 -- ---- the body of a block
@@ -320,6 +318,20 @@ body-set old new (b ∷ blocks) (suc k) block body lt is distinct own rest =
   where
     at-none : (xs : List ℕ) (k x : ℕ) → k < length xs → IsNoneOf xs x → get_or xs k 0 ≡ x → ⊥
     at-none xs k x lt none is = none k 0 lt is
+
+body-made : (file : PlacedFile) (k : ℕ) (body old new : List ℕ) → map (body_in new) file.blocks ≡ set (map (body_in old) file.blocks) k body → file_at new file ≡ with_body (file_at old file) k body
+unfolding file_at with_body
+body-made file k body old new same =
+    let made : List (List ℕ) → File = λ bodies. record { id = file.id; name = file.name; rev = file.rev; bodies = bodies } in
+    ap made same
+
+own-front : (file : PlacedFile) (rows : List (Option PlacedFile)) (P : ℕ → Type 0) → All P (blocks_in (Some file ∷ rows)) → All P file.blocks
+unfolding blocks_in
+own-front file rows P all = all-front P file.blocks (blocks_in rows) all
+
+own-rest : (file : PlacedFile) (rows : List (Option PlacedFile)) (P : ℕ → Type 0) → All P (blocks_in (Some file ∷ rows)) → All P (blocks_in rows)
+unfolding blocks_in
+own-rest file rows P all = all-rest P file.blocks (blocks_in rows) all
 
 pub body-kept : (s : Standing) (file : PlacedFile) (k block : ℕ) (body old new : List ℕ) → file.slot < length s.rows → row_at s file.slot ≡ Some file → k < length file.blocks → slice_index_or file.blocks k 0 ≡ block → All (IsApartFrom file) (others file.slot s.rows) → AreDistinct file.blocks → All (λ other. other ≢ block) (blocks_in (others file.slot s.rows)) → body_in new block ≡ body → All (λ other. other ≢ block → body_in new other ≡ body_in old other) (blocks_in s.rows) → map (file_at new) (files_in s) ≡ replace_file (with_body (file_at old file) k body) (map (file_at old) (files_in s))
 body-kept s file k block body old new lt is below at apart distinct free own rest =
@@ -346,20 +358,6 @@ body-kept s file k block body old new lt is below at apart distinct free own res
     let self = put-replaced file file (other-files s slot) refl (others-apart s slot file.id ids) in
     ap (λ (l : List PlacedFile). map (file_at new) l) (now ∙ self ∙ ap (λ (l : List PlacedFile). replaced file l) (sym now))
     ∙ in-place old new file (with_body (file_at old file) k body) (files_in s) made (subst But (sym now) but)
-  where
-    body-made : (file : PlacedFile) (k : ℕ) (body old new : List ℕ) → map (body_in new) file.blocks ≡ set (map (body_in old) file.blocks) k body → file_at new file ≡ with_body (file_at old file) k body
-    unfolding file_at with_body
-    body-made file k body old new same =
-        let made : List (List ℕ) → File = λ bodies. record { id = file.id; name = file.name; rev = file.rev; bodies = bodies } in
-        ap made same
-
-    own-front : (file : PlacedFile) (rows : List (Option PlacedFile)) (P : ℕ → Type 0) → All P (blocks_in (Some file ∷ rows)) → All P file.blocks
-    unfolding blocks_in
-    own-front file rows P all = all-front P file.blocks (blocks_in rows) all
-
-    own-rest : (file : PlacedFile) (rows : List (Option PlacedFile)) (P : ℕ → Type 0) → All P (blocks_in (Some file ∷ rows)) → All P (blocks_in rows)
-    unfolding blocks_in
-    own-rest file rows P all = all-rest P file.blocks (blocks_in rows) all
 
 -- what is kept once the files are these
 pub block-kept : (s : Standing) (file : PlacedFile) (k : ℕ) (body old new : List ℕ) → file.slot < length s.rows → row_at s file.slot ≡ Some file → All (IsApartFrom file) (others file.slot s.rows) → map (file_at new) (files_in s) ≡ replace_file (with_body (file_at old file) k body) (map (file_at old) (files_in s)) → kept_at new s ≡ with_files (kept_at old s) (with_block (record { file = file.id; block = k; body = body }) (kept_at old s).files)
@@ -371,5 +369,5 @@ block-kept s file k body old new lt is apart same =
     let now = files-some s slot lt file is ids in
     let files = map (file_at old) (files_in s) in
     let found : find_file file.id files ≡ Some (file_at old file) =
-        ap (λ (l : List PlacedFile). find_file file.id (map (file_at old) l)) now ∙ find-put old file (other-files s slot) (others-apart s slot file.id ids) in
+    ap (λ (l : List PlacedFile). find_file file.id (map (file_at old) l)) now ∙ find-put old file (other-files s slot) (others-apart s slot file.id ids) in
     ap (kept-with s) (same ∙ sym (ap (λ (f : Option File). with_block_in change files f) found))

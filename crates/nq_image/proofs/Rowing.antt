@@ -19,7 +19,7 @@ use Rattle.nq_image.proofs.Agreeing.{hold-behind, hold-front}
 use Rattle.nq_image.proofs.FileRows.{false-unless}
 use Rattle.nq_image.proofs.Holding.{each-three, not-true, test-le}
 use Rattle.nq_image.proofs.Pieces.{drop-first, drop-over, take-first, take-over}
-use Rattle.nq_image.proofs.Spelling.{Hold, and-three, hold-append, le-true, subst-two}
+use Rattle.nq_image.proofs.ReadBack.{Hold, and-three, hold-append, le-true, subst-two}
 
 -- ---- rows that are new
 
@@ -143,7 +143,7 @@ IsApartRow (Some a) None = Unit {0}
 IsApartRow (Some a) (Some b) = b.name ≢ a.name
 
 not-that : (a b : List ℕ) → a ≢ b → pointwise nat_eq a b ≡ false
-not-that a b other = false-unless (pointwise nat_eq a b) (λ yes. other ((bytes_eq-Decides a b).0 yes))
+not-that a b other = false-unless (pointwise nat_eq a b) (λ granted. other ((bytes_eq-Decides a b).0 granted))
 
 pub apart-named : (name : List ℕ) (slots : List (Option Slot)) → All (λ x. has_name name x ≡ false) slots → is_named name slots ≡ false
 apart-named name slots all = list_any_none (has_name name) slots all
@@ -165,11 +165,11 @@ or-none true b e f = cc
 or-none false b e f = f
 
 swap-named : (name : List ℕ) (front mid : List (Option Slot)) (one two : Option Slot) → has_name name two ≡ false → is_named name (front ++ one ∷ mid) ≡ false → is_named name (front ++ two ∷ mid) ≡ false
-swap-named name front mid one two no h =
+swap-named name front mid one two never h =
     let p = has_name name in
     let parts = or-parts (is_named name front) (is_named name (one ∷ mid)) (sym (list_any-append p front (one ∷ mid)) ∙ h) in
     let rest = or-parts (has_name name one) (is_named name mid) parts.1 in
-    list_any-append p front (two ∷ mid) ∙ or-none (is_named name front) (is_named name (two ∷ mid)) parts.0 (or-none (has_name name two) (is_named name mid) no rest.1)
+    list_any-append p front (two ∷ mid) ∙ or-none (is_named name front) (is_named name (two ∷ mid)) parts.0 (or-none (has_name name two) (is_named name mid) never rest.1)
 
 swap-one : (front mid : List (Option Slot)) (one two x : Option Slot) → IsApartRow two x → sum_by blocks_of (front ++ two ∷ mid) + blocks_of x ≤ 16384 → IsNewTo (front ++ one ∷ mid) x → IsNewTo (front ++ two ∷ mid) x
 swap-one front mid one two None apart few new = tt

@@ -116,7 +116,7 @@ abbrev pub replaced : PlacedFile → List PlacedFile → List PlacedFile
 replaced x files = map (λ f. if f.id == x.id then x else f) files
 
 one-replaced : (x f : PlacedFile) (b : Bool) → (f.id == x.id) ≡ b → b ≡ false → (if f.id == x.id then x else f) ≡ f
-one-replaced x f b is no = ap (λ (c : Bool). if c then x else f) (is ∙ no)
+one-replaced x f b is never = ap (λ (c : Bool). if c then x else f) (is ∙ never)
 
 none-replaced : (x : PlacedFile) (files : List PlacedFile) → All (λ f. f.id ≢ x.id) files → replaced x files ≡ files
 none-replaced x [] all = refl
@@ -130,25 +130,22 @@ the-replaced was x same =
 
 pub put-replaced : (was x : PlacedFile) (files : List PlacedFile) → was.id ≡ x.id → All (λ f. f.id ≢ x.id) files → put_file x files ≡ replaced x (put_file was files)
 put-replaced was x [] same all = ap (λ (g : PlacedFile). g ∷ []) (sym (the-replaced was x same))
-put-replaced was x (f ∷ files) same all = by (nat_lt x.id f.id) refl
+put-replaced was x (f ∷ files) same all = by (nat_lt x.id f.id) refl (put-replaced was x files same (All-tail (λ g. g.id ≢ x.id) f files all))
   where
-    rest : All (λ g. g.id ≢ x.id) files
-    rest = All-tail (λ g. g.id ≢ x.id) f files all
-
     own : (if f.id == x.id then x else f) ≡ f
     own = one-replaced x f (f.id == x.id) refl (not-equal f.id x.id (λ e. All-head (λ g. g.id ≢ x.id) f files all (sym e)))
 
-    by : (b : Bool) → nat_lt x.id f.id ≡ b → put_file x (f ∷ files) ≡ replaced x (put_file was (f ∷ files))
-    by true is =
+    by : (b : Bool) → nat_lt x.id f.id ≡ b → put_file x files ≡ replaced x (put_file was files) → put_file x (f ∷ files) ≡ replaced x (put_file was (f ∷ files))
+    by true is more =
         let lt = lt-of x.id f.id is in
         put-before x f files lt
         ∙ ap (λ (g : PlacedFile). g ∷ f ∷ files) (sym (the-replaced was x same))
         ∙ ap (λ (l : List PlacedFile). (if was.id == x.id then x else was) ∷ l) (sym (none-replaced x (f ∷ files) all))
         ∙ ap (λ (l : List PlacedFile). replaced x l) (sym (put-before was f files (omega arith)))
-    by false is =
+    by false is more =
         let le = ge-of x.id f.id is in
         put-after x f files le
-        ∙ ap (λ (l : List PlacedFile). f ∷ l) (put-replaced was x files same rest)
+        ∙ ap (λ (l : List PlacedFile). f ∷ l) more
         ∙ ap (λ (g : PlacedFile). g ∷ replaced x (put_file was files)) (sym own)
         ∙ ap (λ (l : List PlacedFile). replaced x l) (sym (put-after was f files (omega arith)))
 

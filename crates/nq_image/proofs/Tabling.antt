@@ -19,7 +19,7 @@ use Rattle.nq_image.specs.Tables.{held, held_from, ids_checks, ids_of, is_entry,
 use Rattle.nq_image.specs.Writing.{entries_bytes, ids_bytes, table_bytes, tables_bytes, zeros_of}
 use Rattle.nq_image.specs.declared.rows.Slot.{Slot}
 use Rattle.nq_image.proofs.FileRows.{slot_for, slots_for}
-use Rattle.nq_image.proofs.Spelling.{Hold, and-two, and-three, ge-true, hold-append, le-true, length-zeros, lt-true, piece-there, zeros-are}
+use Rattle.nq_image.proofs.ReadBack.{Hold, and-two, and-three, ge-true, hold-append, le-true, length-zeros, lt-true, piece-there, zeros-are}
 
 -- ---- marks
 

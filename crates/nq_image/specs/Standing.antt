@@ -1,5 +1,5 @@
 -- Where each part of a kept state stands in an image of version 2, and what a change writes of it.
-use Rattle.std.specs.Prelude.{◌≡◌, ◌≢◌, ◌≤◌, ◌<◌, ◌^◌, ◌+◌, ◌*◌, ℕ, suc, Bool, false, List, [], ◌∷◌, ◌++◌, Option, Some, None, Ok, All, length, map, take, drop, nat_lt, slice_index_or, slice_set, if◌then◌else◌}
+use Rattle.std.specs.Prelude.{◌≡◌, ◌≢◌, ◌≤◌, ◌<◌, ◌^◌, ◌+◌, ◌*◌, ℕ, suc, Bool, true, false, List, [], ◌∷◌, ◌++◌, Option, Some, None, Ok, All, length, map, take, drop, nat_lt, slice_index_or, slice_set, if◌then◌else◌}
 use Rattle.std.specs.Int.{w32, to_be_bytes}
 use Rattle.nq_base.specs.Name.{IsName}
 use Rattle.nq_base.specs.declared.FileRow.{FileRow}
@@ -215,11 +215,11 @@ abbrev pub HasBodies : (s : Standing) (file : PlacedFile) (old new : List ℕ) �
 HasBodies s file old new = map (body_in new) file.blocks ≡ resized (length file.blocks) (map (body_in old) (row_blocks (row_at s file.slot)))
 
 -- the new bytes have another body in a block of a file, and are the same wherever else something stands
-pub record IsBodyWritten (s : Standing) (block : ℕ) (body old new : List ℕ) : Type 0 where
+pub record IsBodyWritten (s : Standing) (block : ℕ) (bytes old new : List ℕ) : Type 0 where
   pub no_shorter : length old ≤ length new
   pub rows : rows_of_image new ≡ rows_of_image old
   pub tables : (n : ℕ) → n < 257 → body_in new (s.tables + n) ≡ body_in old (s.tables + n)
-  pub body : body_in new block ≡ body
+  pub body : body_in new block ≡ bytes
   pub bodies : All (λ other. other ≢ block → body_in new other ≡ body_in old other) (blocks_in s.rows)
 
 -- the files that are read in these rows with these ids, of which the first row has a number and its table stands at a place

@@ -2,7 +2,7 @@
 
 ghost use Rattle.std.specs.Prelude.{◌≡◌, ◌<◌, ◌≤◌, ◌+◌, ◌-◌, ◌*◌, ◌^◌, ◌++◌, ℕ, IfOk, OnOk, length, replicate, slice_index};
 ghost use Rattle.nq_image.specs.Layout.{block_place as place_of_block};
-ghost use Rattle.nq_image.specs.Writing.{entries_of, heads_bytes, host_bytes, number_of as number_in, row_bytes, table_of_blocks};
+ghost use Rattle.nq_image.specs.Writing.{entries_of, heads_bytes, host_bytes, number_of as number_in, numbers_bytes, row_bytes, table_of_blocks};
 
 use nq_base::{FileRow, Heads, HostRow, Verdict};
 use nq_memory::NoMemory;
@@ -102,24 +102,35 @@ fn push_zeros(bytes: &mut Vec<u8>, count: usize) -> Result<(), NoMemory>
     Ok(())
 }
 
-/// The row of a file. Its first block has no meaning in version 2.
+/// The numbers in the row of a file. Its first block has no meaning in version 2.
+#[tactic(auto, unfolding(crate::specs::Writing::numbers_bytes))]
+fn spell_numbers(alloc: Global, blocks: u32, rev: u64) -> Result<Vec<u8>, NoMemory>
+    ensures { IfOk result (λ bytes. bytes.items ≡ numbers_bytes blocks rev) }
+{
+    let mut bytes = Vec::with_capacity(alloc, 28)?;
+    bytes.extend_from_slice(&blocks.to_be_bytes())?;
+    bytes.extend_from_slice(&[0; 4])?;
+    bytes.extend_from_slice(&rev.to_be_bytes())?;
+    bytes.extend_from_slice(&[0; 12])?;
+    Ok(bytes)
+}
+
+/// The row of a file.
 ///
 /// # Errors
 ///
 /// Memory was refused.
-#[tactic(auto, unfolding(crate::specs::Writing::row_bytes, crate::specs::Writing::numbers_bytes, crate::specs::Writing::zeros_of))]
+#[tactic(auto, unfolding(crate::specs::Writing::row_bytes, crate::specs::Writing::zeros_of))]
 pub fn spell_row(alloc: Global, row: &FileRow) -> Result<Vec<u8>, NoMemory>
     ensures { IfOk result (λ bytes. bytes.items ≡ row_bytes row.now.name row.now.blocks row.now.rev) }
 {
     let name = row.name.as_bytes();
+    let numbers = spell_numbers(alloc, row.blocks, row.rev.0)?;
     let mut bytes = Vec::with_capacity(alloc, 96)?;
     bytes.extend_from_slice(&(name.len() as u32).to_be_bytes())?;
     bytes.extend_from_slice(name)?;
     push_zeros(&mut bytes, 64 - name.len())?;
-    bytes.extend_from_slice(&row.blocks.to_be_bytes())?;
-    bytes.extend_from_slice(&[0; 4])?;
-    bytes.extend_from_slice(&row.rev.0.to_be_bytes())?;
-    bytes.extend_from_slice(&[0; 12])?;
+    bytes.extend_from_slice(&numbers)?;
     Ok(bytes)
 }
 

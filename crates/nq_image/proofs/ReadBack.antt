@@ -1,10 +1,10 @@
 -- Numbers and zeros are read back, and hosts' rows.
-use Rattle.std.proofs.Common.{◌≡◌, ◌≤◌, ◌<◌, ◌^◌, ◌+◌, ◌*◌, ◌==◌, ◌&&◌, ℕ, zero, suc, Bool, true, false, List, [], ◌∷◌, ◌++◌, Result, Ok, Err, Option, Some, None, take, drop, length, if◌then◌else◌, refl, sym, ap, subst, ◌∙◌, arith, length-append}
+use Rattle.std.proofs.Common.{◌≡◌, ◌≤◌, ◌<◌, ◌^◌, ◌+◌, ◌*◌, ◌==◌, ◌&&◌, ℕ, zero, suc, Bool, true, false, List, [], ◌∷◌, ◌++◌, Result, Ok, Err, Option, Some, None, take, drop, get_or, length, if◌then◌else◌, refl, sym, ap, subst, ◌∙◌, arith, length-append}
 use Rattle.std.specs.List.{All, list_all}
 use Rattle.std.specs.Prelude.{nat_lt, nat_le, is_some, replicate, unwrap_or}
 use Rattle.std.specs.Int.{w32, w64, from_be_bytes, to_be_bytes}
 use Rattle.std.proofs.lemmas.Bool.Decides.{nat_tests}
-use Rattle.std.proofs.lemmas.List.{take_at, drop_at, length-replicate, unwrap_or}
+use Rattle.std.proofs.lemmas.List.{take_at, drop_at, get_or_past, length-replicate}
 use Rattle.std.proofs.lemmas.List.Elements.{All-head, All-tail}
 use Rattle.std.proofs.lemmas.Nat.{from_be_bytes-to_be_bytes_4, from_be_bytes-to_be_bytes_8}
 use Rattle.nq_base.specs.declared.HostRow.{HostRow}
@@ -96,17 +96,13 @@ each-two false b h = cc
 is-zero : (n : ℕ) → (n == 0) ≡ true → n ≡ 0
 is-zero n h = grind (arith, nat_tests)
 
-zeros-word : (a b c d : ℕ) (rest : List ℕ) → are_zeros (a ∷ b ∷ c ∷ d ∷ rest) ≡ true → from_be_bytes w32 (a ∷ b ∷ c ∷ d ∷ rest) ≡ 0
-zeros-word a b c d rest h =
-    let one = each-two (a == 0) (are_zeros (b ∷ c ∷ d ∷ rest)) h in
-    let two = each-two (b == 0) (are_zeros (c ∷ d ∷ rest)) one.1 in
-    let three = each-two (c == 0) (are_zeros (d ∷ rest)) two.1 in
-    let four = each-two (d == 0) (are_zeros rest) three.1 in
-    let e = is-zero a one.0 in
-    let f = is-zero b two.0 in
-    let g = is-zero c three.0 in
-    let i = is-zero d four.0 in
-    omega (arith, e, f, g, i)
+zeros-at : (xs : List ℕ) (k : ℕ) → are_zeros xs ≡ true → get_or xs k 0 ≡ 0
+zeros-at [] k h = get_or_past [] k 0 (omega arith)
+zeros-at (x ∷ xs) zero h = is-zero x (each-two (x == 0) (are_zeros xs) h).0
+zeros-at (x ∷ xs) (suc k) h = zeros-at xs k (each-two (x == 0) (are_zeros xs) h).1
+
+zeros-word : (xs : List ℕ) → are_zeros xs ≡ true → from_be_bytes w32 xs ≡ 0
+zeros-word xs h = omega (arith, zeros-at xs 0 h, zeros-at xs 1 h, zeros-at xs 2 h, zeros-at xs 3 h)
 
 -- a number that is not 0 has a byte that is not
 pub not-zeros : (n : ℕ) (rest : List ℕ) → n < 2 ^ 32 → 1 ≤ n → are_zeros (to_be_bytes w32 n ++ rest) ≡ false
@@ -114,7 +110,10 @@ not-zeros n rest lt some = decide (are_zeros (to_be_bytes w32 n ++ rest)) refl
   where
     decide : (b : Bool) → are_zeros (to_be_bytes w32 n ++ rest) ≡ b → b ≡ false
     decide false e = refl
-    decide true e = let z = zeros-word _ _ _ _ rest e in let back = from_be_bytes-to_be_bytes_4 n lt in absurd (omega (arith, z, back, some))
+    decide true e =
+        let back : from_be_bytes w32 (to_be_bytes w32 n ++ rest) ≡ n = from_be_bytes-to_be_bytes_4 n lt in
+        let z = sym back ∙ zeros-word (to_be_bytes w32 n ++ rest) e in
+        absurd (omega (arith, z, some))
 
 -- ---- rows of hosts
 
