@@ -281,7 +281,7 @@ body-stands s block body old new stands w =
 pub body-written-kept : (s : Standing) (file : PlacedFile) (k block : ℕ) (body old new : List ℕ) → Stands old s → file.slot < 256 → row_at s file.slot ≡ Some file → k < length file.blocks → slice_index_or file.blocks k 0 ≡ block → IsBodyWritten s block body old new → kept_at new s ≡ with_files (kept_at old s) (with_block (record { file = file.id; block = k; body = body }) (kept_at old s).files)
 body-written-kept s file k block body old new stands lt is below at w =
     let can = standing-apart old s file stands lt is in
-    let within = omega (arith, lt, rows-of old s stands) in
+    let within : file.slot < length s.rows = omega (arith, lt, rows-of old s stands) in
     let Free : ℕ → Type 0 = λ b. IsNoneOf (blocks_in (others file.slot s.rows)) b in
     let own = All-get_or Free file.blocks k 0 below can.free in
     block-kept s file k body old new within is can.apart
