@@ -28,3 +28,4 @@ mod Retaining
 mod Entering
 mod Finding
 mod Owning
+mod Overwriting

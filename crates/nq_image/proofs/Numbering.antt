@@ -112,7 +112,7 @@ ids-over (slot ∷ slots) (suc i) at id rest is lt long fits =
     let part = to_be_bytes w32 id in
     let size : length part ≡ 4 = refl in
     let within : at + length part ≤ length rest = omega (arith, is, lt, long, size) in
-    ap (λ (w : ℕ). w ∷ ids_of slots (drop 4 (overwritten at part rest))) (word-same (overwritten at part rest) rest (λ k below. over-before at part rest within k (omega (arith, is, below))))
+    ap (λ (w : ℕ). w ∷ ids_of slots (drop 4 (overwritten at part rest))) (word-same (overwritten at part rest) rest (λ k below. over-before at part rest (omega (arith, within)) k (omega (arith, is, below))))
     ∙ ap (λ (d : List ℕ). word_in 0 rest ∷ ids_of slots d) (drop-over 4 at part rest (omega (arith, is)) within)
     ∙ ap (λ (l : List ℕ). word_in 0 rest ∷ l) (ids-over slots i (at - 4) id (drop 4 rest) (omega (arith, is)) (omega (arith, lt)) (omega (arith, long, length-drop 4 rest)) fits)
 

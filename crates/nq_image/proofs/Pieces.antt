@@ -1,5 +1,5 @@
 -- Pieces of bytes, and bytes with a part overwritten.
-use Rattle.std.proofs.Common.{◌≡◌, ◌≤◌, ◌<◌, ◌+◌, ◌-◌, ◌*◌, ◌⊎◌, inl, inr, ℕ, zero, suc, List, [], ◌∷◌, ◌++◌, take, drop, length, get_or, refl, sym, ap, subst, ◌∙◌, arith, length-append, length-drop}
+use Rattle.std.proofs.Common.{◌≡◌, ◌≤◌, ◌<◌, ◌+◌, ◌-◌, ◌*◌, ◌⊎◌, inl, inr, max, ℕ, zero, suc, List, [], ◌∷◌, ◌++◌, take, drop, length, get_or, refl, sym, ap, subst, ◌∙◌, arith, length-append, length-drop}
 use Rattle.std.proofs.lemmas.Bool.{cases_lt}
 use Rattle.std.proofs.lemmas.List.{drop-append-le, drop-drop, drop-take, drop_at, ext_get_or, get_or-append_right, get_or-drop, get_or-take, get_or_append_left, length-take-le, take-append-le, take-take, take_at}
 use Rattle.nq_image.specs.Layout.{piece}
@@ -46,13 +46,13 @@ piece-by-first total place size one two le same =
 
 -- ---- bytes with a part overwritten
 
-module _ (place : ℕ) (part bytes : List ℕ) (fits : place + length part ≤ length bytes) where
+module _ (place : ℕ) (part bytes : List ℕ) (begins : place ≤ length bytes) where
   long-front : length (take place bytes) ≡ place
-  long-front = length-take-le place bytes (omega arith)
+  long-front = length-take-le place bytes begins
 
-  pub length-over : length (overwritten place part bytes) ≡ length bytes
+  pub length-written : length (overwritten place part bytes) ≡ max (length bytes) (place + length part)
   unfolding overwritten
-  length-over = omega (arith, fits, long-front, length-append (take place bytes) (part ++ drop (place + length part) bytes), length-append part (drop (place + length part) bytes), length-drop (place + length part) bytes)
+  length-written = omega (arith, begins, long-front, length-append (take place bytes) (part ++ drop (place + length part) bytes), length-append part (drop (place + length part) bytes), length-drop (place + length part) bytes)
 
   pub over-before : (k : ℕ) → k < place → get_or (overwritten place part bytes) k 0 ≡ get_or bytes k 0
   unfolding overwritten
@@ -77,14 +77,17 @@ module _ (place : ℕ) (part bytes : List ℕ) (fits : place + length part ≤ l
       there : (k : ℕ) → place + length part ≤ k → place + length part + (k - place - length part) ≡ k
       there k le = omega arith
 
+pub length-over : (place : ℕ) (part bytes : List ℕ) → place + length part ≤ length bytes → length (overwritten place part bytes) ≡ length bytes
+length-over place part bytes fits = omega (arith, fits, length-written place part bytes (omega (arith, fits)))
+
 -- a piece beside the part stays
-pub piece-beside : (from size place : ℕ) (part bytes : List ℕ) → place + length part ≤ length bytes → from + size ≤ length bytes → (from + size ≤ place) ⊎ (place + length part ≤ from) → piece from size (overwritten place part bytes) ≡ piece from size bytes
-piece-beside from size place part bytes fits within side =
-    piece-same from size (overwritten place part bytes) bytes (omega (arith, within, length-over place part bytes fits)) within (λ k lt. at k lt side)
+pub piece-beside : (from size place : ℕ) (part bytes : List ℕ) → place ≤ length bytes → from + size ≤ length bytes → (from + size ≤ place) ⊎ (place + length part ≤ from) → piece from size (overwritten place part bytes) ≡ piece from size bytes
+piece-beside from size place part bytes begins within side =
+    piece-same from size (overwritten place part bytes) bytes (omega (arith, within, length-written place part bytes begins)) within (λ k lt. at k lt side)
   where
     at : (k : ℕ) → k < size → (from + size ≤ place) ⊎ (place + length part ≤ from) → get_or (overwritten place part bytes) (from + k) 0 ≡ get_or bytes (from + k) 0
-    at k lt (inl before) = over-before place part bytes fits (from + k) (omega arith)
-    at k lt (inr after) = over-after place part bytes fits (from + k) (omega arith)
+    at k lt (inl before) = over-before place part bytes begins (from + k) (omega arith)
+    at k lt (inr after) = over-after place part bytes begins (from + k) (omega arith)
 
 -- a piece around the part has it overwritten
 pub piece-around : (from size place : ℕ) (part bytes : List ℕ) → from + size ≤ length bytes → from ≤ place → place + length part ≤ from + size → piece from size (overwritten place part bytes) ≡ overwritten (place - from) part (piece from size bytes)
@@ -104,20 +107,20 @@ piece-around from size place part bytes within begins ends =
 
     at-by : (k : ℕ) → k < size → (from + k < place) ⊎ ((place ≤ from + k) × (from + k < place + length part)) ⊎ (place + length part ≤ from + k) → get_or (overwritten place part bytes) (from + k) 0 ≡ get_or (overwritten (place - from) part (piece from size bytes)) k 0
     at-by k lt (inl before) =
-        over-before place part bytes fits (from + k) before
+        over-before place part bytes (omega (arith, fits)) (from + k) before
         ∙ sym (at-piece from size k bytes lt)
-        ∙ sym (over-before (place - from) part (piece from size bytes) inside k (omega arith))
+        ∙ sym (over-before (place - from) part (piece from size bytes) (omega (arith, inside)) k (omega arith))
     at-by k lt (inr (inl here)) =
         let first = here.0 in
         let last = here.1 in
         let e : from + k - place ≡ k - (place - from) = omega arith in
-        over-within place part bytes fits (from + k) first last
+        over-within place part bytes (omega (arith, fits)) (from + k) first last
         ∙ ap (λ (i : ℕ). get_or part i 0) e
-        ∙ sym (over-within (place - from) part (piece from size bytes) inside k (omega arith) (omega arith))
+        ∙ sym (over-within (place - from) part (piece from size bytes) (omega (arith, inside)) k (omega arith) (omega arith))
     at-by k lt (inr (inr after)) =
-        over-after place part bytes fits (from + k) after
+        over-after place part bytes (omega (arith, fits)) (from + k) after
         ∙ sym (at-piece from size k bytes lt)
-        ∙ sym (over-after (place - from) part (piece from size bytes) inside k (omega arith))
+        ∙ sym (over-after (place - from) part (piece from size bytes) (omega (arith, inside)) k (omega arith))
 
     where-is : (k : ℕ) → (from + k < place) ⊎ ((place ≤ from + k) × (from + k < place + length part)) ⊎ (place + length part ≤ from + k)
     where-is k = elim (cases_lt (from + k) place) [
@@ -133,7 +136,7 @@ piece-around from size place part bytes within begins ends =
 pub take-over : (size place : ℕ) (part bytes : List ℕ) → size ≤ place → place + length part ≤ length bytes → take size (overwritten place part bytes) ≡ take size bytes
 unfolding overwritten
 take-over size place part bytes le fits =
-    take-append-le size (take place bytes) (part ++ drop (place + length part) bytes) (omega (arith, le, long-front place part bytes fits))
+    take-append-le size (take place bytes) (part ++ drop (place + length part) bytes) (omega (arith, le, long-front place part bytes (omega (arith, fits))))
     ∙ take-take size place bytes le
 
 pub drop-over : (size place : ℕ) (part bytes : List ℕ) → size ≤ place → place + length part ≤ length bytes → drop size (overwritten place part bytes) ≡ overwritten (place - size) part (drop size bytes)
@@ -142,7 +145,7 @@ drop-over size place part bytes le fits =
     let rest = place - size in
     let e : size + rest ≡ place = omega arith in
     let f : place + length part ≡ size + (rest + length part) = omega arith in
-    drop-append-le size (take place bytes) (part ++ drop (place + length part) bytes) (omega (arith, le, long-front place part bytes fits))
+    drop-append-le size (take place bytes) (part ++ drop (place + length part) bytes) (omega (arith, le, long-front place part bytes (omega (arith, fits))))
     ∙ ap (λ (p : ℕ). drop size (take p bytes) ++ (part ++ drop (place + length part) bytes)) (sym e)
     ∙ ap (λ (b : List ℕ). b ++ (part ++ drop (place + length part) bytes)) (drop-take size rest bytes)
     ∙ ap (λ (p : ℕ). take rest (drop size bytes) ++ (part ++ drop p bytes)) f
@@ -166,4 +169,19 @@ pub drop-past : (size place : ℕ) (part bytes : List ℕ) → place + length pa
 drop-past size place part bytes le fits =
     ext_get_or 0 (drop size (overwritten place part bytes)) (drop size bytes)
     (length-drop size (overwritten place part bytes) ∙ ap (λ (n : ℕ). n - size) (length-over place part bytes fits) ∙ sym (length-drop size bytes))
-    (λ k lt. get_or-drop size (overwritten place part bytes) k 0 ∙ over-after place part bytes fits (size + k) (omega arith) ∙ sym (get_or-drop size bytes k 0))
+    (λ k lt. get_or-drop size (overwritten place part bytes) k 0 ∙ over-after place part bytes (omega (arith, fits)) (size + k) (omega arith) ∙ sym (get_or-drop size bytes k 0))
+
+-- the part stands where it is written
+pub piece-written : (place size : ℕ) (part bytes : List ℕ) → place ≤ length bytes → length part ≡ size → piece place size (overwritten place part bytes) ≡ part
+piece-written place size part bytes begins long =
+    ext_get_or 0 (piece place size (overwritten place part bytes)) part (all ∙ sym long) (λ k lt. at k (omega (arith, lt, all)))
+  where
+    all : length (piece place size (overwritten place part bytes)) ≡ size
+    all = length-piece place size (overwritten place part bytes) (omega (arith, long, length-written place part bytes begins))
+
+    at : (k : ℕ) → k < size → get_or (piece place size (overwritten place part bytes)) k 0 ≡ get_or part k 0
+    at k lt =
+        let e : place + k - place ≡ k = omega arith in
+        at-piece place size k (overwritten place part bytes) lt
+        ∙ over-within place part bytes begins (place + k) (omega arith) (omega (arith, lt, long))
+        ∙ ap (λ (i : ℕ). get_or part i 0) e

@@ -3,7 +3,7 @@ use Rattle.std.proofs.Common.{◌≡◌, ◌≢◌, ◌≤◌, ◌<◌, ◌^◌,
 use Rattle.std.specs.List.{All, list_any, sum_by}
 use Rattle.std.specs.Prelude.{slice_set}
 use Rattle.std.specs.Int.{w32, to_be_bytes}
-use Rattle.std.proofs.lemmas.List.{append_assoc, drop_more, length-map, length-take-le, map-append, set_at, set_split, take-append-drop}
+use Rattle.std.proofs.lemmas.List.{append_assoc, drop-drop, drop_more, length-map, length-take-le, map-append, set_at, set_split, take-append-drop}
 use Rattle.std.proofs.lemmas.List.Elements.{All-append, All-cons, All-nil, All-head, All-tail, All-weaker, All-map}
 use Rattle.std.proofs.lemmas.List.Folds.{list_any_none}
 use Rattle.std.proofs.lemmas.List.Sums.{sum_by-cons}
@@ -22,7 +22,7 @@ use Rattle.nq_image.specs.Writing.{row_bytes, table_of_blocks, zeros_of}
 use Rattle.nq_image.specs.declared.rows.Slot.{Slot}
 use Rattle.nq_image.specs.declared.rows.Version.{Version}
 use Rattle.nq_image.proofs.Agreeing.{SameFrom, all-front, all-rest, all-rows, begins-same, held-by}
-use Rattle.nq_image.proofs.Allotting.{AllGiven, AreGivenOnce, AreOthersSame, AreTablesAllotted, all-given, all-swap, becomes-written, distinct-swap, each-given, given-if-once, once, tables-given, tables-marks-are, tables-over}
+use Rattle.nq_image.proofs.Allotting.{AllGiven, AreGivenOnce, AreOthersSame, AreTablesAllotted, all-given, all-swap, becomes-written, both-of, distinct-swap, each-given, given-if-once, once, tables-given, tables-marks-are, tables-over}
 use Rattle.nq_image.proofs.Changing.{around, beside}
 use Rattle.nq_image.proofs.FileRows.{length-row, row-holds, slot-is, unused-holds, unused-is}
 use Rattle.nq_image.proofs.Giving.{IsGiven, IsHeld, given-is-held}
@@ -79,6 +79,29 @@ held-all s bytes p =
     let below = subst Below (sym (length-marks 16641)) (All-weaker (IsFileBlock s.tables) (λ b. b < 16641) (λ b own. own.below) blocks each.there) in
     let given = all-given (no_marks 16641) blocks below in
     All-weaker (IsGiven marks) (IsHeld (length bytes)) (λ block own. given-is-held (length bytes) marks block p.held_all own) blocks given
+
+behind-first : (P : ℕ → Type 0) (row : Option PlacedFile) (rows : List (Option PlacedFile)) → All P (blocks_in (row ∷ rows)) → All P (blocks_in rows)
+unfolding blocks_in
+behind-first P row rows all = all-rest P (row_blocks row) (blocks_in rows) all
+
+-- what is known of each block of the other rows
+pub other-held : (s : Standing) (bytes : List ℕ) (slot : ℕ) → HasParts bytes (found_of s) → All (λ block. IsHeld (length bytes) block × IsFileBlock s.tables block) (blocks_in (others slot s.rows))
+other-held s bytes slot p =
+    let Both : ℕ → Type 0 = λ block. IsHeld (length bytes) block × IsFileBlock s.tables block in
+    let all = both-of (IsHeld (length bytes)) (IsFileBlock s.tables) Both (blocks_in s.rows) (λ block a c. (a, c)) (held-all s bytes p) (all-once s bytes p).there in
+    let front = take slot s.rows in
+    let Blocks : List ℕ → Type 0 = λ l. All Both l in
+    let parted = subst Blocks (ap blocks_in (sym (take-append-drop slot s.rows)) ∙ blocks-append front (drop slot s.rows)) all in
+    let rest = all-rest Both (blocks_in front) (blocks_in (drop slot s.rows)) parted in
+    subst Blocks (sym (blocks-append front (drop (suc slot) s.rows)))
+    (All-append Both (blocks_in front) (blocks_in (drop (suc slot) s.rows)) (all-front Both (blocks_in front) (blocks_in (drop slot s.rows)) parted) (one-less Both (drop slot s.rows) (drop (suc slot) s.rows) (drop-again slot s.rows) rest))
+  where
+    drop-again : (n : ℕ) (rows : List (Option PlacedFile)) → drop (suc n) rows ≡ drop 1 (drop n rows)
+    drop-again n rows = let e : n + 1 ≡ suc n = omega arith in sym (drop-drop 1 n rows ∙ ap (λ (k : ℕ). drop k rows) e)
+
+    one-less : (P : ℕ → Type 0) (rows more : List (Option PlacedFile)) → more ≡ drop 1 rows → All P (blocks_in rows) → All P (blocks_in more)
+    one-less P [] more is all = let Rows : List (Option PlacedFile) → Type 0 = λ l. All P (blocks_in l) in subst Rows (sym is) all
+    one-less P (row ∷ rows) more is all = let Rows : List (Option PlacedFile) → Type 0 = λ l. All P (blocks_in l) in subst Rows (sym is) (behind-first P row rows all)
 
 -- ---- one row becomes another
 

@@ -1,6 +1,7 @@
 -- Where each part of a kept state stands in an image of version 2, and what a change writes of it.
-use Rattle.std.specs.Prelude.{◌≡◌, ◌≢◌, ◌≤◌, ◌<◌, ◌^◌, ◌+◌, ◌*◌, ℕ, suc, Bool, true, false, List, [], ◌∷◌, ◌++◌, Option, Some, None, Ok, All, length, map, take, drop, nat_lt, slice_index_or, slice_set, if◌then◌else◌}
+use Rattle.std.specs.Prelude.{◌≡◌, ◌≢◌, ◌≤◌, ◌<◌, ◌^◌, ◌+◌, ◌*◌, ◌⊎◌, ℕ, suc, Bool, true, false, List, [], ◌∷◌, ◌++◌, Option, Some, None, Ok, All, length, map, take, drop, nat_lt, slice_index_or, slice_set, if◌then◌else◌}
 use Rattle.std.specs.Int.{w32, to_be_bytes}
+use Rattle.std.specs.List.{Contains}
 use Rattle.nq_base.specs.Name.{IsName}
 use Rattle.nq_base.specs.declared.FileRow.{FileRow}
 use Rattle.nq_base.specs.declared.Heads.{Heads}
@@ -244,3 +245,37 @@ standing_in bytes found = record {
   hosts = found.rows.hosts;
   rows = placed_rows 0 (block_place found.front.tables) found.rows.slots found.tables.ids bytes;
 }
+
+-- a block that may be given to a file: no file has it, and it is none of the tables'
+pub record IsFree (s : Standing) (block : ℕ) : Type 0 where
+  pub apart : is_of_tables s.tables block ≡ false
+  pub none : IsNoneOf (blocks_in s.rows) block
+
+-- a place in a block
+abbrev pub IsInBlock : (block place : ℕ) → Type 0
+IsInBlock block place = (block_place block ≤ place) × (place < block_place block + 4096)
+
+-- a place where something stands: in the numbers and rows, in the tables, or in a block of a file
+abbrev pub IsUsed : Standing → (place : ℕ) → Type 0
+IsUsed s place =
+    (place < 28672)
+    ⊎ ((n : ℕ) × (n < 257) × IsInBlock (s.tables + n) place)
+    ⊎ ((block : ℕ) × Contains (blocks_in s.rows) block × IsInBlock block place)
+
+-- where the row of a file stands, and its id
+abbrev pub row_place : (slot : ℕ) → ℕ
+row_place slot = 2112 + 96 * slot
+
+abbrev pub id_place : (tables slot : ℕ) → ℕ
+id_place tables slot = block_place (tables + 256) + 4 * slot
+
+-- an image with a file written: its row, its id, its table
+abbrev pub with_file_written : Standing → PlacedFile → List ℕ → List ℕ
+with_file_written s file bytes =
+    overwritten (block_place (s.tables + file.slot)) (table_of_blocks file.blocks)
+    (overwritten (id_place s.tables file.slot) (to_be_bytes w32 file.id)
+    (overwritten (row_place file.slot) (row_bytes file.name (length file.blocks) file.rev) bytes))
+
+-- an image with a row cleared, and its id
+abbrev pub with_row_cleared : Standing → (slot : ℕ) → List ℕ → List ℕ
+with_row_cleared s slot bytes = overwritten (id_place s.tables slot) (zeros_of 4) (overwritten (row_place slot) (zeros_of 96) bytes)

@@ -12,6 +12,7 @@ mod ids;
 mod image;
 mod kept;
 mod order;
+mod ranges;
 mod rows;
 mod spelling;
 mod standing;
@@ -32,6 +33,10 @@ pub use ids::{check_held, read_ids, whole_blocks};
 pub use image::{ImageOne, ImageTwo, Rows, Tables, read_one, read_two};
 pub use kept::{FoundFile, KeptImage, kept_of, read_kept};
 pub use order::{first_wrong_is_least, heads_are_in_order, rows_are_in_order, tables_are_in_order};
+pub use ranges::{
+    a_body_is_written, a_file_is_three_ranges, a_free_range_is_written,
+    a_range_of_the_rows_is_written, bytes_agree_where_something_stands,
+};
 pub use rows::{Slot, Version, read_row, read_rows};
 pub use spelling::{
     HEADS_PLACE, block_place, host_place, id_place, row_place, spell_heads, spell_host, spell_row,
