@@ -1,30 +1,28 @@
 -- Bytes that agree where something stands: the same stands in both.
-use Rattle.std.proofs.Common.{◌≡◌, ◌≤◌, ◌<◌, ◌+◌, ◌-◌, ◌*◌, ◌/◌, ◌⊎◌, inl, inr, ℕ, zero, suc, Bool, true, false, List, [], ◌∷◌, ◌++◌, Option, Some, None, Result, Ok, Err, take, drop, map, length, get_or, if◌then◌else◌, refl, sym, ap, subst, ◌∙◌, arith, length-append, length-drop}
-use Rattle.std.specs.List.{All, position}
+use Rattle.std.proofs.Common.{◌≡◌, ◌≤◌, ◌<◌, ◌+◌, ◌-◌, ◌*◌, inl, inr, ℕ, suc, Bool, true, false, List, [], ◌∷◌, ◌++◌, Option, Some, None, Ok, drop, map, length, get_or, if◌then◌else◌, refl, sym, ap, subst, ◌∙◌, arith}
+use Rattle.std.specs.List.{All}
 use Rattle.std.specs.Prelude.{min, nat_eq, nat_le, nat_lt, slice_index_or}
 use Rattle.std.specs.Cmp.Lexicographic.{pointwise}
 use Rattle.std.proofs.Math.Nat.{div-add-mod'}
 use Rattle.std.proofs.lemmas.Bool.{cases_lt}
-use Rattle.std.proofs.lemmas.Bool.Decides.{nat_tests}
 use Rattle.std.proofs.lemmas.List.{get_or-drop, get_or_past}
-use Rattle.std.proofs.lemmas.List.Elements.{All-append, All-cons, All-nil, All-head, All-tail, All-weaker}
+use Rattle.std.proofs.lemmas.List.Elements.{All-cons, All-nil, All-head, All-tail, All-weaker}
 use Rattle.nq_model.specs.Kept.{File, Kept}
-use Rattle.nq_image.specs.Check.{Check, check}
+use Rattle.nq_image.specs.Check.{Check}
 use Rattle.nq_image.specs.Heads.{front_checks, front_of, version_of}
 use Rattle.nq_image.specs.Hosts.{hosts_checks, hosts_of}
-use Rattle.nq_image.specs.Image.{FoundTwo, no_marks}
+use Rattle.nq_image.specs.Image.{no_marks}
 use Rattle.nq_image.specs.Kept.{body_in}
 use Rattle.nq_image.specs.Layout.{are_zeros, block_place, piece, whole_blocks}
 use Rattle.nq_image.specs.Rows.{rows_checks, slots_of}
-use Rattle.nq_image.specs.Standing.{Agree, HaveSameBlocks, PlacedFile, Standing, Stands, blocks_in, file_at, files_in, found_of, kept_at, put_file, row_blocks, row_slot, rows_of_image, with_rows}
-use Rattle.nq_image.specs.Tables.{held, held_from, ids_checks, ids_of, is_marked, slot_checks, slot_marks, slot_table, tables_blocks, tables_checks, tables_marks}
-use Rattle.nq_image.specs.Whole.{has_image_name}
+use Rattle.nq_image.specs.Standing.{Agree, HaveSameBlocks, PlacedFile, Standing, Stands, blocks_in, file_at, found_of, kept_at, put_file, row_slot, rows_of_image, with_rows}
+use Rattle.nq_image.specs.Tables.{held, held_from, ids_checks, ids_of, slot_checks, slot_marks, slot_table, tables_blocks, tables_checks, tables_marks}
 use Rattle.nq_image.specs.declared.rows.Slot.{Slot}
 use Rattle.nq_image.specs.declared.rows.Version.{Version}
 use Rattle.nq_image.proofs.Giving.{IsGiven, IsHeld, given-is-held}
 use Rattle.nq_image.proofs.Holding.{length-slots, test-le}
 use Rattle.nq_image.proofs.Parting.{BeginsAsTwo, HasParts, image-of-parts, parts-of}
-use Rattle.nq_image.proofs.Pieces.{at-piece, length-piece, piece-by-first}
+use Rattle.nq_image.proofs.Pieces.{at-piece, piece-by-first}
 use Rattle.nq_image.proofs.ReadBack.{Hold, hold-append, le-true}
 use Rattle.nq_image.proofs.Tabling.{none-marked}
 

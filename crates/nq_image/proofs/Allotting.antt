@@ -1,20 +1,17 @@
 -- The blocks of files, each given once.
-use Rattle.std.proofs.Common.{◌≡◌, ◌≢◌, ◌≤◌, ◌<◌, ◌+◌, ◌-◌, ◌*◌, ◌==◌, ◌&&◌, ◌⊎◌, inl, inr, ℕ, zero, suc, Bool, true, false, List, [], ◌∷◌, ◌++◌, Option, Some, None, take, drop, map, set, length, get_or, if◌then◌else◌, refl, sym, ap, subst, ◌∙◌, arith, length-append}
+use Rattle.std.proofs.Common.{◌≡◌, ◌≢◌, ◌≤◌, ◌<◌, ◌+◌, ◌-◌, ◌*◌, ◌&&◌, inl, inr, ℕ, zero, suc, Bool, true, false, List, [], ◌∷◌, ◌++◌, Option, Some, None, take, drop, map, length, get_or, refl, sym, ap, subst, ◌∙◌, arith}
 use Rattle.std.specs.List.{All}
-use Rattle.std.specs.Prelude.{nat_le, nat_lt, not, slice_index_or, slice_set}
+use Rattle.std.specs.Prelude.{nat_le, not, slice_set}
 use Rattle.std.specs.Int.{w32, to_be_bytes}
 use Rattle.std.proofs.lemmas.Bool.{cases_eq}
-use Rattle.std.proofs.lemmas.Bool.Decides.{nat_tests}
-use Rattle.std.proofs.lemmas.List.{append_assoc, drop_at, get_or-set_other, get_or-set_same, length-set, take_at}
+use Rattle.std.proofs.lemmas.List.{drop_at, get_or-set_other, get_or-set_same, length-set, take_at}
 use Rattle.std.proofs.lemmas.List.Elements.{All-append, All-cons, All-nil, All-head, All-tail, All-weaker}
 use Rattle.std.proofs.lemmas.Nat.{from_be_bytes-to_be_bytes_4}
-use Rattle.nq_image.specs.Check.{Check, check}
-use Rattle.nq_image.specs.Image.{no_marks}
-use Rattle.nq_image.specs.Layout.{block_place, piece, word_in, are_zeros}
+use Rattle.nq_image.specs.Check.{check}
+use Rattle.nq_image.specs.Layout.{piece, word_in}
 use Rattle.nq_image.specs.Standing.{AreDistinct, IsFileBlock, IsNoneOf, PlacedFile, blocks_in, marks_with, row_blocks, row_slot}
 use Rattle.nq_image.specs.Tables.{is_entry, is_marked, is_of_tables, marked, marks_behind, slot_checks, slot_marks, slot_table, table_checks, table_of, tables_blocks, tables_checks, tables_marks}
 use Rattle.nq_image.specs.Writing.{entries_of, table_of_blocks, zeros_of}
-use Rattle.nq_image.specs.declared.rows.Slot.{Slot}
 use Rattle.nq_image.proofs.Agreeing.{SameFrom, all-front, all-rest, hold-behind, hold-front, le-longer, same-first, same-rest}
 use Rattle.nq_image.proofs.Giving.{IsGiven}
 use Rattle.nq_image.proofs.Holding.{not-true, test-le}

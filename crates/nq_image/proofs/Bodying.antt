@@ -1,16 +1,15 @@
 -- Bodies are read back, and files in their order.
-use Rattle.std.proofs.Common.{◌≡◌, ◌≢◌, ◌≤◌, ◌<◌, ◌+◌, ◌-◌, ◌*◌, ℕ, zero, suc, Bool, true, false, List, [], ◌∷◌, ◌++◌, Option, Some, None, take, drop, map, length, if◌then◌else◌, refl, sym, ap, subst, ◌∙◌, arith, length-append}
-use Rattle.std.specs.List.{All, concat, insert, sum_by}
-use Rattle.std.specs.Prelude.{nat_lt, slice_index_or}
+use Rattle.std.proofs.Common.{◌≡◌, ◌≤◌, ◌<◌, ◌+◌, ◌-◌, ◌*◌, ℕ, zero, suc, Bool, true, false, List, [], ◌∷◌, ◌++◌, take, drop, map, length, if◌then◌else◌, refl, sym, ap, ◌∙◌, arith, length-append}
+use Rattle.std.specs.List.{All, concat}
+use Rattle.std.specs.Prelude.{nat_lt}
 use Rattle.std.proofs.lemmas.Bool.Decides.{nat_tests}
 use Rattle.std.proofs.lemmas.List.{append_assoc, append-nil, take_at, drop_at}
 use Rattle.std.proofs.lemmas.List.Elements.{All-append, All-cons, All-nil, All-head, All-tail}
 use Rattle.std.proofs.lemmas.List.Sums.{sum_by-cons}
 use Rattle.nq_model.specs.Change.{AreApart, IsBody, IsFileWithin}
 use Rattle.nq_model.specs.Kept.{File, blocks_in_all, blocks_of as length_of}
-use Rattle.nq_image.specs.Kept.{body_in, file_in, files_of, found_file, numbers_from, with_slot}
-use Rattle.nq_image.specs.Layout.{block_place, piece}
-use Rattle.nq_image.specs.Rows.{blocks_of}
+use Rattle.nq_image.specs.Kept.{body_in, file_in, files_of, found_file, numbers_from}
+use Rattle.nq_image.specs.Layout.{block_place}
 use Rattle.nq_image.specs.Writing.{bodies_of}
 use Rattle.nq_image.specs.declared.kept.FoundFile.{FoundFile}
 use Rattle.nq_image.specs.declared.rows.Slot.{Slot}

@@ -1,30 +1,29 @@
 -- Other numbers of the server, and another row of a host.
-use Rattle.std.proofs.Common.{◌≡◌, ◌≤◌, ◌<◌, ◌^◌, ◌+◌, ◌-◌, ◌*◌, ◌&&◌, ◌==◌, ◌⊎◌, inl, inr, ℕ, zero, suc, Bool, true, false, List, [], ◌∷◌, ◌++◌, Option, Some, None, Result, Ok, Err, take, drop, map, set, length, get_or, if◌then◌else◌, refl, sym, ap, subst, ◌∙◌, arith, length-append, length-drop}
+use Rattle.std.proofs.Common.{◌≡◌, ◌≤◌, ◌<◌, ◌+◌, ◌-◌, ◌*◌, ◌&&◌, ◌==◌, ◌⊎◌, inl, inr, ℕ, zero, suc, Bool, true, false, List, [], ◌∷◌, ◌++◌, Option, Some, None, take, drop, map, set, length, refl, sym, ap, subst, ◌∙◌, arith, length-drop}
 use Rattle.std.specs.List.{list_any}
-use Rattle.std.specs.Prelude.{nat_le, nat_lt, not, slice_index_or, slice_set}
-use Rattle.std.specs.Int.{w32, from_be_bytes, to_be_bytes}
+use Rattle.std.specs.Prelude.{nat_le, nat_lt, not, slice_set}
+use Rattle.std.specs.Int.{w32, from_be_bytes}
 use Rattle.std.proofs.lemmas.List.{drop-drop, drop_at, length-take-le}
 use Rattle.std.proofs.lemmas.Nat.{from_be_bytes-to_be_bytes_4}
 use Rattle.nq_base.specs.declared.Heads.{Heads}
 use Rattle.nq_base.specs.declared.HostRow.{HostRow}
 use Rattle.nq_model.specs.Change.{AreHeadsWithin, IsHostWithin, kept_as}
 use Rattle.nq_model.specs.Kept.{File, Kept, with_row}
-use Rattle.nq_image.specs.Check.{Check, check}
-use Rattle.nq_image.specs.Heads.{front_checks, front_of, is_next, is_term}
+use Rattle.nq_image.specs.Heads.{front_checks, front_of}
 use Rattle.nq_image.specs.Hosts.{host_checks, host_of, hosts_checks, hosts_of}
-use Rattle.nq_image.specs.Image.{FoundTwo, no_marks}
+use Rattle.nq_image.specs.Image.{no_marks}
 use Rattle.nq_image.specs.Layout.{are_zeros, block_place, piece, word_in}
 use Rattle.nq_image.specs.Rows.{rows_checks, slots_of}
-use Rattle.nq_image.specs.Standing.{AgreeBut, HaveSameBlocks, Standing, Stands, found_of, front_for, kept_at, overwritten, row_slot, rows_of_image, with_heads, with_host}
+use Rattle.nq_image.specs.Standing.{AgreeBut, Standing, Stands, found_of, front_for, kept_at, overwritten, row_slot, rows_of_image, with_heads, with_host}
 use Rattle.nq_image.specs.Tables.{ids_checks, ids_of, is_id}
 use Rattle.nq_image.specs.Writing.{heads_bytes, host_bytes}
 use Rattle.nq_image.specs.declared.heads.Front.{Front}
 use Rattle.nq_image.specs.declared.rows.Slot.{Slot}
 use Rattle.nq_image.specs.declared.rows.Version.{Version}
-use Rattle.nq_image.proofs.Agreeing.{AreTablesSame, HaveSameTables, SameFrom, all-rows, begins-same, held-longer, hold-behind, hold-front, same-files, same-tables, tables-same}
+use Rattle.nq_image.proofs.Agreeing.{SameFrom, all-rows, begins-same, held-longer, hold-behind, hold-front, same-files, same-tables, tables-same}
 use Rattle.nq_image.proofs.Holding.{each-three, test-le, test-lt}
-use Rattle.nq_image.proofs.Parting.{BeginsAsTwo, HasParts, image-of-parts, parts-of}
-use Rattle.nq_image.proofs.Pieces.{drop-first, drop-over, length-over, length-piece, piece-around, piece-beside, piece-by-first, piece-of-first, take-first, take-over}
+use Rattle.nq_image.proofs.Parting.{HasParts, image-of-parts, parts-of}
+use Rattle.nq_image.proofs.Pieces.{drop-first, drop-over, length-piece, piece-around, piece-beside, piece-of-first, take-first, take-over}
 use Rattle.nq_image.proofs.ReadBack.{Hold, and-three, and-two, ge-true, hold-append, host-holds, host-is, le-both, le-true, length-host, lt-true, subst-two}
 
 -- ---- one part of the numbers and rows is overwritten

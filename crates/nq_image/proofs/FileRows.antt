@@ -1,12 +1,12 @@
 -- Rows of files are read back.
-use Rattle.std.proofs.Common.{◌≡◌, ◌≢◌, ◌≤◌, ◌<◌, ◌^◌, ◌+◌, ◌-◌, ◌*◌, ◌==◌, ◌&&◌, ◌||◌, ℕ, zero, suc, Bool, true, false, List, [], ◌∷◌, ◌++◌, Option, Some, None, take, drop, length, if◌then◌else◌, refl, sym, ap, subst, ◌∙◌, arith, length-append}
-use Rattle.std.specs.List.{All, list_any, sum_by}
-use Rattle.std.specs.Prelude.{nat_lt, nat_le, nat_eq, not, find}
-use Rattle.std.specs.Int.{w32, w64, from_be_bytes, to_be_bytes}
+use Rattle.std.proofs.Common.{◌≡◌, ◌≢◌, ◌≤◌, ◌<◌, ◌^◌, ◌+◌, ◌-◌, ◌*◌, ◌==◌, ◌||◌, ℕ, zero, suc, Bool, true, false, List, [], ◌∷◌, ◌++◌, Option, Some, None, take, drop, length, if◌then◌else◌, refl, sym, ap, subst, ◌∙◌, arith, length-append}
+use Rattle.std.specs.List.{All, sum_by}
+use Rattle.std.specs.Prelude.{nat_le, nat_eq, not}
+use Rattle.std.specs.Int.{w32, w64, from_be_bytes}
 use Rattle.std.specs.Cmp.Lexicographic.{pointwise}
 use Rattle.std.proofs.lemmas.Bool.Decides.{nat_tests}
 use Rattle.std.proofs.lemmas.List.{take_at, drop_at, drop-drop}
-use Rattle.std.proofs.lemmas.List.Elements.{All-cons, All-nil, All-head, All-tail, All-weaker}
+use Rattle.std.proofs.lemmas.List.Elements.{All-cons, All-nil, All-head, All-tail}
 use Rattle.std.proofs.lemmas.List.Folds.{list_any-append}
 use Rattle.std.proofs.lemmas.List.Sums.{sum_by-append, sum_by-cons}
 use Rattle.std.proofs.lemmas.Nat.{from_be_bytes-to_be_bytes_4, from_be_bytes-to_be_bytes_8}
@@ -16,9 +16,8 @@ use Rattle.nq_base.proofs.NameTests.{name_decides}
 use Rattle.nq_model.specs.Change.{AreApart, IsFileWithin}
 use Rattle.nq_model.specs.Kept.{File, blocks_in_all, blocks_of as length_of, find_name}
 use Rattle.nq_model.specs.Profile.{same_bytes}
-use Rattle.nq_image.specs.Check.{Check}
 use Rattle.nq_image.specs.Layout.{piece, word_in, hyper_in, are_zeros}
-use Rattle.nq_image.specs.Rows.{behind_name, blocks_of, has_name, is_count, is_length, is_named, name_holds, name_in, row_checks, rows_checks, slot_of, slots_of, used_checks, used_slot}
+use Rattle.nq_image.specs.Rows.{behind_name, blocks_of, has_name, is_named, name_holds, name_in, row_checks, rows_checks, slot_of, slots_of, used_checks, used_slot}
 use Rattle.nq_image.specs.Writing.{numbers_bytes, row_bytes, rows_bytes, zeros_of}
 use Rattle.nq_image.specs.declared.rows.Slot.{Slot}
 use Rattle.nq_image.specs.declared.rows.Version.{Version}

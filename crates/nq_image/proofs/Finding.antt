@@ -1,10 +1,10 @@
 -- What is read in an image stands there.
-use Rattle.std.proofs.Common.{◌≡◌, ◌≤◌, ◌<◌, ◌+◌, ◌*◌, ◌==◌, ℕ, zero, suc, Bool, true, false, List, [], ◌∷◌, ◌++◌, Option, Some, None, Ok, drop, map, length, refl, sym, ap, subst, ◌∙◌, arith}
+use Rattle.std.proofs.Common.{◌≡◌, ◌+◌, ℕ, Bool, true, List, [], ◌∷◌, ◌++◌, Option, Some, None, Ok, drop, map, length, refl, sym, ap, subst, ◌∙◌, arith}
 use Rattle.std.specs.Prelude.{slice_index_or}
 use Rattle.std.proofs.lemmas.Bool.Decides.{nat_tests}
 use Rattle.nq_image.specs.Image.{FoundTwo, no_marks}
 use Rattle.nq_image.specs.Layout.{block_place, piece, word_in}
-use Rattle.nq_image.specs.Standing.{AreNumbered, PlacedFile, Standing, Stands, blocks_in, found_of, marks_with, placed_rows, row_blocks, row_id, row_slot, standing_in}
+use Rattle.nq_image.specs.Standing.{AreNumbered, Stands, blocks_in, found_of, marks_with, placed_rows, row_id, row_slot, standing_in}
 use Rattle.nq_image.specs.Tables.{ids_checks, ids_of, is_id, slot_table, table_of, tables_blocks, tables_marks}
 use Rattle.nq_image.specs.Whole.{image_in, of_two}
 use Rattle.nq_image.specs.declared.rows.Slot.{Slot}

@@ -1,13 +1,12 @@
 -- What stands in an image is what the image opens as.
-use Rattle.std.proofs.Common.{◌≡◌, ◌≤◌, ◌<◌, ◌+◌, ◌-◌, ◌*◌, ℕ, zero, suc, Bool, true, false, List, [], ◌∷◌, ◌++◌, Option, Some, None, Result, Ok, Err, take, drop, map, length, if◌then◌else◌, refl, sym, ap, subst, ◌∙◌, arith, length-append}
+use Rattle.std.proofs.Common.{◌≡◌, ◌+◌, ℕ, Bool, true, false, List, [], ◌∷◌, ◌++◌, Option, Some, None, Result, Ok, take, drop, map, length, if◌then◌else◌, refl, sym, ap, ◌∙◌, arith, length-append}
 use Rattle.std.specs.List.{insert}
-use Rattle.std.specs.Prelude.{nat_lt, slice_index_or}
+use Rattle.std.specs.Prelude.{nat_lt}
 use Rattle.std.proofs.lemmas.List.{append_assoc, drop_at, take_at}
 use Rattle.nq_model.specs.Kept.{File, Kept}
-use Rattle.nq_image.specs.Kept.{body_in, file_in, files_of, found_file, kept_in, kept_two, opened, place_of, stands_for, with_slot}
-use Rattle.nq_image.specs.Rows.{blocks_of}
-use Rattle.nq_image.specs.Standing.{PlacedFile, Standing, Stands, blocks_in, file_at, files_in, found_of, kept_at, put_file, row_blocks, row_id, row_slot, with_rows}
-use Rattle.nq_image.specs.Whole.{Found, image_in, of_two}
+use Rattle.nq_image.specs.Kept.{body_in, file_in, files_of, found_file, kept_in, kept_two, opened, place_of, stands_for}
+use Rattle.nq_image.specs.Standing.{PlacedFile, Standing, Stands, blocks_in, file_at, found_of, kept_at, put_file, row_id, row_slot, with_rows}
+use Rattle.nq_image.specs.Whole.{Found}
 use Rattle.nq_image.specs.declared.kept.FoundFile.{FoundFile}
 use Rattle.nq_image.specs.declared.rows.Slot.{Slot}
 use Rattle.nq_image.proofs.Filing.{insert-is-put, put}

@@ -1,16 +1,16 @@
 -- The blocks of the files of an image: each is given once, and the disk holds each whole.
-use Rattle.std.proofs.Common.{◌≡◌, ◌≢◌, ◌≤◌, ◌<◌, ◌+◌, ◌-◌, ◌*◌, ◌⊎◌, inl, inr, ℕ, zero, suc, Bool, true, false, ◌&&◌, List, [], ◌∷◌, ◌++◌, Option, Some, None, Result, Ok, Err, take, drop, length, get_or, if◌then◌else◌, refl, sym, ap, subst, ◌∙◌, arith, length-append}
+use Rattle.std.proofs.Common.{◌≡◌, ◌≤◌, ◌<◌, ◌+◌, ◌-◌, inl, inr, ℕ, zero, suc, Bool, true, false, ◌&&◌, List, [], ◌∷◌, ◌++◌, Option, Some, None, Ok, drop, length, get_or, if◌then◌else◌, refl, sym, ap, subst, ◌∙◌, arith, length-append}
 use Rattle.std.specs.List.{All, position, prefix_len, sum_by}
-use Rattle.std.specs.Prelude.{min, nat_lt, nat_le, not, slice_index_or, slice_set}
+use Rattle.std.specs.Prelude.{min, nat_lt, nat_le, not, slice_set}
 use Rattle.std.proofs.Math.Nat.{div-add-mod'}
 use Rattle.std.proofs.lemmas.Bool.{cases_eq, cases_lt}
 use Rattle.std.proofs.lemmas.Bool.Decides.{nat_tests}
 use Rattle.std.proofs.lemmas.List.{get_or-drop, get_or-set_same, get_or-set_other, get_or_past, length-set}
 use Rattle.std.proofs.lemmas.List.Elements.{All-append, All-cons, All-nil, All-head, All-tail, All-weaker}
 use Rattle.std.proofs.lemmas.List.Sums.{prefix_len_passes, sum_by-cons}
-use Rattle.nq_image.specs.Check.{Check, check}
+use Rattle.nq_image.specs.Check.{check}
 use Rattle.nq_image.specs.Kept.{numbers_from}
-use Rattle.nq_image.specs.Layout.{block_place, piece, word_in, are_zeros, whole_blocks}
+use Rattle.nq_image.specs.Layout.{block_place, piece, word_in, whole_blocks}
 use Rattle.nq_image.specs.Rows.{blocks_of}
 use Rattle.nq_image.specs.Tables.{held, held_from, is_entry, is_marked, is_of_tables, marked, marked_from, marks_behind, slot_checks, slot_marks, slot_table, table_checks, table_of, tables_blocks, tables_checks, tables_marks}
 use Rattle.nq_image.specs.declared.rows.Slot.{Slot}

@@ -1,5 +1,5 @@
 -- What holds of the rows of an image in which no field is wrong.
-use Rattle.std.proofs.Common.{◌≡◌, ◌≤◌, ◌<◌, ◌^◌, ◌+◌, ◌==◌, ◌⊎◌, inl, inr, ℕ, zero, suc, Bool, true, false, ◌&&◌, List, [], ◌∷◌, ◌++◌, Option, Some, None, Result, Ok, Err, take, drop, length, get_or, if◌then◌else◌, refl, sym, ap, ◌∙◌, arith}
+use Rattle.std.proofs.Common.{◌≡◌, ◌≤◌, ◌<◌, ◌^◌, ◌+◌, ◌==◌, inl, inr, ℕ, zero, suc, Bool, true, false, ◌&&◌, List, [], ◌∷◌, ◌++◌, Option, Some, None, Result, Ok, Err, take, drop, length, get_or, if◌then◌else◌, refl, arith}
 use Rattle.std.specs.List.{All, list_any, sum_by}
 use Rattle.std.specs.Prelude.{nat_lt, nat_le, not, slice_index_or}
 use Rattle.std.proofs.lemmas.Bool.{cases_lt}
@@ -8,13 +8,12 @@ use Rattle.std.proofs.lemmas.List.{get_or_past}
 use Rattle.std.proofs.lemmas.List.Elements.{All-cons, All-nil, All-head, All-tail, All-take, All-drop}
 use Rattle.nq_base.proofs.NameTests.{name_decides}
 use Rattle.nq_base.specs.Name.{IsName, is_name}
-use Rattle.nq_base.specs.declared.HostRow.{HostRow}
 use Rattle.nq_model.specs.Change.{IsHostWithin}
 use Rattle.nq_image.specs.Bounds.{AreBytes}
 use Rattle.nq_image.specs.Check.{Check, check, tested}
 use Rattle.nq_image.specs.Hosts.{host_checks, host_of, hosts_checks, hosts_of}
-use Rattle.nq_image.specs.Layout.{piece, word_in, hyper_in, are_zeros}
-use Rattle.nq_image.specs.Rows.{behind_name, blocks_of, is_count, is_first, is_length, is_named, is_shut, least_not_zeros, name_holds, name_in, row_checks, rows_checks, slot_of, slots_of, used_checks, used_slot}
+use Rattle.nq_image.specs.Layout.{word_in, hyper_in, are_zeros}
+use Rattle.nq_image.specs.Rows.{behind_name, blocks_of, is_named, is_shut, least_not_zeros, name_holds, name_in, row_checks, rows_checks, slot_of, slots_of, used_checks, used_slot}
 use Rattle.nq_image.specs.Tables.{ids_checks, ids_of, is_id}
 use Rattle.nq_image.specs.declared.rows.Slot.{Slot}
 use Rattle.nq_image.specs.declared.rows.Version.{Version}

@@ -1,21 +1,19 @@
 -- The image of a kept state opens as that state.
-use Rattle.std.proofs.Common.{◌≡◌, ◌≤◌, ◌<◌, ◌^◌, ◌+◌, ◌-◌, ◌*◌, ◌&&◌, inl, inr, ℕ, zero, suc, Bool, true, false, List, [], ◌∷◌, ◌++◌, Option, Some, None, Result, Ok, Err, take, drop, map, length, if◌then◌else◌, refl, sym, ap, subst, ◌∙◌, arith, length-append}
+use Rattle.std.proofs.Common.{◌≡◌, ◌≤◌, ◌<◌, ◌+◌, ◌&&◌, inl, inr, ℕ, Bool, true, false, List, [], ◌∷◌, ◌++◌, Option, Some, None, Result, Ok, Err, map, length, if◌then◌else◌, refl, sym, ap, subst, ◌∙◌, arith, length-append}
 use Rattle.std.specs.List.{All}
-use Rattle.std.specs.Prelude.{nat_lt, nat_le, slice_index_or}
-use Rattle.std.specs.Int.{w32, from_be_bytes, to_be_bytes}
+use Rattle.std.specs.Prelude.{nat_le, slice_index_or}
 use Rattle.std.proofs.lemmas.Bool.{cases_lt}
-use Rattle.std.proofs.lemmas.List.{append_assoc, append-nil, get_or-replicate, get_or_past, length-replicate}
+use Rattle.std.proofs.lemmas.List.{append_assoc, get_or-replicate, get_or_past, length-replicate}
 use Rattle.std.proofs.lemmas.List.Elements.{All-cons, All-nil}
 use Rattle.std.proofs.lemmas.Nat.{from_be_bytes-to_be_bytes_4}
-use Rattle.nq_base.specs.declared.Heads.{Heads}
 use Rattle.nq_base.specs.declared.HostRow.{HostRow}
-use Rattle.nq_model.specs.Change.{IsFileWithin, IsHostWithin, IsWithinBounds}
+use Rattle.nq_model.specs.Change.{IsWithinBounds}
 use Rattle.nq_model.specs.Kept.{File, Kept, blocks_in_all}
-use Rattle.nq_image.specs.Check.{Check, check, tested}
+use Rattle.nq_image.specs.Check.{Check, tested}
 use Rattle.nq_image.specs.Heads.{front_checks, front_of, version_of}
 use Rattle.nq_image.specs.Hosts.{hosts_checks, hosts_of}
 use Rattle.nq_image.specs.Image.{FoundRows, FoundTables, FoundTwo, ◌>>=◌, ids_in, image_two, no_marks, rows_in, tables_in}
-use Rattle.nq_image.specs.Kept.{FoundKept, file_in, files_of, heads_two, kept_in, kept_two, numbers_from, opened, stands_for}
+use Rattle.nq_image.specs.Kept.{file_in, files_of, kept_in, kept_two, numbers_from, opened, stands_for}
 use Rattle.nq_image.specs.Layout.{are_zeros, block_place, piece, word_in}
 use Rattle.nq_image.specs.Rows.{rows_checks, slots_of}
 use Rattle.nq_image.specs.Tables.{held, ids_checks, ids_of, is_marked, tables_blocks, tables_checks, tables_marks}

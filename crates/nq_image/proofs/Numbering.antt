@@ -1,19 +1,18 @@
 -- The id of one row is another: the ids are right still.
-use Rattle.std.proofs.Common.{◌≡◌, ◌≢◌, ◌≤◌, ◌<◌, ◌^◌, ◌+◌, ◌-◌, ◌*◌, ◌==◌, ◌&&◌, ◌||◌, ℕ, zero, suc, Bool, true, false, List, [], ◌∷◌, ◌++◌, Option, Some, None, take, drop, map, set, length, get_or, if◌then◌else◌, refl, sym, ap, subst, ◌∙◌, arith, length-append, length-drop}
+use Rattle.std.proofs.Common.{◌≡◌, ◌≢◌, ◌≤◌, ◌<◌, ◌^◌, ◌+◌, ◌-◌, ◌*◌, ◌==◌, ◌||◌, ℕ, zero, suc, Bool, true, false, List, [], ◌∷◌, ◌++◌, Option, Some, None, take, drop, map, set, length, get_or, refl, sym, ap, subst, ◌∙◌, arith, length-drop}
 use Rattle.std.specs.List.{All, list_any}
 use Rattle.std.specs.Prelude.{nat_le, nat_lt, not}
-use Rattle.std.specs.Int.{w32, from_be_bytes, to_be_bytes}
+use Rattle.std.specs.Int.{w32, to_be_bytes}
 use Rattle.std.proofs.lemmas.Bool.Decides.{nat_tests}
 use Rattle.std.proofs.lemmas.List.{append-nil, append_assoc, drop-drop}
 use Rattle.std.proofs.lemmas.List.Elements.{All-head, All-tail}
 use Rattle.std.proofs.lemmas.List.Folds.{list_any-append}
-use Rattle.std.proofs.lemmas.Nat.{from_be_bytes-to_be_bytes_4}
 use Rattle.nq_image.specs.Layout.{word_in, are_zeros}
 use Rattle.nq_image.specs.Standing.{PlacedFile, overwritten, row_id, row_slot}
 use Rattle.nq_image.specs.Tables.{ids_checks, ids_of, is_id}
 use Rattle.nq_image.specs.declared.rows.Slot.{Slot}
 use Rattle.nq_image.proofs.Holding.{each-three, not-true, test-le, test-lt}
-use Rattle.nq_image.proofs.Pieces.{drop-first, drop-over, over-before, take-first}
+use Rattle.nq_image.proofs.Pieces.{drop-first, drop-over, over-before}
 use Rattle.nq_image.proofs.ReadBack.{Hold, and-three, ge-true, lt-true}
 use Rattle.nq_image.proofs.Tabling.{id-word}
 

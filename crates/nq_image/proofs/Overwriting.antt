@@ -1,13 +1,13 @@
 -- Ranges that are written to an image: what the new bytes have, and where they agree with the old ones.
-use Rattle.std.proofs.Common.{◌≡◌, ◌≢◌, ◌≤◌, ◌<◌, ◌+◌, ◌-◌, ◌*◌, ◌⊎◌, inl, inr, ℕ, zero, suc, Bool, true, false, List, [], ◌∷◌, ◌++◌, length, get_or, refl, sym, ap, subst, ◌∙◌, arith, length-append}
+use Rattle.std.proofs.Common.{◌≡◌, ◌≢◌, ◌≤◌, ◌<◌, ◌+◌, ◌-◌, ◌*◌, ◌⊎◌, inl, inr, ℕ, true, false, List, [], ◌∷◌, length, get_or, refl, sym, ap, ◌∙◌, arith, length-append}
 use Rattle.std.specs.List.{All, Contains}
 use Rattle.std.specs.Int.{w32, to_be_bytes}
 use Rattle.std.specs.Prelude.{nat_le, nat_lt}
 use Rattle.std.proofs.lemmas.Bool.{cases_lt}
 use Rattle.std.proofs.lemmas.List.Elements.{All-contains_itself, All-weaker}
 use Rattle.nq_image.specs.Kept.{body_in}
-use Rattle.nq_image.specs.Layout.{block_place, piece}
-use Rattle.nq_image.specs.Standing.{Agree, AgreeBut, CanStand, HaveSameBlocks, IsBodyWritten, IsFileBlock, IsFileWritten, IsFree, IsInBlock, IsNoneOf, IsRowCleared, IsUsed, PlacedFile, Standing, Stands, blocks_in, found_of, id_place, others, overwritten, row_place, rows_of_image, with_file_written, with_row_cleared}
+use Rattle.nq_image.specs.Layout.{block_place}
+use Rattle.nq_image.specs.Standing.{Agree, AgreeBut, CanStand, HaveSameBlocks, IsBodyWritten, IsFileBlock, IsFileWritten, IsFree, IsInBlock, IsRowCleared, IsUsed, PlacedFile, Standing, Stands, blocks_in, found_of, id_place, others, overwritten, row_place, rows_of_image, with_file_written, with_row_cleared}
 use Rattle.nq_image.specs.Tables.{is_of_tables}
 use Rattle.nq_image.specs.Writing.{entries_of, row_bytes, table_of_blocks, zeros_of}
 use Rattle.nq_image.proofs.Allotting.{both-of}
@@ -16,7 +16,7 @@ use Rattle.nq_image.proofs.Giving.{IsHeld}
 use Rattle.nq_image.proofs.Parting.{parts-of}
 use Rattle.nq_image.proofs.Pieces.{length-over, length-written, piece-around, piece-beside, piece-same, piece-written}
 use Rattle.nq_image.proofs.ReadBack.{and-two, le-true, length-zeros, lt-true}
-use Rattle.nq_image.proofs.Replacing.{all-once, held-all, other-held}
+use Rattle.nq_image.proofs.Replacing.{held-all, other-held}
 
 -- ---- blocks beside one another
 

@@ -1,7 +1,7 @@
 -- What stands in an image stands apart: each name, each id and each block once.
-use Rattle.std.proofs.Common.{◌≡◌, ◌≢◌, ◌≤◌, ◌<◌, ◌^◌, ◌+◌, ◌-◌, ◌*◌, ◌==◌, ◌&&◌, ◌||◌, ℕ, zero, suc, Bool, true, false, List, [], ◌∷◌, ◌++◌, Option, Some, None, Ok, take, drop, map, length, get_or, if◌then◌else◌, refl, sym, ap, subst, ◌∙◌, arith, length-append, length-drop}
+use Rattle.std.proofs.Common.{◌≡◌, ◌≢◌, ◌≤◌, ◌<◌, ◌^◌, ◌+◌, ◌==◌, ◌&&◌, ◌||◌, ℕ, zero, suc, Bool, true, false, List, [], ◌∷◌, ◌++◌, Option, Some, None, take, drop, map, length, if◌then◌else◌, refl, sym, ap, subst, ◌∙◌, arith, length-append}
 use Rattle.std.specs.List.{All, list_any, sum_by}
-use Rattle.std.specs.Prelude.{nat_le, nat_lt, nat_eq, not, slice_index_or}
+use Rattle.std.specs.Prelude.{nat_le, nat_eq, not, slice_index_or}
 use Rattle.std.specs.Cmp.Lexicographic.{pointwise}
 use Rattle.std.proofs.lemmas.Bool.Decides.{nat_tests}
 use Rattle.std.proofs.lemmas.List.{append-nil, append_assoc, length-map, map-append}
@@ -10,14 +10,14 @@ use Rattle.std.proofs.lemmas.List.Folds.{list_any-append}
 use Rattle.std.proofs.lemmas.Slice.Eq.{bytes_eq-Decides}
 use Rattle.nq_base.specs.Name.{IsName, is_name}
 use Rattle.nq_base.proofs.NameTests.{name_decides}
-use Rattle.nq_model.specs.Change.{with_block, with_body, with_file}
-use Rattle.nq_model.specs.Kept.{drop_file, replace_file, with_files}
+use Rattle.nq_model.specs.Change.{with_block, with_file}
+use Rattle.nq_model.specs.Kept.{drop_file, with_files}
 use Rattle.nq_image.specs.Heads.{front_checks, front_of}
 use Rattle.nq_image.specs.Image.{no_marks}
 use Rattle.nq_image.specs.Layout.{are_zeros, block_place, hyper_in, piece, word_in}
 use Rattle.nq_image.specs.Rows.{behind_name, blocks_of, has_name, is_named, name_holds, name_in, row_checks, rows_checks, slot_of, slots_of, used_checks, used_slot}
 use Rattle.nq_image.specs.Kept.{body_in}
-use Rattle.nq_image.specs.Standing.{AreDistinct, AreNumbered, CanStand, HasBodies, IsApartFrom, IsBodyWritten, IsFileBlock, IsFileWritten, IsNoneOf, IsRowCleared, PlacedFile, Standing, Stands, blocks_in, file_at, files_in, found_of, front_for, kept_at, others, row_at, row_blocks, row_for, row_id, row_slot, with_placed}
+use Rattle.nq_image.specs.Standing.{CanStand, HasBodies, IsApartFrom, IsBodyWritten, IsFileBlock, IsFileWritten, IsNoneOf, IsRowCleared, PlacedFile, Standing, Stands, blocks_in, files_in, found_of, front_for, kept_at, others, row_at, row_for, row_id, row_slot, with_placed}
 use Rattle.nq_image.specs.declared.heads.Front.{Front}
 use Rattle.nq_image.specs.declared.rows.Slot.{Slot}
 use Rattle.nq_image.specs.declared.rows.Version.{Version}
@@ -25,7 +25,7 @@ use Rattle.nq_image.proofs.Agreeing.{all-front, all-rest, all-rows, hold-behind,
 use Rattle.nq_image.proofs.Allotting.{AreGivenOnce, distinct-apart, distinct-behind, distinct-front, apart-back}
 use Rattle.nq_image.proofs.Holding.{each-three, test-le, test-lt}
 use Rattle.nq_image.proofs.Numbering.{AllNewIds, IsNewId, ids-split}
-use Rattle.nq_image.proofs.Parting.{HasParts, parts-of}
+use Rattle.nq_image.proofs.Parting.{parts-of}
 use Rattle.nq_image.proofs.Placing.{few-new}
 use Rattle.nq_image.proofs.Replacing.{all-once, around-row, blocks-append, blocks-around, sum-blocks}
 use Rattle.nq_image.proofs.Retaining.{block-kept, body-kept, cleared-kept, new-kept, same-kept}

@@ -1,16 +1,14 @@
 -- An image in which a kept state stands, part by part.
-use Rattle.std.proofs.Common.{◌≡◌, ◌≤◌, ◌<◌, ◌+◌, ◌-◌, ◌*◌, ◌&&◌, ℕ, zero, suc, Bool, true, false, List, [], ◌∷◌, ◌++◌, Option, Some, None, Result, Ok, Err, map, length, if◌then◌else◌, refl, sym, ap, subst, ◌∙◌, arith}
-use Rattle.std.specs.Prelude.{nat_le, slice_index_or, slice_set}
-use Rattle.std.proofs.lemmas.List.{append_assoc}
+use Rattle.std.proofs.Common.{◌≡◌, ◌≤◌, ◌+◌, ◌&&◌, ℕ, Bool, true, false, List, [], ◌∷◌, Option, Some, None, Result, Ok, Err, length, if◌then◌else◌, refl, ap, subst, ◌∙◌}
+use Rattle.std.specs.Prelude.{nat_le, slice_index_or}
 use Rattle.nq_base.specs.declared.HostRow.{HostRow}
 use Rattle.nq_image.specs.Check.{Check, tested}
 use Rattle.nq_image.specs.Heads.{front_checks, front_of, version_of}
 use Rattle.nq_image.specs.Hosts.{hosts_checks, hosts_of}
 use Rattle.nq_image.specs.Image.{FoundOne, FoundRows, FoundTables, FoundTwo, ◌>>=◌, ids_in, image_one, image_two, no_marks, rows_in, tables_in}
-use Rattle.nq_image.specs.Layout.{are_zeros, block_place, piece, word_in}
+use Rattle.nq_image.specs.Layout.{are_zeros, block_place, piece}
 use Rattle.nq_image.specs.Rows.{rows_checks, slots_of}
-use Rattle.nq_image.specs.Standing.{Standing, blocks_in, found_of, front_for, marks_with, row_id, row_slot}
-use Rattle.nq_image.specs.Tables.{held, ids_checks, ids_of, marked, marks_behind, slot_marks, slot_table, table_of, tables_blocks, tables_checks, tables_marks}
+use Rattle.nq_image.specs.Tables.{held, ids_checks, ids_of, tables_blocks, tables_checks, tables_marks}
 use Rattle.nq_image.specs.Whole.{Found, has_image_name, image_in, in_versions, of_one, of_two}
 use Rattle.nq_image.specs.declared.heads.Front.{Front}
 use Rattle.nq_image.specs.declared.rows.Slot.{Slot}

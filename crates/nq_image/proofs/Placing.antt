@@ -1,20 +1,17 @@
 -- A file is written to its row, a row is cleared, a row says another revision.
-use Rattle.std.proofs.Common.{◌≡◌, ◌≢◌, ◌≤◌, ◌<◌, ◌^◌, ◌+◌, ◌-◌, ◌*◌, ◌==◌, ◌⊎◌, inl, inr, ℕ, zero, suc, Bool, true, false, List, [], ◌∷◌, ◌++◌, Option, Some, None, Ok, take, drop, map, set, length, get_or, refl, sym, ap, subst, ◌∙◌, arith, length-append, length-drop}
+use Rattle.std.proofs.Common.{◌≡◌, ◌≢◌, ◌≤◌, ◌<◌, ◌+◌, ◌*◌, ◌==◌, ℕ, suc, Bool, true, false, List, [], ◌∷◌, ◌++◌, Option, Some, None, take, drop, map, length, get_or, refl, sym, ap, subst, ◌∙◌, arith, length-append, length-drop}
 use Rattle.std.specs.List.{All, list_any, sum_by}
-use Rattle.std.specs.Prelude.{slice_index_or, slice_set}
+use Rattle.std.specs.Prelude.{slice_index_or}
 use Rattle.std.specs.Int.{w32, to_be_bytes}
 use Rattle.std.proofs.lemmas.List.{length-map, length-take-le, map-append, set_split}
-use Rattle.std.proofs.lemmas.List.Elements.{All-cons, All-nil, All-head, All-tail, All-weaker, All-map}
+use Rattle.std.proofs.lemmas.List.Elements.{All-cons, All-nil, All-tail, All-weaker, All-map}
 use Rattle.std.proofs.lemmas.List.Folds.{list_any_none}
 use Rattle.std.proofs.lemmas.List.Sums.{sum_by-append, sum_by-cons}
-use Rattle.nq_base.specs.declared.Heads.{Heads}
-use Rattle.nq_base.specs.declared.HostRow.{HostRow}
-use Rattle.nq_image.specs.Image.{no_marks}
 use Rattle.nq_image.specs.Kept.{body_in}
 use Rattle.nq_image.specs.Layout.{are_zeros, block_place, piece}
 use Rattle.nq_image.specs.Rows.{blocks_of, has_name, is_named}
-use Rattle.nq_image.specs.Standing.{AgreeBut, AreDistinct, AreNumbered, CanStand, HaveSameBlocks, IsApartFrom, IsFileBlock, IsFileWritten, IsNoneOf, IsRowCleared, PlacedFile, Standing, Stands, blocks_in, found_of, others, overwritten, row_blocks, row_id, row_slot, rows_of_image, with_placed}
-use Rattle.nq_image.specs.Tables.{ids_checks, ids_of, slot_checks, slot_table}
+use Rattle.nq_image.specs.Standing.{AgreeBut, AreNumbered, CanStand, IsApartFrom, IsFileBlock, IsFileWritten, IsNoneOf, IsRowCleared, PlacedFile, Standing, Stands, blocks_in, found_of, overwritten, row_blocks, row_id, row_slot, rows_of_image, with_placed}
+use Rattle.nq_image.specs.Tables.{ids_of, slot_checks, slot_table}
 use Rattle.nq_image.specs.Writing.{row_bytes, table_of_blocks, zeros_of}
 use Rattle.nq_image.specs.declared.rows.Slot.{Slot}
 use Rattle.nq_image.proofs.Agreeing.{SameFrom, all-front, all-rest, all-rows, same-tables}

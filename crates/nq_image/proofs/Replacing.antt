@@ -1,37 +1,31 @@
 -- Another file in a row, or none: the image is one still.
-use Rattle.std.proofs.Common.{◌≡◌, ◌≢◌, ◌≤◌, ◌<◌, ◌^◌, ◌+◌, ◌-◌, ◌*◌, ◌==◌, ◌⊎◌, inl, inr, ℕ, zero, suc, Bool, true, false, List, [], ◌∷◌, ◌++◌, Option, Some, None, Ok, take, drop, map, set, length, get_or, refl, sym, ap, subst, ◌∙◌, arith, length-append, length-drop}
-use Rattle.std.specs.List.{All, list_any, sum_by}
-use Rattle.std.specs.Prelude.{slice_set}
+use Rattle.std.proofs.Common.{◌≡◌, ◌≤◌, ◌<◌, ◌^◌, ◌+◌, ◌-◌, ◌*◌, ◌⊎◌, inl, inr, ℕ, suc, true, false, List, [], ◌∷◌, ◌++◌, Option, Some, None, Ok, take, drop, map, set, length, get_or, refl, sym, ap, subst, ◌∙◌, arith, length-append}
+use Rattle.std.specs.List.{All, sum_by}
 use Rattle.std.specs.Int.{w32, to_be_bytes}
-use Rattle.std.proofs.lemmas.List.{append_assoc, drop-drop, drop_more, length-map, length-take-le, map-append, set_at, set_split, take-append-drop}
-use Rattle.std.proofs.lemmas.List.Elements.{All-append, All-cons, All-nil, All-head, All-tail, All-weaker, All-map}
-use Rattle.std.proofs.lemmas.List.Folds.{list_any_none}
+use Rattle.std.proofs.lemmas.List.{append_assoc, drop-drop, drop_more, length-map, map-append, set_at, take-append-drop}
+use Rattle.std.proofs.lemmas.List.Elements.{All-append, All-weaker}
 use Rattle.std.proofs.lemmas.List.Sums.{sum_by-cons}
 use Rattle.nq_base.specs.declared.Heads.{Heads}
 use Rattle.nq_base.specs.declared.HostRow.{HostRow}
-use Rattle.nq_image.specs.Check.{Check}
 use Rattle.nq_image.specs.Heads.{front_checks, front_of}
 use Rattle.nq_image.specs.Hosts.{hosts_checks, hosts_of}
 use Rattle.nq_image.specs.Image.{no_marks}
-use Rattle.nq_image.specs.Kept.{body_in}
 use Rattle.nq_image.specs.Layout.{are_zeros, block_place, piece}
-use Rattle.nq_image.specs.Rows.{blocks_of, has_name, row_checks, rows_checks, slot_of, slots_of}
-use Rattle.nq_image.specs.Standing.{AreDistinct, AreNumbered, CanStand, IsApartFrom, IsFileBlock, IsFileWritten, IsNoneOf, IsRowCleared, PlacedFile, Standing, Stands, blocks_in, found_of, marks_with, others, overwritten, row_blocks, row_id, row_slot, rows_of_image, with_placed}
-use Rattle.nq_image.specs.Tables.{held, ids_checks, ids_of, is_marked, tables_blocks, tables_checks}
-use Rattle.nq_image.specs.Writing.{row_bytes, table_of_blocks, zeros_of}
+use Rattle.nq_image.specs.Rows.{blocks_of, row_checks, rows_checks, slot_of, slots_of}
+use Rattle.nq_image.specs.Standing.{AreDistinct, IsFileBlock, IsNoneOf, PlacedFile, Standing, blocks_in, found_of, marks_with, others, overwritten, row_blocks, row_id, row_slot, rows_of_image}
+use Rattle.nq_image.specs.Tables.{held, ids_checks, ids_of}
 use Rattle.nq_image.specs.declared.rows.Slot.{Slot}
 use Rattle.nq_image.specs.declared.rows.Version.{Version}
-use Rattle.nq_image.proofs.Agreeing.{SameFrom, all-front, all-rest, all-rows, begins-same, held-by}
-use Rattle.nq_image.proofs.Allotting.{AllGiven, AreGivenOnce, AreOthersSame, AreTablesAllotted, all-given, all-swap, becomes-written, both-of, distinct-swap, each-given, given-if-once, once, tables-given, tables-marks-are, tables-over}
+use Rattle.nq_image.proofs.Agreeing.{all-front, all-rest, begins-same, held-by}
+use Rattle.nq_image.proofs.Allotting.{AllGiven, AreGivenOnce, AreOthersSame, AreTablesAllotted, all-given, all-swap, both-of, distinct-swap, each-given, given-if-once, once, tables-given, tables-marks-are, tables-over}
 use Rattle.nq_image.proofs.Changing.{around, beside}
-use Rattle.nq_image.proofs.FileRows.{length-row, row-holds, slot-is, unused-holds, unused-is}
 use Rattle.nq_image.proofs.Giving.{IsGiven, IsHeld, given-is-held}
 use Rattle.nq_image.proofs.Imaging.{length-marks, no-marks}
-use Rattle.nq_image.proofs.Numbering.{AllNewIds, IsNewId, IsOtherId, ids-join, ids-of-any, ids-over, ids-split, not-equal, swap-ids}
-use Rattle.nq_image.proofs.Parting.{BeginsAsTwo, HasParts, image-of-parts, parts-of}
+use Rattle.nq_image.proofs.Numbering.{AllNewIds, IsNewId, IsOtherId, ids-join, ids-of-any, ids-over, ids-split, swap-ids}
+use Rattle.nq_image.proofs.Parting.{BeginsAsTwo, HasParts}
 use Rattle.nq_image.proofs.Pieces.{drop-past, length-piece}
-use Rattle.nq_image.proofs.Rowing.{AllNew, IsApartRow, IsNewTo, apart-named, has-not, rows-new, rows-over, slots-over, swap}
-use Rattle.nq_image.proofs.ReadBack.{Hold, length-zeros}
+use Rattle.nq_image.proofs.Rowing.{AllNew, IsApartRow, IsNewTo, rows-new, rows-over, slots-over, swap}
+use Rattle.nq_image.proofs.ReadBack.{Hold}
 
 -- ---- rows in two parts around one
 

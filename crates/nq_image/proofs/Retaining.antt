@@ -1,22 +1,20 @@
 -- What is kept once a file is written, a row cleared, a body written.
-use Rattle.std.proofs.Common.{◌≡◌, ◌≢◌, ◌≤◌, ◌<◌, ◌+◌, ◌==◌, ◌||◌, ◌⊎◌, inl, inr, ℕ, zero, suc, Bool, true, false, List, [], ◌∷◌, ◌++◌, Option, Some, None, take, drop, map, set, length, get_or, if◌then◌else◌, refl, sym, ap, subst, ◌∙◌, arith, length-append, length-drop}
-use Rattle.std.specs.List.{All, filter, find, list_any}
-use Rattle.std.specs.Prelude.{nat_lt, not, slice_index_or, slice_set}
+use Rattle.std.proofs.Common.{◌≡◌, ◌≢◌, ◌<◌, ◌==◌, ◌⊎◌, inl, inr, ℕ, zero, suc, Bool, true, false, List, [], ◌∷◌, ◌++◌, Option, Some, None, take, drop, map, set, length, get_or, if◌then◌else◌, refl, sym, ap, subst, ◌∙◌, arith}
+use Rattle.std.specs.List.{All}
+use Rattle.std.specs.Prelude.{nat_lt, not, slice_index_or}
 use Rattle.std.proofs.lemmas.Bool.Decides.{nat_tests}
-use Rattle.std.proofs.lemmas.List.{append_assoc, map-append, set_split}
-use Rattle.std.proofs.lemmas.List.Elements.{All-append, All-cons, All-nil, All-head, All-tail, All-weaker}
-use Rattle.std.proofs.lemmas.List.Folds.{list_any-append}
+use Rattle.std.proofs.lemmas.List.{map-append, set_split}
+use Rattle.std.proofs.lemmas.List.Elements.{All-append, All-nil, All-head, All-tail, All-weaker}
 use Rattle.nq_base.specs.declared.BlockChange.{BlockChange}
-use Rattle.nq_base.specs.declared.FileRow.{FileRow}
 use Rattle.nq_model.specs.Change.{file_of, with_body, with_block, with_block_in, with_file, with_file_at}
-use Rattle.nq_model.specs.Kept.{File, Kept, drop_file, find_file, replace_file, resized, with_files}
+use Rattle.nq_model.specs.Kept.{File, Kept, drop_file, find_file, replace_file, with_files}
 use Rattle.nq_image.specs.Kept.{body_in}
-use Rattle.nq_image.specs.Standing.{AreDistinct, CanStand, HasBodies, IsApartFrom, IsFileWritten, IsNoneOf, IsRowCleared, PlacedFile, Standing, Stands, blocks_in, file_at, files_in, kept_at, others, put_file, row_at, row_blocks, row_for, row_id, with_placed, with_rows}
+use Rattle.nq_image.specs.Standing.{AreDistinct, HasBodies, IsApartFrom, IsNoneOf, PlacedFile, Standing, blocks_in, file_at, files_in, kept_at, others, put_file, row_at, row_blocks, row_for, with_placed, with_rows}
 use Rattle.nq_image.proofs.Agreeing.{all-front, all-put, all-rest, each-block, map-same, same-file, same-files}
 use Rattle.nq_image.proofs.Allotting.{both-of}
-use Rattle.nq_image.proofs.Numbering.{AllNewIds, IsNewId, IsOtherId, not-equal}
+use Rattle.nq_image.proofs.Numbering.{IsOtherId, not-equal}
 use Rattle.nq_image.proofs.Replacing.{around-row, blocks-append}
-use Rattle.nq_image.proofs.Sorting.{OfRow, of-rows, put-last, put-replaced, replaced, row-gone, row-put, without}
+use Rattle.nq_image.proofs.Sorting.{OfRow, of-rows, put-last, put-replaced, replaced, row-gone, row-put}
 
 same-id : (n : ℕ) → (n == n) ≡ true
 same-id n = grind (arith, nat_tests)

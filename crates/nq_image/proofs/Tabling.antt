@@ -1,21 +1,21 @@
 -- Tables of blocks and ids are read back.
-use Rattle.std.proofs.Common.{◌≡◌, ◌≢◌, ◌≤◌, ◌<◌, ◌^◌, ◌+◌, ◌-◌, ◌*◌, ◌/◌, ◌==◌, ◌&&◌, ℕ, zero, suc, Bool, true, false, List, [], ◌∷◌, ◌++◌, Option, Some, None, Result, Ok, Err, take, drop, length, get_or, if◌then◌else◌, refl, sym, ap, subst, ◌∙◌, arith, length-append}
-use Rattle.std.specs.List.{All, list_any, position, prefix_len, sum_by}
-use Rattle.std.specs.Prelude.{min, nat_lt, nat_le, not, slice_index_or, slice_set}
-use Rattle.std.specs.Int.{w32, from_be_bytes, to_be_bytes}
+use Rattle.std.proofs.Common.{◌≡◌, ◌≢◌, ◌≤◌, ◌<◌, ◌^◌, ◌+◌, ◌-◌, ◌*◌, ◌/◌, ◌==◌, ◌&&◌, ℕ, zero, suc, Bool, true, false, List, [], ◌∷◌, ◌++◌, Option, Some, None, Ok, drop, length, get_or, if◌then◌else◌, refl, sym, ap, subst, ◌∙◌, arith, length-append}
+use Rattle.std.specs.List.{All, list_any, position, prefix_len}
+use Rattle.std.specs.Prelude.{min, nat_lt, nat_le, not}
+use Rattle.std.specs.Int.{w32, to_be_bytes}
 use Rattle.std.proofs.Math.Nat.{div-add-mod'}
 use Rattle.std.proofs.lemmas.Bool.Decides.{nat_tests}
-use Rattle.std.proofs.lemmas.List.{append_assoc, append-nil, take_at, drop_at, get_or-drop, get_or-set_other, length-set}
+use Rattle.std.proofs.lemmas.List.{append_assoc, get_or-drop, get_or-set_other}
 use Rattle.std.proofs.lemmas.List.Elements.{All-append, All-cons, All-nil, All-head, All-tail, All-weaker}
 use Rattle.std.proofs.lemmas.List.Folds.{list_any_none}
 use Rattle.std.proofs.lemmas.List.Sums.{sum_by-cons}
 use Rattle.std.proofs.lemmas.Nat.{from_be_bytes-to_be_bytes_4}
 use Rattle.nq_model.specs.Change.{AreApart, IsFileWithin}
 use Rattle.nq_model.specs.Kept.{File, blocks_in_all, blocks_of as length_of}
-use Rattle.nq_image.specs.Check.{Check, check}
+use Rattle.nq_image.specs.Check.{check}
 use Rattle.nq_image.specs.Kept.{numbers_from}
-use Rattle.nq_image.specs.Layout.{block_place, piece, word_in, are_zeros, whole_blocks}
-use Rattle.nq_image.specs.Tables.{held, held_from, ids_checks, ids_of, is_entry, is_id, is_marked, is_of_tables, marked, marked_from, marks_behind, slot_checks, slot_marks, slot_table, table_checks, table_of, tables_blocks, tables_checks, tables_marks}
+use Rattle.nq_image.specs.Layout.{piece, word_in, whole_blocks}
+use Rattle.nq_image.specs.Tables.{held, held_from, ids_checks, ids_of, is_entry, is_id, is_marked, is_of_tables, marked, marks_behind, slot_checks, slot_marks, slot_table, table_checks, table_of, tables_blocks, tables_checks, tables_marks}
 use Rattle.nq_image.specs.Writing.{entries_bytes, ids_bytes, table_bytes, tables_bytes, zeros_of}
 use Rattle.nq_image.specs.declared.rows.Slot.{Slot}
 use Rattle.nq_image.proofs.FileRows.{slot_for, slots_for}

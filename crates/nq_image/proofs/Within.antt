@@ -1,11 +1,11 @@
 -- What opens is within the bounds of a kept state.
-use Rattle.std.proofs.Common.{◌≡◌, ◌≢◌, ◌≤◌, ◌<◌, ◌^◌, ◌+◌, ◌*◌, ◌==◌, ◌&&◌, ℕ, zero, suc, Bool, true, false, List, [], ◌∷◌, ◌++◌, Option, Some, None, Result, Ok, Err, map, take, drop, length, if◌then◌else◌, refl, sym, ap, subst, ◌∙◌, arith, length-append, length-drop}
+use Rattle.std.proofs.Common.{◌≡◌, ◌≤◌, ◌<◌, ◌^◌, ◌+◌, ◌==◌, ◌&&◌, ℕ, Bool, true, false, List, [], ◌∷◌, ◌++◌, Option, Some, None, Result, Ok, Err, map, take, drop, length, if◌then◌else◌, refl, sym, ap, subst, ◌∙◌, arith, length-append, length-drop}
 use Rattle.std.specs.List.{All, list_any, sum_by}
-use Rattle.std.specs.Prelude.{find, nat_le, not, slice_index_or}
+use Rattle.std.specs.Prelude.{nat_le, slice_index_or}
 use Rattle.std.proofs.lemmas.Bool.Decides.{nat_tests}
 use Rattle.std.proofs.lemmas.List.{append_assoc, length-map, length-replicate, length-take-le}
 use Rattle.std.proofs.lemmas.List.Elements.{All-append, All-cons, All-nil, All-head, All-tail, All-weaker, All-map, All-take, All-drop}
-use Rattle.std.proofs.lemmas.List.Folds.{list_any-append, list_any_none}
+use Rattle.std.proofs.lemmas.List.Folds.{list_any_none}
 use Rattle.std.proofs.lemmas.List.Sums.{sum_by-append, sum_by-cons}
 use Rattle.nq_base.specs.declared.HostRow.{HostRow}
 use Rattle.nq_model.specs.Change.{AreApart, IsBody, IsFileWithin, IsHostWithin, IsWithinBounds}
@@ -18,7 +18,7 @@ use Rattle.nq_image.specs.Hosts.{hosts_checks, hosts_of}
 use Rattle.nq_image.specs.Image.{FoundOne, FoundRows, FoundTables, FoundTwo, ◌>>=◌, ids_in, image_one, image_two, no_marks, reached, rows_in, tables_in}
 use Rattle.nq_image.specs.Kept.{FoundKept, body_in, file_in, files_of, found_file, found_kept, heads_one, heads_two, kept_in, kept_one, kept_two, numbers_from, opened, stands_for, with_slot}
 use Rattle.nq_image.specs.Layout.{are_zeros, block_place, piece, whole_blocks, word_in}
-use Rattle.nq_image.specs.Rows.{blocks_of, is_named, is_shut, is_unused, rows_checks, slots_of}
+use Rattle.nq_image.specs.Rows.{blocks_of, is_named, is_unused, rows_checks, slots_of}
 use Rattle.nq_image.specs.Tables.{held, ids_checks, ids_of, tables_blocks, tables_checks, tables_marks}
 use Rattle.nq_image.specs.Whole.{Found, of_one, of_two, has_image_name, image_in, in_version, in_versions}
 use Rattle.nq_image.specs.declared.heads.Boots.{Boots}
@@ -28,8 +28,8 @@ use Rattle.nq_image.specs.declared.rows.Slot.{Slot}
 use Rattle.nq_image.specs.declared.rows.Version.{Version}
 use Rattle.nq_image.proofs.Checks.{tested-value}
 use Rattle.nq_image.proofs.Filing.{AreFilesRight, AreInRow, IsBefore, IsFileRight, files-right, insert-is-put, length-put, own_blocks}
-use Rattle.nq_image.proofs.Giving.{IsGiven, IsHeld, given-is-held, length-numbers, numbers-below, tables-give, tables-length, tables-length-blocks, whole-is-held}
-use Rattle.nq_image.proofs.Holding.{AreIdsRight, AreRowsRight, IsIdRight, IsRowRight, Right, all-right, each-three, hosts-within, ids-right, length-hosts, length-slots, not-true, rows-right, test-le, test-lt}
+use Rattle.nq_image.proofs.Giving.{IsGiven, IsHeld, given-is-held, length-numbers, numbers-below, tables-give, tables-length-blocks, whole-is-held}
+use Rattle.nq_image.proofs.Holding.{AreIdsRight, AreRowsRight, IsIdRight, IsRowRight, Right, all-right, hosts-within, ids-right, length-hosts, length-slots, rows-right, test-le, test-lt}
 
 -- ---- the files with their bodies
 

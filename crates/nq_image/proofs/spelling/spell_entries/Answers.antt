@@ -1,4 +1,3 @@
-use Rattle.std.proofs.Common.{◌≡◌, ◌<◌, ◌+◌, arith}
 use Rattle.nq_image.proofs.Entering.{entries-done, entry-passes}
 use Rattle.nq_image.proofs.spelling.spell_entries.Goals as goal
 
