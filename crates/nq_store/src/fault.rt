@@ -1,0 +1,80 @@
+//! Why a disk does not open as what a server keeps.
+
+use nq_disk::DiskFault;
+use nq_image::{ImageFault, WrongField};
+use nq_memory::NoMemory;
+use std::alloc::{AllocError, AllocFailed};
+
+/// Why a disk does not open as what a server keeps. The disk is handed back.
+#[derive(Drop)]
+pub enum OpenFault<D> {
+    /// The bytes are too few, or their first eight are not those of an image.
+    NotAnImage(D),
+    /// The first field that is wrong has its first byte at this place.
+    BadField(D, u64),
+    /// The disk failed.
+    Failed(D),
+    /// Memory was wanted and refused.
+    Memory(D),
+}
+
+/// The same, without the disk.
+#[derive(Clone, Copy, Debug, PartialEq, Eq)]
+pub(crate) enum Fault {
+    NotAnImage,
+    BadField(u64),
+    Failed,
+    Memory,
+}
+
+impl Fault {
+    /// The fault of this disk.
+    pub(crate) fn of<D>(self, disk: D) -> OpenFault<D> {
+        match self {
+            Fault::NotAnImage => OpenFault::NotAnImage(disk),
+            Fault::BadField(place) => OpenFault::BadField(disk, place),
+            Fault::Failed => OpenFault::Failed(disk),
+            Fault::Memory => OpenFault::Memory(disk),
+        }
+    }
+}
+
+impl From<DiskFault> for Fault {
+    fn from(_: DiskFault) -> Fault {
+        Fault::Failed
+    }
+}
+
+impl From<WrongField> for Fault {
+    fn from(wrong: WrongField) -> Fault {
+        Fault::BadField(wrong.0)
+    }
+}
+
+impl From<ImageFault> for Fault {
+    fn from(fault: ImageFault) -> Fault {
+        match fault {
+            ImageFault::NotAnImage => Fault::NotAnImage,
+            ImageFault::BadField(place) => Fault::BadField(place),
+            ImageFault::Memory => Fault::Memory,
+        }
+    }
+}
+
+impl From<NoMemory> for Fault {
+    fn from(_: NoMemory) -> Fault {
+        Fault::Memory
+    }
+}
+
+impl From<AllocError> for Fault {
+    fn from(_: AllocError) -> Fault {
+        Fault::Memory
+    }
+}
+
+impl<T: Drop> From<AllocFailed<T>> for Fault {
+    fn from(_: AllocFailed<T>) -> Fault {
+        Fault::Memory
+    }
+}
