@@ -1,2 +1,0 @@
-pub mod Formatted
-pub mod Stored
