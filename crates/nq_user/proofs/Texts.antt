@@ -9,8 +9,6 @@ use Rattle.nq_script.specs.Text.{text_of}
 use Rattle.nq_script.proofs.Cuts.{cut-again, cut-found}
 use Rattle.nq_script.proofs.FileLines.{one-line}
 use Rattle.nq_script.proofs.Fitting.{each-back}
-use Rattle.nq_words.specs.Reading.{cut}
-use Rattle.nq_script.specs.Text.{text_of}
 use Rattle.nq_user.specs.Running.{AnswersAll, RunsLine, RunsText}
 use Rattle.nq_user.specs.Turning.{Between}
 
