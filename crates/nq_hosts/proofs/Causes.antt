@@ -1,5 +1,5 @@
 -- Why serving ends as it does.
-use Rattle.std.proofs.Common.{◌≡◌, ◌∙◌, ◌⊎◌, ◌+◌, ◌*◌, ◌<◌, ◌≤◌, ℕ, zero, suc, Bool, true, false, List, Result, Ok, Err, Option, Some, inl, inr, refl, sym, ap, subst, arith}
+use Rattle.std.proofs.Common.{◌≡◌, ◌∙◌, ◌⊎◌, ◌+◌, ◌*◌, ◌<◌, ◌≤◌, ℕ, zero, suc, List, Result, Ok, Err, Option, Some, inl, inr, refl, sym, ap, subst, arith}
 use Rattle.nq_ending.specs.declared.Ending.{Ending}
 use Rattle.nq_ending.specs.declared.Halt.{Halt}
 use Rattle.nq_hosts.specs.Serving.{Between, EndsBy, Goes, GoesOn, HaltsBy, PrintsTurns, RanBooted, RanNone, Runs, StopsEarly, StopsTurn, Tells, TellsTurns, Turns, between, turns_line}
@@ -8,51 +8,10 @@ use Rattle.nq_model.specs.Kept.{Kept}
 use Rattle.nq_model.specs.Profile.{most_taken_by_server}
 use Rattle.nq_node.specs.Clocks.{ClockTold}
 use Rattle.nq_node.specs.Links.{LinkTold}
-use Rattle.nq_node.specs.ServerTurn.{CountsKeep, CountsLink, Stages, turn_of}
+use Rattle.nq_node.specs.ServerTurn.{TurnKeep, TurnLink}
 use Rattle.nq_node.specs.declared.Turn.{Turn}
-use Rattle.nq_node.specs.declared.turns.Halt.{Halt as Why}
 use Rattle.nq_node.proofs.ServerCounts.{turn_few, turn_keep, turn_link, turn_spent}
 use Rattle.nq_server.specs.Holding.{Holding}
-
--- ---- how a turn ended, by its answer
-
-took : (ended : Result Bool Why) → Turn.Took ≡ turn_of ended → (so : Bool) × (ended ≡ Ok so)
-took (Ok so) same = (so, refl)
-took (Err Why.Link) same = absurd (cc)
-took (Err Why.Keep) same = absurd (cc)
-took (Err Why.Memory) same = absurd (cc)
-took (Err Why.Spent) same = absurd (cc)
-
-quiet : (ended : Result Bool Why) → Turn.Quiet ≡ turn_of ended → (so : Bool) × (ended ≡ Ok so)
-quiet (Ok so) same = (so, refl)
-quiet (Err Why.Link) same = absurd (cc)
-quiet (Err Why.Keep) same = absurd (cc)
-quiet (Err Why.Memory) same = absurd (cc)
-quiet (Err Why.Spent) same = absurd (cc)
-
-of-link : (ended : Result Bool Why) → Turn.Link ≡ turn_of ended → ended ≡ Err Why.Link
-of-link (Ok true) same = absurd (cc)
-of-link (Ok false) same = absurd (cc)
-of-link (Err Why.Link) same = refl
-of-link (Err Why.Keep) same = absurd (cc)
-of-link (Err Why.Memory) same = absurd (cc)
-of-link (Err Why.Spent) same = absurd (cc)
-
-of-keep : (ended : Result Bool Why) → Turn.Keep ≡ turn_of ended → ended ≡ Err Why.Keep
-of-keep (Ok true) same = absurd (cc)
-of-keep (Ok false) same = absurd (cc)
-of-keep (Err Why.Link) same = absurd (cc)
-of-keep (Err Why.Keep) same = refl
-of-keep (Err Why.Memory) same = absurd (cc)
-of-keep (Err Why.Spent) same = absurd (cc)
-
-of-spent : (ended : Result Bool Why) → Turn.Spent ≡ turn_of ended → ended ≡ Err Why.Spent
-of-spent (Ok true) same = absurd (cc)
-of-spent (Ok false) same = absurd (cc)
-of-spent (Err Why.Link) same = absurd (cc)
-of-spent (Err Why.Keep) same = absurd (cc)
-of-spent (Err Why.Memory) same = absurd (cc)
-of-spent (Err Why.Spent) same = refl
 
 -- ---- telling
 
@@ -80,72 +39,58 @@ tells P (Err Halt.Memory) turns result held now w w' so t = rw t.0 (so, t.1, t.2
 tells P (Err Halt.Spent) turns result held now w w' so t = rw t.0 (so, t.1, t.2)
 tells P (Err Halt.NoAnswer) turns result held now w w' so t = rw t.0 (so, t.1, t.2)
 
+-- the counts of faults are as they were, and so much was taken in at most
+abbrev Counts : {K : Type 0} → (faults : K → ℕ) → (more : ℕ) → (at after : Between K) → Type 0
+Counts faults more at after =
+    (faults after.server.keeper ≡ faults at.server.keeper) × (after.link.faults ≡ at.link.faults) × (after.server.taken ≤ at.server.taken + more)
+
 module _ {K : Type 0} (content : K → Option Kept) (faults : K → ℕ) where
   -- ---- turns
 
-  -- the counts of faults are as they were, and so much was taken in at most
-  record Counts (more : ℕ) (at after : Between K) : Type 0 where
-    keep : faults after.server.keeper ≡ faults at.server.keeper
-    link : after.link.faults ≡ at.link.faults
-    few : after.server.taken ≤ at.server.taken + more
+  keep-of : (turn : Turn) (at after : Between K) → Turns content faults turn at after
+      → TurnKeep turn (faults at.server.keeper) (faults after.server.keeper)
+  keep-of turn at after t =
+      turn_keep content faults turn at.next after.next at.clock after.clock at.link after.link at.server after.server at.log after.log t
 
-  counted : (turn : Turn) (at after : Between K) (t : Turns content faults turn at after) (so : Bool) → t.ended ≡ Ok so → Counts 2 at after
-  counted turn at after t so is = record {
-    keep = subst (λ e. CountsKeep e (faults at.server.keeper) (faults after.server.keeper)) is
-        (turn_keep content faults t.ended at.clock after.clock at.link after.link (record { server = at.server; out = t.out; log = at.log })
-        (record { server = after.server; out = t.out'; log = after.log }) t.stages);
-    link = subst (λ e. CountsLink e at.link.faults after.link.faults) is
-        (turn_link content faults t.ended at.clock after.clock at.link after.link (record { server = at.server; out = t.out; log = at.log })
-        (record { server = after.server; out = t.out'; log = after.log }) t.stages);
-    few = turn_few content faults t.ended at.clock after.clock at.link after.link (record { server = at.server; out = t.out; log = at.log })
-        (record { server = after.server; out = t.out'; log = after.log }) t.stages;
-  }
+  link-of : (turn : Turn) (at after : Between K) → Turns content faults turn at after → TurnLink turn at.link.faults after.link.faults
+  link-of turn at after t =
+      turn_link content faults turn at.next after.next at.clock after.clock at.link after.link at.server after.server at.log after.log t
 
-  goes-counts : (at after : Between K) → GoesOn content faults at after → Counts 2 at after
-  goes-counts at after (inl t) = let so = took t.ended t.answer in counted Turn.Took at after t so.0 so.1
-  goes-counts at after (inr t) = let so = quiet t.ended t.answer in counted Turn.Quiet at after t so.0 so.1
+  few-of : (turn : Turn) (at after : Between K) → Turns content faults turn at after → after.server.taken ≤ at.server.taken + 2
+  few-of turn at after t =
+      turn_few content faults turn at.next after.next at.clock after.clock at.link after.link at.server after.server at.log after.log t
+
+  goes-counts : (at after : Between K) → GoesOn content faults at after → Counts faults 2 at after
+  goes-counts at after (inl t) = (keep-of Turn.Took at after t, link-of Turn.Took at after t, few-of Turn.Took at after t)
+  goes-counts at after (inr t) = (keep-of Turn.Quiet at after t, link-of Turn.Quiet at after t, few-of Turn.Quiet at after t)
 
   -- turns that did not stop raise no count of faults, and take in two each at most
-  go-counts : (count : ℕ) (at after : Between K) → Goes content faults count at after → Counts (2 * count) at after
-  go-counts zero at after same = rw same (record { keep = refl; link = refl; few = omega arith })
+  go-counts : (count : ℕ) (at after : Between K) → Goes content faults count at after → Counts faults (2 * count) at after
+  go-counts zero at after same = rw same (refl, refl, omega arith)
   go-counts (suc count) at after g =
       let first = go-counts count at g.0 g.1 in
       let last = goes-counts g.0 after g.2 in
-      let few = first.few in
-      let more = last.few in
-      record { keep = last.keep ∙ first.keep; link = last.link ∙ first.link; few = omega arith }
+      let few = first.2 in
+      let more = last.2 in (last.0 ∙ first.0, last.1 ∙ first.1, omega arith)
 
   stop-link : (turns : ℕ) (at after : Between K) → StopsEarly content faults turns Halt.Link at after → Rose at.link.faults after.link.faults
   stop-link turns at after s =
-      let t = s.last in
-      let before = go-counts s.count at s.between s.before in
-      subst (λ n. Rose n after.link.faults) before.link
-      (subst (λ e. CountsLink e s.between.link.faults after.link.faults) (of-link t.ended t.answer)
-      (turn_link content faults t.ended s.between.clock after.clock s.between.link after.link (record { server = s.between.server; out = t.out; log = s.between.log })
-      (record { server = after.server; out = t.out'; log = after.log }) t.stages))
+      subst (λ n. Rose n after.link.faults) (go-counts s.count at s.between s.before).1 (link-of Turn.Link s.between after s.last)
 
   stop-keep : (turns : ℕ) (at after : Between K) → StopsEarly content faults turns Halt.Keep at after → Rose (faults at.server.keeper) (faults after.server.keeper)
   stop-keep turns at after s =
-      let t = s.last in
-      let before = go-counts s.count at s.between s.before in
-      subst (λ n. Rose n (faults after.server.keeper)) before.keep
-      (subst (λ e. CountsKeep e (faults s.between.server.keeper) (faults after.server.keeper)) (of-keep t.ended t.answer)
-      (turn_keep content faults t.ended s.between.clock after.clock s.between.link after.link (record { server = s.between.server; out = t.out; log = s.between.log })
-      (record { server = after.server; out = t.out'; log = after.log }) t.stages))
+      subst (λ n. Rose n (faults after.server.keeper)) (go-counts s.count at s.between s.before).0 (keep-of Turn.Keep s.between after s.last)
 
   -- turns that are too few to take in all never stop for that
   stop-spent : (most turns : ℕ) (at after : Between K) → most ≡ most_taken_by_server → 2 * turns < most → at.server.taken ≡ 0
       → StopsEarly content faults turns Halt.Spent at after → ⊥
   stop-spent most turns at after is few none s =
-      let t = s.last in
-      let before = go-counts s.count at s.between s.before in
-      let taken = before.few in
+      let taken = (go-counts s.count at s.between s.before).2 in
       let fewer = s.fewer in
-      let all = turn_spent content faults most s.between.clock after.clock s.between.link after.link (record { server = s.between.server; out = t.out; log = s.between.log })
-      (record { server = after.server; out = t.out'; log = after.log }) is
-      (subst (λ e. Stages content faults e s.between.clock after.clock s.between.link after.link (record { server = s.between.server; out = t.out; log = s.between.log })
-      (record { server = after.server; out = t.out'; log = after.log })) (of-spent t.ended t.answer) t.stages) in
-      omega arith
+      let all = turn_spent content faults s.between.next after.next s.between.clock after.clock s.between.link after.link s.between.server after.server
+      s.between.log after.log s.last in
+      let same = is ∙ sym all.1 in
+      let last = all.2 in omega arith
 
 module _ {K : Type 0} (content : K → Option Kept) (faults : K → ℕ) (follows : K → K → Type 0) where
   -- ---- booting and turns
@@ -162,11 +107,11 @@ module _ {K : Type 0} (content : K → Option Kept) (faults : K → ℕ) (follow
   halts_by most longest turns time keeper (Ok tt) left clock clock' link link' is few r =
       let counts = go-counts content faults turns (between r.server r.ran.log 0 clock link) r.ran.last r.ran.taken in (
         λ kept told. (r.booted.0 kept told).0,
-        ap faults r.ran.keeper ∙ counts.keep ∙ r.booted.1,
-        ap (λ l. l.faults) r.ran.links ∙ counts.link,
+        ap faults r.ran.keeper ∙ counts.0 ∙ r.booted.1,
+        ap (λ (l : LinkTold). l.faults) r.ran.links ∙ counts.1,
       )
   halts_by most longest turns time keeper (Err Halt.Link) left clock clock' link link' is few (inl r) =
-      subst (λ n. Rose link.faults n) (sym (ap (λ l. l.faults) r.ran.links))
+      subst (λ n. Rose link.faults n) (sym (ap (λ (l : LinkTold). l.faults) r.ran.links))
       (stop-link content faults turns (between r.server r.ran.log 0 clock link) r.ran.last r.ran.taken)
   halts_by most longest turns time keeper (Err Halt.Link) left clock clock' link link' is few (inr n) = absurd n.none
   halts_by most longest turns time keeper (Err Halt.Keep) left clock clock' link link' is few (inl r) =

@@ -1,5 +1,5 @@
 -- Which counts a turn of a server raises, and how much the server takes in in it.
-use Rattle.std.proofs.Common.{◌≡◌, ◌∙◌, ◌+◌, ◌≤◌, ◌⊎◌, inl, inr, ◌||◌, nat_lt, ℕ, Bool, Option, Some, None, Result, Ok, Err, refl, sym, subst, arith}
+use Rattle.std.proofs.Common.{◌≡◌, ◌∙◌, ◌+◌, ◌≤◌, ◌⊎◌, inl, inr, ◌||◌, nat_lt, ℕ, Bool, true, false, Option, Some, None, Result, Ok, Err, refl, sym, subst, arith}
 use Rattle.nq_base.specs.Entries.{EntryList}
 use Rattle.nq_io.specs.Faults.{Rose}
 use Rattle.nq_link.specs.Link.{Letters}
@@ -8,8 +8,9 @@ use Rattle.nq_model.specs.Profile.{most_taken_by_server}
 use Rattle.nq_model.specs.Server.{ServerStep}
 use Rattle.nq_node.specs.Clocks.{ClockTold}
 use Rattle.nq_node.specs.Links.{LinkTold}
-use Rattle.nq_node.specs.ServerTurn.{CountsKeep, CountsLink, Given, GoesOn, Moment, Receives, Sends, SendsOut, Stages, Takes, given_of, goes_on, step_on, tick_due}
+use Rattle.nq_node.specs.ServerTurn.{CountsKeep, CountsLink, Given, GoesOn, Moment, Receives, Sends, SendsOut, ServesTurn, Stages, Takes, TurnKeep, TurnLink, given_of, goes_on, step_on, tick_due, turn_of}
 use Rattle.nq_node.specs.declared.turns.Halt.{Halt}
+use Rattle.nq_node.specs.declared.turns.Turn.{Turn}
 use Rattle.nq_node.proofs.ServerTurns.{not_link}
 use Rattle.nq_server.specs.Holding.{Holding, IsTaken}
 use Rattle.nq_server.specs.declared.Received.{Received}
@@ -64,6 +65,32 @@ as-ended Halt.Link before now counts = counts
 as-ended Halt.Keep before now counts = counts
 as-ended Halt.Memory before now counts = counts
 as-ended Halt.Spent before now counts = counts
+
+-- ---- the answer of a turn
+
+by-keep : (turn : Turn) (ended : Result Bool Halt) (before now : ℕ) → turn ≡ turn_of ended → CountsKeep ended before now → TurnKeep turn before now
+by-keep turn (Ok true) before now is counts = rw is counts
+by-keep turn (Ok false) before now is counts = rw is counts
+by-keep turn (Err Halt.Link) before now is counts = rw is counts
+by-keep turn (Err Halt.Keep) before now is counts = rw is counts
+by-keep turn (Err Halt.Memory) before now is counts = rw is counts
+by-keep turn (Err Halt.Spent) before now is counts = rw is counts
+
+by-link : (turn : Turn) (ended : Result Bool Halt) (before now : ℕ) → turn ≡ turn_of ended → CountsLink ended before now → TurnLink turn before now
+by-link turn (Ok true) before now is counts = rw is counts
+by-link turn (Ok false) before now is counts = rw is counts
+by-link turn (Err Halt.Link) before now is counts = rw is counts
+by-link turn (Err Halt.Keep) before now is counts = rw is counts
+by-link turn (Err Halt.Memory) before now is counts = rw is counts
+by-link turn (Err Halt.Spent) before now is counts = rw is counts
+
+of-spent : (ended : Result Bool Halt) → Turn.Spent ≡ turn_of ended → ended ≡ Err Halt.Spent
+of-spent (Ok true) same = absurd (cc)
+of-spent (Ok false) same = absurd (cc)
+of-spent (Err Halt.Link) same = absurd (cc)
+of-spent (Err Halt.Keep) same = absurd (cc)
+of-spent (Err Halt.Memory) same = absurd (cc)
+of-spent (Err Halt.Spent) same = refl
 
 module _ {K : Type 0} (content : K → Option Kept) (faults : K → ℕ) where
   -- ---- what the server is given
@@ -173,39 +200,68 @@ module _ {K : Type 0} (content : K → Option Kept) (faults : K → ℕ) where
 
   -- ---- the whole turn
 
-  -- the count of the keeper's faults rises where a turn stops for the keeper, and stays otherwise
-  pub turn_keep : (ended : Result Bool Halt) (clock clock' : ClockTold) (link link' : LinkTold) (at after : Moment K)
+  stages-keep : (ended : Result Bool Halt) (clock clock' : ClockTold) (link link' : LinkTold) (at after : Moment K)
       → Stages content faults ended clock clock' link link' at after → CountsKeep ended (faults at.server.keeper) (faults after.server.keeper)
-  turn_keep ended clock clock' link link' at after s =
+  stages-keep ended clock clock' link link' at after s =
       rest-keep s.goes ended (nat_lt at.server.beside.time s.reading) link link' s.between after (faults at.server.keeper) s.rest
       (given-keep (tick_due at.server.beside.time s.reading) s.goes at s.between s.ticks)
 
-  -- the count of the link's faults rises where a turn stops for the link, and stays otherwise
-  pub turn_link : (ended : Result Bool Halt) (clock clock' : ClockTold) (link link' : LinkTold) (at after : Moment K)
+  stages-link : (ended : Result Bool Halt) (clock clock' : ClockTold) (link link' : LinkTold) (at after : Moment K)
       → Stages content faults ended clock clock' link link' at after → CountsLink ended link.faults link'.faults
-  turn_link ended clock clock' link link' at after s =
+  stages-link ended clock clock' link link' at after s =
+      let due = tick_due at.server.beside.time s.reading in
       rest-link s.goes ended (nat_lt at.server.beside.time s.reading) link link' s.between after
-      (λ same. not_link content faults (tick_due at.server.beside.time s.reading) at s.between
-      (subst (λ goes. Takes content faults (tick_due at.server.beside.time s.reading) goes at s.between) same s.ticks))
-      s.rest
+      (λ same. not_link content faults due at s.between (subst (λ goes. Takes content faults due goes at s.between) same s.ticks)) s.rest
 
-  -- a turn takes in two at most: a tick and a datagram
-  pub turn_few : (ended : Result Bool Halt) (clock clock' : ClockTold) (link link' : LinkTold) (at after : Moment K)
+  stages-few : (ended : Result Bool Halt) (clock clock' : ClockTold) (link link' : LinkTold) (at after : Moment K)
       → Stages content faults ended clock clock' link link' at after → after.server.taken ≤ at.server.taken + 2
-  turn_few ended clock clock' link link' at after s =
+  stages-few ended clock clock' link link' at after s =
       let first = given-few (tick_due at.server.beside.time s.reading) s.goes at s.between s.ticks in
       let rest = rest-few s.goes ended (nat_lt at.server.beside.time s.reading) link link' s.between after s.rest in
       omega arith
 
-  -- a turn stops because no more is taken in only where all but one are taken in, or all
-  pub turn_spent : (most : ℕ) (clock clock' : ClockTold) (link link' : LinkTold) (at after : Moment K) → most ≡ most_taken_by_server
-      → Stages content faults (Err Halt.Spent) clock clock' link link' at after → most ≤ at.server.taken + 1
-  turn_spent most clock clock' link link' at after is s =
+  stages-spent : (ended : Result Bool Halt) (clock clock' : ClockTold) (link link' : LinkTold) (at after : Moment K) → ended ≡ Err Halt.Spent
+      → Stages content faults ended clock clock' link link' at after → (taken : ℕ) × (taken ≡ most_taken_by_server) × (taken ≤ at.server.taken + 1)
+  stages-spent ended clock clock' link link' at after is s =
+      let ticked = nat_lt at.server.beside.time s.reading in
       let due = tick_due at.server.beside.time s.reading in
       let first = given-few due s.goes at s.between s.ticks in
-      elim (rest-spent s.goes (nat_lt at.server.beside.time s.reading) link link' s.between after s.rest) [
+      let rest = subst (λ e. GoesOn content faults s.goes e ticked link link' s.between after) is s.rest in
+      elim (rest-spent s.goes ticked link link' s.between after rest) [
         | inl same ↦
             let all = given-spent due at s.between (subst (λ goes. Takes content faults due goes at s.between) same s.ticks) in
-            let most_are = is ∙ sym all in omega arith
-        | inr all ↦ let most_are = is ∙ sym all in omega arith
+            (at.server.taken, all, omega arith)
+        | inr all ↦ (s.between.server.taken, all, first)
       ]
+
+  -- the count of the keeper's faults rises where a turn stops for the keeper, and stays otherwise
+  pub turn_keep : (turn : Turn) (next next' : ℕ) (clock clock' : ClockTold) (link link' : LinkTold) (server server' : Holding K) (log log' : EntryList)
+      → ServesTurn content faults turn next next' clock clock' link link' server server' log log'
+      → TurnKeep turn (faults server.keeper) (faults server'.keeper)
+  turn_keep turn next next' clock clock' link link' server server' log log' t =
+      by-keep turn t.ended (faults server.keeper) (faults server'.keeper) t.answer
+      (stages-keep t.ended clock clock' link link' (record { server = server; out = t.out; log = log }) (record { server = server'; out = t.out'; log = log' })
+      t.stages)
+
+  -- the count of the link's faults rises where a turn stops for the link, and stays otherwise
+  pub turn_link : (turn : Turn) (next next' : ℕ) (clock clock' : ClockTold) (link link' : LinkTold) (server server' : Holding K) (log log' : EntryList)
+      → ServesTurn content faults turn next next' clock clock' link link' server server' log log' → TurnLink turn link.faults link'.faults
+  turn_link turn next next' clock clock' link link' server server' log log' t =
+      by-link turn t.ended link.faults link'.faults t.answer
+      (stages-link t.ended clock clock' link link' (record { server = server; out = t.out; log = log }) (record { server = server'; out = t.out'; log = log' })
+      t.stages)
+
+  -- a turn takes in two at most: a tick and a datagram
+  pub turn_few : (turn : Turn) (next next' : ℕ) (clock clock' : ClockTold) (link link' : LinkTold) (server server' : Holding K) (log log' : EntryList)
+      → ServesTurn content faults turn next next' clock clock' link link' server server' log log' → server'.taken ≤ server.taken + 2
+  turn_few turn next next' clock clock' link link' server server' log log' t =
+      stages-few t.ended clock clock' link link' (record { server = server; out = t.out; log = log }) (record { server = server'; out = t.out'; log = log' })
+      t.stages
+
+  -- a turn stops because no more is taken in only where all are taken in, or all but one
+  pub turn_spent : (next next' : ℕ) (clock clock' : ClockTold) (link link' : LinkTold) (server server' : Holding K) (log log' : EntryList)
+      → ServesTurn content faults Turn.Spent next next' clock clock' link link' server server' log log'
+      → (taken : ℕ) × (taken ≡ most_taken_by_server) × (taken ≤ server.taken + 1)
+  turn_spent next next' clock clock' link link' server server' log log' t =
+      stages-spent t.ended clock clock' link link' (record { server = server; out = t.out; log = log }) (record { server = server'; out = t.out'; log = log' })
+      (of-spent t.ended t.answer) t.stages

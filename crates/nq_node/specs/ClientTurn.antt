@@ -146,6 +146,11 @@ abbrev pub CountsLink : {X : Type 0} → Result X Stop → (before now : ℕ) �
 CountsLink (Err Stop.Link) before now = Rose before now
 CountsLink other before now = now ≡ before
 
+-- the same by the answer of a turn
+abbrev pub TurnLink : ClientTurn → (before now : ℕ) → Type 0
+TurnLink ClientTurn.Link before now = Rose before now
+TurnLink other before now = now ≡ before
+
 -- a turn with this answer: its stages, with an outbox that is empty at first
 pub record AttendsTurn (turn : ClientTurn) (next next' : ℕ) (clock clock' : ClockTold) (link link' : LinkTold) (client client' : Counted) (log log' : EntryList) : Type 0 where
   pub out : Datagrams

@@ -154,6 +154,16 @@ abbrev pub CountsLink : {X : Type 0} → Result X Halt → (before now : ℕ) �
 CountsLink (Err Halt.Link) before now = Rose before now
 CountsLink other before now = now ≡ before
 
+-- the same by the answer of a turn
+abbrev pub TurnKeep : Turn → (before now : ℕ) → Type 0
+TurnKeep Turn.Keep before now = Rose before now
+TurnKeep other before now = now ≡ before
+
+-- the same of the link's
+abbrev pub TurnLink : Turn → (before now : ℕ) → Type 0
+TurnLink Turn.Link before now = Rose before now
+TurnLink other before now = now ≡ before
+
 -- a turn with this answer: its stages, with an outbox that is empty at first and whose datagrams are numbered from `next` on
 pub record ServesTurn {K : Type 0} (content : K → Option Kept) (faults : K → ℕ) (turn : Turn) (next next' : ℕ) (clock clock' : ClockTold) (link link' : LinkTold) (server server' : Holding K) (log log' : EntryList) : Type 0 where
   pub out : Datagrams

@@ -2,7 +2,8 @@
 use Rattle.std.proofs.Common.{◌≡◌, ◌∙◌, ◌⊎◌, ◌+◌, ℕ, zero, suc, Bool, true, false, List, [], ◌∷◌, ◌++◌, Option, Some, None, Result, Ok, Err, inl, inr, length, refl, sym, ap, subst, arith, append_assoc, length-append}
 use Rattle.std.proofs.lemmas.Option.{same_Some}
 use Rattle.std.specs.List.{AllByRecursion}
-use Rattle.nq_answers.specs.Telling.{TellsEnd, TellsSo, TellsStop}
+use Rattle.nq_answers.specs.Answers.{answers_text}
+use Rattle.nq_answers.specs.Telling.{TellsEnd, TellsSo, TellsStop, events_line, noanswer_line, script_line}
 use Rattle.nq_answers.specs.declared.Stop.{Stop}
 use Rattle.nq_base.specs.declared.Answer.{Answer}
 use Rattle.nq_base.specs.declared.Call.{Call}
@@ -15,11 +16,10 @@ use Rattle.nq_ending.specs.declared.Ending.{Ending}
 use Rattle.nq_ending.specs.declared.Halt.{Halt}
 use Rattle.nq_io.specs.Faults.{Rose}
 use Rattle.nq_link.specs.Link.{Letters}
-use Rattle.nq_node.specs.ClientTurn.{CountsLink, turn_of as answer_of}
+use Rattle.nq_node.specs.ClientTurn.{TurnLink}
 use Rattle.nq_node.specs.Clocks.{ClockTold}
 use Rattle.nq_node.specs.Links.{LinkTold}
 use Rattle.nq_node.specs.declared.ClientTurn.{ClientTurn}
-use Rattle.nq_node.specs.declared.turns.Stop.{Stop as Why}
 use Rattle.nq_node.proofs.ClientCounts.{turn_link}
 use Rattle.nq_script.specs.Text.{text_of}
 use Rattle.nq_script.proofs.Cuts.{cut-again}
@@ -46,62 +46,27 @@ CallCounts (Ok done) before now = now ≡ before
 CallCounts (Err stop) before now = Counts {X = Unit} (Err stop.why) before now
 
 -- why one stopped is why the other does
-same-why : {X Y : Type 0} (why : Halt) (before now : ℕ) → Counts {X = X} (Err why) before now → Counts {X = Y} (Err why) before now
-same-why Halt.Link before now c = c
-same-why Halt.Keep before now c = absurd c
-same-why Halt.Memory before now c = c
-same-why Halt.Spent before now c = c
-same-why Halt.NoAnswer before now c = c
+same-why : (X Y : Type 0) (why : Halt) (before now : ℕ) → Counts {X = X} (Err why) before now → Counts {X = Y} (Err why) before now
+same-why X Y Halt.Link before now c = c
+same-why X Y Halt.Keep before now c = absurd c
+same-why X Y Halt.Memory before now c = c
+same-why X Y Halt.Spent before now c = c
+same-why X Y Halt.NoAnswer before now c = c
 
 -- ---- one turn
 
-went-on : (answer : Option Answer) (ended : Result (Option Answer) Why) → turn_of answer ≡ answer_of ended → (said : Option Answer) × (ended ≡ Ok said)
-went-on None (Ok None) same = (None, refl)
-went-on None (Ok (Some other)) same = absurd (cc)
-went-on None (Err Why.Link) same = absurd (cc)
-went-on None (Err Why.Memory) same = absurd (cc)
-went-on None (Err Why.Spent) same = absurd (cc)
-went-on (Some answer) (Ok None) same = absurd (cc)
-went-on (Some answer) (Ok (Some other)) same = (Some other, refl)
-went-on (Some answer) (Err Why.Link) same = absurd (cc)
-went-on (Some answer) (Err Why.Memory) same = absurd (cc)
-went-on (Some answer) (Err Why.Spent) same = absurd (cc)
+turn-counts : (turn : ClientTurn) (at after : Between) → turning.Attends turn at after → TurnLink turn at.link.faults after.link.faults
+turn-counts turn at after t = turn_link turn at.next after.next at.clock after.clock at.link after.link at.client after.client at.log after.log t
 
-of-link : (ended : Result (Option Answer) Why) → ClientTurn.Link ≡ answer_of ended → ended ≡ Err Why.Link
-of-link (Ok None) same = absurd (cc)
-of-link (Ok (Some other)) same = absurd (cc)
-of-link (Err Why.Link) same = refl
-of-link (Err Why.Memory) same = absurd (cc)
-of-link (Err Why.Spent) same = absurd (cc)
-
-of-memory : (ended : Result (Option Answer) Why) → ClientTurn.Memory ≡ answer_of ended → ended ≡ Err Why.Memory
-of-memory (Ok None) same = absurd (cc)
-of-memory (Ok (Some other)) same = absurd (cc)
-of-memory (Err Why.Link) same = absurd (cc)
-of-memory (Err Why.Memory) same = refl
-of-memory (Err Why.Spent) same = absurd (cc)
-
-of-spent : (ended : Result (Option Answer) Why) → ClientTurn.Spent ≡ answer_of ended → ended ≡ Err Why.Spent
-of-spent (Ok None) same = absurd (cc)
-of-spent (Ok (Some other)) same = absurd (cc)
-of-spent (Err Why.Link) same = absurd (cc)
-of-spent (Err Why.Memory) same = absurd (cc)
-of-spent (Err Why.Spent) same = refl
-
-turn-counts : (turn : ClientTurn) (at after : Between) (t : turning.Attends turn at after) (ended : Result (Option Answer) Why) → t.ended ≡ ended
-    → CountsLink ended at.link.faults after.link.faults
-turn-counts turn at after t ended is =
-    subst (λ e. CountsLink e at.link.faults after.link.faults) is
-    (turn_link t.ended at.clock after.clock at.link after.link (record { client = at.client; out = t.out; log = at.log; next = at.next })
-    (record { client = after.client; out = t.out'; log = after.log; next = after.next }) t.stages)
+went-on : (answer : Option Answer) (at after : Between) → turning.Attends (turn_of answer) at after → after.link.faults ≡ at.link.faults
+went-on None at after t = turn-counts ClientTurn.Quiet at after t
+went-on (Some answer) at after t = turn-counts (ClientTurn.Answered answer) at after t
 
 turns-same : (aim : Aim) (done : Bool) (at after : Between) → Turns aim done at after → after.link.faults ≡ at.link.faults
-turns-same aim done at after t =
-    let on = went-on t.answer t.took.ended t.took.answer in
-    turn-counts (turn_of t.answer) at after t.took (Ok on.0) on.1
+turns-same aim done at after t = went-on t.answer at after t.took
 
 goes-same : (aim : Aim) (count : ℕ) (at after : Between) → Goes aim count at after → after.link.faults ≡ at.link.faults
-goes-same aim zero at after g = ap (λ b. b.link.faults) g
+goes-same aim zero at after g = ap (λ (b : Between). b.link.faults) g
 goes-same aim (suc count) at after g = turns-same aim false g.0 after g.2 ∙ goes-same aim count at g.0 g.1
 
 -- ---- turns
@@ -109,9 +74,9 @@ goes-same aim (suc count) at after g = turns-same aim false g.0 after g.2 ∙ go
 turn-outcome : (aim : Aim) (outcome : Result Bool Halt) (at after : Between) → TakesTurn aim outcome at after
     → Counts outcome at.link.faults after.link.faults
 turn-outcome aim (Ok done) at after t = turns-same aim done at after t
-turn-outcome aim (Err Halt.Link) at after t = turn-counts ClientTurn.Link at after t (Err Why.Link) (of-link t.ended t.answer)
-turn-outcome aim (Err Halt.Memory) at after t = turn-counts ClientTurn.Memory at after t (Err Why.Memory) (of-memory t.ended t.answer)
-turn-outcome aim (Err Halt.Spent) at after t = turn-counts ClientTurn.Spent at after t (Err Why.Spent) (of-spent t.ended t.answer)
+turn-outcome aim (Err Halt.Link) at after t = turn-counts ClientTurn.Link at after t
+turn-outcome aim (Err Halt.Memory) at after t = turn-counts ClientTurn.Memory at after t
+turn-outcome aim (Err Halt.Spent) at after t = turn-counts ClientTurn.Spent at after t
 turn-outcome aim (Err Halt.Keep) at after t = absurd t
 turn-outcome aim (Err Halt.NoAnswer) at after t = absurd t
 
@@ -171,7 +136,7 @@ line-counts turns line result at after r = call-counts turns r.0 result at after
 -- ---- lines
 
 all-same : (turns : ℕ) (lines : List (List ℕ)) (at after : Between) → AnswersAll turns lines at after → after.link.faults ≡ at.link.faults
-all-same turns [] at after a = ap (λ b. b.link.faults) a
+all-same turns [] at after a = ap (λ (b : Between). b.link.faults) a
 all-same turns (line ∷ lines) at after a = all-same turns lines a.0 after a.2 ∙ line-counts turns line (Ok tt) at a.0 a.1
 
 text-counts : (turns : ℕ) (text : List ℕ) (result : Result Unit Stop) (at after : Between) → RunsText turns text result at after
@@ -198,7 +163,7 @@ attend-counts turns text result at after a =
 begun-counts : (who : Who) (time : ℕ) (begun : Result Counted Halt) (link link' : LinkTold) → Begins who time begun link link'
     → Counts begun link.faults link'.faults
 begun-counts who time (Ok client) link link' b = b.2.2.1
-begun-counts who time (Err Halt.Memory) link link' b = ap (λ l. l.faults) b
+begun-counts who time (Err Halt.Memory) link link' b = ap (λ (l : LinkTold). l.faults) b
 begun-counts who time (Err Halt.Link) link link' b = b.2.1
 begun-counts who time (Err Halt.Keep) link link' b = absurd b
 begun-counts who time (Err Halt.Spent) link link' b = absurd b
@@ -207,7 +172,7 @@ begun-counts who time (Err Halt.NoAnswer) link link' b = absurd b
 behind-counts : (turns : ℕ) (begun : Result Counted Halt) (text : List ℕ) (result : Result Unit Stop) (log log' : EntryList) (clock clock' : ClockTold)
     (link link' : LinkTold) (before : ℕ) → running.GoesOn turns begun text result log log' clock clock' link link' → Counts begun before link.faults
     → CallCounts result before link'.faults
-behind-counts turns (Err why) text result log log' clock clock' link link' before g counts = rw (g.0, g.3) (same-why why before link.faults counts)
+behind-counts turns (Err why) text result log log' clock clock' link link' before g counts = rw (g.0, g.3) (same-why Counted Unit why before link.faults counts)
 behind-counts turns (Ok client) text result log log' clock clock' link link' before g counts =
     rw g.links (subst (λ n. CallCounts result n g.last.link.faults) counts
     (attend-counts turns text result (record { client = client; log = log; next = 0; clock = clock; link = link }) g.last g.attends))
@@ -230,8 +195,8 @@ stop-by : (why : Halt) (line : ℕ) (entries : List Entry) (result : Ending) (he
 stop-by Halt.Link line entries result held now s s' w w' link link' t counts = rw t.0 counts
 stop-by Halt.Keep line entries result held now s s' w w' link link' t counts = absurd counts
 stop-by Halt.Memory line entries result held now s s' w w' link link' t counts = rw t.0 tt
-stop-by Halt.Spent line entries result held now s s' w w' link link' t counts = so-by Ending.Limit _ result held now s s' w w' link link' t tt
-stop-by Halt.NoAnswer line entries result held now s s' w w' link link' t counts = so-by Ending.NoAnswer _ result held now s s' w w' link link' t tt
+stop-by Halt.Spent line entries result held now s s' w w' link link' t counts = so-by Ending.Limit (answers_text entries ++ events_line line) result held now s s' w w' link link' t tt
+stop-by Halt.NoAnswer line entries result held now s s' w w' link link' t counts = so-by Ending.NoAnswer (answers_text entries ++ noanswer_line line) result held now s s' w w' link link' t tt
 
 end-by : (ended : Result Unit Stop) (entries : List Entry) (result : Ending) (held now : Option (List ℕ)) (s s' w w' link link' : ℕ)
     → TellsEnd ended entries result held now w w' → CallCounts ended link link' → EndsBy result s s' w w' link link'
@@ -246,7 +211,7 @@ pub text_by : (fault : Option ℕ) (turns : ℕ) (who : Who) (text : List ℕ) (
     (clock clock' : ClockTold) (link link' : LinkTold) → UsesText fault turns who text result held now w w' clock clock' link link'
     → EndsBy result s s' w w' link.faults link'.faults
 text_by (Some number) turns who text result held now s s' w w' clock clock' link link' u =
-    so-by Ending.Script _ result held now s s' w w' link.faults link'.faults u.0 tt
+    so-by Ending.Script (script_line number) result held now s s' w w' link.faults link'.faults u.0 tt
 text_by None turns who text result held now s s' w w' clock clock' link link' u =
     end-by u.ended u.log'.entries result held now s s' w w' link.faults link'.faults u.tells
     (run-counts turns who text u.ended u.log u.log' clock clock' link link' u.runs)
@@ -263,7 +228,7 @@ same-line : (line line' rest rest' : List ℕ) → IsCall line → IsCall line' 
 same-line line line' rest rest' call call' same =
     let both = sym (cut-again 10 line rest call.0) ∙ ap (cut_at 10) same ∙ cut-again 10 line' rest' call'.0 in
     let pair = same_Some (line, rest) (line', rest') both in
-    (ap (λ p. p.0) pair, ap (λ p. p.1) pair)
+    (ap (λ (p : List ℕ × List ℕ). p.0) pair, ap (λ (p : List ℕ × List ℕ). p.1) pair)
 
 -- a text whose lines all spell calls has no fault
 no-fault : (lines before : List (List ℕ)) (rest : List ℕ) → AllByRecursion IsCall lines → AllByRecursion IsCall before → text_of lines ≡ text_of before ++ rest
@@ -288,8 +253,8 @@ stop-not-script : (why : Halt) (line : ℕ) (entries : List Entry) (result : End
 stop-not-script Halt.Link line entries result held now w w' t is = let other = sym t.0 ∙ is in absurd (cc)
 stop-not-script Halt.Keep line entries result held now w w' t is = let other = sym t.0 ∙ is in absurd (cc)
 stop-not-script Halt.Memory line entries result held now w w' t is = let other = sym t.0 ∙ is in absurd (cc)
-stop-not-script Halt.Spent line entries result held now w w' t is = so-not-script Ending.Limit _ result held now w w' t (λ same. absurd (cc)) is
-stop-not-script Halt.NoAnswer line entries result held now w w' t is = so-not-script Ending.NoAnswer _ result held now w w' t (λ same. absurd (cc)) is
+stop-not-script Halt.Spent line entries result held now w w' t is = so-not-script Ending.Limit (answers_text entries ++ events_line line) result held now w w' t (λ same. absurd (cc)) is
+stop-not-script Halt.NoAnswer line entries result held now w w' t is = so-not-script Ending.NoAnswer (answers_text entries ++ noanswer_line line) result held now w w' t (λ same. absurd (cc)) is
 
 end-not-script : (ended : Result Unit Stop) (entries : List Entry) (result : Ending) (held now : Option (List ℕ)) (w w' : ℕ)
     → TellsEnd ended entries result held now w w' → result ≡ Ending.Script → ⊥
