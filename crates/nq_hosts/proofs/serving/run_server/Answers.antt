@@ -11,9 +11,9 @@ returns g c =
     record {
       log = c.unwrap-log.result;
       silent = subst (λ r. IfOk r (λ j. j.entries ≡ [])) c.unwrap-log.ensures c.new.ensures.empty;
-      last = between c.take_turns.new.server c.take_turns.new.log c.take_turns.new.next (clock_of c.take_turns.new.clock) (link_of c.take_turns.new.link);
-      taken = c.take_turns.ensures.turns;
-      same = c.take_turns.ensures.follows;
+      last = between c.take_turns-ended.new.server c.take_turns-ended.new.log c.take_turns-ended.new.next (clock_of c.take_turns-ended.new.clock) (link_of c.take_turns-ended.new.link);
+      taken = c.take_turns-ended.ensures.turns;
+      same = c.take_turns-ended.ensures.follows;
       keeper = c.into_keeper.ensures;
       clocks = refl;
       links = refl;
