@@ -1,6 +1,4 @@
 pub mod Commands
-pub mod ServerFaults
-pub mod ClientFaults
 pub mod HostPromises
 pub mod LoopPromises
 pub mod Promises

@@ -2,7 +2,7 @@ use Rattle.std.proofs.Common.{◌∙◌, Some, ap, refl, sym}
 use Rattle.nq_command.specs.Commands.{command_of}
 use Rattle.nq_ending.proofs.Ends.{one_end}
 use Rattle.nq_ending.specs.declared.Ending.{Ending}
-use Rattle.nq_run.proofs.HostPromises.{attends_unless, serves_unless}
+use Rattle.nq_run.proofs.HostPromises.{attends_unless, serve_usage}
 use Rattle.nq_run.proofs.LoopPromises.{loop_does, loop_lawful, loop_unless, loop_usage}
 use Rattle.nq_run.proofs.Promises.{input_lawful, input_sound}
 use Rattle.nq_run.proofs.StormPromises.{storm_does, storm_lawful, storm_never, storm_prints, storm_unless, storm_usage}
@@ -42,15 +42,17 @@ unfolding most_bytes
 returns-in-Some-Check-clause-judged_said g c = λ is text told within journal. (c.judge.result, c.status-in-Some-Check.ensures, c.judge.ensures.said text told within journal)
 
 pub returns-in-Some-Serve-clause-served : goal.returns-in-Some-Serve-clause-served
-returns-in-Some-Serve-clause-served g c = λ turns longest is. (
-  c.serve.result,
-  c.status-in-Some-Serve.ensures,
-  serves_unless g.P.Keeper.content g.P.Keeper.faults g.P.Keeper.follows g.met.P.Keeper.follows_on g.met.P.Keeper.faults_rise c.serve.result _ _ _ _ _ _ _ _ _ _ _ c.serve.ensures,
-)
+returns-in-Some-Serve-clause-served g c = λ turns longest is. c.served.ensures.served
+
+pub returns-in-Some-Serve-clause-usage : goal.returns-in-Some-Serve-clause-usage
+returns-in-Some-Serve-clause-usage g c = λ none. absurd (serve_usage _ _ _ _ _ _ _ _ _ _ _ _ _ _ _ c.served.ensures.serves none)
+
+pub returns-in-Some-Serve-clause-nothing : goal.returns-in-Some-Serve-clause-nothing
+returns-in-Some-Serve-clause-nothing g c = λ none. absurd (serve_usage _ _ _ _ _ _ _ _ _ _ _ _ _ _ _ c.served.ensures.serves none)
 
 pub returns-in-Some-Client-clause-attended : goal.returns-in-Some-Client-clause-attended
 returns-in-Some-Client-clause-attended g c = λ host inc turns is.
-    (c.client.result, c.status-in-Some-Client.ensures, attends_unless _ _ _ _ _ _ _ _ _ _ _ _ _ _ _ _ c.client.ensures)
+    (c.client.result, c.status-in-Some-Client.ensures, attends_unless _ _ _ _ _ _ _ c.client.ensures.cause)
 
 pub returns-in-Some-Storm-clause-usage : goal.returns-in-Some-Storm-clause-usage
 returns-in-Some-Storm-clause-usage g c = λ none.
