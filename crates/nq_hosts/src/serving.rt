@@ -42,6 +42,7 @@ pub fn serve<K: Keeper, L: Link, C: Clock, S: Sink>(
         (link_told L.sent L.waiting L.faults L.receives link.old)
         (link_told L.sent L.waiting L.faults L.receives link.new))
         (S.held out.old) (S.held out.new) (S.faults out.old) (S.faults out.new) }
+    ensures follows { K.follows keeper result.keeper }
     ensures cause { EndsBy result.end (K.content keeper) (K.faults keeper) (K.faults result.keeper)
         (L.faults link.old) (L.faults link.new) (S.faults out.old) (S.faults out.new) }
 {
@@ -114,10 +115,11 @@ fn boot_and_run<K: Keeper, L: Link, C: Clock>(
     requires long { 5 ≤ longest }
     requires short { longest ≤ 600 }
     requires early { now < 2 ^ 62 }
-    ensures { Runs K.content K.faults K.follows longest turns now keeper result.ended result.keeper
+    ensures runs { Runs K.content K.faults K.follows longest turns now keeper result.ended result.keeper
         (clock_told C.floor C.readings clock.old) (clock_told C.floor C.readings clock.new)
         (link_told L.sent L.waiting L.faults L.receives link.old)
         (link_told L.sent L.waiting L.faults L.receives link.new) }
+    ensures follows { K.follows keeper result.keeper }
 {
     match Server::boot(alloc, keeper, longest, now) {
         Ok(server) => run_server(alloc, server, turns, link, clock),
@@ -154,10 +156,11 @@ fn run_server<K: Keeper, L: Link, C: Clock>(
     link: &mut L,
     clock: &mut C,
 ) -> Turned<K>
-    ensures { Ran K.content K.faults K.follows turns server result.ended result.keeper
+    ensures ran { Ran K.content K.faults K.follows turns server result.ended result.keeper
         (clock_told C.floor C.readings clock.old) (clock_told C.floor C.readings clock.new)
         (link_told L.sent L.waiting L.faults L.receives link.old)
         (link_told L.sent L.waiting L.faults L.receives link.new) }
+    ensures follows { K.follows server.keeper result.keeper }
 {
     let mut server = server;
     let mut log = Journal::new(alloc).unwrap();

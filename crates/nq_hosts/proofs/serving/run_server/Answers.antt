@@ -1,11 +1,11 @@
-use Rattle.std.proofs.Common.{◌≡◌, [], IfOk, refl, subst}
+use Rattle.std.proofs.Common.{◌≡◌, [], IfOk, refl, sym, subst}
 use Rattle.nq_hosts.specs.Serving.{between}
 use Rattle.nq_node.specs.Clocks.{clock_told}
 use Rattle.nq_node.specs.Links.{link_told}
 use Rattle.nq_hosts.proofs.serving.run_server.Goals as goal
 
-pub returns : goal.returns
-returns g c =
+pub returns-clause-ran : goal.returns-clause-ran
+returns-clause-ran g c =
     let clock_of = clock_told g.C.Clock.floor g.C.Clock.readings in
     let link_of = link_told g.L.Link.sent g.L.Link.waiting g.L.Link.faults g.L.Link.receives in
     record {
@@ -18,3 +18,7 @@ returns g c =
       clocks = refl;
       links = refl;
     }
+
+pub returns-clause-follows : goal.returns-clause-follows
+returns-clause-follows g c =
+    subst (λ k. g.K.Keeper.follows c.args.server.keeper k) (sym c.into_keeper.ensures) c.take_turns-ended.ensures.follows

@@ -32,7 +32,7 @@ returns-clause-serves g c =
       time = c.now-now.result;
       between = clock_of c.now-now.new.self;
       read = record { rises = c.now-now.ensures.rises; floor = c.now-now.ensures.floor; below = c.now-now.ensures.below; told = c.now-now.ensures.told };
-      runs = c.boot_and_run-ended.ensures;
+      runs = c.boot_and_run-ended.ensures.runs;
     })
     (subst (λ line. TellsTurns ran.ended line c.tell-end.result (g.S.Sink.held c.args.out.now) (g.S.Sink.held c.tell-end.new.out) (g.S.Sink.faults c.args.out.now)
     (g.S.Sink.faults c.tell-end.new.out)) (c.as_bytes.ensures.value ∙ c.in-Ok.ensures) c.tell-end.ensures)
@@ -47,4 +47,10 @@ returns-clause-cause g c =
     (g.L.Link.faults c.boot_and_run-ended.new.link) (g.S.Sink.faults c.args.out.now) (g.S.Sink.faults c.tell-end.new.out) c.tell-end.ensures
     (halts_by g.K.Keeper.content g.K.Keeper.faults g.K.Keeper.follows most_taken_by_server c.args.longest c.args.turns c.now-now.result c.args.keeper
     ran.ended ran.keeper (clock_of c.now-now.new.self) (clock_of c.boot_and_run-ended.new.clock) (link_of c.args.link.now) (link_of c.boot_and_run-ended.new.link)
-    refl (omega (arith, c.ranges.turns)) c.boot_and_run-ended.ensures)
+    refl (omega (arith, c.ranges.turns)) c.boot_and_run-ended.ensures.runs)
+
+pub returns-in_default-clause-follows : goal.returns-in_default-clause-follows
+returns-in_default-clause-follows g c = g.met.K.Keeper.follows_itself c.args.keeper
+
+pub returns-clause-follows : goal.returns-clause-follows
+returns-clause-follows g c = c.boot_and_run-ended.ensures.follows
