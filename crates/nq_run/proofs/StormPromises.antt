@@ -14,6 +14,11 @@ use Rattle.nq_storm.specs.Kinds.{IsFirstOf, LackKind, TellOthers}
 use Rattle.nq_storm.specs.Printed.{StormEnds}
 use Rattle.nq_storm_rules.specs.Rules.{Rule}
 
+-- a storm of the first fate of the kind did what its words say
+pub does_storm : (end : Ending) (kind start count : ℕ) (told : List (Option Rule)) (first : Option Rule) (held now : Option (List ℕ)) (w w' : ℕ) → IsFirstOf kind told first → StormEnds end start count first held now w w'
+    → DoesStorm end kind start count told held now w w'
+does_storm end kind start count told first held now w w' found ends = inl (record { first = first; found = found; ends = ends })
+
 -- ---- status 0
 
 done_lawfully : (kind start count : ℕ) (told : List (Option Rule)) (held now : Option (List ℕ)) (w w' : ℕ) → RunsStorm Ending.Done kind start count told held now w w' → StormsLawfully kind start count told held now

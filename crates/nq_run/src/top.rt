@@ -18,7 +18,7 @@ ghost use Rattle.nq_replay.specs.Lines.{PrintsLine, usage_line};
 ghost use Rattle.nq_replay.specs.Replay.{BreaksSkew, FaultyLine, OfInput, Passes, Runs};
 ghost use Rattle.nq_replay.specs.declared.Bound.{Bound};
 ghost use Rattle.nq_run.specs.Frames.{reads_clock, reads_input, uses_link, uses_links};
-ghost use Rattle.nq_run.specs.Hosting.{Attends, AttendsUnlessFault, ServesFor, ServesUnlessFault};
+ghost use Rattle.nq_run.specs.Hosting.{Attends, ServesFor};
 ghost use Rattle.nq_run.specs.Looping.{LoopsFor, LoopsLawfully};
 ghost use Rattle.nq_run.specs.Promised.{PrintsLawfully, PrintsSound, most_bytes};
 ghost use Rattle.nq_run.specs.Storming.{DoesStorm, NeverRuns, RunsNothing, StormsLawfully, StormsUnlessFault};
@@ -112,17 +112,11 @@ pub fn run<S: Source, K: Sink, P: Keeper + Drop, L: Link, C: Clock>(
         (link_told L.sent L.waiting L.faults L.receives link.old)
         (link_told L.sent L.waiting L.faults L.receives link.new)
         (K.held out.old) (K.held out.new) (K.faults out.old) (K.faults out.new) }
-    ensures served { (turns longest : ℕ) → command_of words.now ≡ Some (Command.Serve turns longest)
-        → WithStatus result (λ end. ServesUnlessFault end P.faults P.follows keeper (L.faults link.old) (L.faults link.new) (K.faults out.old)
-        (K.faults out.new)) }
     ensures attends { (host inc turns : ℕ) → command_of words.now ≡ Some (Command.Client host inc turns)
         → Attends turns (record { host = host; inc = inc }) most_bytes result (S.left input.old) (S.left input.new) (S.faults input.old) (S.faults input.new)
         (K.held out.old) (K.held out.new) (K.faults out.old) (K.faults out.new) (clock_told C.floor C.readings clock.old) (clock_told C.floor C.readings clock.new)
         (link_told L.sent L.waiting L.faults L.receives link.old)
         (link_told L.sent L.waiting L.faults L.receives link.new) }
-    ensures attended { (host inc turns : ℕ) → command_of words.now ≡ Some (Command.Client host inc turns)
-        → WithStatus result (λ end. AttendsUnlessFault end (S.faults input.old) (S.faults input.new)
-        (L.faults link.old) (L.faults link.new) (K.faults out.old) (K.faults out.new)) }
     ensures storms { (kind start events : ℕ) → command_of words.now ≡ Some (Command.Storm kind start events)
         → WithStatus result (λ end. DoesStorm end kind start events (map (λ fate. told fate) fates.items)
         (K.held out.old) (K.held out.new) (K.faults out.old) (K.faults out.new)) }
@@ -187,13 +181,11 @@ fn served<P: Keeper + Drop, L: Link, C: Clock, K: Sink>(
 ) -> u8
     requires long { 5 ≤ longest }
     requires short { longest ≤ 600 }
-    ensures serves { ServesFor P.content P.faults P.follows result longest turns keeper
+    ensures { ServesFor P.content P.faults P.follows result longest turns keeper
         (clock_told C.floor C.readings clock.old) (clock_told C.floor C.readings clock.new)
         (link_told L.sent L.waiting L.faults L.receives link.old)
         (link_told L.sent L.waiting L.faults L.receives link.new)
         (K.held out.old) (K.held out.new) (K.faults out.old) (K.faults out.new) }
-    ensures served { WithStatus result (λ end. ServesUnlessFault end P.faults P.follows keeper (L.faults link.old) (L.faults link.new) (K.faults out.old)
-        (K.faults out.new)) }
 {
     let Served {
         end,
