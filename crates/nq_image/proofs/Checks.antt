@@ -1,5 +1,5 @@
 -- Checks, one list of them behind another.
-use Rattle.std.proofs.Common.{◌≡◌, ◌≤◌, ℕ, Bool, true, false, List, [], ◌∷◌, ◌++◌, Option, Some, None, Result, Ok, Err, if◌then◌else◌, refl, sym, ◌∙◌}
+use Rattle.std.proofs.Common.{◌≡◌, ℕ, Bool, true, false, List, [], ◌∷◌, ◌++◌, Result, Ok, Err, if◌then◌else◌, refl}
 use Rattle.nq_image.specs.Check.{Check, tested}
 
 one-passes : {A B : Type 0} (holds : Bool) (p : ℕ) (front : Result A ℕ) (both behind : Result B ℕ) (y : A) → (front ≡ Ok y → both ≡ behind) → (if holds then front else Err p) ≡ Ok y → (if holds then both else Err p) ≡ behind

@@ -1,14 +1,14 @@
 -- Fields in the order of their places.
-use Rattle.std.proofs.Common.{◌≡◌, ◌≤◌, ◌+◌, ◌*◌, ◌⊎◌, ◌==◌, inl, inr, ℕ, zero, suc, Bool, true, false, List, [], ◌∷◌, ◌++◌, Option, Some, None, Result, Ok, Err, take, drop, length, if◌then◌else◌, refl, subst, arith}
+use Rattle.std.proofs.Common.{◌≡◌, ◌≤◌, ◌+◌, ◌*◌, ◌==◌, inl, inr, ℕ, zero, suc, Bool, true, false, List, [], ◌∷◌, ◌++◌, Option, Some, None, Err, take, drop, length, if◌then◌else◌, refl, subst, arith}
 use Rattle.std.proofs.lemmas.List.Elements.{All-tail}
 use Rattle.std.specs.List.{All}
-use Rattle.std.specs.Prelude.{nat_lt, nat_le, is_some, not}
+use Rattle.std.specs.Prelude.{not}
 use Rattle.nq_image.specs.Check.{AreInOrder, Check, IsLeastWrong, IsWrongAt, check, judged}
 use Rattle.nq_image.specs.Heads.{boots_checks, front_checks}
 use Rattle.nq_image.specs.Hosts.{host_checks, hosts_checks}
 use Rattle.nq_image.specs.Layout.{piece, word_in, hyper_in, are_zeros}
 use Rattle.nq_image.specs.Rows.{blocks_of, is_shut, least_not_zeros, row_checks, rows_checks, slot_of, used_checks}
-use Rattle.nq_image.specs.Tables.{ids_checks, is_entry, marked, slot_checks, slot_marks, table_checks, tables_checks}
+use Rattle.nq_image.specs.Tables.{ids_checks, marked, slot_checks, slot_marks, table_checks, tables_checks}
 use Rattle.nq_image.specs.declared.rows.Slot.{Slot}
 use Rattle.nq_image.specs.declared.rows.Version.{Version}
 

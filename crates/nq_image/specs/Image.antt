@@ -1,6 +1,6 @@
 -- A whole image, whose redo record is closed or was applied before, as its parts in their order: the first part with a
 -- wrong field names it.
-use Rattle.std.specs.Prelude.{ℕ, ◌+◌, ◌*◌, Bool, false, List, [], ◌∷◌, Option, Some, None, Result, Ok, Err, length, map, sum_by, nat_le, nat_lt, replicate, if◌then◌else◌}
+use Rattle.std.specs.Prelude.{ℕ, ◌+◌, Bool, false, List, [], Option, Result, Ok, Err, length, sum_by, nat_le, replicate, if◌then◌else◌}
 use Rattle.nq_base.specs.declared.HostRow.{HostRow}
 use Rattle.nq_image.specs.declared.heads.Boots.{Boots}
 use Rattle.nq_image.specs.declared.heads.Front.{Front}

@@ -1,11 +1,15 @@
+pub mod Bounds
 pub mod Check
 pub mod Heads
 pub mod Hosts
 pub mod Image
 pub mod Kept
 pub mod Layout
+pub mod Nothing
 pub mod Reading
 pub mod Rows
 pub mod Seen
+pub mod Standing
 pub mod Tables
 pub mod Whole
+pub mod Writing

@@ -1,4 +1,4 @@
-use Rattle.std.proofs.Common.{◌≡◌, rules, Err, Ok, arith, ◌-◌, ◌*◌, ◌+◌, drop, take, length, ℕ, sym, ◌∙◌, subst, List}
+use Rattle.std.proofs.Common.{◌≡◌, rules, Err, Ok, arith, ℕ, sym, ◌∙◌, subst, List}
 use Rattle.nq_image.specs.Check.{tested}
 use Rattle.nq_image.specs.Hosts.{hosts_checks, hosts_of, host_checks, host_of}
 use Rattle.nq_image.specs.declared.fault.ImageFault.TheVariants.{BadField}

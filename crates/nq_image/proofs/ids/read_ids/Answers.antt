@@ -1,4 +1,4 @@
-use Rattle.std.proofs.Common.{◌≡◌, rules, Err, Ok, Bool, true, false, Option, arith, [], ◌∷◌, ap, length, ◌-◌, ◌+◌, ℕ, sym, ◌∙◌, subst, List}
+use Rattle.std.proofs.Common.{◌≡◌, true, false, arith, [], ◌∷◌, ap, length, ℕ, sym, ◌∙◌, subst, List}
 use Rattle.std.proofs.lemmas.List.{length-append}
 use Rattle.nq_image.specs.Check.{tested}
 use Rattle.nq_image.specs.Layout.{word_in, are_zeros}

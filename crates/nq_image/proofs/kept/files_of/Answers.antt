@@ -1,4 +1,4 @@
-use Rattle.std.proofs.Common.{◌≡◌, ◌≤◌, ◌+◌, ◌-◌, [], length, arith}
+use Rattle.std.proofs.Common.{◌≤◌, ◌+◌, [], length, arith}
 use Rattle.std.specs.List.{sum_by}
 use Rattle.nq_image.specs.Kept.{files_of}
 use Rattle.nq_image.specs.Rows.{blocks_of}

@@ -1,4 +1,4 @@
-use Rattle.std.proofs.Common.{◌≡◌, ◌+◌, ◌-◌, [], ◌∷◌, ap, length, arith}
+use Rattle.std.proofs.Common.{[], ◌∷◌, ap, length, arith}
 use Rattle.std.proofs.lemmas.List.{length-append}
 use Rattle.nq_image.specs.Kept.{numbers_from}
 use Rattle.nq_image.proofs.KeptWalks.{number-passes, no-number-left}

@@ -1,5 +1,5 @@
 use Rattle.std.proofs.Common.{◌≡◌, rules, Err, Ok, Option, arith, [], ◌∷◌, ap, length, ◌+◌, ◌≤◌, take, ℕ, sym, ◌∙◌, subst, List}
-use Rattle.std.specs.List.{sum_by, All}
+use Rattle.std.specs.List.{sum_by}
 use Rattle.std.proofs.lemmas.List.{length-append}
 use Rattle.std.proofs.lemmas.List.Elements.{All-push}
 use Rattle.nq_image.specs.Check.{tested}

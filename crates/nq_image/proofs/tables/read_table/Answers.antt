@@ -1,4 +1,4 @@
-use Rattle.std.proofs.Common.{◌≡◌, rules, Err, Ok, Bool, true, false, arith, ◌-◌, ◌+◌, ℕ, sym, ◌∙◌, subst, List}
+use Rattle.std.proofs.Common.{◌≡◌, Bool, true, false, arith, ◌-◌, ℕ, sym, subst}
 use Rattle.std.proofs.Math.ListN.{length-set}
 use Rattle.nq_image.specs.Check.{tested}
 use Rattle.nq_image.specs.Layout.{word_in, are_zeros}

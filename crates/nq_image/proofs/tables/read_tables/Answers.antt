@@ -1,7 +1,6 @@
-use Rattle.std.proofs.Common.{◌≡◌, ◌≤◌, rules, Err, Ok, Bool, true, false, Option, Result, Vec, Global, arith, [], ◌-◌, ◌+◌, ℕ, nat_le, length, sym, ◌∙◌, subst, List}
+use Rattle.std.proofs.Common.{◌≡◌, rules, Err, Ok, Result, Vec, Global, arith, ℕ, length, subst, List}
 use Rattle.nq_image.specs.Check.{tested}
 use Rattle.nq_image.specs.Layout.{piece}
-use Rattle.nq_image.specs.declared.fault.ImageFault.TheVariants.{BadField}
 use Rattle.nq_image.specs.Reading.{Reads}
 use Rattle.nq_image.specs.declared.fault.ImageFault.{ImageFault}
 use Rattle.nq_image.specs.Tables.{slot_checks, slot_table, slot_marks, tables_blocks, tables_checks, tables_marks}
