@@ -1,0 +1,5 @@
+pub mod Held
+pub mod Finding
+pub mod Placing
+pub mod Ranges
+pub mod Settling
