@@ -1,31 +1,37 @@
 -- What serving does: it boots a server, takes turns of it, and tells how many. Below, `content` is what a keeper tells of what it
--- keeps, and `faults` is its count of faults.
+-- keeps, `faults` is its count of faults, and `follows` says that a keeper is another one after some of its calls.
 use Rattle.std.specs.Fmt.{decimal}
 use Rattle.std.specs.Option.{ForSome}
 use Rattle.std.specs.Prelude.{◌≡◌, ◌⊎◌, ⊤, ◌<◌, ℕ, zero, suc, List, [], ◌++◌, Option, None, Result, Ok, Err, codes}
 use Rattle.nq_boot.specs.Booting.{last_boot}
-use Rattle.nq_clock.specs.Clock.{Reads}
 use Rattle.nq_ending.specs.declared.Ending.{Ending}
 use Rattle.nq_ending.specs.declared.Halt.{Halt}
 use Rattle.nq_io.specs.Faults.{Rose}
 use Rattle.nq_io.specs.Sink.{AppendsFront}
 use Rattle.nq_io.specs.Told.{with_end}
 use Rattle.nq_base.specs.Entries.{EntryList}
+use Rattle.nq_keeper.specs.Keeping.{StaysOrEnds}
 use Rattle.nq_model.specs.Kept.{Kept}
 use Rattle.nq_model.specs.ServerStep.{boot}
+use Rattle.nq_node.specs.Clocks.{ClockTold, ReadsOnce}
 use Rattle.nq_node.specs.Links.{LinkTold}
 use Rattle.nq_node.specs.ServerTurn.{ServesTurn}
 use Rattle.nq_node.specs.declared.Turn.{Turn}
 use Rattle.nq_server.specs.Holding.{Holding, IsServer}
+use Rattle.nq_server.specs.declared.server.BootFault.{BootFault}
+use Rattle.nq_server.specs.declared.server.BootFault.TheVariants as fault
 
--- a server between two turns, with its journal, the number of the next datagram that it makes, the readings of the clock to come,
--- and its link
+-- a server between two turns, with its journal, the number of the next datagram that it makes, its clock and its link
 pub record Between (K : Type 0) : Type 0 where
   pub server : Holding K
   pub log : EntryList
   pub next : ℕ
-  pub clock : Option (List ℕ)
+  pub clock : ClockTold
   pub link : LinkTold
+
+-- a server with these between two turns
+abbrev pub between : {K : Type 0} → Holding K → EntryList → (next : ℕ) → ClockTold → LinkTold → Between K
+between server log next clock link = record { server = server; log = log; next = next; clock = clock; link = link }
 
 -- ---- turns
 
@@ -75,62 +81,93 @@ TakesTurns content faults turns (Err why) at after = StopsEarly content faults t
 unfoldable pub turns_line : (turns : ℕ) → List ℕ
 turns_line turns = codes "turns " ++ decimal turns ++ codes "\n"
 
--- turns of this server over this link, with a journal that is empty at first and datagrams that are numbered from 0; they ended so. The
--- server has its keeper still, after the calls that the turns made of it
-pub record Ran {K : Type 0} (content : K → Option Kept) (faults : K → ℕ) (follows : K → K → Type 0) (turns : ℕ) (server : Holding K) (ended : Result Unit Halt) (clock clock' : Option (List ℕ)) (link link' : LinkTold) : Type 0 where
+-- Turns of this server over this link, with a journal that is empty at first and datagrams that are numbered from 0; they ended so. The
+-- server has its keeper still, after the calls that the turns made of it, and this is the keeper that is left.
+pub record Ran {K : Type 0} (content : K → Option Kept) (faults : K → ℕ) (follows : K → K → Type 0) (turns : ℕ) (server : Holding K) (ended : Result Unit Halt) (left : K) (clock clock' : ClockTold) (link link' : LinkTold) : Type 0 where
   pub log : EntryList
   pub silent : log.entries ≡ []
   pub last : Between K
+  pub taken : TakesTurns content faults turns ended (between server log 0 clock link) last
   pub same : follows server.keeper last.server.keeper
-  pub taken : TakesTurns content faults turns ended (record { server = server; log = log; next = 0; clock = clock; link = link }) last
+  pub keeper : left ≡ last.server.keeper
   pub clocks : clock' ≡ last.clock
   pub links : link' ≡ last.link
 
 -- a server that booted over this keeper at this time: it is the protocol's, knows no last table, and has this very keeper
-abbrev pub Booted : {K : Type 0} → (content : K → Option Kept) → (follows : K → K → Type 0) → (longest time : ℕ) → (keeper : K) → Holding K → Type 0
-Booted content follows longest time keeper server =
+abbrev pub Booted : {K : Type 0} → (content : K → Option Kept) → (faults : K → ℕ) → (follows : K → K → Type 0) → (longest time : ℕ) → (keeper : K) → Holding K → Type 0
+Booted content faults follows longest time keeper server =
     ForSome (content keeper) (λ kept. (kept.boot < last_boot) × IsServer (boot kept longest time None) server (content server.keeper))
-    × follows keeper server.keeper
+    × (faults server.keeper ≡ faults keeper) × follows keeper server.keeper
 
--- this very keeper failed, and counted that
-pub record HasFailed {K : Type 0} (faults : K → ℕ) (follows : K → K → Type 0) (keeper : K) : Type 0 where
-  pub left : K
-  pub same : follows keeper left
-  pub count : Rose (faults keeper) (faults left)
+-- nothing was done with what a keeper keeps
+abbrev pub LeavesAlone : {K : Type 0} → (content : K → Option Kept) → (faults : K → ℕ) → (keeper left : K) → Type 0
+LeavesAlone content faults keeper left = (content left ≡ content keeper) × (faults left ≡ faults keeper)
 
--- why no server booted over this keeper: it failed, memory was wanting, or no number is left for a boot
-abbrev pub NoBoot : {K : Type 0} → (content : K → Option Kept) → (faults : K → ℕ) → (follows : K → K → Type 0) → (keeper : K) → Halt → Type 0
-NoBoot content faults follows keeper Halt.Link = ⊥
-NoBoot content faults follows keeper Halt.NoAnswer = ⊥
-NoBoot content faults follows keeper Halt.Keep = HasFailed faults follows keeper
-NoBoot content faults follows keeper Halt.Memory = ⊤
-NoBoot content faults follows keeper Halt.Spent = ForSome (content keeper) (λ kept. kept.boot ≡ last_boot)
+-- Why no server booted over this keeper, which is left so: it failed, and counted that; memory was wanting; or no number is left for a
+-- boot. In the last two cases it keeps what it kept.
+abbrev pub NoBoot : {K : Type 0} → (content : K → Option Kept) → (faults : K → ℕ) → (keeper left : K) → Halt → Type 0
+NoBoot content faults keeper left Halt.Link = ⊥
+NoBoot content faults keeper left Halt.NoAnswer = ⊥
+NoBoot content faults keeper left Halt.Keep = StaysOrEnds (content keeper) (content left) × Rose (faults keeper) (faults left)
+NoBoot content faults keeper left Halt.Memory = LeavesAlone content faults keeper left
+NoBoot content faults keeper left Halt.Spent =
+    ForSome (content keeper) (λ kept. kept.boot ≡ last_boot) × LeavesAlone content faults keeper left
 
--- what a boot over this keeper at this time gives: a server, or why none booted
-abbrev pub EndsBoot : {K : Type 0} → (content : K → Option Kept) → (faults : K → ℕ) → (follows : K → K → Type 0) → (longest time : ℕ) → (keeper : K) → Result (Holding K) Halt → Type 0
-EndsBoot content faults follows longest time keeper (Ok server) = Booted content follows longest time keeper server
-EndsBoot content faults follows longest time keeper (Err why) = NoBoot content faults follows keeper why
+-- why nothing is served where no server booted
+abbrev pub halt_of : {K : Type 0} → BootFault K → Halt
+halt_of (fault.Failed keeper) = Halt.Keep
+halt_of (fault.Memory keeper) = Halt.Memory
+halt_of (fault.Spent keeper) = Halt.Spent
 
 -- a server booted over this keeper at this time, and turns of it ended so
-pub record RanBooted {K : Type 0} (content : K → Option Kept) (faults : K → ℕ) (follows : K → K → Type 0) (longest turns time : ℕ) (keeper : K) (ended : Result Unit Halt) (clock clock' : Option (List ℕ)) (link link' : LinkTold) : Type 0 where
+pub record RanBooted {K : Type 0} (content : K → Option Kept) (faults : K → ℕ) (follows : K → K → Type 0) (longest turns time : ℕ) (keeper : K) (ended : Result Unit Halt) (left : K) (clock clock' : ClockTold) (link link' : LinkTold) : Type 0 where
   pub server : Holding K
-  pub booted : Booted content follows longest time keeper server
-  pub ran : Ran content faults follows turns server ended clock clock' link link'
+  pub booted : Booted content faults follows longest time keeper server
+  pub ran : Ran content faults follows turns server ended left clock clock' link link'
 
--- likewise, or no server booted, and then no turn was taken
-abbrev pub Runs : {K : Type 0} → (content : K → Option Kept) → (faults : K → ℕ) → (follows : K → K → Type 0) → (longest turns time : ℕ) → (keeper : K) → Result Unit Halt → (clock clock' : Option (List ℕ)) → (link link' : LinkTold) → Type 0
-Runs content faults follows longest turns time keeper (Ok done) clock clock' link link' =
-    RanBooted content faults follows longest turns time keeper (Ok done) clock clock' link link'
-Runs content faults follows longest turns time keeper (Err why) clock clock' link link' =
-    RanBooted content faults follows longest turns time keeper (Err why) clock clock' link link'
-    ⊎ (NoBoot content faults follows keeper why × (clock' ≡ clock) × (link' ≡ link))
+-- no server booted over this keeper, which is left so, and no turn was taken
+pub record RanNone {K : Type 0} (content : K → Option Kept) (faults : K → ℕ) (follows : K → K → Type 0) (keeper left : K) (why : Halt) (clock clock' : ClockTold) (link link' : LinkTold) : Type 0 where
+  pub none : NoBoot content faults keeper left why
+  pub same : follows keeper left
+  pub clocks : clock' ≡ clock
+  pub links : link' ≡ link
 
--- the clock was read once, and what was to be done from that time on ended so
-pub record Serves {K : Type 0} (content : K → Option Kept) (faults : K → ℕ) (follows : K → K → Type 0) (longest turns : ℕ) (keeper : K) (ended : Result Unit Halt) (clock clock' : Option (List ℕ)) (link link' : LinkTold) : Type 0 where
+-- one of the two
+abbrev pub Runs : {K : Type 0} → (content : K → Option Kept) → (faults : K → ℕ) → (follows : K → K → Type 0) → (longest turns time : ℕ) → (keeper : K) → Result Unit Halt → (left : K) → (clock clock' : ClockTold) → (link link' : LinkTold) → Type 0
+Runs content faults follows longest turns time keeper (Ok done) left clock clock' link link' =
+    RanBooted content faults follows longest turns time keeper (Ok done) left clock clock' link link'
+Runs content faults follows longest turns time keeper (Err why) left clock clock' link link' =
+    RanBooted content faults follows longest turns time keeper (Err why) left clock clock' link link'
+    ⊎ RanNone content faults follows keeper left why clock clock' link link'
+
+-- The clock was read once, and what was to be done from that time on ended so. This keeper is left: it is the one that was handed in, and
+-- keeps what the boot and the steps of the turns made of what it kept.
+pub record Serves {K : Type 0} (content : K → Option Kept) (faults : K → ℕ) (follows : K → K → Type 0) (longest turns : ℕ) (keeper : K) (ended : Result Unit Halt) (left : K) (clock clock' : ClockTold) (link link' : LinkTold) : Type 0 where
   pub time : ℕ
-  pub between : Option (List ℕ)
-  pub read : Reads time clock between
-  pub runs : Runs content faults follows longest turns time keeper ended between clock' link link'
+  pub between : ClockTold
+  pub read : ReadsOnce time clock between
+  pub runs : Runs content faults follows longest turns time keeper ended left between clock' link link'
+
+-- why what was to be done ended so: nothing failed and nothing was wanting, or what it says
+abbrev pub HaltsBy : Result Unit Halt → (told : Option Kept) → (keep keep' link link' : ℕ) → Type 0
+HaltsBy (Ok done) told keep keep' link link' = ForSome told (λ kept. kept.boot < last_boot) × (keep' ≡ keep) × (link' ≡ link)
+HaltsBy (Err Halt.Link) told keep keep' link link' = Rose link link'
+HaltsBy (Err Halt.Keep) told keep keep' link link' = Rose keep keep'
+HaltsBy (Err Halt.Memory) told keep keep' link link' = ⊤
+HaltsBy (Err Halt.Spent) told keep keep' link link' = ForSome told (λ kept. kept.boot ≡ last_boot)
+HaltsBy (Err Halt.NoAnswer) told keep keep' link link' = ⊥
+
+-- Why serving ended so. Where no count of faults rose and memory was not wanting, all turns were taken; or the keeper keeps the last number
+-- that a boot can have, and none was.
+abbrev pub EndsBy : Ending → (told : Option Kept) → (keep keep' link link' w w' : ℕ) → Type 0
+EndsBy Ending.Done told keep keep' link link' w w' =
+    ForSome told (λ kept. kept.boot < last_boot) × (keep' ≡ keep) × (link' ≡ link) × (w' ≡ w)
+EndsBy Ending.Spent told keep keep' link link' w w' = ForSome told (λ kept. kept.boot ≡ last_boot)
+EndsBy Ending.Memory told keep keep' link link' w w' = ⊤
+EndsBy Ending.KeepFault told keep keep' link link' w w' = Rose keep keep'
+EndsBy Ending.LinkFault told keep keep' link link' w w' = Rose link link'
+EndsBy Ending.WriteFault told keep keep' link link' w w' = Rose w w'
+EndsBy other told keep keep' link link' w w' = ⊥
 
 -- what was printed, by the end of serving: the line only behind all turns. `P` says what was done when turns ended so
 abbrev pub Tells : Ending → (turns : ℕ) → (P : Result Unit Halt → Type 0) → (held now : Option (List ℕ)) → (w w' : ℕ) → Type 0
@@ -148,3 +185,16 @@ abbrev pub PrintsTurns : Ending → (line : List ℕ) → (held now : Option (Li
 PrintsTurns Ending.Done line held now w w' = (now ≡ with_end held line) × (w' ≡ w)
 PrintsTurns Ending.WriteFault line held now w w' = AppendsFront line held now × Rose w w'
 PrintsTurns other line held now w w' = ⊥
+
+-- the end where turns stopped so
+abbrev pub end_of : Halt → Ending
+end_of Halt.Link = Ending.LinkFault
+end_of Halt.Keep = Ending.KeepFault
+end_of Halt.Memory = Ending.Memory
+end_of Halt.Spent = Ending.Spent
+end_of Halt.NoAnswer = Ending.NoAnswer
+
+-- what telling how turns ended did, by the end: the line was printed, or nothing where they stopped
+abbrev pub TellsTurns : Result Unit Halt → (line : List ℕ) → Ending → (held now : Option (List ℕ)) → (w w' : ℕ) → Type 0
+TellsTurns (Ok done) line result held now w w' = PrintsTurns result line held now w w'
+TellsTurns (Err why) line result held now w w' = (result ≡ end_of why) × (now ≡ held) × (w' ≡ w)

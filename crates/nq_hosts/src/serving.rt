@@ -1,8 +1,12 @@
 //! Serving for a number of turns.
 
-ghost use Rattle.std.specs.Prelude.{◌≡◌, ◌<◌, ◌≤◌, ◌^◌, IfOk, string_bytes};
-ghost use Rattle.nq_hosts.specs.Serving.{EndsBoot, PrintsTurns, Ran, Runs, Serves, Tells, turns_line};
+ghost use Rattle.std.specs.Prelude.{◌≡◌, ◌<◌, ◌≤◌, ◌^◌, Err, IfOk, string_bytes};
+ghost use Rattle.nq_hosts.specs.Serving.{EndsBy, PrintsTurns, Ran, Runs, Serves, Tells, TellsTurns, end_of, halt_of, turns_line};
+ghost use Rattle.nq_node.specs.Clocks.{clock_told};
+ghost use Rattle.nq_node.specs.Links.{link_told};
+ghost use Rattle.nq_server.specs.Holding.{keeper_in};
 
+use crate::served::{Served, Turned};
 use crate::turning::take_turns;
 use nq_base::{Journal, NoMemory, Ticks};
 use nq_clock::Clock;
@@ -14,14 +18,15 @@ use nq_server::{BootFault, Server};
 use std::alloc::Global;
 
 /// Boots a server over a keeper at the time of one reading of the clock, takes so many turns of it over a link, and prints
-/// `turns TURNS`. The longest term that the server grants is 5 to 600 ticks.
+/// `turns TURNS`. The longest term that the server grants is 5 to 600 ticks. The keeper is handed back, with what the boot and the
+/// turns made of what it keeps.
 ///
 /// # Errors
 ///
 /// `LinkFault` only where the link counted a fault, `KeepFault` only where the keeper did, `Memory` where memory was refused, and
-/// `Spent` where no number was left for the boot, or for a datagram or tick. The turns before the one that stopped stay done, the
-/// rest is left out, and nothing is printed. `WriteFault` only where the sink counted a fault; a front of the line is printed.
-pub fn serve<K: Keeper + Drop, L: Link, C: Clock, S: Sink>(
+/// `Spent` exactly where no number is left for the boot. The turns before the one that stopped stay done, the rest is left out, and
+/// nothing is printed. `WriteFault` only where the sink counted a fault; a front of the line is printed.
+pub fn serve<K: Keeper, L: Link, C: Clock, S: Sink>(
     alloc: Global,
     keeper: K,
     turns: u32,
@@ -29,26 +34,28 @@ pub fn serve<K: Keeper + Drop, L: Link, C: Clock, S: Sink>(
     link: &mut L,
     clock: &mut C,
     out: &mut S,
-) -> Ending
+) -> Served<K>
     requires long { 5 ≤ longest }
     requires short { longest ≤ 600 }
-    ensures { Tells result turns (λ ended. Serves K.content K.faults K.follows longest turns keeper ended (C.readings clock.old) (C.readings clock.new)
-        (record { sent = L.sent link.old; waiting = L.waiting link.old; faults = L.faults link.old })
-        (record { sent = L.sent link.new; waiting = L.waiting link.new; faults = L.faults link.new }))
+    ensures serves { Tells result.end turns (λ ended. Serves K.content K.faults K.follows longest turns keeper ended result.keeper
+        (clock_told C.floor C.readings clock.old) (clock_told C.floor C.readings clock.new)
+        (link_told L.sent L.waiting L.faults L.receives link.old)
+        (link_told L.sent L.waiting L.faults L.receives link.new))
         (S.held out.old) (S.held out.new) (S.faults out.old) (S.faults out.new) }
+    ensures follows { K.follows keeper result.keeper }
+    ensures cause { EndsBy result.end (K.content keeper) (K.faults keeper) (K.faults result.keeper)
+        (L.faults link.old) (L.faults link.new) (S.faults out.old) (S.faults out.new) }
 {
     let now = clock.now();
     let Ok(line) = turns_text(alloc, turns) else {
-        return Ending::Memory;
+        return Served {
+            end: Ending::Memory,
+            keeper,
+        };
     };
-    match boot_and_run(alloc, keeper, now, turns, longest, link, clock) {
-        Ok(()) => put_turns(out, line.as_bytes()),
-        Err(Halt::Link) => Ending::LinkFault,
-        Err(Halt::Keep) => Ending::KeepFault,
-        Err(Halt::Memory) => Ending::Memory,
-        Err(Halt::Spent) => Ending::Spent,
-        Err(Halt::NoAnswer) => Ending::NoAnswer,
-    }
+    let Turned { ended, keeper } = boot_and_run(alloc, keeper, now, turns, longest, link, clock);
+    let end = tell(out, ended, line.as_bytes());
+    Served { end, keeper }
 }
 
 /// The line that tells how many turns were taken.
@@ -59,6 +66,29 @@ fn turns_text(alloc: Global, turns: u32) -> Result<String, NoMemory>
     match format!(in alloc; "turns {turns}\n") {
         Ok(line) => Ok(line),
         Err(_) => Err(NoMemory::Memory),
+    }
+}
+
+/// Tells how turns ended, with this line where all were taken.
+fn tell<S: Sink>(out: &mut S, ended: Result<(), Halt>, line: &[u8]) -> Ending
+    ensures { TellsTurns ended line.now result (S.held out.old) (S.held out.new) (S.faults out.old) (S.faults out.new) }
+{
+    match ended {
+        Ok(()) => put_turns(out, line),
+        Err(why) => end_of(why),
+    }
+}
+
+/// The end where turns stopped so.
+fn end_of(why: Halt) -> Ending
+    ensures { result ≡ end_of why }
+{
+    match why {
+        Halt::Link => Ending::LinkFault,
+        Halt::Keep => Ending::KeepFault,
+        Halt::Memory => Ending::Memory,
+        Halt::Spent => Ending::Spent,
+        Halt::NoAnswer => Ending::NoAnswer,
     }
 }
 
@@ -73,7 +103,7 @@ fn put_turns<S: Sink>(out: &mut S, line: &[u8]) -> Ending
 }
 
 /// Boots a server over a keeper at this time, and takes so many turns of it.
-fn boot_and_run<K: Keeper + Drop, L: Link, C: Clock>(
+fn boot_and_run<K: Keeper, L: Link, C: Clock>(
     alloc: Global,
     keeper: K,
     now: Ticks,
@@ -81,54 +111,63 @@ fn boot_and_run<K: Keeper + Drop, L: Link, C: Clock>(
     longest: u32,
     link: &mut L,
     clock: &mut C,
-) -> Result<(), Halt>
+) -> Turned<K>
     requires long { 5 ≤ longest }
     requires short { longest ≤ 600 }
     requires early { now < 2 ^ 62 }
-    ensures { Runs K.content K.faults K.follows longest turns now keeper result (C.readings clock.old) (C.readings clock.new)
-        (record { sent = L.sent link.old; waiting = L.waiting link.old; faults = L.faults link.old })
-        (record { sent = L.sent link.new; waiting = L.waiting link.new; faults = L.faults link.new }) }
+    ensures runs { Runs K.content K.faults K.follows longest turns now keeper result.ended result.keeper
+        (clock_told C.floor C.readings clock.old) (clock_told C.floor C.readings clock.new)
+        (link_told L.sent L.waiting L.faults L.receives link.old)
+        (link_told L.sent L.waiting L.faults L.receives link.new) }
+    ensures follows { K.follows keeper result.keeper }
 {
-    match booted(alloc, keeper, now, longest) {
+    match Server::boot(alloc, keeper, longest, now) {
         Ok(server) => run_server(alloc, server, turns, link, clock),
-        Err(why) => Err(why),
+        Err(fault) => not_booted(fault),
     }
 }
 
-/// A server that boots over a keeper at this time.
-fn booted<K: Keeper + Drop>(
-    alloc: Global,
-    keeper: K,
-    now: Ticks,
-    longest: u32,
-) -> Result<Server<K>, Halt>
-    requires long { 5 ≤ longest }
-    requires short { longest ≤ 600 }
-    requires early { now < 2 ^ 62 }
-    ensures { EndsBoot K.content K.faults K.follows longest now keeper result }
+/// What serving comes to where no server booted: the keeper is left.
+fn not_booted<K>(fault: BootFault<K>) -> Turned<K>
+    ensures why { result.ended ≡ Err (halt_of fault) }
+    ensures keeper { result.keeper ≡ keeper_in (Err fault) }
 {
-    match Server::boot(alloc, keeper, longest, now) {
-        Ok(server) => Ok(server),
-        Err(BootFault::Failed(_)) => Err(Halt::Keep),
-        Err(BootFault::Memory(_)) => Err(Halt::Memory),
-        Err(BootFault::Spent(_)) => Err(Halt::Spent),
+    match fault {
+        BootFault::Failed(keeper) => Turned {
+            ended: Err(Halt::Keep),
+            keeper,
+        },
+        BootFault::Memory(keeper) => Turned {
+            ended: Err(Halt::Memory),
+            keeper,
+        },
+        BootFault::Spent(keeper) => Turned {
+            ended: Err(Halt::Spent),
+            keeper,
+        },
     }
 }
 
 /// Takes so many turns of a server that has just booted.
-fn run_server<K: Keeper + Drop, L: Link, C: Clock>(
+fn run_server<K: Keeper, L: Link, C: Clock>(
     alloc: Global,
     server: Server<K>,
     turns: u32,
     link: &mut L,
     clock: &mut C,
-) -> Result<(), Halt>
-    ensures { Ran K.content K.faults K.follows turns server result (C.readings clock.old) (C.readings clock.new)
-        (record { sent = L.sent link.old; waiting = L.waiting link.old; faults = L.faults link.old })
-        (record { sent = L.sent link.new; waiting = L.waiting link.new; faults = L.faults link.new }) }
+) -> Turned<K>
+    ensures ran { Ran K.content K.faults K.follows turns server result.ended result.keeper
+        (clock_told C.floor C.readings clock.old) (clock_told C.floor C.readings clock.new)
+        (link_told L.sent L.waiting L.faults L.receives link.old)
+        (link_told L.sent L.waiting L.faults L.receives link.new) }
+    ensures follows { K.follows server.keeper result.keeper }
 {
     let mut server = server;
     let mut log = Journal::new(alloc).unwrap();
     let mut next = 0;
-    take_turns(alloc, &mut server, link, clock, &mut next, &mut log, turns)
+    let ended = take_turns(alloc, &mut server, link, clock, &mut next, &mut log, turns);
+    Turned {
+        ended,
+        keeper: server.into_keeper(),
+    }
 }

@@ -1,6 +1,8 @@
 //! Turns of a server, one after another.
 
-ghost use Rattle.nq_hosts.specs.Serving.{Between, TakesTurn, TakesTurns};
+ghost use Rattle.nq_hosts.specs.Serving.{TakesTurn, TakesTurns, between};
+ghost use Rattle.nq_node.specs.Clocks.{clock_told};
+ghost use Rattle.nq_node.specs.Links.{link_told};
 
 use nq_base::Journal;
 use nq_clock::Clock;
@@ -22,8 +24,10 @@ pub(crate) fn take_turns<K: Keeper, L: Link, C: Clock>(
     turns: u32,
 ) -> Result<(), Halt>
     ensures turns { TakesTurns K.content K.faults turns result
-        (record { server = server.old; log = log.old; next = next.old; clock = C.readings clock.old; link = record { sent = L.sent link.old; waiting = L.waiting link.old; faults = L.faults link.old } })
-        (record { server = server.new; log = log.new; next = next.new; clock = C.readings clock.new; link = record { sent = L.sent link.new; waiting = L.waiting link.new; faults = L.faults link.new } }) }
+        (between server.old log.old next.old (clock_told C.floor C.readings clock.old)
+        (link_told L.sent L.waiting L.faults L.receives link.old))
+        (between server.new log.new next.new (clock_told C.floor C.readings clock.new)
+        (link_told L.sent L.waiting L.faults L.receives link.new)) }
     ensures follows { K.follows server.old.keeper server.new.keeper }
 {
     for _turn in 0..turns {
@@ -45,8 +49,10 @@ fn take_turn<K: Keeper, L: Link, C: Clock>(
     log: &mut Journal,
 ) -> Result<(), Halt>
     ensures turn { TakesTurn K.content K.faults result
-        (record { server = server.old; log = log.old; next = next.old; clock = C.readings clock.old; link = record { sent = L.sent link.old; waiting = L.waiting link.old; faults = L.faults link.old } })
-        (record { server = server.new; log = log.new; next = next.new; clock = C.readings clock.new; link = record { sent = L.sent link.new; waiting = L.waiting link.new; faults = L.faults link.new } }) }
+        (between server.old log.old next.old (clock_told C.floor C.readings clock.old)
+        (link_told L.sent L.waiting L.faults L.receives link.old))
+        (between server.new log.new next.new (clock_told C.floor C.readings clock.new)
+        (link_told L.sent L.waiting L.faults L.receives link.new)) }
     ensures follows { K.follows server.old.keeper server.new.keeper }
 {
     match serve_turn(alloc, server, link, clock, next, log) {

@@ -2,12 +2,14 @@
 use Rattle.std.specs.Prelude.{ℕ, ◌-◌, ◌||◌, nat_lt, List, [], ◌∷◌, ◌++◌, length, drop, min, map, if◌then◌else◌}
 use Rattle.nq_base.specs.declared.Party.{Party}
 use Rattle.nq_io.specs.Calls.{CallCounts, is_next_listed, after_call, after_fault}
+use Rattle.nq_io.specs.Faults.{count_up}
 use Rattle.nq_link.specs.Link.{Letters}
 use Rattle.nq_link.specs.declared.link.Came.{Came}
 use Rattle.nq_link.specs.declared.link.Sent.{Sent}
 use Rattle.nq_net.specs.Packets.{Datagram}
 
--- whose link it is, what it sent, for how many more datagrams and bytes it has room, what waits, and the calls
+-- whose link it is, what it sent, for how many more datagrams and bytes it has room, what waits, the calls, and how many of them
+-- were receives
 pub record StoredLink : Type 0 where
   pub me : Party
   pub sent : List Datagram
@@ -15,6 +17,7 @@ pub record StoredLink : Type 0 where
   pub room_bytes : ℕ
   pub waiting : Letters
   pub calls : CallCounts
+  pub receives : ℕ
 
 -- a datagram that was sent, with its receiver
 abbrev pub letter_of : Datagram → Party × List ℕ
@@ -48,8 +51,12 @@ first_came (d ∷ later) room = Came.Datagram (min (length d.1) room) d.0
 abbrev pub came_of : StoredLink → (room : ℕ) → Came
 came_of link room = if is_next_listed link.calls then Came.Failed else first_came link.waiting room
 
+-- the link after a receive that was counted as this call
+abbrev pub received : StoredLink → CallCounts → StoredLink
+received link calls = record link { calls = calls; receives = count_up link.receives }
+
 -- the link after a receive with this answer
 abbrev pub after_receive : StoredLink → Came → StoredLink
-after_receive link (Came.Datagram _ _) = record link { waiting = drop 1 link.waiting; calls = after_call link.calls }
-after_receive link Came.Nothing = record link { calls = after_call link.calls }
-after_receive link Came.Failed = record link { calls = after_fault link.calls }
+after_receive link (Came.Datagram _ _) = received (record link { waiting = drop 1 link.waiting }) (after_call link.calls)
+after_receive link Came.Nothing = received link (after_call link.calls)
+after_receive link Came.Failed = received link (after_fault link.calls)

@@ -3,6 +3,7 @@
 ghost use Rattle.std.specs.Prelude.{◌≡◌, [], ◌∷◌, ◌++◌, length, take, drop, min, Some, IfOk, OnOk, OnErr};
 ghost use Rattle.nq_base.specs.declared.Party.{Party};
 ghost use Rattle.nq_io.specs.Calls.{fresh};
+ghost use Rattle.nq_io.specs.Faults.{count_up};
 ghost use Rattle.nq_link.specs.Link.{Comes, CountsReceive, CountsSend, Sends};
 ghost use Rattle.nq_link.specs.MemLink.{after_receive, after_send, answer_of, came_of, letters_sent};
 
@@ -42,6 +43,7 @@ pub struct MemLink {
     brought: Vec<Letter>,
     taken: usize,
     calls: Calls,
+    receives: u64,
 }
 
 impl Model for MemLink {
@@ -57,6 +59,7 @@ impl Model for MemLink {
       room_bytes = l.room_bytes;
       waiting = map (λ letter. (letter.sender, letter.bytes.items)) (drop l.taken l.brought.items);
       calls = l.calls;
+      receives = l.receives;
     } };
 
     ghost invariant = { λ l. (l.room ≤ l.sent.spare) × (l.room_bytes ≤ l.sent.spare_bytes) × (l.taken ≤ length l.brought.items) };
@@ -72,7 +75,7 @@ impl MemLink {
         bytes: usize,
         failing: Vec<u32>,
     ) -> Result<MemLink, NoMemory>
-        ensures { IfOk result (λ l. l ≡ record { me = me; sent = []; room = packets; room_bytes = bytes; waiting = []; calls = fresh failing.items }) }
+        ensures { IfOk result (λ l. l ≡ record { me = me; sent = []; room = packets; room_bytes = bytes; waiting = []; calls = fresh failing.items; receives = 0 }) }
     {
         let mut sent = Packets::new(alloc)?;
         sent.reserve(packets, bytes)?;
@@ -84,6 +87,7 @@ impl MemLink {
             brought: Vec::new(alloc),
             taken: 0,
             calls: Calls::new(failing),
+            receives: 0,
         })
     }
 
@@ -116,10 +120,13 @@ impl Link for MemLink {
 
     ghost faults = { λ link. link.calls.faults };
 
+    ghost receives = { λ link. link.receives };
+
     fn send(&mut self, to: Party, bytes: &[u8]) -> Sent
         // As of any link.
         ensures sends { Sends result to bytes.now (Some (letters_sent self.old)) (Some (letters_sent self.new)) }
         ensures waiting { self.new.waiting ≡ self.old.waiting }
+        ensures receives { self.new.receives ≡ self.old.receives }
         ensures cause { CountsSend result self.old.calls.faults self.new.calls.faults }
 
         // Of this one.
@@ -141,12 +148,14 @@ impl Link for MemLink {
         // As of any link.
         ensures comes { Comes result (Some self.old.waiting) (Some self.new.waiting) into.old into.new }
         ensures sent { letters_sent self.new ≡ letters_sent self.old }
+        ensures receives { self.new.receives ≡ count_up self.old.receives }
         ensures cause { CountsReceive result self.old.calls.faults self.new.calls.faults }
 
         // Of this one.
         ensures answer { result ≡ came_of self.old (length into.old) }
         ensures link { self.new ≡ after_receive self.old result }
     {
+        self.receives = self.receives.saturating_add(1);
         if self.calls.is_next_listed() {
             self.calls.count_fault();
             return Came::Failed;

@@ -1,8 +1,11 @@
 //! A link over UDP.
 
-ghost use Rattle.std.specs.Prelude.{◌≡◌, ◌⊎◌, ◌<◌, ◌≤◌, None, IfSome, IfOk, length};
+ghost use Rattle.std.specs.Prelude.{◌≡◌, ◌↔◌, ◌<◌, ◌≤◌, ◌≢◌, nat_lt, None, Some, IsTrue, IfOk, length, if◌then◌else◌};
 ghost use Rattle.nq_base.specs.declared.Party.{Party};
 ghost use Rattle.nq_io.specs.Faults.{Rose, count_up};
+ghost use Rattle.nq_link.specs.Link.{Comes, CountsReceive, CountsSend, Sends};
+ghost use Rattle.nq_link.specs.UdpLink.{ComesFrom, HasAddress, IsAt, IsAtPort, IsFromParty, IsLocal, port_of};
+ghost use Rattle.nq_link.specs.declared.link.Sent.{Sent};
 
 use crate::{Came, Link, Party, Sent};
 use nq_base::Host;
@@ -26,58 +29,88 @@ const WAIT: u64 = 5;
 
 /// A party's UDP socket on 127.0.0.1: the server's port is 20560, and that of host h is 20561 + h. It is bound at the first use. A
 /// receive waits at most 5 milliseconds. A datagram from another port or address is taken and counts as nothing. Each error of
-/// the socket is a fault. Contracts see the count of faults, which stands still at `u64::MAX`.
+/// the socket is a fault. Contracts see whose link it is and its counts, which stand still at `u64::MAX`.
 #[derive(Drop)]
 pub struct UdpLink<R> {
     net: R,
     me: Party,
     socket: Option<UdpSocket>,
     faults: u64,
+    receives: u64,
 }
 
 impl<R> Model for UdpLink<R> {
-    ghost use Rattle.std.specs.Prelude.{ℕ};
+    ghost use Rattle.nq_link.specs.UdpLink.{CountedSocket};
 
-    ghost Value = { ℕ };
+    ghost Value = { CountedSocket };
 
-    ghost view = { λ l. l.faults };
+    ghost view = { λ l. record { me = l.me; faults = l.faults; receives = l.receives } };
 }
 
 /// The address of a party; None for a host that there cannot be.
-fn address_of(party: Party) -> Option<SocketAddr> {
-    let port = match party {
-        Party::Server => SERVER_PORT,
-        Party::Client(host) => FIRST_HOST_PORT + number_of(host)?,
-    };
-    Some(SocketAddr::new(IpAddr::V4(Ipv4Addr::LOCALHOST), port))
+fn address_of(party: Party) -> Option<SocketAddr>
+    ensures { HasAddress party result }
+{
+    match port_of(party) {
+        Some(port) => Some(SocketAddr::new(IpAddr::V4(Ipv4Addr::new(127, 0, 0, 1)), port)),
+        None => None,
+    }
+}
+
+/// The port of a party; None for a host that there cannot be.
+fn port_of(party: Party) -> Option<u16>
+    ensures { result ≡ port_of party }
+{
+    match party {
+        Party::Server => Some(SERVER_PORT),
+        Party::Client(host) => match number_of(host) {
+            Some(number) => Some(FIRST_HOST_PORT + number),
+            None => None,
+        },
+    }
 }
 
 /// The number of a host that there can be.
 fn number_of(host: Host) -> Option<u16>
-    ensures { IfSome result (λ number. number < 64) }
+    ensures { result ≡ (if nat_lt host 64 then Some host else None) }
 {
-    let number = u16::try_from(host.0).ok()?;
-    if number < MOST_HOSTS {
-        Some(number)
+    match u16::try_from(host.0) {
+        Ok(number) if number < MOST_HOSTS => Some(number),
+        _ => None,
+    }
+}
+
+/// The party at an address; None where it is nobody's.
+fn party_at(address: SocketAddr) -> Option<Party>
+    ensures { IsAt address result }
+{
+    if is_local(address.ip()) {
+        party_of(address.port())
     } else {
         None
     }
 }
 
-/// The party at an address; None where it is nobody's.
-fn party_at(address: SocketAddr) -> Option<Party> {
-    if address.ip() != IpAddr::V4(Ipv4Addr::LOCALHOST) {
-        return None;
+/// Whether an address is 127.0.0.1.
+fn is_local(address: IpAddr) -> bool
+    ensures { IsTrue result ↔ IsLocal address }
+{
+    match address {
+        IpAddr::V4(v4) => v4.octets() == [127, 0, 0, 1],
+        IpAddr::V6(_) => false,
     }
-    let port = address.port();
+}
+
+/// The party that has a port; None where it is nobody's.
+fn party_of(port: u16) -> Option<Party>
+    ensures { IsAtPort port result }
+{
     if port == SERVER_PORT {
         return Some(Party::Server);
     }
-    let number = port.checked_sub(FIRST_HOST_PORT)?;
-    if number < MOST_HOSTS {
-        Some(Party::Client(Host(u32::from(number))))
-    } else {
-        None
+    match port.checked_sub(FIRST_HOST_PORT) {
+        Some(number) if number < MOST_HOSTS => Some(Party::Client(Host(u32::from(number)))),
+        _ => None,
     }
 }
 
@@ -102,22 +135,30 @@ fn is_silence(error: &io::Error) -> bool {
 impl<R: Net> UdpLink<R> {
     /// A link of this party. It takes no memory.
     pub fn new(net: R, me: Party) -> UdpLink<R>
-        ensures { result ≡ 0 }
+        ensures { result ≡ record { me = me; faults = 0; receives = 0 } }
     {
         UdpLink {
             net,
             me,
             socket: None,
             faults: 0,
+            receives: 0,
         }
     }
 
     /// Counts a fault.
     fn count_fault(&mut self)
-        ensures counted { self.new ≡ count_up self.old }
-        ensures rose { Rose self.old self.new }
+        ensures counted { self.new ≡ record self.old { faults = count_up self.old.faults } }
+        ensures rose { Rose self.old.faults self.new.faults }
     {
         self.faults = self.faults.saturating_add(1);
+    }
+
+    /// Counts a receive.
+    fn count_receive(&mut self)
+        ensures { self.new ≡ record self.old { receives = count_up self.old.receives } }
+    {
+        self.receives = self.receives.saturating_add(1);
     }
 }
 
@@ -132,14 +173,18 @@ impl<R: Net> UdpLink<R> {
         Ok(())
     }
 
-    /// Sends a datagram, and says how many of its bytes were sent.
+    /// Sends a datagram, and says how many of its bytes were sent. A party without an address is an error.
     fn send_to(&mut self, to: Party, bytes: &[u8]) -> io::Result<usize>
-        ensures { self.new ≡ self.old }
+        ensures same { self.new ≡ self.old }
+        ensures nowhere { IfOk result (λ _. port_of to ≢ None) }
     {
+        let Some(address) = address_of(to) else {
+            return Err(io::Error::from(ErrorKind::InvalidInput));
+        };
         self.bind()?;
-        match (&self.socket, address_of(to)) {
-            (Some(socket), Some(address)) => socket.send_to(bytes, address),
-            _ => Err(io::Error::from(ErrorKind::InvalidInput)),
+        match &self.socket {
+            Some(socket) => socket.send_to(bytes, address),
+            None => Err(io::Error::from(ErrorKind::NotConnected)),
         }
     }
 
@@ -158,7 +203,7 @@ impl<R: Net> UdpLink<R> {
 
 /// What a datagram of so many bytes from an address is to a link.
 fn came_from(length: usize, address: SocketAddr) -> Came
-    ensures { (result ≡ Came.Nothing) ⊎ ((sender : Party) × (result ≡ Came.Datagram length sender)) }
+    ensures { ComesFrom address length result }
 {
     match party_at(address) {
         Some(sender) => Came::Datagram { length, sender },
@@ -171,9 +216,19 @@ impl<R: Net> Link for UdpLink<R> {
 
     ghost waiting = { λ _. None };
 
-    ghost faults = { λ link. link };
+    ghost faults = { λ link. link.faults };
 
-    fn send(&mut self, to: Party, bytes: &[u8]) -> Sent {
+    ghost receives = { λ link. link.receives };
+
+    fn send(&mut self, to: Party, bytes: &[u8]) -> Sent
+        // As of any link.
+        ensures sends { Sends result to bytes.now None None }
+        ensures receives { self.new.receives ≡ self.old.receives }
+        ensures cause { CountsSend result self.old.faults self.new.faults }
+
+        // Of this one.
+        ensures nowhere { port_of to ≡ None → result ≡ Sent.Failed }
+    {
         match self.send_to(to, bytes) {
             Ok(count) if count == bytes.len() => Sent::All,
             _ => {
@@ -183,7 +238,16 @@ impl<R: Net> Link for UdpLink<R> {
         }
     }
 
-    fn receive(&mut self, into: &mut [u8]) -> Came {
+    fn receive(&mut self, into: &mut [u8]) -> Came
+        // As of any link.
+        ensures comes { Comes result None None into.old into.new }
+        ensures receives { self.new.receives ≡ count_up self.old.receives }
+        ensures cause { CountsReceive result self.old.faults self.new.faults }
+
+        // Of this one.
+        ensures known { IsFromParty result }
+    {
+        self.count_receive();
         match self.receive_from(into) {
             Ok((length, address)) => came_from(length, address),
             Err(error) if is_silence(&error) => Came::Nothing,

@@ -3,6 +3,7 @@ use Rattle.std.proofs.Common.{◌≡◌, ◌⊎◌, ℕ, List, [], map, Option, 
 use Rattle.std.proofs.lemmas.List.{reverse-reverse}
 use Rattle.std.specs.List.{AllByRecursion}
 use Rattle.std.specs.Prelude.{reverse}
+use Rattle.nq_node.specs.Clocks.{ClockTold}
 use Rattle.nq_base.specs.declared.Event.{Event}
 use Rattle.nq_ending.specs.declared.Ending.{Ending}
 use Rattle.nq_loop.proofs.Playing.{plays-taken}
@@ -64,7 +65,7 @@ are-looped LoopTurn.Keep head l stands = stands.looped
 are-looped LoopTurn.Memory head l stands = stands.looped
 are-looped (LoopTurn.Limit limit) head l stands = stands.looped
 
-prints-loop : {K : Type 0} (end : Ending) (hosts turns : ℕ) (clock clock' : Option (List ℕ)) (links : List LinkTold) (l : Loop K) (held now : Option (List ℕ)) (w w' : ℕ) → Ran (beginning (loop_head hosts)) turns (between [] links clock) (now_at l clock')
+prints-loop : {K : Type 0} (end : Ending) (hosts turns : ℕ) (clock clock' : ClockTold) (links : List LinkTold) (l : Loop K) (held now : Option (List ℕ)) (w w' : ℕ) → Ran (beginning (loop_head hosts)) turns (between [] links clock) (now_at l clock')
     → IsLooping (beginning (loop_head hosts)) l → PrintsSpelled end (loop_head hosts) l.ran held now w w' → PrintsLoop end hosts turns clock clock' links l.links held now w w'
 prints-loop end hosts turns clock clock' links l held now w w' turned looping prints =
     let played = plays-taken (loop_head hosts) l.ran looping.taken in
@@ -80,7 +81,7 @@ prints-loop end hosts turns clock clock' links l held now w w' turned looping pr
       printed = prints.printed;
     }
 
-by-end : (end : Ending) (hosts turns : ℕ) (clock clock' : Option (List ℕ)) (links links' : List LinkTold) (held now : Option (List ℕ)) (w w' : ℕ) → PrintsLoop end hosts turns clock clock' links links' held now w w' → (end ≡ Ending.Done) ⊎ ((end ≡ Ending.WriteFault) ⊎ (end ≡ Ending.Memory))
+by-end : (end : Ending) (hosts turns : ℕ) (clock clock' : ClockTold) (links links' : List LinkTold) (held now : Option (List ℕ)) (w w' : ℕ) → PrintsLoop end hosts turns clock clock' links links' held now w w' → (end ≡ Ending.Done) ⊎ ((end ≡ Ending.WriteFault) ⊎ (end ≡ Ending.Memory))
     → LoopEnds end hosts turns clock clock' links links' held now w w'
 by-end end hosts turns clock clock' links links' held now w w' printed (inl done) =
     subst (λ e. LoopEnds e hosts turns clock clock' links links' held now w w') (sym done) (subst (λ e. PrintsLoop e hosts turns clock clock' links links' held now w w') done printed)
@@ -89,11 +90,11 @@ by-end end hosts turns clock clock' links links' held now w w' printed (inr (inl
 by-end end hosts turns clock clock' links links' held now w w' printed (inr (inr wanting)) =
     subst (λ e. LoopEnds e hosts turns clock clock' links links' held now w w') (sym wanting) (inr (inr (subst (λ e. PrintsLoop e hosts turns clock clock' links links' held now w w') wanting printed)))
 
-prints-by : (end : Ending) (hosts turns : ℕ) (clock clock' : Option (List ℕ)) (links links' : List LinkTold) (held now : Option (List ℕ)) (w w' : ℕ) → PrintsLoop end hosts turns clock clock' links links' held now w w' → LoopEnds end hosts turns clock clock' links links' held now w w'
+prints-by : (end : Ending) (hosts turns : ℕ) (clock clock' : ClockTold) (links links' : List LinkTold) (held now : Option (List ℕ)) (w w' : ℕ) → PrintsLoop end hosts turns clock clock' links links' held now w w' → LoopEnds end hosts turns clock clock' links links' held now w w'
 prints-by end hosts turns clock clock' links links' held now w w' printed =
     by-end end hosts turns clock clock' links links' held now w w' printed (bytes_end end (loop_text (loop_head hosts) printed.text printed.events) held now w w' printed.printed)
 
-lacks : {K : Type 0} (end : Ending) (last : LoopTurn) (hosts turns : ℕ) (clock clock' : Option (List ℕ)) (links : List LinkTold) (l : Loop K) (held now : Option (List ℕ)) (w w' : ℕ) → TakesTurns (beginning (loop_head hosts)) turns last (between [] links clock) (now_at l clock')
+lacks : {K : Type 0} (end : Ending) (last : LoopTurn) (hosts turns : ℕ) (clock clock' : ClockTold) (links : List LinkTold) (l : Loop K) (held now : Option (List ℕ)) (w w' : ℕ) → TakesTurns (beginning (loop_head hosts)) turns last (between [] links clock) (now_at l clock')
     → end ≡ Ending.Memory → MayLack last → now ≡ held → LoopEnds end hosts turns clock clock' links l.links held now w w'
 lacks end last hosts turns clock clock' links l held now w w' takes wanting may none =
     subst (λ e. LoopEnds e hosts turns clock clock' links l.links held now w w') (sym wanting)
@@ -107,11 +108,11 @@ may-lack LoopTurn.Keep ended = absurd ended
 may-lack LoopTurn.Memory ended = absurd ended
 may-lack (LoopTurn.Limit limit) ended = absurd ended
 
-stops-silently : {K : Type 0} (turn last : LoopTurn) (hosts turns : ℕ) (clock clock' : Option (List ℕ)) (links : List LinkTold) (l : Loop K) (held now : Option (List ℕ)) (w w' : ℕ)
+stops-silently : {K : Type 0} (turn last : LoopTurn) (hosts turns : ℕ) (clock clock' : ClockTold) (links : List LinkTold) (l : Loop K) (held now : Option (List ℕ)) (w w' : ℕ)
     → Stops (beginning (loop_head hosts)) turns turn (between [] links clock) (now_at l clock') → now ≡ held → w' ≡ w → StopsSilently turn hosts turns clock clock' links l.links held now w w'
 stops-silently turn last hosts turns clock clock' links l held now w w' stops none same = record { events = reverse l.ran; stops = stops; silent = none; count = same }
 
-pub ends : {K : Type 0} (end : Ending) (last : LoopTurn) (hosts turns : ℕ) (clock clock' : Option (List ℕ)) (links : List LinkTold) (l : Loop K) (held now : Option (List ℕ)) (w w' : ℕ) → TakesTurns (beginning (loop_head hosts)) turns last (between [] links clock) (now_at l clock')
+pub ends : {K : Type 0} (end : Ending) (last : LoopTurn) (hosts turns : ℕ) (clock clock' : ClockTold) (links : List LinkTold) (l : Loop K) (held now : Option (List ℕ)) (w w' : ℕ) → TakesTurns (beginning (loop_head hosts)) turns last (between [] links clock) (now_at l clock')
     → StandsBehind (beginning (loop_head hosts)) last l → TellsEnd end last (loop_head hosts) l.world l.kept l.ran held now w w' → LoopEnds end hosts turns clock clock' links l.links held now w w'
 ends end last hosts turns clock clock' links l held now w w' takes stands (inl printed) =
     let head = beginning (loop_head hosts) in

@@ -4,10 +4,10 @@ use Rattle.std.specs.Prelude.{slice_get, slice_set}
 use Rattle.nq_base.specs.declared.Event.{Event}
 use Rattle.nq_base.specs.declared.Party.{Party}
 use Rattle.nq_ending.specs.declared.Ending.{Ending}
-use Rattle.nq_io.specs.Faults.{Rose}
+use Rattle.nq_io.specs.Faults.{Rose, count_up}
 use Rattle.nq_loop.proofs.Posts.{get-map}
 use Rattle.nq_loop.specs.Looped.{HasRisen, LoopEnds, LoopsUnlessFault, StopsSilently, between}
-use Rattle.nq_loop.specs.Looping.{Delivers, Gives, GivesDue, HearsAt, IsHeard, IsTaken, IsUnheard, Makes, Moment, Step, Takes, TakesIn, TakesTurn, call_due, came_to, moved, sends_at, turn_of}
+use Rattle.nq_loop.specs.Looping.{Delivers, Gives, GivesDue, HearsAt, IsHeard, IsTaken, IsUnheard, Makes, MissesAt, Moment, Step, Takes, TakesIn, TakesTurn, call_due, came_to, moved, sends_at, turn_of}
 use Rattle.nq_loop.specs.Sending.{FailsAt, changed_at, place_of, sent_all, sent_one, with_sent}
 use Rattle.nq_loop.specs.Steps.{MakesAll, MakesSteps}
 use Rattle.nq_loop.specs.Turning.{Between, Goes, GoesOn, Stops}
@@ -16,6 +16,7 @@ use Rattle.nq_loop.specs.declared.turns.Halt.{Halt}
 use Rattle.nq_loop.specs.declared.turns.LoopTurn.{LoopTurn}
 use Rattle.nq_model.specs.World.{Head}
 use Rattle.nq_net.specs.Packets.{Datagram}
+use Rattle.nq_node.specs.Clocks.{ClockTold}
 use Rattle.nq_node.specs.Links.{Letter, LinkTold}
 use Rattle.nq_play.specs.Playing.{beginning}
 
@@ -44,7 +45,7 @@ set-same (l ∷ links) (suc place) old new there same = ap (λ counts. l.faults 
 
 heard-same : (place : ℕ) (came : Option Letter) (at after : List LinkTold) → HearsAt place came at after → counts_of after ≡ counts_of at
 heard-same place came at after hears =
-    ap counts_of hears.heard ∙ set-same at place hears.link (record hears.link { waiting = hears.waiting }) hears.there refl
+    ap counts_of hears.heard ∙ set-same at place hears.link (record hears.link { waiting = hears.waiting; receives = count_up hears.link.receives }) hears.there refl
 
 moment-same : (at after : Moment) → after ≡ at → counts_of after.links ≡ counts_of at.links
 moment-same at after is = ap (λ (m : Moment). counts_of m.links) is
@@ -86,6 +87,18 @@ fails-rises place at after fails =
       before = fails.there;
       behind = subst (λ links. slice_get links place ≡ Some new) (sym fails.failed) (get-set at place fails.link new fails.there);
       rose = fails.rose;
+    }
+
+misses-rises : (place : ℕ) (at after : List LinkTold) → MissesAt place at after → HasRisen at after
+misses-rises place at after misses =
+    let new : LinkTold = record misses.link { faults = misses.count; receives = count_up misses.link.receives } in
+    record {
+      place = place;
+      link = misses.link;
+      link' = new;
+      before = misses.there;
+      behind = subst (λ links. slice_get links place ≡ Some new) (sym misses.missed) (get-set at place misses.link new misses.there);
+      rose = misses.rose;
     }
 
 -- ---- steps
@@ -147,7 +160,7 @@ receives-counts head party ended at after (inl heard) =
     counts-on ended at.links heard.links after.links (heard-same (place_of party) heard.came at.links heard.links heard.hears)
     (takes-in-counts head party heard.came ended (record at { links = heard.links }) after heard.takes)
 receives-counts head party ended at after (inr unheard) =
-    subst (λ e. Counts e at.links after.links) (sym unheard.why) (fails-rises (place_of party) at.links after.links unheard.fails)
+    subst (λ e. Counts e at.links after.links) (sym unheard.why) (misses-rises (place_of party) at.links after.links unheard.fails)
 
 step-counts : (head : Head) (step : Step) (ended : Result Bool Halt) (at after : Moment) → Makes head step ended at after → Counts ended at.links after.links
 step-counts head (Step.given event) ended at after makes = gives-counts head event ended at after makes
@@ -178,7 +191,7 @@ by-turn (Err Halt.Keep) turn at after is counts = subst (λ t. TurnCounts t at a
 by-turn (Err Halt.Memory) turn at after is counts = subst (λ t. TurnCounts t at after) (sym is) counts
 by-turn (Err (Halt.Limit limit)) turn at after is counts = subst (λ t. TurnCounts t at after) (sym is) counts
 
-turn-counts : (head : Head) (turn : LoopTurn) (clock clock' : Option (List ℕ)) (at after : Moment) → TakesTurn head turn clock clock' at after → TurnCounts turn at.links after.links
+turn-counts : (head : Head) (turn : LoopTurn) (clock clock' : ClockTold) (at after : Moment) → TakesTurn head turn clock clock' at after → TurnCounts turn at.links after.links
 turn-counts head turn clock clock' at after takes = by-turn takes.ended turn at.links after.links takes.answer (steps-counts head _ takes.ended at after takes.made)
 
 on-counts : (head : Head) (at after : Between) → TakesTurn head LoopTurn.Took at.clock after.clock at.moment after.moment ⊎ TakesTurn head LoopTurn.Quiet at.clock after.clock at.moment after.moment
@@ -191,7 +204,7 @@ goes-counts head zero at after goes = ap (λ (b : Between). counts_of b.moment.l
 goes-counts head (suc count) at after goes = on-counts head goes.0 after goes.2.1 ∙ goes-counts head count at goes.0 goes.1
 
 -- a loop that a fault of a link ended has a link that counted one
-link-risen : (hosts turns : ℕ) (clock clock' : Option (List ℕ)) (links links' : List LinkTold) (held now : Option (List ℕ)) (w w' : ℕ) → StopsSilently LoopTurn.Link hosts turns clock clock' links links' held now w w' → HasRisen links links'
+link-risen : (hosts turns : ℕ) (clock clock' : ClockTold) (links links' : List LinkTold) (held now : Option (List ℕ)) (w w' : ℕ) → StopsSilently LoopTurn.Link hosts turns clock clock' links links' held now w w' → HasRisen links links'
 link-risen hosts turns clock clock' links links' held now w w' silent =
     let s = silent.stops in
     let head = beginning (loop_head hosts) in
@@ -199,7 +212,7 @@ link-risen hosts turns clock clock' links links' held now w w' silent =
     rises-behind links s.between.moment.links links' before (turn-counts head LoopTurn.Link s.between.clock clock' s.between.moment _ s.last)
 
 -- without a counted fault a loop takes its turns or comes to a limit, or memory was wanting
-pub loops-unless : (end : Ending) (hosts turns : ℕ) (clock clock' : Option (List ℕ)) (links links' : List LinkTold) (held now : Option (List ℕ)) (w w' : ℕ) → LoopEnds end hosts turns clock clock' links links' held now w w' → LoopsUnlessFault end links links' w w'
+pub loops-unless : (end : Ending) (hosts turns : ℕ) (clock clock' : ClockTold) (links links' : List LinkTold) (held now : Option (List ℕ)) (w w' : ℕ) → LoopEnds end hosts turns clock clock' links links' held now w w' → LoopsUnlessFault end links links' w w'
 loops-unless Ending.Done hosts turns clock clock' links links' held now w w' ends = inl refl
 loops-unless Ending.WriteFault hosts turns clock clock' links links' held now w w' ends = inr (inr ends.printed.1)
 loops-unless Ending.Memory hosts turns clock clock' links links' held now w w' ends = inr (inr tt)

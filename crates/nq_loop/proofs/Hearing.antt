@@ -3,14 +3,15 @@ use Rattle.std.proofs.Common.{◌≡◌, ℕ, ◌≤◌, Bool, true, false, List
 use Rattle.std.specs.Prelude.{Result, reverse, slice_get, slice_set}
 use Rattle.nq_base.specs.declared.Event.{Event}
 use Rattle.nq_base.specs.declared.Party.{Party}
+use Rattle.nq_io.specs.Faults.{count_up}
 use Rattle.nq_link.specs.Link.{Comes, CountsReceive, Letters}
 use Rattle.nq_link.specs.declared.Came.{Came}
-use Rattle.nq_loop.proofs.Posts.{get-map, map-set-slice, told-failed}
+use Rattle.nq_loop.proofs.Posts.{get-map, map-set-slice}
 use Rattle.nq_loop.proofs.Whole.{one-step}
 use Rattle.nq_loop.specs.Holding.{GivesTo, IsLooping, Loop, Loops, TakesFrom}
-use Rattle.nq_loop.specs.Looping.{Brings, HearsAt, Step, came_to, datagrams_of}
+use Rattle.nq_loop.specs.Looping.{Brings, HearsAt, MissesAt, Step, came_to, datagrams_of}
 use Rattle.nq_loop.specs.Matching.{CountsAs}
-use Rattle.nq_loop.specs.Sending.{FailsAt, place_of, told_of}
+use Rattle.nq_loop.specs.Sending.{place_of, told_of}
 use Rattle.nq_loop.specs.declared.turns.Halt.{Halt}
 use Rattle.nq_model.specs.World.{Head, run}
 use Rattle.nq_net.specs.Packets.{Datagram}
@@ -20,21 +21,31 @@ use Rattle.nq_node.specs.Links.{Letter, LinkTold, most_bytes}
 -- ---- what came
 
 -- a receive on the link told of these brought something or nothing
-abbrev IsHeardOn : (s s' w w' : Option Letters) (f f' : ℕ) → Type 0
-IsHeardOn s s' w w' f f' =
-    let old : LinkTold = record { sent = s; waiting = w; faults = f } in
-    let new : LinkTold = record { sent = s'; waiting = w'; faults = f' } in
-    new ≡ record old { waiting = w' }
+abbrev IsHeardOn : (s s' w w' : Option Letters) (f f' r r' : ℕ) → Type 0
+IsHeardOn s s' w w' f f' r r' =
+    let old : LinkTold = record { sent = s; waiting = w; faults = f; receives = r } in
+    let new : LinkTold = record { sent = s'; waiting = w'; faults = f'; receives = r' } in
+    new ≡ record old { waiting = w'; receives = count_up r }
 
-told-heard : (s s' w w' : Option Letters) (f f' : ℕ) → s' ≡ s → f' ≡ f → IsHeardOn s s' w w' f f'
-told-heard s s' w w' f f' sent count = rw (sent, count) refl
+told-heard : (s s' w w' : Option Letters) (f f' r r' : ℕ) → s' ≡ s → r' ≡ count_up r → f' ≡ f → IsHeardOn s s' w w' f f' r r'
+told-heard s s' w w' f f' r r' sent receives count = rw (sent, receives, count) refl
+
+-- a receive on the link told of these failed
+abbrev IsMissedOn : (s s' w w' : Option Letters) (f f' r r' : ℕ) → Type 0
+IsMissedOn s s' w w' f f' r r' =
+    let old : LinkTold = record { sent = s; waiting = w; faults = f; receives = r } in
+    let new : LinkTold = record { sent = s'; waiting = w'; faults = f'; receives = r' } in
+    new ≡ record old { faults = f'; receives = count_up r }
+
+told-missed : (s s' w w' : Option Letters) (f f' r r' : ℕ) → s' ≡ s → w' ≡ w → r' ≡ count_up r → IsMissedOn s s' w w' f f' r r'
+told-missed s s' w w' f f' r r' sent waiting receives = rw (sent, waiting, receives) refl
 
 -- what one receive on the link at a place brought
-pub brings : {L : Type 0} (sent waiting : L → Option Letters) (faults : L → ℕ) (links : List L) (place : ℕ) (old new : L) (came : Came) (buffer filled : List ℕ) → slice_get links place ≡ Some old → length buffer ≡ most_bytes → length filled ≡ length buffer
-    → Comes came (waiting old) (waiting new) buffer filled → sent new ≡ sent old → CountsReceive came (faults old) (faults new)
-    → Brings came place (map (told_of sent waiting faults) links) (map (told_of sent waiting faults) (slice_set links place new)) filled
-brings sent waiting faults links place old new (Came.Datagram count origin) buffer filled there long kept comes same counts =
-    let told = told_of sent waiting faults in
+pub brings : {L : Type 0} (sent waiting : L → Option Letters) (faults receives : L → ℕ) (links : List L) (place : ℕ) (old new : L) (came : Came) (buffer filled : List ℕ) → slice_get links place ≡ Some old → length buffer ≡ most_bytes → length filled ≡ length buffer
+    → Comes came (waiting old) (waiting new) buffer filled → sent new ≡ sent old → receives new ≡ count_up (receives old) → CountsReceive came (faults old) (faults new)
+    → Brings came place (map (told_of sent waiting faults receives) links) (map (told_of sent waiting faults receives) (slice_set links place new)) filled
+brings sent waiting faults receives links place old new (Came.Datagram count origin) buffer filled there long kept comes same asked counts =
+    let told = told_of sent waiting faults receives in
     let within : count ≤ length buffer = comes.0 in (
       omega (arith, within, kept),
       record {
@@ -42,26 +53,26 @@ brings sent waiting faults links place old new (Came.Datagram count origin) buff
         there = get-map told links place old there;
         waiting = waiting new;
         hears = heard most_bytes count origin (waiting old) (waiting new) buffer filled long comes;
-        heard = map-set-slice told links place new ∙ ap (λ l. slice_set (map told links) place l) (told-heard (sent old) (sent new) (waiting old) (waiting new) (faults old) (faults new) same counts);
+        heard = map-set-slice told links place new ∙ ap (λ l. slice_set (map told links) place l) (told-heard (sent old) (sent new) (waiting old) (waiting new) (faults old) (faults new) (receives old) (receives new) same asked counts);
       },
     )
-brings sent waiting faults links place old new Came.Nothing buffer filled there long kept comes same counts =
-    let told = told_of sent waiting faults in
+brings sent waiting faults receives links place old new Came.Nothing buffer filled there long kept comes same asked counts =
+    let told = told_of sent waiting faults receives in
     record {
       link = told old;
       there = get-map told links place old there;
       waiting = waiting new;
       hears = comes;
-      heard = map-set-slice told links place new ∙ ap (λ l. slice_set (map told links) place l) (told-heard (sent old) (sent new) (waiting old) (waiting new) (faults old) (faults new) same counts);
+      heard = map-set-slice told links place new ∙ ap (λ l. slice_set (map told links) place l) (told-heard (sent old) (sent new) (waiting old) (waiting new) (faults old) (faults new) (receives old) (receives new) same asked counts);
     }
-brings sent waiting faults links place old new Came.Failed buffer filled there long kept comes same counts =
-    let told = told_of sent waiting faults in
+brings sent waiting faults receives links place old new Came.Failed buffer filled there long kept comes same asked counts =
+    let told = told_of sent waiting faults receives in
     record {
       link = told old;
       there = get-map told links place old there;
       count = faults new;
       rose = counts;
-      failed = map-set-slice told links place new ∙ ap (λ l. slice_set (map told links) place l) (told-failed (sent old) (sent new) (waiting old) (waiting new) (faults old) (faults new) same comes);
+      missed = map-set-slice told links place new ∙ ap (λ l. slice_set (map told links) place l) (told-missed (sent old) (sent new) (waiting old) (waiting new) (faults old) (faults new) (receives old) (receives new) same comes asked);
     }
 
 -- ---- the loop behind it
@@ -80,7 +91,7 @@ pub none-came : {K : Type 0} (head : Head) (party : Party) (l : Loop K) (links :
 none-came head party l links here hears =
     one-step head (Step.receive party) (Ok false) l (record l { links = links }) (inl (record { came = None; links = links; hears = hears; takes = (refl, refl) })) (relinked head l links here)
 
-pub none-heard : {K : Type 0} (head : Head) (party : Party) (l : Loop K) (links : List LinkTold) → IsLooping head l → FailsAt (place_of party) l.links links → Loops head (Step.receive party ∷ []) (Err Halt.Link) l (record l { links = links })
+pub none-heard : {K : Type 0} (head : Head) (party : Party) (l : Loop K) (links : List LinkTold) → IsLooping head l → MissesAt (place_of party) l.links links → Loops head (Step.receive party ∷ []) (Err Halt.Link) l (record l { links = links })
 none-heard head party l links here fails =
     one-step head (Step.receive party) (Err Halt.Link) l (record l { links = links }) (inr (record { why = refl; fails = fails; same = refl })) (relinked head l links here)
 

@@ -132,25 +132,25 @@ was-wanting ds first number d at now new low there so_far sends =
 -- ---- one datagram
 
 -- this datagram was sent over the link told of these
-abbrev pub IsSent : Datagram → (s s' w w' : Option Letters) (f f' : ℕ) → Type 0
-IsSent d s s' w w' f f' =
-    let old : LinkTold = record { sent = s; waiting = w; faults = f } in
-    let new : LinkTold = record { sent = s'; waiting = w'; faults = f' } in
+abbrev pub IsSent : Datagram → (s s' w w' : Option Letters) (f f' r r' : ℕ) → Type 0
+IsSent d s s' w w' f f' r r' =
+    let old : LinkTold = record { sent = s; waiting = w; faults = f; receives = r } in
+    let new : LinkTold = record { sent = s'; waiting = w'; faults = f'; receives = r' } in
     new ≡ with_sent d old
 
-pub told-sent : (d : Datagram) (s s' w w' : Option Letters) (f f' : ℕ) (to : Party) (bytes : List ℕ) → s' ≡ with_last s to bytes → to ≡ d.to → bytes ≡ d.bytes → w' ≡ w → f' ≡ f
-    → IsSent d s s' w w' f f'
-told-sent d s s' w w' f f' to bytes sent is same waiting count = rw (sent, waiting, count, ← is, ← same) refl
+pub told-sent : (d : Datagram) (s s' w w' : Option Letters) (f f' r r' : ℕ) (to : Party) (bytes : List ℕ) → s' ≡ with_last s to bytes → to ≡ d.to → bytes ≡ d.bytes → w' ≡ w → r' ≡ r → f' ≡ f
+    → IsSent d s s' w w' f f' r r'
+told-sent d s s' w w' f f' r r' to bytes sent is same waiting receives count = rw (sent, waiting, receives, count, ← is, ← same) refl
 
 -- the link told of these failed
-abbrev pub IsFailed : (s s' w w' : Option Letters) (f f' : ℕ) → Type 0
-IsFailed s s' w w' f f' =
-    let old : LinkTold = record { sent = s; waiting = w; faults = f } in
-    let new : LinkTold = record { sent = s'; waiting = w'; faults = f' } in
+abbrev pub IsFailed : (s s' w w' : Option Letters) (f f' r r' : ℕ) → Type 0
+IsFailed s s' w w' f f' r r' =
+    let old : LinkTold = record { sent = s; waiting = w; faults = f; receives = r } in
+    let new : LinkTold = record { sent = s'; waiting = w'; faults = f'; receives = r' } in
     new ≡ record old { faults = f' }
 
-pub told-failed : (s s' w w' : Option Letters) (f f' : ℕ) → s' ≡ s → w' ≡ w → IsFailed s s' w w' f f'
-told-failed s s' w w' f f' sent waiting = rw (sent, waiting) refl
+pub told-failed : (s s' w w' : Option Letters) (f f' r r' : ℕ) → s' ≡ s → w' ≡ w → r' ≡ r → IsFailed s s' w w' f f' r r'
+told-failed s s' w w' f f' r r' sent waiting receives = rw (sent, waiting, receives) refl
 
 -- it stopped at one of them
 pub stops-at : (why : Halt) (ds : List Datagram) (first number : ℕ) (d : Datagram) (at now new : List LinkTold) → first ≤ number → slice_get ds number ≡ Some d → SentUpTo ds first number at now

@@ -2,6 +2,7 @@
 use Rattle.std.proofs.Common.{◌≡◌, ℕ, ◌+◌, ◌<◌, Bool, true, false, List, Ok, Err, Option, zero, suc, inl, inr, refl, ap, subst, ◌∙◌, arith, add-one}
 use Rattle.std.proofs.lemmas.Bool.Decides.{nat_tests}
 use Rattle.std.specs.Prelude.{◌&&◌, not, min, nat_le, slice_get}
+use Rattle.nq_node.specs.Clocks.{ClockTold}
 use Rattle.nq_base.specs.declared.Event.{Event}
 use Rattle.nq_io.specs.Faults.{Rose}
 use Rattle.nq_loop.specs.Counting.{begun_in}
@@ -34,11 +35,11 @@ more-below test host before here after is so_far same = rw (add-one host) (is �
 -- ---- turns
 
 -- a loop between two turns
-abbrev pub now_at : {K : Type 0} → Loop K → Option (List ℕ) → Between
+abbrev pub now_at : {K : Type 0} → Loop K → ClockTold → Between
 now_at l clock = record { moment = moment_of l; clock = clock }
 
 -- a turn that did not stop
-pub went : {K : Type 0} (head : Head) (count : ℕ) (turn : LoopTurn) (at : Between) (clock clock' : Option (List ℕ)) (old new : Loop K) → went_on turn ≡ Ok tt → Goes head count at (now_at old clock) → all_answered head (moment_of old).events ≡ false
+pub went : {K : Type 0} (head : Head) (count : ℕ) (turn : LoopTurn) (at : Between) (clock clock' : ClockTold) (old new : Loop K) → went_on turn ≡ Ok tt → Goes head count at (now_at old clock) → all_answered head (moment_of old).events ≡ false
     → Turns head turn clock clock' old new → Goes head (count + 1) at (now_at new clock') × IsLooping head new
 went head count LoopTurn.Took at clock clock' old new is goes left turned = (rw (add-one count) (now_at old clock, goes, (left, inl turned.takes)), turned.stands)
 went head count LoopTurn.Quiet at clock clock' old new is goes left turned = (rw (add-one count) (now_at old clock, goes, (left, inr turned.takes)), turned.stands)
@@ -47,11 +48,11 @@ went head count LoopTurn.Keep at clock clock' old new is goes left turned = absu
 went head count LoopTurn.Memory at clock clock' old new is goes left turned = absurd (cc)
 went head count (LoopTurn.Limit limit) at clock clock' old new is goes left turned = absurd (cc)
 
-stops : {K : Type 0} (head : Head) (count turns : ℕ) (turn : LoopTurn) (at : Between) (clock clock' : Option (List ℕ)) (old new : Loop K) → count < turns → Goes head count at (now_at old clock) → all_answered head (moment_of old).events ≡ false
+stops : {K : Type 0} (head : Head) (count turns : ℕ) (turn : LoopTurn) (at : Between) (clock clock' : ClockTold) (old new : Loop K) → count < turns → Goes head count at (now_at old clock) → all_answered head (moment_of old).events ≡ false
     → Turns head turn clock clock' old new → Stops head turns turn at (now_at new clock')
 stops head count turns turn at clock clock' old new fewer goes left turned = record { count = count; fewer = fewer; between = now_at old clock; goes = goes; left = left; last = turned.takes }
 
-pub stopped : {K : Type 0} (head : Head) (count turns : ℕ) (turn last : LoopTurn) (at : Between) (clock clock' : Option (List ℕ)) (old new : Loop K) → went_on turn ≡ Err last → count < turns → Goes head count at (now_at old clock)
+pub stopped : {K : Type 0} (head : Head) (count turns : ℕ) (turn last : LoopTurn) (at : Between) (clock clock' : ClockTold) (old new : Loop K) → went_on turn ≡ Err last → count < turns → Goes head count at (now_at old clock)
     → all_answered head (moment_of old).events ≡ false → Turns head turn clock clock' old new → TakesTurns head turns last at (now_at new clock') × StandsBehind head last new
 stopped head count turns LoopTurn.Took last at clock clock' old new is fewer goes left turned = absurd (cc)
 stopped head count turns LoopTurn.Quiet last at clock clock' old new is fewer goes left turned = absurd (cc)

@@ -1,7 +1,7 @@
 -- A turn, by how its steps ended.
 use Rattle.std.proofs.Common.{◌≡◌, ℕ, Bool, true, false, List, Ok, Err, Option, sym, ap, subst, ◌∙◌}
 use Rattle.std.specs.Prelude.{Result, reverse}
-use Rattle.nq_clock.specs.Clock.{Reads}
+use Rattle.nq_node.specs.Clocks.{ClockTold, ReadsOnce}
 use Rattle.nq_loop.specs.Holding.{CountsKeep, CountsTurn, IsLooping, Keeps, KeepsTurn, Loop, Loops, Stands, StandsBehind, Turns, moment_of}
 use Rattle.nq_loop.specs.Looping.{Makes, rounds_due, turn_of, turn_steps}
 use Rattle.nq_loop.specs.Steps.{MakesSteps}
@@ -25,7 +25,7 @@ counts-so (Err Halt.Keep) before now counts = counts
 counts-so (Err Halt.Memory) before now counts = counts
 counts-so (Err (Halt.Limit limit)) before now counts = counts
 
-pub turned : {K : Type 0} (head : Head) (turn : LoopTurn) (ended : Result Bool Halt) (reading rounds time : ℕ) (clock clock' : Option (List ℕ)) (old new : Loop K) → turn ≡ turn_of ended → Reads reading clock clock' → rounds ≡ rounds_due time reading
+pub turned : {K : Type 0} (head : Head) (turn : LoopTurn) (ended : Result Bool Halt) (reading rounds time : ℕ) (clock clock' : ClockTold) (old new : Loop K) → turn ≡ turn_of ended → ReadsOnce reading clock clock' → rounds ≡ rounds_due time reading
     → time ≡ old.world.server.beside.time → IsLooping head old → Loops head (turn_steps head.hosts rounds) ended old new → Turns head turn clock clock' old new
 turned head turn ended reading rounds time clock clock' old new answer read due shown here loops =
     let same : old.world.server.beside.time ≡ (run head (reverse old.ran)).server.now = ap (λ b. b.time) here.plays.holds in

@@ -1,6 +1,7 @@
 -- The loop over a world as contracts see it. Below, `before` and `now` are the keeper's counts of faults.
 use Rattle.std.specs.List.{AllByRecursion}
 use Rattle.std.specs.Prelude.{◌≡◌, ◌<◌, ◌^◌, ℕ, Bool, List, [], ◌∷◌, Option, Result, Ok, Err, map, reverse}
+use Rattle.nq_node.specs.Clocks.{ClockTold}
 use Rattle.nq_base.specs.Block.{filled}
 use Rattle.nq_base.specs.declared.Call.{Call}
 use Rattle.nq_base.specs.declared.Event.{Event}
@@ -30,13 +31,13 @@ pub record Loop (K : Type 0) : Type 0 where
   pub links : List LinkTold
 
 -- the loop of these
-abbrev pub loop_of : {K L : Type 0} → (content : K → Option Kept) → (sent waiting : L → Option Letters) → (faults : L → ℕ) → WorldOver K → LoopCounts → (ran : List Event) → (links : List L) → Loop K
-loop_of content sent waiting faults world state ran links = record {
+abbrev pub loop_of : {K L : Type 0} → (content : K → Option Kept) → (sent waiting : L → Option Letters) → (faults receives : L → ℕ) → WorldOver K → LoopCounts → (ran : List Event) → (links : List L) → Loop K
+loop_of content sent waiting faults receives world state ran links = record {
   world = world;
   kept = content world.server.keeper;
   state = state;
   ran = ran;
-  links = map (told_of sent waiting faults) links;
+  links = map (told_of sent waiting faults receives) links;
 }
 
 -- its moment
@@ -124,7 +125,7 @@ StandsBehind head LoopTurn.Keep l = HasFailed head l
 StandsBehind head other l = IsLooping head l
 
 -- a turn of a loop, with this answer
-pub record Turns {K : Type 0} (head : Head) (turn : LoopTurn) (clock clock' : Option (List ℕ)) (old new : Loop K) : Type 0 where
+pub record Turns {K : Type 0} (head : Head) (turn : LoopTurn) (clock clock' : ClockTold) (old new : Loop K) : Type 0 where
   pub takes : TakesTurn head turn clock clock' (moment_of old) (moment_of new)
   pub stands : StandsBehind head turn new
 

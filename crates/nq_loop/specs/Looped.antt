@@ -10,6 +10,7 @@ use Rattle.nq_loop.specs.Turning.{Between, Ran, Stops, TakesTurns}
 use Rattle.nq_loop.specs.Whole.{loop_head}
 use Rattle.nq_loop.specs.declared.turns.LoopTurn.{LoopTurn}
 use Rattle.nq_model.specs.Kept.{Kept}
+use Rattle.nq_node.specs.Clocks.{ClockTold}
 use Rattle.nq_node.specs.Links.{LinkTold}
 use Rattle.nq_play.specs.Lawful.{IsLawful}
 use Rattle.nq_play.specs.Playing.{beginning}
@@ -23,34 +24,34 @@ use Rattle.nq_world.specs.Playing.{Plays, WorldOver}
 use Rattle.nq_world.specs.declared.Limit.{Limit}
 
 -- between two turns, with these events, links and readings to come
-abbrev pub between : List Event → List LinkTold → Option (List ℕ) → Between
+abbrev pub between : List Event → List LinkTold → ClockTold → Between
 between events links clock = record { moment = record { events = events; links = links }; clock = clock }
 
 -- the text is a schedule with a line for each event, a tick as `tick s 1` or `tick H 1`, and its run is this one. Its events are those that
 -- turns of a loop among so many hosts made of clock readings and datagrams, until all calls were answered or so many turns were taken. It is
 -- within skew and keeps to the bounds
-pub record IsWhole (hosts turns : ℕ) (text : List ℕ) (events : List Event) (clock clock' : Option (List ℕ)) (links links' : List LinkTold) : Type 0 where
+pub record IsWhole (hosts turns : ℕ) (text : List ℕ) (events : List Event) (clock clock' : ClockTold) (links links' : List LinkTold) : Type 0 where
   pub turned : Ran (beginning (loop_head hosts)) turns (between [] links clock) (between events links' clock')
   pub spelled : SpellsSchedule (loop_head hosts) (map once (reverse events)) text
   pub runs : Runs text (loop_head hosts) events
   pub lawful : IsLawful (beginning (loop_head hosts)) events
 
 -- a loop printed, by its end, its schedule, the journal of that schedule, and its counts
-pub record PrintsLoop (end : Ending) (hosts turns : ℕ) (clock clock' : Option (List ℕ)) (links links' : List LinkTold) (held now : Option (List ℕ)) (w w' : ℕ) : Type 0 where
+pub record PrintsLoop (end : Ending) (hosts turns : ℕ) (clock clock' : ClockTold) (links links' : List LinkTold) (held now : Option (List ℕ)) (w w' : ℕ) : Type 0 where
   pub text : List ℕ
   pub events : List Event
   pub whole : IsWhole hosts turns text events clock clock' links links'
   pub printed : PrintsBytes end (loop_text (loop_head hosts) text events) held now w w'
 
 -- a loop came to a limit, and that was printed
-pub record PrintsReached (hosts turns : ℕ) (clock clock' : Option (List ℕ)) (links links' : List LinkTold) (held now : Option (List ℕ)) (w w' : ℕ) : Type 0 where
+pub record PrintsReached (hosts turns : ℕ) (clock clock' : ClockTold) (links links' : List LinkTold) (held now : Option (List ℕ)) (w w' : ℕ) : Type 0 where
   pub events : List Event
   pub limit : Limit
   pub stops : Stops (beginning (loop_head hosts)) turns (LoopTurn.Limit limit) (between [] links clock) (between events links' clock')
   pub printed : PrintsLine (limit_line 0 (bound_of limit)) held now w w'
 
 -- a turn stopped with this answer, and nothing was printed
-pub record StopsSilently (turn : LoopTurn) (hosts turns : ℕ) (clock clock' : Option (List ℕ)) (links links' : List LinkTold) (held now : Option (List ℕ)) (w w' : ℕ) : Type 0 where
+pub record StopsSilently (turn : LoopTurn) (hosts turns : ℕ) (clock clock' : ClockTold) (links links' : List LinkTold) (held now : Option (List ℕ)) (w w' : ℕ) : Type 0 where
   pub events : List Event
   pub stops : Stops (beginning (loop_head hosts)) turns turn (between [] links clock) (between events links' clock')
   pub silent : now ≡ held
@@ -63,7 +64,7 @@ MayLack LoopTurn.Keep = ⊥
 MayLack other = Unit {0}
 
 -- turns were taken, the last of which had this answer; memory was wanting in it or behind it, and nothing was printed
-pub record LacksMemory (hosts turns : ℕ) (clock clock' : Option (List ℕ)) (links links' : List LinkTold) (held now : Option (List ℕ)) : Type 0 where
+pub record LacksMemory (hosts turns : ℕ) (clock clock' : ClockTold) (links links' : List LinkTold) (held now : Option (List ℕ)) : Type 0 where
   pub last : LoopTurn
   pub lacking : MayLack last
   pub events : List Event
@@ -71,14 +72,14 @@ pub record LacksMemory (hosts turns : ℕ) (clock clock' : Option (List ℕ)) (l
   pub silent : now ≡ held
 
 -- no turn was taken for want of memory: the clock was not read, nothing was sent or received, and nothing was printed
-pub record BeginsNone (clock clock' : Option (List ℕ)) (links links' : List LinkTold) (held now : Option (List ℕ)) (w w' : ℕ) : Type 0 where
+pub record BeginsNone (clock clock' : ClockTold) (links links' : List LinkTold) (held now : Option (List ℕ)) (w w' : ℕ) : Type 0 where
   pub unread : clock' ≡ clock
   pub unsent : links' ≡ links
   pub silent : now ≡ held
   pub count : w' ≡ w
 
 -- what the words of a loop did, by the end
-abbrev pub LoopEnds : Ending → (hosts turns : ℕ) → (clock clock' : Option (List ℕ)) → (links links' : List LinkTold) → (held now : Option (List ℕ)) → (w w' : ℕ) → Type 0
+abbrev pub LoopEnds : Ending → (hosts turns : ℕ) → (clock clock' : ClockTold) → (links links' : List LinkTold) → (held now : Option (List ℕ)) → (w w' : ℕ) → Type 0
 LoopEnds Ending.Done hosts turns clock clock' links links' held now w w' = PrintsLoop Ending.Done hosts turns clock clock' links links' held now w w'
 LoopEnds Ending.WriteFault hosts turns clock clock' links links' held now w w' = PrintsLoop Ending.WriteFault hosts turns clock clock' links links' held now w w'
 LoopEnds Ending.Memory hosts turns clock clock' links links' held now w w' =

@@ -5,11 +5,11 @@ use Rattle.nq_base.specs.Block.{filled}
 use Rattle.nq_base.specs.declared.Call.{Call}
 use Rattle.nq_base.specs.declared.Event.{Event}
 use Rattle.nq_base.specs.declared.Party.{Party}
-use Rattle.nq_clock.specs.Clock.{Reads}
+use Rattle.nq_io.specs.Faults.{Rose, count_up}
 use Rattle.nq_link.specs.declared.Came.{Came}
 use Rattle.nq_loop.specs.Counting.{begun_in}
 use Rattle.nq_loop.specs.Matching.{CountsAs}
-use Rattle.nq_loop.specs.Sending.{FailsAt, SendsAll, place_of}
+use Rattle.nq_loop.specs.Sending.{SendsAll, place_of}
 use Rattle.nq_loop.specs.Steps.{MakesSteps, each_below}
 use Rattle.nq_loop.specs.declared.turns.Halt.{Halt}
 use Rattle.nq_loop.specs.declared.turns.LoopTurn.{LoopTurn}
@@ -17,6 +17,7 @@ use Rattle.nq_model.specs.Client.{Client}
 use Rattle.nq_model.specs.Stepped.{done, stepped}
 use Rattle.nq_model.specs.World.{Head, World, run}
 use Rattle.nq_net.specs.Packets.{Datagram}
+use Rattle.nq_node.specs.Clocks.{ClockTold, ReadsOnce}
 use Rattle.nq_node.specs.Links.{Hears, Letter, LinkTold, most_bytes}
 use Rattle.nq_play.specs.Reaching.{IsReached}
 use Rattle.nq_world.specs.Shown.{datagram}
@@ -116,19 +117,27 @@ abbrev pub TakesIn : Head → Party → Option Letter → Result Bool Halt → (
 TakesIn head party None ended at after = (ended ≡ Ok false) × (after ≡ at)
 TakesIn head party (Some letter) ended at after = Takes head (came_to party letter) ended at after
 
--- one receive on the link at a place brought this, if anything
+-- the link at a place was asked for one receive, which brought this, if anything
 pub record HearsAt (place : ℕ) (came : Option Letter) (at after : List LinkTold) : Type 0 where
   pub link : LinkTold
   pub there : slice_get at place ≡ Some link
   pub waiting : Option (List Letter)
   pub hears : Hears most_bytes came link.waiting waiting
-  pub heard : after ≡ slice_set at place (record link { waiting = waiting })
+  pub heard : after ≡ slice_set at place (record link { waiting = waiting; receives = count_up link.receives })
+
+-- the link at a place was asked for one receive, failed, and counted that
+pub record MissesAt (place : ℕ) (at after : List LinkTold) : Type 0 where
+  pub link : LinkTold
+  pub there : slice_get at place ≡ Some link
+  pub count : ℕ
+  pub rose : Rose link.faults count
+  pub missed : after ≡ slice_set at place (record link { faults = count; receives = count_up link.receives })
 
 -- one receive into a buffer on the link at a place brought this, or it failed
 abbrev pub Brings : Came → (place : ℕ) → (at after : List LinkTold) → (filled : List ℕ) → Type 0
 Brings (Came.Datagram count origin) place at after filled = (count ≤ length filled) × HearsAt place (Some (origin, take count filled)) at after
 Brings Came.Nothing place at after filled = HearsAt place None at after
-Brings Came.Failed place at after filled = FailsAt place at after
+Brings Came.Failed place at after filled = MissesAt place at after
 
 -- one receive on a party's link brought a datagram or none, and it was taken in
 pub record IsHeard (head : Head) (party : Party) (ended : Result Bool Halt) (at after : Moment) : Type 0 where
@@ -140,7 +149,7 @@ pub record IsHeard (head : Head) (party : Party) (ended : Result Bool Halt) (at 
 -- one receive on a party's link failed
 pub record IsUnheard (party : Party) (ended : Result Bool Halt) (at after : Moment) : Type 0 where
   pub why : ended ≡ Err Halt.Link
-  pub fails : FailsAt (place_of party) at.links after.links
+  pub fails : MissesAt (place_of party) at.links after.links
   pub same : after.events ≡ at.events
 
 -- ---- steps
@@ -194,9 +203,9 @@ turn_of (Err Halt.Memory) = LoopTurn.Memory
 turn_of (Err (Halt.Limit limit)) = LoopTurn.Limit limit
 
 -- a turn with this answer: the clock was read once, and the steps of the turn were made
-pub record TakesTurn (head : Head) (turn : LoopTurn) (clock clock' : Option (List ℕ)) (at after : Moment) : Type 0 where
+pub record TakesTurn (head : Head) (turn : LoopTurn) (clock clock' : ClockTold) (at after : Moment) : Type 0 where
   pub reading : ℕ
-  pub read : Reads reading clock clock'
+  pub read : ReadsOnce reading clock clock'
   pub ended : Result Bool Halt
   pub answer : turn ≡ turn_of ended
   pub made : MakesSteps (Makes head) (turn_steps head.hosts (rounds_due (run head at.events).server.now reading)) ended at after

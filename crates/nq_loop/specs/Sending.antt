@@ -5,11 +5,11 @@ use Rattle.nq_io.specs.Faults.{Rose}
 use Rattle.nq_link.specs.Link.{Letters, with_last}
 use Rattle.nq_loop.specs.declared.turns.Halt.{Halt}
 use Rattle.nq_net.specs.Packets.{Datagram}
-use Rattle.nq_node.specs.Links.{LinkTold}
+use Rattle.nq_node.specs.Links.{LinkTold, link_told}
 
 -- a link as it is told
-abbrev pub told_of : {L : Type 0} → (sent waiting : L → Option Letters) → (faults : L → ℕ) → L → LinkTold
-told_of sent waiting faults link = record { sent = sent link; waiting = waiting link; faults = faults link }
+abbrev pub told_of : {L : Type 0} → (sent waiting : L → Option Letters) → (faults receives : L → ℕ) → L → LinkTold
+told_of sent waiting faults receives link = link_told sent waiting faults receives link
 
 -- the place of a party's link
 abbrev pub place_of : Party → ℕ

@@ -5,11 +5,12 @@ use Rattle.nq_loop.specs.Counting.{begun_in}
 use Rattle.nq_loop.specs.Looping.{Moment, TakesTurn, is_busy}
 use Rattle.nq_loop.specs.declared.turns.LoopTurn.{LoopTurn}
 use Rattle.nq_model.specs.World.{Head, run}
+use Rattle.nq_node.specs.Clocks.{ClockTold}
 
--- a loop between two turns: its moment, and the readings of the clock to come
+-- a loop between two turns: its moment, and its clock
 pub record Between : Type 0 where
   pub moment : Moment
-  pub clock : Option (List ℕ)
+  pub clock : ClockTold
 
 -- whether a host has begun its three calls, and none is under way
 abbrev pub is_through : Head → List Event → (host : ℕ) → Bool

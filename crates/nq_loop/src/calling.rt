@@ -29,9 +29,9 @@ pub(crate) fn begin_calls<K: Keeper, L: Link>(
     requires hosts { length world.old.clients ≡ length state.old.begun }
     requires few { length state.old.begun ≤ 64 }
     ensures loops { (head : Head) → head.hosts ≡ length state.old.begun
-        → IsLooping head (loop_of K.content L.sent L.waiting L.faults world.old state.old ran.old links.old)
-        → Loops head (call_steps head.hosts) result (loop_of K.content L.sent L.waiting L.faults world.old state.old ran.old links.old)
-        (loop_of K.content L.sent L.waiting L.faults world.new state.new ran.new links.new) }
+        → IsLooping head (loop_of K.content L.sent L.waiting L.faults L.receives world.old state.old ran.old links.old)
+        → Loops head (call_steps head.hosts) result (loop_of K.content L.sent L.waiting L.faults L.receives world.old state.old ran.old links.old)
+        (loop_of K.content L.sent L.waiting L.faults L.receives world.new state.new ran.new links.new) }
     ensures keeps { Keeps result (K.faults world.old.server.keeper) (K.faults world.new.server.keeper)
         (length world.old.clients) (length world.new.clients) (length state.old.begun) (length state.new.begun) }
     ensures follows { K.follows world.old.server.keeper world.new.server.keeper }
@@ -59,9 +59,9 @@ fn begin_call<K: Keeper, L: Link>(
     requires there { host < length state.old.begun }
     requires few { length state.old.begun ≤ 64 }
     ensures loops { (head : Head) → head.hosts ≡ length state.old.begun
-        → IsLooping head (loop_of K.content L.sent L.waiting L.faults world.old state.old ran.old links.old)
-        → Loops head (Step.call host ∷ []) result (loop_of K.content L.sent L.waiting L.faults world.old state.old ran.old links.old)
-        (loop_of K.content L.sent L.waiting L.faults world.new state.new ran.new links.new) }
+        → IsLooping head (loop_of K.content L.sent L.waiting L.faults L.receives world.old state.old ran.old links.old)
+        → Loops head (Step.call host ∷ []) result (loop_of K.content L.sent L.waiting L.faults L.receives world.old state.old ran.old links.old)
+        (loop_of K.content L.sent L.waiting L.faults L.receives world.new state.new ran.new links.new) }
     ensures keeps { Keeps result (K.faults world.old.server.keeper) (K.faults world.new.server.keeper)
         (length world.old.clients) (length world.new.clients) (length state.old.begun) (length state.new.begun) }
     ensures follows { K.follows world.old.server.keeper world.new.server.keeper }

@@ -31,9 +31,9 @@ pub(crate) fn give<K: Keeper, L: Link>(
     requires hosts { length world.old.clients ≡ length state.old.begun }
     requires looped { IsLooped (length state.old.begun) event }
     ensures gives { (head : Head) → head.hosts ≡ length state.old.begun
-        → IsLooping head (loop_of K.content L.sent L.waiting L.faults world.old state.old ran.old links.old)
-        → GivesTo head event result (loop_of K.content L.sent L.waiting L.faults world.old state.old ran.old links.old)
-        (loop_of K.content L.sent L.waiting L.faults world.new state.new ran.new links.new) }
+        → IsLooping head (loop_of K.content L.sent L.waiting L.faults L.receives world.old state.old ran.old links.old)
+        → GivesTo head event result (loop_of K.content L.sent L.waiting L.faults L.receives world.old state.old ran.old links.old)
+        (loop_of K.content L.sent L.waiting L.faults L.receives world.new state.new ran.new links.new) }
     ensures keeps { Keeps result (K.faults world.old.server.keeper) (K.faults world.new.server.keeper)
         (length world.old.clients) (length world.new.clients) (length state.old.begun) (length state.new.begun) }
     ensures follows { K.follows world.old.server.keeper world.new.server.keeper }
@@ -53,9 +53,9 @@ fn give_event<K: Keeper, L: Link>(
     requires hosts { length world.old.clients ≡ length state.old.begun }
     requires looped { IsLooped (length state.old.begun) event.now }
     ensures gives { (head : Head) → head.hosts ≡ length state.old.begun
-        → IsLooping head (loop_of K.content L.sent L.waiting L.faults world.old state.old ran.old links.old)
-        → GivesTo head event.now result (loop_of K.content L.sent L.waiting L.faults world.old state.old ran.old links.old)
-        (loop_of K.content L.sent L.waiting L.faults world.new state.new ran.new links.new) }
+        → IsLooping head (loop_of K.content L.sent L.waiting L.faults L.receives world.old state.old ran.old links.old)
+        → GivesTo head event.now result (loop_of K.content L.sent L.waiting L.faults L.receives world.old state.old ran.old links.old)
+        (loop_of K.content L.sent L.waiting L.faults L.receives world.new state.new ran.new links.new) }
     ensures keeps { Keeps result (K.faults world.old.server.keeper) (K.faults world.new.server.keeper)
         (length world.old.clients) (length world.new.clients) (length state.old.begun) (length state.new.begun) }
     ensures follows { K.follows world.old.server.keeper world.new.server.keeper }
@@ -102,9 +102,9 @@ fn give_last<K: Keeper, L: Link>(
     requires flags { sent ≤ length state.old.flags }
     ensures gives { (head : Head) (earlier : List Event) → head.hosts ≡ length state.old.begun
         → ran.old ≡ earlier ++ event.now ∷ []
-        → IsLooping head (loop_of K.content L.sent L.waiting L.faults world.old state.old earlier links.old)
-        → GivesTo head event.now result (loop_of K.content L.sent L.waiting L.faults world.old state.old earlier links.old)
-        (loop_of K.content L.sent L.waiting L.faults world.new state.new ran.new links.new) }
+        → IsLooping head (loop_of K.content L.sent L.waiting L.faults L.receives world.old state.old earlier links.old)
+        → GivesTo head event.now result (loop_of K.content L.sent L.waiting L.faults L.receives world.old state.old earlier links.old)
+        (loop_of K.content L.sent L.waiting L.faults L.receives world.new state.new ran.new links.new) }
     ensures keeps { Keeps result (K.faults world.old.server.keeper) (K.faults world.new.server.keeper)
         (length world.old.clients) (length world.new.clients) (length state.old.begun) (length state.new.begun) }
     ensures follows { K.follows world.old.server.keeper world.new.server.keeper }

@@ -36,9 +36,9 @@ pub(crate) fn receive_each<K: Keeper, L: Link>(
     requires hosts { length world.old.clients ≡ length state.old.begun }
     requires links { length links.old ≡ length state.old.begun + 1 }
     ensures loops { (head : Head) → head.hosts ≡ length state.old.begun
-        → IsLooping head (loop_of K.content L.sent L.waiting L.faults world.old state.old ran.old links.old)
-        → Loops head (receive_steps head.hosts) result (loop_of K.content L.sent L.waiting L.faults world.old state.old ran.old links.old)
-        (loop_of K.content L.sent L.waiting L.faults world.new state.new ran.new links.new) }
+        → IsLooping head (loop_of K.content L.sent L.waiting L.faults L.receives world.old state.old ran.old links.old)
+        → Loops head (receive_steps head.hosts) result (loop_of K.content L.sent L.waiting L.faults L.receives world.old state.old ran.old links.old)
+        (loop_of K.content L.sent L.waiting L.faults L.receives world.new state.new ran.new links.new) }
     ensures keeps { Keeps result (K.faults world.old.server.keeper) (K.faults world.new.server.keeper)
         (length world.old.clients) (length world.new.clients) (length state.old.begun) (length state.new.begun) }
     ensures follows { K.follows world.old.server.keeper world.new.server.keeper }
@@ -60,10 +60,10 @@ fn receive_hosts<K: Keeper, L: Link>(
     requires hosts { length world.old.clients ≡ length state.old.begun }
     requires links { length links.old ≡ length state.old.begun + 1 }
     ensures loops { (head : Head) → head.hosts ≡ length state.old.begun
-        → IsLooping head (loop_of K.content L.sent L.waiting L.faults world.old state.old ran.old links.old)
+        → IsLooping head (loop_of K.content L.sent L.waiting L.faults L.receives world.old state.old ran.old links.old)
         → Loops head (each_below head.hosts (λ host. Step.receive (Party.Client host))) result
-        (loop_of K.content L.sent L.waiting L.faults world.old state.old ran.old links.old)
-        (loop_of K.content L.sent L.waiting L.faults world.new state.new ran.new links.new) }
+        (loop_of K.content L.sent L.waiting L.faults L.receives world.old state.old ran.old links.old)
+        (loop_of K.content L.sent L.waiting L.faults L.receives world.new state.new ran.new links.new) }
     ensures keeps { Keeps result (K.faults world.old.server.keeper) (K.faults world.new.server.keeper)
         (length world.old.clients) (length world.new.clients) (length state.old.begun) (length state.new.begun) }
     ensures follows { K.follows world.old.server.keeper world.new.server.keeper }
@@ -92,9 +92,9 @@ fn receive<K: Keeper, L: Link>(
     requires hosts { length world.old.clients ≡ length state.old.begun }
     requires there { place_of party < length links.old }
     ensures loops { (head : Head) → head.hosts ≡ length state.old.begun
-        → IsLooping head (loop_of K.content L.sent L.waiting L.faults world.old state.old ran.old links.old)
-        → Loops head (Step.receive party ∷ []) result (loop_of K.content L.sent L.waiting L.faults world.old state.old ran.old links.old)
-        (loop_of K.content L.sent L.waiting L.faults world.new state.new ran.new links.new) }
+        → IsLooping head (loop_of K.content L.sent L.waiting L.faults L.receives world.old state.old ran.old links.old)
+        → Loops head (Step.receive party ∷ []) result (loop_of K.content L.sent L.waiting L.faults L.receives world.old state.old ran.old links.old)
+        (loop_of K.content L.sent L.waiting L.faults L.receives world.new state.new ran.new links.new) }
     ensures keeps { Keeps result (K.faults world.old.server.keeper) (K.faults world.new.server.keeper)
         (length world.old.clients) (length world.new.clients) (length state.old.begun) (length state.new.begun) }
     ensures follows { K.follows world.old.server.keeper world.new.server.keeper }
@@ -117,9 +117,9 @@ fn receive_through<K: Keeper, L: Link>(
     requires there { place_of party.now < length links.old }
     requires buffer { length buffer.old ≡ most_bytes }
     ensures loops { (head : Head) → head.hosts ≡ length state.old.begun
-        → IsLooping head (loop_of K.content L.sent L.waiting L.faults world.old state.old ran.old links.old)
-        → Loops head (Step.receive party.now ∷ []) result (loop_of K.content L.sent L.waiting L.faults world.old state.old ran.old links.old)
-        (loop_of K.content L.sent L.waiting L.faults world.new state.new ran.new links.new) }
+        → IsLooping head (loop_of K.content L.sent L.waiting L.faults L.receives world.old state.old ran.old links.old)
+        → Loops head (Step.receive party.now ∷ []) result (loop_of K.content L.sent L.waiting L.faults L.receives world.old state.old ran.old links.old)
+        (loop_of K.content L.sent L.waiting L.faults L.receives world.new state.new ran.new links.new) }
     ensures keeps { Keeps result (K.faults world.old.server.keeper) (K.faults world.new.server.keeper)
         (length world.old.clients) (length world.new.clients) (length state.old.begun) (length state.new.begun) }
     ensures follows { K.follows world.old.server.keeper world.new.server.keeper }
@@ -143,7 +143,7 @@ fn receive_through<K: Keeper, L: Link>(
 fn bring<L: Link>(links: &mut [L], place: usize, buffer: &mut [u8]) -> Came
     requires there { place < length links.old }
     requires buffer { length buffer.old ≡ most_bytes }
-    ensures { Brings result place (map (told_of L.sent L.waiting L.faults) links.old) (map (told_of L.sent L.waiting L.faults) links.new) buffer.new }
+    ensures { Brings result place (map (told_of L.sent L.waiting L.faults L.receives) links.old) (map (told_of L.sent L.waiting L.faults L.receives) links.new) buffer.new }
 {
     links[place].receive(buffer)
 }
@@ -159,10 +159,10 @@ fn take_in<K: Keeper, L: Link>(
 ) -> Result<bool, Halt>
     requires hosts { length world.old.clients ≡ length state.old.begun }
     ensures takes { (head : Head) → head.hosts ≡ length state.old.begun
-        → IsLooping head (loop_of K.content L.sent L.waiting L.faults world.old state.old ran.old links.old)
+        → IsLooping head (loop_of K.content L.sent L.waiting L.faults L.receives world.old state.old ran.old links.old)
         → TakesFrom head (record { sender = letter.now.sender; to = letter.now.to; bytes = letter.now.bytes.now }) result
-        (loop_of K.content L.sent L.waiting L.faults world.old state.old ran.old links.old)
-        (loop_of K.content L.sent L.waiting L.faults world.new state.new ran.new links.new) }
+        (loop_of K.content L.sent L.waiting L.faults L.receives world.old state.old ran.old links.old)
+        (loop_of K.content L.sent L.waiting L.faults L.receives world.new state.new ran.new links.new) }
     ensures keeps { Keeps result (K.faults world.old.server.keeper) (K.faults world.new.server.keeper)
         (length world.old.clients) (length world.new.clients) (length state.old.begun) (length state.new.begun) }
     ensures follows { K.follows world.old.server.keeper world.new.server.keeper }

@@ -28,9 +28,9 @@ pub(crate) fn give_rounds<K: Keeper, L: Link>(
 ) -> Result<bool, Halt>
     requires hosts { length world.old.clients ≡ length state.old.begun }
     ensures loops { (head : Head) → head.hosts ≡ length state.old.begun
-        → IsLooping head (loop_of K.content L.sent L.waiting L.faults world.old state.old ran.old links.old)
-        → Loops head (rounds_steps head.hosts rounds) result (loop_of K.content L.sent L.waiting L.faults world.old state.old ran.old links.old)
-        (loop_of K.content L.sent L.waiting L.faults world.new state.new ran.new links.new) }
+        → IsLooping head (loop_of K.content L.sent L.waiting L.faults L.receives world.old state.old ran.old links.old)
+        → Loops head (rounds_steps head.hosts rounds) result (loop_of K.content L.sent L.waiting L.faults L.receives world.old state.old ran.old links.old)
+        (loop_of K.content L.sent L.waiting L.faults L.receives world.new state.new ran.new links.new) }
     ensures keeps { Keeps result (K.faults world.old.server.keeper) (K.faults world.new.server.keeper)
         (length world.old.clients) (length world.new.clients) (length state.old.begun) (length state.new.begun) }
     ensures follows { K.follows world.old.server.keeper world.new.server.keeper }
@@ -62,9 +62,9 @@ fn give_round<K: Keeper, L: Link>(
 ) -> Result<bool, Halt>
     requires hosts { length world.old.clients ≡ length state.old.begun }
     ensures loops { (head : Head) → head.hosts ≡ length state.old.begun
-        → IsLooping head (loop_of K.content L.sent L.waiting L.faults world.old state.old ran.old links.old)
-        → Loops head (round_steps head.hosts) result (loop_of K.content L.sent L.waiting L.faults world.old state.old ran.old links.old)
-        (loop_of K.content L.sent L.waiting L.faults world.new state.new ran.new links.new) }
+        → IsLooping head (loop_of K.content L.sent L.waiting L.faults L.receives world.old state.old ran.old links.old)
+        → Loops head (round_steps head.hosts) result (loop_of K.content L.sent L.waiting L.faults L.receives world.old state.old ran.old links.old)
+        (loop_of K.content L.sent L.waiting L.faults L.receives world.new state.new ran.new links.new) }
     ensures keeps { Keeps result (K.faults world.old.server.keeper) (K.faults world.new.server.keeper)
         (length world.old.clients) (length world.new.clients) (length state.old.begun) (length state.new.begun) }
     ensures follows { K.follows world.old.server.keeper world.new.server.keeper }
@@ -98,10 +98,10 @@ fn tick_hosts<K: Keeper, L: Link>(
 ) -> Result<bool, Halt>
     requires hosts { length world.old.clients ≡ length state.old.begun }
     ensures loops { (head : Head) → head.hosts ≡ length state.old.begun
-        → IsLooping head (loop_of K.content L.sent L.waiting L.faults world.old state.old ran.old links.old)
+        → IsLooping head (loop_of K.content L.sent L.waiting L.faults L.receives world.old state.old ran.old links.old)
         → Loops head (each_below head.hosts (λ host. Step.given (Event.ClientTick host))) result
-        (loop_of K.content L.sent L.waiting L.faults world.old state.old ran.old links.old)
-        (loop_of K.content L.sent L.waiting L.faults world.new state.new ran.new links.new) }
+        (loop_of K.content L.sent L.waiting L.faults L.receives world.old state.old ran.old links.old)
+        (loop_of K.content L.sent L.waiting L.faults L.receives world.new state.new ran.new links.new) }
     ensures keeps { Keeps result (K.faults world.old.server.keeper) (K.faults world.new.server.keeper)
         (length world.old.clients) (length world.new.clients) (length state.old.begun) (length state.new.begun) }
     ensures follows { K.follows world.old.server.keeper world.new.server.keeper }

@@ -2,6 +2,7 @@
 
 ghost use Rattle.std.specs.List.{AllByRecursion};
 ghost use Rattle.std.specs.Prelude.{◌≡◌, ◌≤◌, ◌+◌, [], ℕ, Option, Some, length, map, reverse};
+ghost use Rattle.nq_node.specs.Clocks.{clock_told};
 ghost use Rattle.nq_keeper.specs.StoredKeeper.{empty_kept};
 ghost use Rattle.nq_loop.specs.Holding.{IsLooped, IsLooping, StandsBehind, loop_of, moment_of};
 ghost use Rattle.nq_loop.specs.Looped.{HasEnded, IsNoKeep, LoopEnds, TellsEnd};
@@ -48,8 +49,8 @@ pub fn run_loop<K: Sink, L: Link, C: Clock>(
     requires some { 1 ≤ hosts }
     requires few { hosts ≤ 64 }
     requires links { length links.old ≡ hosts + 1 }
-    ensures { LoopEnds result hosts turns (C.readings clock.old) (C.readings clock.new)
-        (map (told_of L.sent L.waiting L.faults) links.old) (map (told_of L.sent L.waiting L.faults) links.new)
+    ensures { LoopEnds result hosts turns (clock_told C.floor C.readings clock.old) (clock_told C.floor C.readings clock.new)
+        (map (told_of L.sent L.waiting L.faults L.receives) links.old) (map (told_of L.sent L.waiting L.faults L.receives) links.new)
         (K.held out.old) (K.held out.new) (K.faults out.old) (K.faults out.new) }
 {
     match ListKeeper::new(alloc, Vec::new(alloc)) {
@@ -73,8 +74,8 @@ fn loop_over<P: Keeper + Drop, K: Sink, L: Link, C: Clock>(
     requires some { 1 ≤ hosts }
     requires few { hosts ≤ 64 }
     requires links { length links.old ≡ hosts + 1 }
-    ensures { LoopEnds result hosts turns (C.readings clock.old) (C.readings clock.new)
-        (map (told_of L.sent L.waiting L.faults) links.old) (map (told_of L.sent L.waiting L.faults) links.new)
+    ensures { LoopEnds result hosts turns (clock_told C.floor C.readings clock.old) (clock_told C.floor C.readings clock.new)
+        (map (told_of L.sent L.waiting L.faults L.receives) links.old) (map (told_of L.sent L.waiting L.faults L.receives) links.new)
         (K.held out.old) (K.held out.new) (K.faults out.old) (K.faults out.new) }
 {
     let Ok(head) = loop_head(alloc, hosts) else {

@@ -19,7 +19,7 @@ pub(crate) fn send_from<L: Link>(
     first: u64,
 ) -> Result<(), Halt>
     ensures { SendsAll result (drop first packets.now.datagrams)
-        (map (told_of L.sent L.waiting L.faults) links.old) (map (told_of L.sent L.waiting L.faults) links.new) }
+        (map (told_of L.sent L.waiting L.faults L.receives) links.old) (map (told_of L.sent L.waiting L.faults L.receives) links.new) }
 {
     let mut bytes = Vec::new(alloc);
     for number in first..packets.len() {
@@ -40,7 +40,7 @@ fn send_number<L: Link>(
 ) -> Result<(), Halt>
     requires { number < length packets.now.datagrams }
     ensures { IfSome (slice_get packets.now.datagrams number) (λ d. SendsAll result (d ∷ [])
-        (map (told_of L.sent L.waiting L.faults) links.old) (map (told_of L.sent L.waiting L.faults) links.new)) }
+        (map (told_of L.sent L.waiting L.faults L.receives) links.old) (map (told_of L.sent L.waiting L.faults L.receives) links.new)) }
 {
     match packets.get(number) {
         Some(packet) => send_packet(&packet, links, bytes),
@@ -55,7 +55,7 @@ fn send_packet<L: Link>(
     bytes: &mut Vec<u8>,
 ) -> Result<(), Halt>
     ensures { SendsAll result (packet.now ∷ [])
-        (map (told_of L.sent L.waiting L.faults) links.old) (map (told_of L.sent L.waiting L.faults) links.new) }
+        (map (told_of L.sent L.waiting L.faults L.receives) links.old) (map (told_of L.sent L.waiting L.faults L.receives) links.new) }
 {
     bytes.clear();
     packet.bytes_into(bytes)?;

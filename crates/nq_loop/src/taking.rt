@@ -1,6 +1,7 @@
 //! Turns of a loop, one after another.
 
 ghost use Rattle.std.specs.Prelude.{◌≡◌, ◌≤◌, ◌<◌, ◌+◌, ◌&&◌, ℕ, List, length, slice_get};
+ghost use Rattle.nq_node.specs.Clocks.{clock_told};
 ghost use Rattle.nq_base.specs.declared.Event.{Event};
 ghost use Rattle.nq_loop.specs.Counting.{Counts};
 ghost use Rattle.nq_loop.specs.Holding.{CountsTurn, IsLooping, StandsBehind, loop_of, moment_of};
@@ -35,11 +36,11 @@ pub(crate) fn take_turns<P: Keeper, L: Link, C: Clock>(
     requires few { length state.old.begun ≤ 64 }
     requires links { length links.old ≡ length state.old.begun + 1 }
     ensures turns { (head : Head) → head.hosts ≡ length state.old.begun
-        → IsLooping head (loop_of P.content L.sent L.waiting L.faults world.old state.old ran.old links.old)
+        → IsLooping head (loop_of P.content L.sent L.waiting L.faults L.receives world.old state.old ran.old links.old)
         → TakesTurns head turns result
-        (record { moment = moment_of (loop_of P.content L.sent L.waiting L.faults world.old state.old ran.old links.old); clock = C.readings clock.old })
-        (record { moment = moment_of (loop_of P.content L.sent L.waiting L.faults world.new state.new ran.new links.new); clock = C.readings clock.new })
-        × StandsBehind head result (loop_of P.content L.sent L.waiting L.faults world.new state.new ran.new links.new) }
+        (record { moment = moment_of (loop_of P.content L.sent L.waiting L.faults L.receives world.old state.old ran.old links.old); clock = clock_told C.floor C.readings clock.old })
+        (record { moment = moment_of (loop_of P.content L.sent L.waiting L.faults L.receives world.new state.new ran.new links.new); clock = clock_told C.floor C.readings clock.new })
+        × StandsBehind head result (loop_of P.content L.sent L.waiting L.faults L.receives world.new state.new ran.new links.new) }
     ensures faults { CountsTurn result (P.faults world.old.server.keeper) (P.faults world.new.server.keeper) }
     ensures follows { P.follows world.old.server.keeper world.new.server.keeper }
 {

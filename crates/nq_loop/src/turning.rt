@@ -1,6 +1,7 @@
 //! Turns of a loop.
 
 ghost use Rattle.std.specs.Prelude.{◌≡◌, ◌<◌, ◌≤◌, ◌+◌, ◌-◌, ◌++◌, ℕ, length, min};
+ghost use Rattle.nq_node.specs.Clocks.{clock_told};
 ghost use Rattle.nq_loop.specs.Holding.{IsLooping, Keeps, KeepsTurn, Loops, Turns, loop_of};
 ghost use Rattle.nq_loop.specs.Looping.{call_steps, receive_steps, rounds_due, turn_of, turn_steps};
 ghost use Rattle.nq_model.specs.World.{Head};
@@ -43,9 +44,9 @@ pub fn loop_turn<K: Keeper, L: Link, C: Clock>(
     requires few { length state.old.begun ≤ 64 }
     requires links { length links.old ≡ length state.old.begun + 1 }
     ensures turn { (head : Head) → head.hosts ≡ length state.old.begun
-        → IsLooping head (loop_of K.content L.sent L.waiting L.faults world.old state.old ran.old links.old)
-        → Turns head result (C.readings clock.old) (C.readings clock.new) (loop_of K.content L.sent L.waiting L.faults world.old state.old ran.old links.old)
-        (loop_of K.content L.sent L.waiting L.faults world.new state.new ran.new links.new) }
+        → IsLooping head (loop_of K.content L.sent L.waiting L.faults L.receives world.old state.old ran.old links.old)
+        → Turns head result (clock_told C.floor C.readings clock.old) (clock_told C.floor C.readings clock.new) (loop_of K.content L.sent L.waiting L.faults L.receives world.old state.old ran.old links.old)
+        (loop_of K.content L.sent L.waiting L.faults L.receives world.new state.new ran.new links.new) }
     ensures keeps { KeepsTurn result (K.faults world.old.server.keeper) (K.faults world.new.server.keeper)
         (length world.old.clients) (length world.new.clients) (length state.old.begun) (length state.new.begun) }
     ensures follows { K.follows world.old.server.keeper world.new.server.keeper }
@@ -75,9 +76,9 @@ fn take_turn<K: Keeper, L: Link>(
     requires few { length state.old.begun ≤ 64 }
     requires links { length links.old ≡ length state.old.begun + 1 }
     ensures loops { (head : Head) → head.hosts ≡ length state.old.begun
-        → IsLooping head (loop_of K.content L.sent L.waiting L.faults world.old state.old ran.old links.old)
-        → Loops head (turn_steps head.hosts rounds) result (loop_of K.content L.sent L.waiting L.faults world.old state.old ran.old links.old)
-        (loop_of K.content L.sent L.waiting L.faults world.new state.new ran.new links.new) }
+        → IsLooping head (loop_of K.content L.sent L.waiting L.faults L.receives world.old state.old ran.old links.old)
+        → Loops head (turn_steps head.hosts rounds) result (loop_of K.content L.sent L.waiting L.faults L.receives world.old state.old ran.old links.old)
+        (loop_of K.content L.sent L.waiting L.faults L.receives world.new state.new ran.new links.new) }
     ensures keeps { Keeps result (K.faults world.old.server.keeper) (K.faults world.new.server.keeper)
         (length world.old.clients) (length world.new.clients) (length state.old.begun) (length state.new.begun) }
     ensures follows { K.follows world.old.server.keeper world.new.server.keeper }
@@ -100,10 +101,10 @@ fn call_and_receive<K: Keeper, L: Link>(
     requires few { length state.old.begun ≤ 64 }
     requires links { length links.old ≡ length state.old.begun + 1 }
     ensures loops { (head : Head) → head.hosts ≡ length state.old.begun
-        → IsLooping head (loop_of K.content L.sent L.waiting L.faults world.old state.old ran.old links.old)
+        → IsLooping head (loop_of K.content L.sent L.waiting L.faults L.receives world.old state.old ran.old links.old)
         → Loops head (call_steps head.hosts ++ receive_steps head.hosts) result
-        (loop_of K.content L.sent L.waiting L.faults world.old state.old ran.old links.old)
-        (loop_of K.content L.sent L.waiting L.faults world.new state.new ran.new links.new) }
+        (loop_of K.content L.sent L.waiting L.faults L.receives world.old state.old ran.old links.old)
+        (loop_of K.content L.sent L.waiting L.faults L.receives world.new state.new ran.new links.new) }
     ensures keeps { Keeps result (K.faults world.old.server.keeper) (K.faults world.new.server.keeper)
         (length world.old.clients) (length world.new.clients) (length state.old.begun) (length state.new.begun) }
     ensures follows { K.follows world.old.server.keeper world.new.server.keeper }

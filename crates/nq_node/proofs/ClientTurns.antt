@@ -2,9 +2,9 @@
 use Rattle.std.proofs.Common.{◌≡◌, ℕ, List, Option, Some, None, Result, Ok, Err, refl, sym}
 use Rattle.nq_base.specs.declared.Answer.{Answer}
 use Rattle.nq_client.specs.declared.Heard.{Heard}
-use Rattle.nq_clock.specs.Clock.{Reads}
 use Rattle.nq_node.specs.ClientTurn.{Given, GoesOn, Moment, Receives, Stages, Takes, TakesFrom, given_by, goes_on, tick_due}
-use Rattle.nq_node.specs.Links.{Hears, Letter, LinkTold, most_bytes}
+use Rattle.nq_node.specs.Clocks.{ClockTold, ReadsOnce}
+use Rattle.nq_node.specs.Links.{Hears, Letter, LinkTold, ReceivesOnce, most_bytes}
 use Rattle.nq_node.specs.declared.turns.Stop.{Stop}
 
 no_link : (how : Heard) → goes_on how ≡ Err Stop.Link → ⊥
@@ -14,7 +14,8 @@ no_link Heard.Ignored same = absurd (cc)
 no_link Heard.Memory same = absurd (cc)
 no_link Heard.Spent same = absurd (cc)
 
-not_link : (given : Option Given) (at after : Moment) → Takes given (Err Stop.Link) at after → ⊥
+-- nothing that a client is given stops for the link
+pub not_link : (given : Option Given) (at after : Moment) → Takes given (Err Stop.Link) at after → ⊥
 not_link None at after takes = let same = takes.0 in absurd (cc)
 not_link (Some given) at after steps = no_link steps.how (sym steps.so)
 
@@ -27,14 +28,14 @@ came_as (Err Stop.Spent) letter link link' at after from = (Some letter, from)
 
 -- a datagram came and was taken in, or refused
 pub one_came : (made : Result (Option Answer) Stop) (letter : Letter) (link link' : LinkTold) (at after : Moment)
-    → Hears most_bytes (Some letter) link.waiting link'.waiting → link'.sent ≡ link.sent → link'.faults ≡ link.faults
+    → Hears most_bytes (Some letter) link.waiting link'.waiting → link'.sent ≡ link.sent → ReceivesOnce link link' → link'.faults ≡ link.faults
     → Takes (given_by letter) made at after → Receives made link link' at after
-one_came made letter link link' at after hears sent count takes =
-    came_as made letter link link' at after (record { hears = hears; sent = sent; count = count; takes = takes })
+one_came made letter link link' at after hears sent receives count takes =
+    came_as made letter link link' at after (record { hears = hears; sent = sent; receives = receives; count = count; takes = takes })
 
 -- the clock was read, and the turn stopped at the tick
-pub stopped : (why : Stop) (reading : ℕ) (clock clock' : Option (List ℕ)) (link : LinkTold) (at after : Moment)
-    → Reads reading clock clock' → Takes (tick_due at.client.client.now reading) (Err why) at after
+pub stopped : (why : Stop) (reading : ℕ) (clock clock' : ClockTold) (link : LinkTold) (at after : Moment)
+    → ReadsOnce reading clock clock' → Takes (tick_due at.client.client.now reading) (Err why) at after
     → Stages (Err why) clock clock' link link at after
 stopped why reading clock clock' link at after read takes = record {
   reading = reading;
@@ -46,8 +47,8 @@ stopped why reading clock clock' link at after read takes = record {
 }
 
 -- the turn went on after its tick
-pub went_on : (ended : Result (Option Answer) Stop) (ticked : Option Answer) (reading : ℕ) (clock clock' : Option (List ℕ)) (link link' : LinkTold) (at between after : Moment)
-    → Reads reading clock clock' → Takes (tick_due at.client.client.now reading) (Ok ticked) at between
+pub went_on : (ended : Result (Option Answer) Stop) (ticked : Option Answer) (reading : ℕ) (clock clock' : ClockTold) (link link' : LinkTold) (at between after : Moment)
+    → ReadsOnce reading clock clock' → Takes (tick_due at.client.client.now reading) (Ok ticked) at between
     → GoesOn (Ok ticked) ended link link' between after
     → Stages ended clock clock' link link' at after
 went_on ended ticked reading clock clock' link link' at between after read takes rest = record {

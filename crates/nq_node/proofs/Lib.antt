@@ -1,3 +1,5 @@
+pub mod ClientCounts
 pub mod ClientTurns
 pub mod Letters
+pub mod ServerCounts
 pub mod ServerTurns

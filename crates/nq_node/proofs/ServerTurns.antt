@@ -1,8 +1,8 @@
 -- The stages of a server's turn.
 use Rattle.std.proofs.Common.{◌≡◌, ℕ, Bool, true, List, Option, Some, None, Result, Ok, Err, nat_lt, refl, sym, subst}
-use Rattle.nq_clock.specs.Clock.{Reads}
 use Rattle.nq_model.specs.Kept.{Kept}
-use Rattle.nq_node.specs.Links.{Hears, Letter, LinkTold, most_bytes}
+use Rattle.nq_node.specs.Clocks.{ClockTold, ReadsOnce}
+use Rattle.nq_node.specs.Links.{Hears, Letter, LinkTold, ReceivesOnce, most_bytes}
 use Rattle.nq_node.specs.ServerTurn.{Given, GoesOn, Moment, Receives, Stages, Takes, TakesFrom, given_by, goes_on, taken, tick_due}
 use Rattle.nq_node.specs.declared.turns.Halt.{Halt}
 use Rattle.nq_server.specs.declared.Received.{Received}
@@ -15,7 +15,8 @@ no_link Received.Memory same = absurd (cc)
 no_link Received.Spent same = absurd (cc)
 
 module _ {K : Type 0} (content : K → Option Kept) (faults : K → ℕ) where
-  not_link : (given : Option Given) (at after : Moment K) → Takes content faults given (Err Halt.Link) at after → ⊥
+  -- nothing that a server is given stops for the link
+  pub not_link : (given : Option Given) (at after : Moment K) → Takes content faults given (Err Halt.Link) at after → ⊥
   not_link None at after takes = let same = takes.0 in absurd (cc)
   not_link (Some given) at after steps = no_link steps.how (sym steps.so)
 
@@ -29,14 +30,14 @@ module _ {K : Type 0} (content : K → Option Kept) (faults : K → ℕ) where
 
   -- a datagram came, and was taken in or refused
   pub one_came : (made : Result Unit Halt) (letter : Letter) (link link' : LinkTold) (at after : Moment K)
-      → Hears most_bytes (Some letter) link.waiting link'.waiting → link'.sent ≡ link.sent → link'.faults ≡ link.faults
+      → Hears most_bytes (Some letter) link.waiting link'.waiting → link'.sent ≡ link.sent → ReceivesOnce link link' → link'.faults ≡ link.faults
       → Takes content faults (given_by letter) made at after → Receives content faults (taken made) link link' at after
-  one_came made letter link link' at after hears sent count takes =
-      came_as made letter link link' at after (record { hears = hears; sent = sent; count = count; takes = takes })
+  one_came made letter link link' at after hears sent receives count takes =
+      came_as made letter link link' at after (record { hears = hears; sent = sent; receives = receives; count = count; takes = takes })
 
   -- the clock was read, and the turn stopped at the tick
-  pub stopped : (why : Halt) (reading : ℕ) (clock clock' : Option (List ℕ)) (link : LinkTold) (at after : Moment K)
-      → Reads reading clock clock' → Takes content faults (tick_due at.server.beside.time reading) (Err why) at after
+  pub stopped : (why : Halt) (reading : ℕ) (clock clock' : ClockTold) (link : LinkTold) (at after : Moment K)
+      → ReadsOnce reading clock clock' → Takes content faults (tick_due at.server.beside.time reading) (Err why) at after
       → Stages content faults (Err why) clock clock' link link at after
   stopped why reading clock clock' link at after read takes = record {
     reading = reading;
@@ -48,8 +49,8 @@ module _ {K : Type 0} (content : K → Option Kept) (faults : K → ℕ) where
   }
 
   -- the turn went on after its tick
-  pub went_on : (ended : Result Bool Halt) (ticked : Bool) (reading : ℕ) (clock clock' : Option (List ℕ)) (link link' : LinkTold) (at between after : Moment K)
-      → Reads reading clock clock' → Takes content faults (tick_due at.server.beside.time reading) (Ok tt) at between
+  pub went_on : (ended : Result Bool Halt) (ticked : Bool) (reading : ℕ) (clock clock' : ClockTold) (link link' : LinkTold) (at between after : Moment K)
+      → ReadsOnce reading clock clock' → Takes content faults (tick_due at.server.beside.time reading) (Ok tt) at between
       → ticked ≡ nat_lt at.server.beside.time reading
       → GoesOn content faults (Ok tt) ended ticked link link' between after
       → Stages content faults ended clock clock' link link' at after

@@ -1,11 +1,10 @@
--- A turn of a client, stage by stage: it reads the clock, ticks, receives, and sends.
+-- A turn of a client, stage by stage: it reads the clock once, ticks, receives once, and sends.
 use Rattle.std.specs.Prelude.{◌≡◌, ◌↔◌, ◌+◌, ℕ, List, [], Option, Some, None, Result, Ok, Err, min, nat_lt, if◌then◌else◌}
 use Rattle.nq_base.specs.declared.Answer.{Answer}
 use Rattle.nq_base.specs.declared.Party.{Party}
 use Rattle.nq_client.specs.Counted.{Counted}
 use Rattle.nq_client.specs.Outcome.{Heeded, Received}
 use Rattle.nq_client.specs.declared.Heard.{Heard}
-use Rattle.nq_clock.specs.Clock.{Reads}
 use Rattle.nq_datagrams.specs.Incoming.{hears_in}
 use Rattle.nq_io.specs.Faults.{Rose}
 use Rattle.nq_base.specs.Entries.{EntryList}
@@ -13,7 +12,8 @@ use Rattle.nq_link.specs.Link.{Letters}
 use Rattle.nq_link.specs.declared.Sent.{Sent}
 use Rattle.nq_model.specs.ClientStep.{client_tick}
 use Rattle.nq_model.specs.Profile.{most_taken_by_client}
-use Rattle.nq_node.specs.Links.{Hears, Letter, LinkTold, SendsAll, most_bytes}
+use Rattle.nq_node.specs.Clocks.{ClockTold, ReadsOnce}
+use Rattle.nq_node.specs.Links.{Hears, Letter, LinkTold, Posts, ReceivesOnce, most_bytes}
 use Rattle.nq_node.specs.declared.turns.ClientTurn.{ClientTurn}
 use Rattle.nq_node.specs.declared.turns.Stop.{Stop}
 use Rattle.nq_wire.specs.Outbox.{Datagrams}
@@ -77,10 +77,11 @@ abbrev pub given_of : Option Letter → Option Given
 given_of None = None
 given_of (Some letter) = given_by letter
 
--- one receive gave a datagram or none, and the client took it in, or refused it
+-- one receive was asked for and gave a datagram or none, and the client took it in, or refused it
 pub record TakesFrom (came : Option Letter) (goes : Result (Option Answer) Stop) (link link' : LinkTold) (at after : Moment) : Type 0 where
   pub hears : Hears most_bytes came link.waiting link'.waiting
   pub sent : link'.sent ≡ link.sent
+  pub receives : ReceivesOnce link link'
   pub count : link'.faults ≡ link.faults
   pub takes : Takes (given_of came) goes at after
 
@@ -88,6 +89,7 @@ pub record TakesFrom (came : Option Letter) (goes : Result (Option Answer) Stop)
 pub record Misses (link link' : LinkTold) (at after : Moment) : Type 0 where
   pub waiting : link'.waiting ≡ link.waiting
   pub sent : link'.sent ≡ link.sent
+  pub receives : ReceivesOnce link link'
   pub count : Rose link.faults link'.faults
   pub same : after ≡ at
 
@@ -104,10 +106,8 @@ first_of (Some answer) other = Some answer
 
 -- the stage that sends: all of these datagrams went over the link, and the turn ends with this answer; or the link failed
 abbrev pub SendsOut : Letters → (answer : Option Answer) → (ended : Result (Option Answer) Stop) → (link link' : LinkTold) → Type 0
-SendsOut letters answer (Ok said) link link' =
-    (said ≡ answer) × (link'.waiting ≡ link.waiting) × SendsAll Sent.All letters link.sent link'.sent link.faults link'.faults
-SendsOut letters answer (Err Stop.Link) link link' =
-    (link'.waiting ≡ link.waiting) × SendsAll Sent.Failed letters link.sent link'.sent link.faults link'.faults
+SendsOut letters answer (Ok said) link link' = (said ≡ answer) × Posts Sent.All letters link link'
+SendsOut letters answer (Err Stop.Link) link link' = Posts Sent.Failed letters link link'
 SendsOut letters answer (Err other) link link' = ⊥
 
 -- after the receive: the turn stops, or it sends all that the client put into the outbox
@@ -123,10 +123,11 @@ GoesOn (Ok ticked) ended link link' at after =
     × Receives received link between at after
     × Sends received ended ticked between link' after
 
--- the stages of a turn in their order; it ended with the answer that it brought, if any, or with why it stopped
-pub record Stages (ended : Result (Option Answer) Stop) (clock clock' : Option (List ℕ)) (link link' : LinkTold) (at after : Moment) : Type 0 where
+-- The stages of a turn in their order. The clock is read exactly once. Exactly one receive is asked for where the tick did not stop the
+-- turn, and none where it did. The turn ended with the answer that it brought, if any, or with why it stopped
+pub record Stages (ended : Result (Option Answer) Stop) (clock clock' : ClockTold) (link link' : LinkTold) (at after : Moment) : Type 0 where
   pub reading : ℕ
-  pub read : Reads reading clock clock'
+  pub read : ReadsOnce reading clock clock'
   pub goes : Result (Option Answer) Stop
   pub between : Moment
   pub ticks : Takes (tick_due at.client.client.now reading) goes at between
@@ -140,8 +141,18 @@ turn_of (Err Stop.Link) = ClientTurn.Link
 turn_of (Err Stop.Memory) = ClientTurn.Memory
 turn_of (Err Stop.Spent) = ClientTurn.Spent
 
+-- the count of the link's faults rises where it stopped for the link, and stays otherwise
+abbrev pub CountsLink : {X : Type 0} → Result X Stop → (before now : ℕ) → Type 0
+CountsLink (Err Stop.Link) before now = Rose before now
+CountsLink other before now = now ≡ before
+
+-- the same by the answer of a turn
+abbrev pub TurnLink : ClientTurn → (before now : ℕ) → Type 0
+TurnLink ClientTurn.Link before now = Rose before now
+TurnLink other before now = now ≡ before
+
 -- a turn with this answer: its stages, with an outbox that is empty at first
-pub record AttendsTurn (turn : ClientTurn) (next next' : ℕ) (clock clock' : Option (List ℕ)) (link link' : LinkTold) (client client' : Counted) (log log' : EntryList) : Type 0 where
+pub record AttendsTurn (turn : ClientTurn) (next next' : ℕ) (clock clock' : ClockTold) (link link' : LinkTold) (client client' : Counted) (log log' : EntryList) : Type 0 where
   pub out : Datagrams
   pub out' : Datagrams
   pub empty : out.datagrams ≡ []

@@ -1,3 +1,4 @@
 pub mod ClientTurn
+pub mod Clocks
 pub mod Links
 pub mod ServerTurn

@@ -3,7 +3,7 @@
 use Rattle.std.specs.Prelude.{◌≡◌, ◌≤◌, ℕ, List, [], ◌∷◌, ◌++◌, Option, Some, None, length, take}
 use Rattle.std.specs.Option.{ForSome}
 use Rattle.nq_base.specs.declared.Party.{Party}
-use Rattle.nq_io.specs.Faults.{Rose}
+use Rattle.nq_io.specs.Faults.{Rose, count_up}
 use Rattle.nq_link.specs.Link.{Letters}
 use Rattle.nq_link.specs.declared.Sent.{Sent}
 
@@ -11,11 +11,21 @@ use Rattle.nq_link.specs.declared.Sent.{Sent}
 abbrev pub Letter : Type 0
 Letter = Party × List ℕ
 
--- a link as it is told: what was sent over it, what waits, and its count of faults
+-- a link as it is told: what was sent over it, what waits, its count of faults, and its count of receives
 pub record LinkTold : Type 0 where
   pub sent : Option Letters
   pub waiting : Option Letters
   pub faults : ℕ
+  pub receives : ℕ
+
+-- a link as it is told
+abbrev pub link_told : {L : Type 0} → (sent waiting : L → Option Letters) → (faults receives : L → ℕ) → L → LinkTold
+link_told sent waiting faults receives link =
+    record { sent = sent link; waiting = waiting link; faults = faults link; receives = receives link }
+
+-- a link was asked for one receive
+abbrev pub ReceivesOnce : (link link' : LinkTold) → Type 0
+ReceivesOnce link link' = link'.receives ≡ count_up link.receives
 
 -- the most bytes of a datagram that a turn looks at: one more than the longest of the protocol has
 unfoldable pub most_bytes : ℕ
@@ -55,3 +65,9 @@ pub record SendsFront (letters : Letters) (told tells : Option Letters) : Type 0
 abbrev pub SendsAll : Sent → Letters → (told tells : Option Letters) → (before now : ℕ) → Type 0
 SendsAll Sent.All letters told tells before now = (tells ≡ with_all told letters) × (now ≡ before)
 SendsAll Sent.Failed letters told tells before now = SendsFront letters told tells × Rose before now
+
+-- sending these datagrams over a link, by its answer: what waits stays, and no receive is asked for
+abbrev pub Posts : Sent → Letters → (link link' : LinkTold) → Type 0
+Posts answer letters link link' =
+    (link'.waiting ≡ link.waiting) × (link'.receives ≡ link.receives)
+    × SendsAll answer letters link.sent link'.sent link.faults link'.faults

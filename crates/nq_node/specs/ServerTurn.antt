@@ -1,8 +1,7 @@
--- A turn of a server, stage by stage: it reads the clock, ticks, receives, and sends. Below, `content` is what a keeper tells of what
+-- A turn of a server, stage by stage: it reads the clock once, ticks, receives once, and sends. Below, `content` is what a keeper tells of what
 -- it keeps, and `faults` is its count of faults.
 use Rattle.std.specs.Prelude.{◌≡◌, ◌↔◌, ◌||◌, ℕ, Bool, true, false, List, [], Option, Some, None, Result, Ok, Err, is_some, nat_lt, if◌then◌else◌}
 use Rattle.nq_base.specs.declared.Party.{Party}
-use Rattle.nq_clock.specs.Clock.{Reads}
 use Rattle.nq_datagrams.specs.Incoming.{datagram_in}
 use Rattle.nq_io.specs.Faults.{Rose}
 use Rattle.nq_base.specs.Entries.{EntryList}
@@ -12,7 +11,8 @@ use Rattle.nq_model.specs.Kept.{Kept}
 use Rattle.nq_model.specs.Profile.{most_taken_by_server}
 use Rattle.nq_model.specs.Server.{ServerStep}
 use Rattle.nq_model.specs.ServerStep.{receive, tick}
-use Rattle.nq_node.specs.Links.{Hears, Letter, LinkTold, SendsAll, most_bytes}
+use Rattle.nq_node.specs.Clocks.{ClockTold, ReadsOnce}
+use Rattle.nq_node.specs.Links.{Hears, Letter, LinkTold, Posts, ReceivesOnce, most_bytes}
 use Rattle.nq_node.specs.declared.turns.Halt.{Halt}
 use Rattle.nq_node.specs.declared.turns.Turn.{Turn}
 use Rattle.nq_server.specs.Holding.{Holding, IsTaken}
@@ -77,10 +77,11 @@ abbrev pub given_of : Option Letter → Option Given
 given_of None = None
 given_of (Some letter) = given_by letter
 
--- one receive gave a datagram or none, and the server took it in, or refused it
+-- one receive was asked for and gave a datagram or none, and the server took it in, or refused it
 pub record TakesFrom {K : Type 0} (content : K → Option Kept) (faults : K → ℕ) (came : Option Letter) (goes : Result Unit Halt) (link link' : LinkTold) (at after : Moment K) : Type 0 where
   pub hears : Hears most_bytes came link.waiting link'.waiting
   pub sent : link'.sent ≡ link.sent
+  pub receives : ReceivesOnce link link'
   pub count : link'.faults ≡ link.faults
   pub takes : Takes content faults (given_of came) goes at after
 
@@ -88,6 +89,7 @@ pub record TakesFrom {K : Type 0} (content : K → Option Kept) (faults : K → 
 pub record Misses {K : Type 0} (link link' : LinkTold) (at after : Moment K) : Type 0 where
   pub waiting : link'.waiting ≡ link.waiting
   pub sent : link'.sent ≡ link.sent
+  pub receives : ReceivesOnce link link'
   pub count : Rose link.faults link'.faults
   pub same : after ≡ at
 
@@ -106,10 +108,8 @@ taken (Err why) = Err why
 
 -- the stage that sends: all of these datagrams went over the link, and the turn ends with what moved it; or the link failed
 abbrev pub SendsOut : Letters → (moved : Bool) → (ended : Result Bool Halt) → (link link' : LinkTold) → Type 0
-SendsOut letters moved (Ok so) link link' =
-    (so ≡ moved) × (link'.waiting ≡ link.waiting) × SendsAll Sent.All letters link.sent link'.sent link.faults link'.faults
-SendsOut letters moved (Err Halt.Link) link link' =
-    (link'.waiting ≡ link.waiting) × SendsAll Sent.Failed letters link.sent link'.sent link.faults link'.faults
+SendsOut letters moved (Ok so) link link' = (so ≡ moved) × Posts Sent.All letters link link'
+SendsOut letters moved (Err Halt.Link) link link' = Posts Sent.Failed letters link link'
 SendsOut letters moved (Err other) link link' = ⊥
 
 -- after the receive: the turn stops, or it sends all that the server put into the outbox
@@ -125,10 +125,11 @@ GoesOn content faults (Ok done) ended ticked link link' at after =
     × Receives content faults received link between at after
     × Sends received ended ticked between link' after
 
--- the stages of a turn in their order; it ended with whether the clock rose or a datagram came, or with why it stopped
-pub record Stages {K : Type 0} (content : K → Option Kept) (faults : K → ℕ) (ended : Result Bool Halt) (clock clock' : Option (List ℕ)) (link link' : LinkTold) (at after : Moment K) : Type 0 where
+-- The stages of a turn in their order. The clock is read exactly once. Exactly one receive is asked for where the tick did not stop the
+-- turn, and none where it did. The turn ended with whether the clock rose or a datagram came, or with why it stopped
+pub record Stages {K : Type 0} (content : K → Option Kept) (faults : K → ℕ) (ended : Result Bool Halt) (clock clock' : ClockTold) (link link' : LinkTold) (at after : Moment K) : Type 0 where
   pub reading : ℕ
-  pub read : Reads reading clock clock'
+  pub read : ReadsOnce reading clock clock'
   pub goes : Result Unit Halt
   pub between : Moment K
   pub ticks : Takes content faults (tick_due at.server.beside.time reading) goes at between
@@ -143,8 +144,28 @@ turn_of (Err Halt.Keep) = Turn.Keep
 turn_of (Err Halt.Memory) = Turn.Memory
 turn_of (Err Halt.Spent) = Turn.Spent
 
+-- the count of the keeper's faults rises where it stopped for the keeper, and stays otherwise
+abbrev pub CountsKeep : {X : Type 0} → Result X Halt → (before now : ℕ) → Type 0
+CountsKeep (Err Halt.Keep) before now = Rose before now
+CountsKeep other before now = now ≡ before
+
+-- the count of the link's faults rises where it stopped for the link, and stays otherwise
+abbrev pub CountsLink : {X : Type 0} → Result X Halt → (before now : ℕ) → Type 0
+CountsLink (Err Halt.Link) before now = Rose before now
+CountsLink other before now = now ≡ before
+
+-- the same by the answer of a turn
+abbrev pub TurnKeep : Turn → (before now : ℕ) → Type 0
+TurnKeep Turn.Keep before now = Rose before now
+TurnKeep other before now = now ≡ before
+
+-- the same of the link's
+abbrev pub TurnLink : Turn → (before now : ℕ) → Type 0
+TurnLink Turn.Link before now = Rose before now
+TurnLink other before now = now ≡ before
+
 -- a turn with this answer: its stages, with an outbox that is empty at first and whose datagrams are numbered from `next` on
-pub record ServesTurn {K : Type 0} (content : K → Option Kept) (faults : K → ℕ) (turn : Turn) (next next' : ℕ) (clock clock' : Option (List ℕ)) (link link' : LinkTold) (server server' : Holding K) (log log' : EntryList) : Type 0 where
+pub record ServesTurn {K : Type 0} (content : K → Option Kept) (faults : K → ℕ) (turn : Turn) (next next' : ℕ) (clock clock' : ClockTold) (link link' : LinkTold) (server server' : Holding K) (log log' : EntryList) : Type 0 where
   pub out : Datagrams
   pub out' : Datagrams
   pub first : out.first ≡ next

@@ -4,7 +4,8 @@ ghost use Rattle.std.specs.Prelude.{◌≡◌, ◌<◌, ◌^◌, length, Option,
 ghost use Rattle.nq_base.specs.declared.Answer.{Answer};
 ghost use Rattle.nq_base.specs.declared.Party.{Party};
 ghost use Rattle.nq_node.specs.ClientTurn.{AttendsTurn, GoesOn, Moment, Receives, SendsOut, Stages, Takes, first_of, given_by, goes_on, tick_due, turn_of};
-ghost use Rattle.nq_node.specs.Links.{LinkTold, most_bytes};
+ghost use Rattle.nq_node.specs.Clocks.{clock_told};
+ghost use Rattle.nq_node.specs.Links.{link_told, most_bytes};
 
 use crate::sending::send_all;
 use crate::turns::{ClientTurn, MOST_BYTES, Stop};
@@ -16,7 +17,7 @@ use nq_wire::Outbox;
 use std::alloc::Global;
 
 /// A turn of a client. It reads the clock once. Where the reading is above the client's time, the client takes in one tick to that
-/// time. It receives once over the link. The client takes in the datagram that came, cut to 4401 bytes; one that another party
+/// time. It asks the link for one receive. The client takes in the datagram that came, cut to 4401 bytes; one that another party
 /// than the server sent is dropped. Then all that came out is sent, in order. `next` is the number that the client is told of
 /// the next datagram that it is given; it rises by one for each that it takes in, and stops at `u64::MAX`.
 ///
@@ -33,9 +34,10 @@ pub fn client_turn<L: Link, C: Clock>(
     next: &mut u64,
     log: &mut Journal,
 ) -> ClientTurn
-    ensures turn { AttendsTurn result next.old next.new (C.readings clock.old) (C.readings clock.new)
-        (record { sent = L.sent link.old; waiting = L.waiting link.old; faults = L.faults link.old })
-        (record { sent = L.sent link.new; waiting = L.waiting link.new; faults = L.faults link.new })
+    ensures turn { AttendsTurn result next.old next.new
+        (clock_told C.floor C.readings clock.old) (clock_told C.floor C.readings clock.new)
+        (link_told L.sent L.waiting L.faults L.receives link.old)
+        (link_told L.sent L.waiting L.faults L.receives link.new)
         client.old client.new log.old log.new }
 {
     let mut out = Outbox::new(alloc, 0).unwrap();
@@ -64,9 +66,9 @@ fn attend<L: Link, C: Clock>(
     out: &mut Outbox,
     log: &mut Journal,
 ) -> Result<Option<Answer>, Stop>
-    ensures { Stages result (C.readings clock.old) (C.readings clock.new)
-        (record { sent = L.sent link.old; waiting = L.waiting link.old; faults = L.faults link.old })
-        (record { sent = L.sent link.new; waiting = L.waiting link.new; faults = L.faults link.new })
+    ensures { Stages result (clock_told C.floor C.readings clock.old) (clock_told C.floor C.readings clock.new)
+        (link_told L.sent L.waiting L.faults L.receives link.old)
+        (link_told L.sent L.waiting L.faults L.receives link.new)
         (record { client = client.old; out = out.old; log = log.old; next = next.old })
         (record { client = client.new; out = out.new; log = log.new; next = next.new }) }
 {
@@ -87,8 +89,8 @@ fn go_on<L: Link>(
     log: &mut Journal,
 ) -> Result<Option<Answer>, Stop>
     ensures { GoesOn (Ok ticked) result
-        (record { sent = L.sent link.old; waiting = L.waiting link.old; faults = L.faults link.old })
-        (record { sent = L.sent link.new; waiting = L.waiting link.new; faults = L.faults link.new })
+        (link_told L.sent L.waiting L.faults L.receives link.old)
+        (link_told L.sent L.waiting L.faults L.receives link.new)
         (record { client = client.old; out = out.old; log = log.old; next = next.old })
         (record { client = client.new; out = out.new; log = log.new; next = next.new }) }
 {
@@ -105,8 +107,8 @@ fn send_out<L: Link>(
     answer: Option<Answer>,
 ) -> Result<Option<Answer>, Stop>
     ensures { SendsOut out.now.datagrams answer result
-        (record { sent = L.sent link.old; waiting = L.waiting link.old; faults = L.faults link.old })
-        (record { sent = L.sent link.new; waiting = L.waiting link.new; faults = L.faults link.new }) }
+        (link_told L.sent L.waiting L.faults L.receives link.old)
+        (link_told L.sent L.waiting L.faults L.receives link.new) }
 {
     match send_all(link, out) {
         Sent::All => Ok(answer),
@@ -153,8 +155,8 @@ fn take_from<L: Link>(
     log: &mut Journal,
 ) -> Result<Option<Answer>, Stop>
     ensures { Receives result
-        (record { sent = L.sent link.old; waiting = L.waiting link.old; faults = L.faults link.old })
-        (record { sent = L.sent link.new; waiting = L.waiting link.new; faults = L.faults link.new })
+        (link_told L.sent L.waiting L.faults L.receives link.old)
+        (link_told L.sent L.waiting L.faults L.receives link.new)
         (record { client = client.old; out = out.old; log = log.old; next = next.old })
         (record { client = client.new; out = out.new; log = log.new; next = next.new }) }
 {
@@ -173,8 +175,8 @@ fn take_through<L: Link>(
 ) -> Result<Option<Answer>, Stop>
     requires { length buffer.old ≡ most_bytes }
     ensures { Receives result
-        (record { sent = L.sent link.old; waiting = L.waiting link.old; faults = L.faults link.old })
-        (record { sent = L.sent link.new; waiting = L.waiting link.new; faults = L.faults link.new })
+        (link_told L.sent L.waiting L.faults L.receives link.old)
+        (link_told L.sent L.waiting L.faults L.receives link.new)
         (record { client = client.old; out = out.old; log = log.old; next = next.old })
         (record { client = client.new; out = out.new; log = log.new; next = next.new }) }
 {

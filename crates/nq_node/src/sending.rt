@@ -7,10 +7,15 @@ ghost use Rattle.nq_node.specs.Links.{SendsAll};
 use nq_link::{Link, Sent};
 use nq_wire::Outbox;
 
-/// Sends the datagrams of an outbox in their order, up to the first that the link refuses.
-pub(crate) fn send_all<L: Link>(link: &mut L, out: &Outbox) -> Sent
+/// Sends the datagrams of an outbox in their order, up to the first that the link refuses. Nothing is received.
+///
+/// # Errors
+///
+/// `Failed` only where the link counted a fault. Those before the refused one are sent.
+pub fn send_all<L: Link>(link: &mut L, out: &Outbox) -> Sent
     ensures sends { SendsAll result out.now.datagrams (L.sent link.old) (L.sent link.new) (L.faults link.old) (L.faults link.new) }
     ensures waiting { L.waiting link.new ≡ L.waiting link.old }
+    ensures receives { L.receives link.new ≡ L.receives link.old }
 {
     for place in 0..out.len() {
         match send_one(link, out, place) {
@@ -26,6 +31,7 @@ fn send_one<L: Link>(link: &mut L, out: &Outbox, place: usize) -> Sent
     requires { place < length out.now.datagrams }
     ensures sends { IfSome (slice_get out.now.datagrams place) (λ d. Sends result d.0 d.1 (L.sent link.old) (L.sent link.new)) }
     ensures waiting { L.waiting link.new ≡ L.waiting link.old }
+    ensures receives { L.receives link.new ≡ L.receives link.old }
     ensures cause { CountsSend result (L.faults link.old) (L.faults link.new) }
 {
     match out.get(place) {

@@ -2,7 +2,8 @@
 
 ghost use Rattle.std.specs.Prelude.{◌≡◌, ◌<◌, ◌≤◌, ◌^◌, ◌||◌, length, nat_lt, IfOk, Ok};
 ghost use Rattle.nq_base.specs.declared.Party.{Party};
-ghost use Rattle.nq_node.specs.Links.{Letter, LinkTold, most_bytes};
+ghost use Rattle.nq_node.specs.Clocks.{clock_told};
+ghost use Rattle.nq_node.specs.Links.{Letter, link_told, most_bytes};
 ghost use Rattle.nq_node.specs.ServerTurn.{GoesOn, Moment, Receives, SendsOut, ServesTurn, Stages, Takes, given_by, goes_on, outcome, taken, tick_due, turn_of};
 
 use crate::sending::send_all;
@@ -16,7 +17,7 @@ use nq_wire::Outbox;
 use std::alloc::Global;
 
 /// A turn of a server. It reads the clock once. Where the reading is above the server's time, the server takes in one tick to that
-/// time. It receives once over the link. The server takes in the datagram that came, cut to 4401 bytes; one that no host sent is
+/// time. It asks the link for one receive. The server takes in the datagram that came, cut to 4401 bytes; one that no host sent is
 /// dropped. Then all that came out is sent, in order. `next` is the number of the next datagram that the server makes; it rises by
 /// one for each, and stops at `u64::MAX`.
 ///
@@ -33,9 +34,10 @@ pub fn serve_turn<K: Keeper, L: Link, C: Clock>(
     next: &mut u64,
     log: &mut Journal,
 ) -> Turn
-    ensures turn { ServesTurn K.content K.faults result next.old next.new (C.readings clock.old) (C.readings clock.new)
-        (record { sent = L.sent link.old; waiting = L.waiting link.old; faults = L.faults link.old })
-        (record { sent = L.sent link.new; waiting = L.waiting link.new; faults = L.faults link.new })
+    ensures turn { ServesTurn K.content K.faults result next.old next.new
+        (clock_told C.floor C.readings clock.old) (clock_told C.floor C.readings clock.new)
+        (link_told L.sent L.waiting L.faults L.receives link.old)
+        (link_told L.sent L.waiting L.faults L.receives link.new)
         server.old server.new log.old log.new }
     ensures follows { K.follows server.old.keeper server.new.keeper }
 {
@@ -68,9 +70,9 @@ fn serve<K: Keeper, L: Link, C: Clock>(
     out: &mut Outbox,
     log: &mut Journal,
 ) -> Result<bool, Halt>
-    ensures stages { Stages K.content K.faults result (C.readings clock.old) (C.readings clock.new)
-        (record { sent = L.sent link.old; waiting = L.waiting link.old; faults = L.faults link.old })
-        (record { sent = L.sent link.new; waiting = L.waiting link.new; faults = L.faults link.new })
+    ensures stages { Stages K.content K.faults result (clock_told C.floor C.readings clock.old) (clock_told C.floor C.readings clock.new)
+        (link_told L.sent L.waiting L.faults L.receives link.old)
+        (link_told L.sent L.waiting L.faults L.receives link.new)
         (record { server = server.old; out = out.old; log = log.old })
         (record { server = server.new; out = out.new; log = log.new }) }
     ensures follows { K.follows server.old.keeper server.new.keeper }
@@ -92,8 +94,8 @@ fn go_on<K: Keeper, L: Link>(
     log: &mut Journal,
 ) -> Result<bool, Halt>
     ensures goes { GoesOn K.content K.faults (Ok tt) result ticked
-        (record { sent = L.sent link.old; waiting = L.waiting link.old; faults = L.faults link.old })
-        (record { sent = L.sent link.new; waiting = L.waiting link.new; faults = L.faults link.new })
+        (link_told L.sent L.waiting L.faults L.receives link.old)
+        (link_told L.sent L.waiting L.faults L.receives link.new)
         (record { server = server.old; out = out.old; log = log.old })
         (record { server = server.new; out = out.new; log = log.new }) }
     ensures follows { K.follows server.old.keeper server.new.keeper }
@@ -114,8 +116,8 @@ fn either(one: bool, other: bool) -> bool
 /// Sends all that came out, and ends the turn with what moved it.
 fn send_out<L: Link>(link: &mut L, out: &Outbox, moved: bool) -> Result<bool, Halt>
     ensures { SendsOut out.now.datagrams moved result
-        (record { sent = L.sent link.old; waiting = L.waiting link.old; faults = L.faults link.old })
-        (record { sent = L.sent link.new; waiting = L.waiting link.new; faults = L.faults link.new }) }
+        (link_told L.sent L.waiting L.faults L.receives link.old)
+        (link_told L.sent L.waiting L.faults L.receives link.new) }
 {
     match send_all(link, out) {
         Sent::All => Ok(moved),
@@ -154,8 +156,8 @@ fn take_from<K: Keeper, L: Link>(
     log: &mut Journal,
 ) -> Result<bool, Halt>
     ensures receives { Receives K.content K.faults result
-        (record { sent = L.sent link.old; waiting = L.waiting link.old; faults = L.faults link.old })
-        (record { sent = L.sent link.new; waiting = L.waiting link.new; faults = L.faults link.new })
+        (link_told L.sent L.waiting L.faults L.receives link.old)
+        (link_told L.sent L.waiting L.faults L.receives link.new)
         (record { server = server.old; out = out.old; log = log.old })
         (record { server = server.new; out = out.new; log = log.new }) }
     ensures follows { K.follows server.old.keeper server.new.keeper }
@@ -175,8 +177,8 @@ fn take_through<K: Keeper, L: Link>(
 ) -> Result<bool, Halt>
     requires { length buffer.old ≡ most_bytes }
     ensures receives { Receives K.content K.faults result
-        (record { sent = L.sent link.old; waiting = L.waiting link.old; faults = L.faults link.old })
-        (record { sent = L.sent link.new; waiting = L.waiting link.new; faults = L.faults link.new })
+        (link_told L.sent L.waiting L.faults L.receives link.old)
+        (link_told L.sent L.waiting L.faults L.receives link.new)
         (record { server = server.old; out = out.old; log = log.old })
         (record { server = server.new; out = out.new; log = log.new }) }
     ensures follows { K.follows server.old.keeper server.new.keeper }

@@ -1,4 +1,5 @@
 pub mod Commands
+pub mod HostPromises
 pub mod LoopPromises
 pub mod Promises
 pub mod StormPromises

@@ -7,11 +7,12 @@ use Rattle.nq_ending.specs.declared.Ending.{Ending}
 use Rattle.nq_loop.proofs.Faults.{loops-unless}
 use Rattle.nq_loop.specs.Looped.{LoopEnds, LoopsUnlessFault}
 use Rattle.nq_loop.specs.Whole.{loop_head}
+use Rattle.nq_node.specs.Clocks.{ClockTold}
 use Rattle.nq_node.specs.Links.{LinkTold}
 use Rattle.nq_run.proofs.Promises.{faultless, holds_throughout}
 use Rattle.nq_run.specs.Looping.{LoopsFor, LoopsLawfully}
 
-done_looped : (hosts turns : ℕ) (clock clock' : Option (List ℕ)) (links links' : List LinkTold) (held now : Option (List ℕ)) (w w' : ℕ) → LoopEnds Ending.Done hosts turns clock clock' links links' held now w w'
+done_looped : (hosts turns : ℕ) (clock clock' : ClockTold) (links links' : List LinkTold) (held now : Option (List ℕ)) (w w' : ℕ) → LoopEnds Ending.Done hosts turns clock clock' links links' held now w w'
     → LoopsLawfully hosts turns clock clock' links links' held now
 done_looped hosts turns clock clock' links links' held now w w' ends =
     let holds = holds_throughout (loop_head hosts) ends.events ends.whole.lawful in
@@ -27,11 +28,11 @@ done_looped hosts turns clock clock' links links' held now w w' ends =
 -- ---- what `run` says
 
 -- a loop does not end with usage
-pub loop_usage : (status hosts turns : ℕ) (clock clock' : Option (List ℕ)) (links links' : List LinkTold) (held now : Option (List ℕ)) (w w' : ℕ) → LoopsFor status hosts turns clock clock' links links' held now w w'
+pub loop_usage : (status hosts turns : ℕ) (clock clock' : ClockTold) (links links' : List LinkTold) (held now : Option (List ℕ)) (w w' : ℕ) → LoopsFor status hosts turns clock clock' links links' held now w w'
     → status ≡ status_of Ending.Usage → ⊥
 loop_usage status hosts turns clock clock' links links' held now w w' does none = subst (λ e. LoopEnds e hosts turns clock clock' links links' held now w w') (one_end does.end Ending.Usage status does.status none) does.ends
 
-pub loop_does : (said : Option Command) (status hosts turns hosts' turns' : ℕ) (clock clock' : Option (List ℕ)) (links links' : List LinkTold) (held now : Option (List ℕ)) (w w' : ℕ) → said ≡ Some (Command.Loop hosts turns) → said ≡ Some (Command.Loop hosts' turns')
+pub loop_does : (said : Option Command) (status hosts turns hosts' turns' : ℕ) (clock clock' : ClockTold) (links links' : List LinkTold) (held now : Option (List ℕ)) (w w' : ℕ) → said ≡ Some (Command.Loop hosts turns) → said ≡ Some (Command.Loop hosts' turns')
     → LoopsFor status hosts turns clock clock' links links' held now w w' → LoopsFor status hosts' turns' clock clock' links links' held now w w'
 loop_does said status hosts turns hosts' turns' clock clock' links links' held now w w' is same does =
     let all : hosts ≡ hosts' = cc in
@@ -39,13 +40,13 @@ loop_does said status hosts turns hosts' turns' clock clock' links links' held n
     subst (λ n. LoopsFor status hosts' n clock clock' links links' held now w w') most
     (subst (λ n. LoopsFor status n turns clock clock' links links' held now w w') all does)
 
-pub loop_lawful : (status hosts turns : ℕ) (clock clock' : Option (List ℕ)) (links links' : List LinkTold) (held now : Option (List ℕ)) (w w' : ℕ) → LoopsFor status hosts turns clock clock' links links' held now w w'
+pub loop_lawful : (status hosts turns : ℕ) (clock clock' : ClockTold) (links links' : List LinkTold) (held now : Option (List ℕ)) (w w' : ℕ) → LoopsFor status hosts turns clock clock' links links' held now w w'
     → status ≡ status_of Ending.Done → LoopsLawfully hosts turns clock clock' links links' held now
 loop_lawful status hosts turns clock clock' links links' held now w w' does done =
     done_looped hosts turns clock clock' links links' held now w w'
     (subst (λ e. LoopEnds e hosts turns clock clock' links links' held now w w') (one_end does.end Ending.Done status does.status done) does.ends)
 
-pub loop_unless : (status hosts turns : ℕ) (clock clock' : Option (List ℕ)) (links links' : List LinkTold) (held now : Option (List ℕ)) (w w' : ℕ) → LoopsFor status hosts turns clock clock' links links' held now w w'
+pub loop_unless : (status hosts turns : ℕ) (clock clock' : ClockTold) (links links' : List LinkTold) (held now : Option (List ℕ)) (w w' : ℕ) → LoopsFor status hosts turns clock clock' links links' held now w w'
     → WithStatus status (λ end. LoopsUnlessFault end links links' w w')
 loop_unless status hosts turns clock clock' links links' held now w w' does =
     (does.end, does.status, loops-unless does.end hosts turns clock clock' links links' held now w w' does.ends)

@@ -11,19 +11,20 @@ use Rattle.nq_loop.specs.Looped.{IsWhole, LoopEnds}
 use Rattle.nq_loop.specs.Printed.{loop_text}
 use Rattle.nq_loop.specs.Whole.{loop_head}
 use Rattle.nq_model.specs.World.{run}
+use Rattle.nq_node.specs.Clocks.{ClockTold}
 use Rattle.nq_node.specs.Links.{LinkTold}
 use Rattle.nq_play.specs.Playing.{beginning}
 use Rattle.nq_run.specs.Promised.{HoldsThroughout}
 
 -- a loop among so many hosts took its turns, or ended before, and the status is that of its end
-pub record LoopsFor (code hosts turns : ℕ) (clock clock' : Option (List ℕ)) (links links' : List LinkTold) (held now : Option (List ℕ)) (w w' : ℕ) : Type 0 where
+pub record LoopsFor (code hosts turns : ℕ) (clock clock' : ClockTold) (links links' : List LinkTold) (held now : Option (List ℕ)) (w w' : ℕ) : Type 0 where
   pub end : Ending
   pub status : code ≡ status_of end
   pub ends : LoopEnds end hosts turns clock clock' links links' held now w w'
 
 -- a loop printed the text of the schedule that its turns made, the text of that schedule's journal, and its counts. The headline holds at
 -- each moment of its run, and nothing in its journal is at fault
-pub record LoopsLawfully (hosts turns : ℕ) (clock clock' : Option (List ℕ)) (links links' : List LinkTold) (held now : Option (List ℕ)) : Type 0 where
+pub record LoopsLawfully (hosts turns : ℕ) (clock clock' : ClockTold) (links links' : List LinkTold) (held now : Option (List ℕ)) : Type 0 where
   pub text : List ℕ
   pub events : List Event
   pub whole : IsWhole hosts turns text events clock clock' links links'

@@ -10,6 +10,8 @@ ghost use Rattle.nq_ending.specs.declared.Ending.{Ending};
 ghost use Rattle.nq_journal.specs.Fault.{IsFaultyAt, IsJournal};
 ghost use Rattle.nq_loop.specs.Looped.{LoopsUnlessFault};
 ghost use Rattle.nq_loop.specs.Sending.{told_of};
+ghost use Rattle.nq_node.specs.Clocks.{clock_told};
+ghost use Rattle.nq_node.specs.Links.{link_told};
 ghost use Rattle.nq_replay.specs.Ending.{Ends, IsUnlessFault};
 ghost use Rattle.nq_replay.specs.Judging.{IsSaidUnlessFault, Judges};
 ghost use Rattle.nq_replay.specs.Lines.{PrintsLine, usage_line};
@@ -22,11 +24,11 @@ ghost use Rattle.nq_run.specs.Promised.{PrintsLawfully, PrintsSound, most_bytes}
 ghost use Rattle.nq_run.specs.Storming.{DoesStorm, NeverRuns, RunsNothing, StormsLawfully, StormsUnlessFault};
 ghost use Rattle.nq_script.specs.declared.heads.Head.{Head};
 
-use nq_base::{Host, Inc};
+use nq_base::{Host, Inc, Who};
 use nq_clock::Clock;
 use nq_command::{Command, Words};
 use nq_ending::Ending;
-use nq_hosts::serve;
+use nq_hosts::{Served, serve};
 use nq_io::{Sink, Source};
 use nq_keeper::Keeper;
 use nq_link::Link;
@@ -34,7 +36,7 @@ use nq_loop::run_loop;
 use nq_replay::{judge, put_line, replay};
 use nq_storm::{first_of, run_storm};
 use nq_storm_rules::Fate;
-use nq_user::client;
+use nq_user::{Plan, client};
 use std::alloc::Global;
 
 // The most bytes of a schedule, a journal or a list of calls that are read.
@@ -106,15 +108,15 @@ pub fn run<S: Source, K: Sink, P: Keeper + Drop, L: Link, C: Clock>(
     ensures sound { IsReplay words.now → result ≡ status_of Ending.Done
         → OfInput most_bytes (S.left input.old) (S.left input.new) (λ text. PrintsSound (K.held out.old) (K.held out.new)) }
     ensures serves { (turns longest : ℕ) → command_of words.now ≡ Some (Command.Serve turns longest)
-        → ServesFor P.content P.faults P.follows result longest turns keeper (C.readings clock.old) (C.readings clock.new)
-        (record { sent = L.sent link.old; waiting = L.waiting link.old; faults = L.faults link.old })
-        (record { sent = L.sent link.new; waiting = L.waiting link.new; faults = L.faults link.new })
+        → ServesFor P.content P.faults P.follows result longest turns keeper (clock_told C.floor C.readings clock.old) (clock_told C.floor C.readings clock.new)
+        (link_told L.sent L.waiting L.faults L.receives link.old)
+        (link_told L.sent L.waiting L.faults L.receives link.new)
         (K.held out.old) (K.held out.new) (K.faults out.old) (K.faults out.new) }
     ensures attends { (host inc turns : ℕ) → command_of words.now ≡ Some (Command.Client host inc turns)
         → Attends turns (record { host = host; inc = inc }) most_bytes result (S.left input.old) (S.left input.new) (S.faults input.old) (S.faults input.new)
-        (K.held out.old) (K.held out.new) (K.faults out.old) (K.faults out.new) (C.readings clock.old) (C.readings clock.new)
-        (record { sent = L.sent link.old; waiting = L.waiting link.old; faults = L.faults link.old })
-        (record { sent = L.sent link.new; waiting = L.waiting link.new; faults = L.faults link.new }) }
+        (K.held out.old) (K.held out.new) (K.faults out.old) (K.faults out.new) (clock_told C.floor C.readings clock.old) (clock_told C.floor C.readings clock.new)
+        (link_told L.sent L.waiting L.faults L.receives link.old)
+        (link_told L.sent L.waiting L.faults L.receives link.new) }
     ensures storms { (kind start events : ℕ) → command_of words.now ≡ Some (Command.Storm kind start events)
         → WithStatus result (λ end. DoesStorm end kind start events (map (λ fate. told fate) fates.items)
         (K.held out.old) (K.held out.new) (K.faults out.old) (K.faults out.new)) }
@@ -123,15 +125,15 @@ pub fn run<S: Source, K: Sink, P: Keeper + Drop, L: Link, C: Clock>(
     ensures lawful { (kind start events : ℕ) → command_of words.now ≡ Some (Command.Storm kind start events) → result ≡ status_of Ending.Done
         → StormsLawfully kind start events (map (λ fate. told fate) fates.items) (K.held out.old) (K.held out.new) }
     ensures loops { (hosts turns : ℕ) → command_of words.now ≡ Some (Command.Loop hosts turns)
-        → LoopsFor result hosts turns (C.readings clock.old) (C.readings clock.new)
-        (map (told_of L.sent L.waiting L.faults) links.old) (map (told_of L.sent L.waiting L.faults) links.new)
+        → LoopsFor result hosts turns (clock_told C.floor C.readings clock.old) (clock_told C.floor C.readings clock.new)
+        (map (told_of L.sent L.waiting L.faults L.receives) links.old) (map (told_of L.sent L.waiting L.faults L.receives) links.new)
         (K.held out.old) (K.held out.new) (K.faults out.old) (K.faults out.new) }
     ensures turned { (hosts turns : ℕ) → command_of words.now ≡ Some (Command.Loop hosts turns)
         → WithStatus result (λ end. LoopsUnlessFault end
-        (map (told_of L.sent L.waiting L.faults) links.old) (map (told_of L.sent L.waiting L.faults) links.new) (K.faults out.old) (K.faults out.new)) }
+        (map (told_of L.sent L.waiting L.faults L.receives) links.old) (map (told_of L.sent L.waiting L.faults L.receives) links.new) (K.faults out.old) (K.faults out.new)) }
     ensures looped { (hosts turns : ℕ) → command_of words.now ≡ Some (Command.Loop hosts turns) → result ≡ status_of Ending.Done
-        → LoopsLawfully hosts turns (C.readings clock.old) (C.readings clock.new)
-        (map (told_of L.sent L.waiting L.faults) links.old) (map (told_of L.sent L.waiting L.faults) links.new)
+        → LoopsLawfully hosts turns (clock_told C.floor C.readings clock.old) (clock_told C.floor C.readings clock.new)
+        (map (told_of L.sent L.waiting L.faults L.receives) links.old) (map (told_of L.sent L.waiting L.faults L.receives) links.new)
         (K.held out.old) (K.held out.new) }
     ensures input { reads_input (command_of words.now) ≡ false → input.new ≡ input.old }
     ensures link { uses_link (command_of words.now) ≡ false → link.new ≡ link.old }
@@ -142,20 +144,19 @@ pub fn run<S: Source, K: Sink, P: Keeper + Drop, L: Link, C: Clock>(
         Some(Command::Replay) => replay(alloc, input, out, MOST_BYTES).status(),
         Some(Command::Check) => judge(alloc, input, out, MOST_BYTES).status(),
         Some(Command::Serve { turns, longest }) => {
-            serve(alloc, keeper, turns, longest, link, clock, out).status()
+            served(alloc, keeper, turns, longest, link, clock, out)
         }
-        Some(Command::Client { host, inc, turns }) => client(
-            alloc,
-            Host(host),
-            Inc(inc),
-            turns,
-            MOST_BYTES,
-            input,
-            out,
-            link,
-            clock,
-        )
-        .status(),
+        Some(Command::Client { host, inc, turns }) => {
+            let plan = Plan {
+                who: Who {
+                    host: Host(host),
+                    inc: Inc(inc),
+                },
+                turns,
+                limit: MOST_BYTES,
+            };
+            client(alloc, plan, input, out, link, clock).status()
+        }
         Some(
             Command::Storm {
                 kind,
@@ -166,6 +167,31 @@ pub fn run<S: Source, K: Sink, P: Keeper + Drop, L: Link, C: Clock>(
         Some(Command::Loop { hosts, turns }) => looped(alloc, hosts, turns, links, clock, out),
         None => usage(out),
     }
+}
+
+/// Serves for so many turns over a keeper; the status.
+fn served<P: Keeper + Drop, L: Link, C: Clock, K: Sink>(
+    alloc: Global,
+    keeper: P,
+    turns: u32,
+    longest: u32,
+    link: &mut L,
+    clock: &mut C,
+    out: &mut K,
+) -> u8
+    requires long { 5 ≤ longest }
+    requires short { longest ≤ 600 }
+    ensures { ServesFor P.content P.faults P.follows result longest turns keeper
+        (clock_told C.floor C.readings clock.old) (clock_told C.floor C.readings clock.new)
+        (link_told L.sent L.waiting L.faults L.receives link.old)
+        (link_told L.sent L.waiting L.faults L.receives link.new)
+        (K.held out.old) (K.held out.new) (K.faults out.old) (K.faults out.new) }
+{
+    let Served {
+        end,
+        keeper: _keeper,
+    } = serve(alloc, keeper, turns, longest, link, clock, out);
+    end.status()
 }
 
 /// Runs a storm of the first fate of a kind, if there is one; the status.
@@ -198,8 +224,8 @@ fn looped<K: Sink, L: Link, C: Clock>(
     requires some { 1 ≤ hosts }
     requires few { hosts ≤ 64 }
     requires links { length links.old ≡ hosts + 1 }
-    ensures { LoopsFor result hosts turns (C.readings clock.old) (C.readings clock.new)
-        (map (told_of L.sent L.waiting L.faults) links.old) (map (told_of L.sent L.waiting L.faults) links.new)
+    ensures { LoopsFor result hosts turns (clock_told C.floor C.readings clock.old) (clock_told C.floor C.readings clock.new)
+        (map (told_of L.sent L.waiting L.faults L.receives) links.old) (map (told_of L.sent L.waiting L.faults L.receives) links.new)
         (K.held out.old) (K.held out.new) (K.faults out.old) (K.faults out.new) }
 {
     run_loop(alloc, hosts, turns, links, clock, out).status()

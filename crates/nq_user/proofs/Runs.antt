@@ -1,10 +1,14 @@
 -- Turns and calls of a client, case by case.
-use Rattle.std.proofs.Common.{◌≡◌, ℕ, Bool, true, false, Some, None, Result, Ok, Err, refl, subst}
+use Rattle.std.proofs.Common.{◌≡◌, ◌∙◌, ℕ, Bool, true, false, [], ◌++◌, map, Some, None, Result, Ok, Err, refl, ap, subst}
 use Rattle.nq_base.specs.declared.Answer.{Answer}
+use Rattle.nq_base.specs.declared.Who.{Who}
+use Rattle.nq_client.specs.Finishing.{to_server}
 use Rattle.nq_ending.specs.declared.Halt.{Halt}
 use Rattle.nq_link.specs.Link.{Letters}
+use Rattle.nq_model.specs.ClientStep.{starts}
 use Rattle.nq_node.specs.Links.{LinkTold}
 use Rattle.nq_user.specs.Calling.{FollowsUp, SendsOut, Waits, refusal_of}
+use Rattle.nq_user.specs.Running.{Begins, term_wanted}
 use Rattle.nq_user.specs.Turning.{Between, EndsWithin, TakesTurns}
 use Rattle.nq_user.specs.declared.aims.Aim.{Aim}
 
@@ -37,3 +41,13 @@ refused letters answer why link so =
 pub sent : (letters : Letters) (answer : Answer) (result : Result Unit Halt) (link link' : LinkTold) → None ≡ refusal_of answer
     → SendsOut letters result link link' → FollowsUp (refusal_of answer) letters result link link'
 sent letters answer result link link' so sends = subst (λ o. FollowsUp o letters result link link') so sends
+
+-- a client whose first datagrams were not sent
+pub not_begun : (who : Who) (time : ℕ) (why : Halt) (letters first : Letters) (link link' : LinkTold) → first ≡ []
+    → letters ≡ first ++ map to_server (starts who term_wanted time).sends → SendsOut letters (Err why) link link' → Begins who time (Err why) link link'
+not_begun who time Halt.Link letters first link link' none sent s =
+    subst (λ ds. SendsOut ds (Err Halt.Link) link link') (sent ∙ ap (λ (ds : Letters). ds ++ map to_server (starts who term_wanted time).sends) none) s
+not_begun who time Halt.Keep letters first link link' none sent s = absurd s
+not_begun who time Halt.Memory letters first link link' none sent s = absurd s
+not_begun who time Halt.Spent letters first link link' none sent s = absurd s
+not_begun who time Halt.NoAnswer letters first link link' none sent s = absurd s

@@ -10,17 +10,15 @@ use Rattle.nq_link.specs.Link.{Letters}
 use Rattle.nq_link.specs.declared.Sent.{Sent}
 use Rattle.nq_model.specs.ClientStep.{client_call}
 use Rattle.nq_model.specs.Profile.{most_taken_by_client}
-use Rattle.nq_node.specs.Links.{LinkTold, SendsAll}
+use Rattle.nq_node.specs.Links.{LinkTold, Posts}
 use Rattle.nq_user.specs.Turning.{Between, TakesTurns, reached}
 use Rattle.nq_user.specs.declared.aims.Aim.{Aim}
 use Rattle.nq_wire.specs.Outbox.{Datagrams}
 
 -- all of these datagrams went over the link, or it failed behind a front of them
 abbrev pub SendsOut : Letters → Result Unit Halt → (link link' : LinkTold) → Type 0
-SendsOut letters (Ok done) link link' =
-    (link'.waiting ≡ link.waiting) × SendsAll Sent.All letters link.sent link'.sent link.faults link'.faults
-SendsOut letters (Err Halt.Link) link link' =
-    (link'.waiting ≡ link.waiting) × SendsAll Sent.Failed letters link.sent link'.sent link.faults link'.faults
+SendsOut letters (Ok done) link link' = Posts Sent.All letters link link'
+SendsOut letters (Err Halt.Link) link link' = Posts Sent.Failed letters link link'
 SendsOut letters (Err other) link link' = ⊥
 
 -- why a call was refused that has this answer, if it was

@@ -6,10 +6,10 @@ use Rattle.nq_base.specs.declared.Who.{Who}
 use Rattle.nq_calls.specs.Lines.{AreCalls}
 use Rattle.nq_client.specs.Counted.{Counted}
 use Rattle.nq_client.specs.Finishing.{to_server}
-use Rattle.nq_clock.specs.Clock.{Reads}
 use Rattle.nq_ending.specs.declared.Halt.{Halt}
 use Rattle.nq_base.specs.Entries.{EntryList}
 use Rattle.nq_model.specs.ClientStep.{starts}
+use Rattle.nq_node.specs.Clocks.{ClockTold, ReadsOnce}
 use Rattle.nq_node.specs.Links.{LinkTold}
 use Rattle.nq_script.specs.Calls.{SpellsCall}
 use Rattle.nq_user.specs.Calling.{RunsCall, SendsOut}
@@ -75,7 +75,7 @@ Begins who time (Err Halt.Memory) link link' = link' ≡ link
 Begins who time (Err why) link link' = SendsOut (map to_server (starts who term_wanted time).sends) (Err why) link link'
 
 -- what comes after the start: nothing, or the client is attached and the calls of the text are run
-pub record RunsFrom (turns : ℕ) (client : Counted) (text : List ℕ) (result : Result Unit Stop) (log log' : EntryList) (clock clock' : Option (List ℕ)) (link link' : LinkTold) : Type 0 where
+pub record RunsFrom (turns : ℕ) (client : Counted) (text : List ℕ) (result : Result Unit Stop) (log log' : EntryList) (clock clock' : ClockTold) (link link' : LinkTold) : Type 0 where
   pub last : Between
   pub attends : Attends turns text result (record { client = client; log = log; next = 0; clock = clock; link = link }) last
   pub logs : log' ≡ last.log
@@ -83,17 +83,17 @@ pub record RunsFrom (turns : ℕ) (client : Counted) (text : List ℕ) (result :
   pub links : link' ≡ last.link
 
 -- likewise, by what the start gave
-abbrev pub GoesOn : (turns : ℕ) → (begun : Result Counted Halt) → (text : List ℕ) → Result Unit Stop → (log log' : EntryList) → (clock clock' : Option (List ℕ)) → (link link' : LinkTold) → Type 0
+abbrev pub GoesOn : (turns : ℕ) → (begun : Result Counted Halt) → (text : List ℕ) → Result Unit Stop → (log log' : EntryList) → (clock clock' : ClockTold) → (link link' : LinkTold) → Type 0
 GoesOn turns (Err why) text result log log' clock clock' link link' =
     (result ≡ Err (record { why = why; line = 0 })) × (log' ≡ log) × (clock' ≡ clock) × (link' ≡ link)
 GoesOn turns (Ok client) text result log log' clock clock' link link' =
     RunsFrom turns client text result log log' clock clock' link link'
 
 -- the clock was read once, a client was started at that time, attached, and the calls of the text were run
-pub record Runs (turns : ℕ) (who : Who) (text : List ℕ) (result : Result Unit Stop) (log log' : EntryList) (clock clock' : Option (List ℕ)) (link link' : LinkTold) : Type 0 where
+pub record Runs (turns : ℕ) (who : Who) (text : List ℕ) (result : Result Unit Stop) (log log' : EntryList) (clock clock' : ClockTold) (link link' : LinkTold) : Type 0 where
   pub time : ℕ
-  pub clock_read : Option (List ℕ)
-  pub read : Reads time clock clock_read
+  pub clock_read : ClockTold
+  pub read : ReadsOnce time clock clock_read
   pub begun : Result Counted Halt
   pub link_begun : LinkTold
   pub begins : Begins who time begun link link_begun

@@ -6,18 +6,23 @@ use Rattle.nq_ending.specs.declared.Halt.{Halt}
 use Rattle.nq_base.specs.Entries.{EntryList}
 use Rattle.nq_model.specs.Client.{Client}
 use Rattle.nq_node.specs.ClientTurn.{AttendsTurn}
+use Rattle.nq_node.specs.Clocks.{ClockTold}
 use Rattle.nq_node.specs.Links.{LinkTold}
 use Rattle.nq_node.specs.declared.ClientTurn.{ClientTurn}
 use Rattle.nq_user.specs.declared.aims.Aim.{Aim}
+use Rattle.nq_user.specs.declared.session.Session.{Session}
 
--- a client between two turns, with its journal, the number that it is told of the next datagram that it is given, the readings of
--- the clock to come, and its link
+-- a client between two turns, with its journal, the number that it is told of the next datagram that it is given, its clock and its link
 pub record Between : Type 0 where
   pub client : Counted
   pub log : EntryList
   pub next : ℕ
-  pub clock : Option (List ℕ)
+  pub clock : ClockTold
   pub link : LinkTold
+
+-- a client in use, between two turns
+abbrev pub between : Session → ClockTold → LinkTold → Between
+between session clock link = record { client = session.client; log = session.log; next = session.next; clock = clock; link = link }
 
 -- one turn, with this answer
 abbrev pub Attends : ClientTurn → (at after : Between) → Type 0

@@ -4,9 +4,11 @@
 
 mod aims;
 mod calling;
+mod plan;
 mod running;
-mod sending;
+mod session;
 mod turning;
 mod using;
 
+pub use plan::Plan;
 pub use using::client;

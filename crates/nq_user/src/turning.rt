@@ -1,10 +1,12 @@
 //! Turns of a client, up to the one that reaches what they are taken for.
 
 ghost use Rattle.std.specs.Prelude.{◌≡◌};
-ghost use Rattle.nq_user.specs.Turning.{Between, TakesTurn, TakesTurns, reached};
+ghost use Rattle.nq_node.specs.Clocks.{clock_told};
+ghost use Rattle.nq_node.specs.Links.{link_told};
+ghost use Rattle.nq_user.specs.Turning.{TakesTurn, TakesTurns, between, reached};
 
 use crate::aims::Aim;
-use nq_base::Journal;
+use crate::session::Session;
 use nq_client::Client;
 use nq_clock::Clock;
 use nq_ending::Halt;
@@ -15,20 +17,18 @@ use std::alloc::Global;
 /// Takes turns of a client, at most so many, up to the first that reaches the aim.
 pub(crate) fn take_turns<L: Link, C: Clock>(
     alloc: Global,
-    client: &mut Client,
+    session: &mut Session,
     link: &mut L,
     clock: &mut C,
-    next: &mut u64,
-    log: &mut Journal,
     aim: Aim,
     turns: u32,
 ) -> Result<(), Halt>
     ensures { TakesTurns aim turns result
-        (record { client = client.old; log = log.old; next = next.old; clock = C.readings clock.old; link = record { sent = L.sent link.old; waiting = L.waiting link.old; faults = L.faults link.old } })
-        (record { client = client.new; log = log.new; next = next.new; clock = C.readings clock.new; link = record { sent = L.sent link.new; waiting = L.waiting link.new; faults = L.faults link.new } }) }
+        (between session.old (clock_told C.floor C.readings clock.old) (link_told L.sent L.waiting L.faults L.receives link.old))
+        (between session.new (clock_told C.floor C.readings clock.new) (link_told L.sent L.waiting L.faults L.receives link.new)) }
 {
     for _turn in 0..turns {
-        match take_turn(alloc, client, link, clock, next, log, aim) {
+        match take_turn(alloc, session, link, clock, aim) {
             Ok(done) => {
                 if done {
                     return Ok(());
@@ -43,20 +43,26 @@ pub(crate) fn take_turns<L: Link, C: Clock>(
 /// Takes one turn of a client, and tells whether the aim is reached.
 fn take_turn<L: Link, C: Clock>(
     alloc: Global,
-    client: &mut Client,
+    session: &mut Session,
     link: &mut L,
     clock: &mut C,
-    next: &mut u64,
-    log: &mut Journal,
     aim: Aim,
 ) -> Result<bool, Halt>
     ensures { TakesTurn aim result
-        (record { client = client.old; log = log.old; next = next.old; clock = C.readings clock.old; link = record { sent = L.sent link.old; waiting = L.waiting link.old; faults = L.faults link.old } })
-        (record { client = client.new; log = log.new; next = next.new; clock = C.readings clock.new; link = record { sent = L.sent link.new; waiting = L.waiting link.new; faults = L.faults link.new } }) }
+        (between session.old (clock_told C.floor C.readings clock.old) (link_told L.sent L.waiting L.faults L.receives link.old))
+        (between session.new (clock_told C.floor C.readings clock.new) (link_told L.sent L.waiting L.faults L.receives link.new)) }
 {
-    match client_turn(alloc, client, link, clock, next, log) {
-        ClientTurn::Quiet => Ok(is_reached(client, aim)),
-        ClientTurn::Answered(_) => Ok(is_reached(client, aim)),
+    let client = &mut session.client;
+    match client_turn(
+        alloc,
+        client,
+        link,
+        clock,
+        &mut session.next,
+        &mut session.log,
+    ) {
+        ClientTurn::Quiet => Ok(is_reached(&session.client, aim)),
+        ClientTurn::Answered(_) => Ok(is_reached(&session.client, aim)),
         ClientTurn::Link => Err(Halt::Link),
         ClientTurn::Memory => Err(Halt::Memory),
         ClientTurn::Spent => Err(Halt::Spent),

@@ -1,12 +1,15 @@
 //! The whole of the program `client`.
 
-ghost use Rattle.std.specs.Prelude.{◌≡◌, ◌<◌, ◌^◌, ℕ, List, Option, length};
+ghost use Rattle.std.specs.Prelude.{◌≡◌, ◌<◌, ◌^◌, ℕ, List, Option, Some, length};
 ghost use Rattle.nq_calls.specs.Lines.{AreCalls, Tells};
-ghost use Rattle.nq_user.specs.Using.{RunsAndTells, Uses, UsesText};
+ghost use Rattle.nq_ending.specs.declared.Ending.{Ending};
+ghost use Rattle.nq_node.specs.Clocks.{clock_told};
+ghost use Rattle.nq_node.specs.Links.{link_told};
+ghost use Rattle.nq_user.specs.Using.{EndsBy, RunsAndTells, Uses, UsesText};
 
-use crate::running::run;
+use crate::plan::Plan;
+use crate::running::{Ran, run};
 use nq_answers::{tell_bytes, tell_end, tell_script};
-use nq_base::{Host, Inc, Journal};
 use nq_calls::find_fault;
 use nq_clock::Clock;
 use nq_ending::Ending;
@@ -30,23 +33,23 @@ use std::alloc::Global;
 /// - `NoAnswer` where all the turns were taken since a call began, and none ended it; prints the answers and `noanswer line N`.
 pub fn client<S: Source, K: Sink, L: Link, C: Clock>(
     alloc: Global,
-    host: Host,
-    inc: Inc,
-    turns: u32,
-    limit: usize,
+    plan: Plan,
     input: &mut S,
     out: &mut K,
     link: &mut L,
     clock: &mut C,
 ) -> Ending
-    requires { limit < 2 ^ 31 }
-    ensures { Uses turns (record { host = host; inc = inc }) limit result (S.left input.old) (S.left input.new) (S.faults input.old) (S.faults input.new)
-        (K.held out.old) (K.held out.new) (K.faults out.old) (K.faults out.new) (C.readings clock.old) (C.readings clock.new)
-        (record { sent = L.sent link.old; waiting = L.waiting link.old; faults = L.faults link.old })
-        (record { sent = L.sent link.new; waiting = L.waiting link.new; faults = L.faults link.new }) }
+    requires { plan.limit < 2 ^ 31 }
+    ensures uses { Uses plan.turns plan.who plan.limit result (S.left input.old) (S.left input.new) (S.faults input.old) (S.faults input.new)
+        (K.held out.old) (K.held out.new) (K.faults out.old) (K.faults out.new)
+        (clock_told C.floor C.readings clock.old) (clock_told C.floor C.readings clock.new)
+        (link_told L.sent L.waiting L.faults L.receives link.old)
+        (link_told L.sent L.waiting L.faults L.receives link.new) }
+    ensures cause { EndsBy result (S.faults input.old) (S.faults input.new) (K.faults out.old) (K.faults out.new) (L.faults link.old) (L.faults link.new) }
+    ensures lawful { (text : List ℕ) (lines : List (List ℕ)) → S.left input.old ≡ Some text → AreCalls lines text → result ≡ Ending.Script → ⊥ }
 {
-    match read_all(alloc, input, limit) {
-        Whole::All(text) => use_text(alloc, host, inc, turns, &text, out, link, clock),
+    match read_all(alloc, input, plan.limit) {
+        Whole::All(text) => use_text(alloc, plan, &text, out, link, clock),
         Whole::Over(front) => tell_bytes(alloc, &front, out),
         Whole::Failed => Ending::ReadFault,
         Whole::Memory => Ending::Memory,
@@ -56,32 +59,29 @@ pub fn client<S: Source, K: Sink, L: Link, C: Clock>(
 /// Runs the calls of a text that was read, or tells which of its lines spells none.
 fn use_text<K: Sink, L: Link, C: Clock>(
     alloc: Global,
-    host: Host,
-    inc: Inc,
-    turns: u32,
+    plan: Plan,
     text: &[u8],
     out: &mut K,
     link: &mut L,
     clock: &mut C,
 ) -> Ending
     requires { length text.now < 2 ^ 31 }
-    ensures { (fault : Option ℕ) × Tells fault text.now × UsesText fault turns (record { host = host; inc = inc }) text.now result
-        (K.held out.old) (K.held out.new) (K.faults out.old) (K.faults out.new) (C.readings clock.old) (C.readings clock.new)
-        (record { sent = L.sent link.old; waiting = L.waiting link.old; faults = L.faults link.old })
-        (record { sent = L.sent link.new; waiting = L.waiting link.new; faults = L.faults link.new }) }
+    ensures { (fault : Option ℕ) × Tells fault text.now × UsesText fault plan.turns plan.who text.now result
+        (K.held out.old) (K.held out.new) (K.faults out.old) (K.faults out.new)
+        (clock_told C.floor C.readings clock.old) (clock_told C.floor C.readings clock.new)
+        (link_told L.sent L.waiting L.faults L.receives link.old)
+        (link_told L.sent L.waiting L.faults L.receives link.new) }
 {
     match find_fault(alloc, text) {
         Some(number) => tell_script(alloc, number, out),
-        None => run_and_tell(alloc, host, inc, turns, text, out, link, clock),
+        None => run_and_tell(alloc, plan, text, out, link, clock),
     }
 }
 
 /// Runs the calls of a text, and tells what came of them.
 fn run_and_tell<K: Sink, L: Link, C: Clock>(
     alloc: Global,
-    host: Host,
-    inc: Inc,
-    turns: u32,
+    plan: Plan,
     text: &[u8],
     out: &mut K,
     link: &mut L,
@@ -89,12 +89,12 @@ fn run_and_tell<K: Sink, L: Link, C: Clock>(
 ) -> Ending
     requires short { length text.now < 2 ^ 31 }
     requires calls { (lines : List (List ℕ)) × AreCalls lines text.now }
-    ensures { RunsAndTells turns (record { host = host; inc = inc }) text.now result
-        (K.held out.old) (K.held out.new) (K.faults out.old) (K.faults out.new) (C.readings clock.old) (C.readings clock.new)
-        (record { sent = L.sent link.old; waiting = L.waiting link.old; faults = L.faults link.old })
-        (record { sent = L.sent link.new; waiting = L.waiting link.new; faults = L.faults link.new }) }
+    ensures { RunsAndTells plan.turns plan.who text.now result
+        (K.held out.old) (K.held out.new) (K.faults out.old) (K.faults out.new)
+        (clock_told C.floor C.readings clock.old) (clock_told C.floor C.readings clock.new)
+        (link_told L.sent L.waiting L.faults L.receives link.old)
+        (link_told L.sent L.waiting L.faults L.receives link.new) }
 {
-    let mut log = Journal::new(alloc).unwrap();
-    let ended = run(alloc, host, inc, turns, text, link, clock, &mut log);
+    let Ran { ended, log } = run(alloc, plan, text, link, clock);
     tell_end(alloc, ended, &log, out)
 }

@@ -3,7 +3,7 @@
 use nq_base::{Host, Party, Ticks};
 use nq_clock::MemClock;
 use nq_ending::Ending;
-use nq_hosts::serve;
+use nq_hosts::{Served, serve};
 use nq_io::MemSink;
 use nq_keeper::ListKeeper;
 use nq_link::MemLink;
@@ -21,8 +21,11 @@ fn served(rt: &HostRuntime, turns: u32, link: &mut MemLink) -> Result<(Ending, M
     let keeper = ListKeeper::new(alloc, Vec::new(alloc))?;
     let mut clock = MemClock::new(vec![in alloc; Ticks(0)]?);
     let mut out = MemSink::new(alloc, 100, Vec::new(alloc))?;
-    let ended = serve(alloc, keeper, turns, 60, link, &mut clock, &mut out);
-    Ok((ended, out))
+    let Served {
+        end,
+        keeper: _keeper,
+    } = serve(alloc, keeper, turns, 60, link, &mut clock, &mut out);
+    Ok((end, out))
 }
 
 #[test]

@@ -1,11 +1,11 @@
 //! What a run of calls prints, and how it ends.
 
-use nq_base::{Host, Inc, Party, Ticks};
+use nq_base::{Host, Inc, Party, Ticks, Who};
 use nq_clock::MemClock;
 use nq_ending::Ending;
 use nq_io::{MemSink, MemSource};
 use nq_link::MemLink;
-use nq_user::client;
+use nq_user::{Plan, client};
 use std::test::Fail;
 
 /// The reply to request 1: the server attached the host.
@@ -21,17 +21,15 @@ fn used(rt: &HostRuntime, input: &[u8], link: &mut MemLink) -> Result<(Ending, M
     let mut source = MemSource::new(bytes, Vec::new(alloc));
     let mut out = MemSink::new(alloc, 100, Vec::new(alloc))?;
     let mut clock = MemClock::new(vec![in alloc; Ticks(0)]?);
-    let ended = client(
-        alloc,
-        Host(0),
-        Inc(1),
-        3,
-        1000,
-        &mut source,
-        &mut out,
-        link,
-        &mut clock,
-    );
+    let plan = Plan {
+        who: Who {
+            host: Host(0),
+            inc: Inc(1),
+        },
+        turns: 3,
+        limit: 1000,
+    };
+    let ended = client(alloc, plan, &mut source, &mut out, link, &mut clock);
     Ok((ended, out))
 }
 

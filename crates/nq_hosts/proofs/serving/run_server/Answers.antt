@@ -1,13 +1,24 @@
-use Rattle.std.proofs.Common.{◌≡◌, [], IfOk, refl, subst}
+use Rattle.std.proofs.Common.{◌≡◌, [], IfOk, refl, sym, subst}
+use Rattle.nq_hosts.specs.Serving.{between}
+use Rattle.nq_node.specs.Clocks.{clock_told}
+use Rattle.nq_node.specs.Links.{link_told}
 use Rattle.nq_hosts.proofs.serving.run_server.Goals as goal
 
-pub returns : goal.returns
-returns g c = record {
-  log = c.unwrap-log.result;
-  silent = subst (λ r. IfOk r (λ j. j.entries ≡ [])) c.unwrap-log.ensures c.new.ensures.empty;
-  last = record { server = c.take_turns.new.server; log = c.take_turns.new.log; next = c.take_turns.new.next; clock = g.C.Clock.readings c.take_turns.new.clock; link = record { sent = g.L.Link.sent c.take_turns.new.link; waiting = g.L.Link.waiting c.take_turns.new.link; faults = g.L.Link.faults c.take_turns.new.link } };
-  same = c.take_turns.ensures.follows;
-  taken = c.take_turns.ensures.turns;
-  clocks = refl;
-  links = refl;
-}
+pub returns-clause-ran : goal.returns-clause-ran
+returns-clause-ran g c =
+    let clock_of = clock_told g.C.Clock.floor g.C.Clock.readings in
+    let link_of = link_told g.L.Link.sent g.L.Link.waiting g.L.Link.faults g.L.Link.receives in
+    record {
+      log = c.unwrap-log.result;
+      silent = subst (λ r. IfOk r (λ j. j.entries ≡ [])) c.unwrap-log.ensures c.new.ensures.empty;
+      last = between c.take_turns-ended.new.server c.take_turns-ended.new.log c.take_turns-ended.new.next (clock_of c.take_turns-ended.new.clock) (link_of c.take_turns-ended.new.link);
+      taken = c.take_turns-ended.ensures.turns;
+      same = c.take_turns-ended.ensures.follows;
+      keeper = c.into_keeper.ensures;
+      clocks = refl;
+      links = refl;
+    }
+
+pub returns-clause-follows : goal.returns-clause-follows
+returns-clause-follows g c =
+    subst (λ k. g.K.Keeper.follows c.args.server.keeper k) (sym c.into_keeper.ensures) c.take_turns-ended.ensures.follows

@@ -1,10 +1,15 @@
-use Rattle.nq_hosts.specs.Serving.{Goes}
+use Rattle.nq_hosts.specs.Serving.{Goes, between}
+use Rattle.nq_node.specs.Clocks.{clock_told}
+use Rattle.nq_node.specs.Links.{link_told}
 use Rattle.nq_hosts.proofs.turning.take_turns.Given as goal
 
 abbrev pub invariant-loop-turn : goal.invariant-loop-turn
-invariant-loop-turn g l = record {
-  goes : Goes g.K.Keeper.content g.K.Keeper.faults l._turn
-      (record { server = l.fn.server; log = l.fn.log; next = l.fn.next; clock = g.C.Clock.readings l.fn.clock; link = record { sent = g.L.Link.sent l.fn.link; waiting = g.L.Link.waiting l.fn.link; faults = g.L.Link.faults l.fn.link } })
-      (record { server = l.server; log = l.log; next = l.next; clock = g.C.Clock.readings l.clock; link = record { sent = g.L.Link.sent l.link; waiting = g.L.Link.waiting l.link; faults = g.L.Link.faults l.link } });
-  follows : g.K.Keeper.follows l.fn.server.keeper l.server.keeper;
-}
+invariant-loop-turn g l =
+    let clock_of = clock_told g.C.Clock.floor g.C.Clock.readings in
+    let link_of = link_told g.L.Link.sent g.L.Link.waiting g.L.Link.faults g.L.Link.receives in
+    record {
+      goes : Goes g.K.Keeper.content g.K.Keeper.faults l._turn
+          (between l.fn.server l.fn.log l.fn.next (clock_of l.fn.clock) (link_of l.fn.link))
+          (between l.server l.log l.next (clock_of l.clock) (link_of l.link));
+      follows : g.K.Keeper.follows l.fn.server.keeper l.server.keeper;
+    }

@@ -12,7 +12,7 @@ keep-requires g c = filled_event (length c.args.state.now.begun) c.args.event.no
 pub returns-in-Ok : goal.returns-in-Ok
 returns-in-Ok g c = record {
   gives = λ head hosts here.
-      let middle : IsLooping head (loop_of g.K.Keeper.content g.L.Link.sent g.L.Link.waiting g.L.Link.faults c.args.world.now c.keep.new.state c.args.ran.now c.args.links.now) = record {
+      let middle : IsLooping head (loop_of g.K.Keeper.content g.L.Link.sent g.L.Link.waiting g.L.Link.faults g.L.Link.receives c.args.world.now c.keep.new.state c.args.ran.now c.args.links.now) = record {
         plays = here.plays;
         marks = c.keep.ensures.same (reverse c.args.ran.now) here.marks;
         counts = subst (λ begun. Counts begun (reverse c.args.ran.now)) (sym c.keep.ensures.begun) here.counts;
@@ -33,7 +33,7 @@ pub returns-in-Err : goal.returns-in-Err
 returns-in-Err g c = record {
   gives = λ head hosts here.
       let same : c.keep.new.ran ≡ c.args.ran.now = c.in-Err.ensures.refused in
-      let told = told_of g.L.Link.sent g.L.Link.waiting g.L.Link.faults in
+      let told = told_of g.L.Link.sent g.L.Link.waiting g.L.Link.faults g.L.Link.receives in
       let gone : record { events = reverse c.keep.new.ran; links = map told c.args.links.now } ≡ record { events = reverse c.args.ran.now; links = map told c.args.links.now } = ap (λ ran. record { events = reverse ran; links = map told c.args.links.now }) same in
       let back = sym same in
       record {

@@ -15,12 +15,12 @@ note-requires g c = has-count (length c.args.state.now.begun) c.args.event.now c
 
 pub returns-in-Done : goal.returns-in-Done
 returns-in-Done g c =
-    let told = told_of g.L.Link.sent g.L.Link.waiting g.L.Link.faults in
+    let told = told_of g.L.Link.sent g.L.Link.waiting g.L.Link.faults g.L.Link.receives in
     let sends = subst (λ ds. SendsAll c.send_from.result (drop c.args.sent ds) (map told c.args.links.now) (map told c.send_from.new.links)) c.packets.ensures c.send_from.ensures in
     record {
       gives = λ head earlier hosts ran here.
-          let old = loop_of g.K.Keeper.content g.L.Link.sent g.L.Link.waiting g.L.Link.faults c.args.world.now c.args.state.now earlier c.args.links.now in
-          let new = loop_of g.K.Keeper.content g.L.Link.sent g.L.Link.waiting g.L.Link.faults c.step.new.self c.note.new.self c.args.ran.now c.send_from.new.links in
+          let old = loop_of g.K.Keeper.content g.L.Link.sent g.L.Link.waiting g.L.Link.faults g.L.Link.receives c.args.world.now c.args.state.now earlier c.args.links.now in
+          let new = loop_of g.K.Keeper.content g.L.Link.sent g.L.Link.waiting g.L.Link.faults g.L.Link.receives c.step.new.self c.note.new.self c.args.ran.now c.send_from.new.links in
           let steps = c.in-Done.ensures.steps head (reverse earlier) here.plays in
           let room : length c.args.world.now.datagrams ≤ length c.args.state.now.flags = omega (arith, c.requires.sent, c.requires.flags) in
           let marks = c.note.ensures.marks (has_flag head (reverse earlier) c.args.event.now c.args.world.now _ c.args.state.now.flags here.plays room steps.0) (reverse earlier) here.marks in
@@ -38,8 +38,8 @@ returns-in-Done g c =
 pub returns-in_default : goal.returns-in_default
 returns-in_default g c = record {
   gives = λ head earlier hosts ran here.
-      let old = loop_of g.K.Keeper.content g.L.Link.sent g.L.Link.waiting g.L.Link.faults c.args.world.now c.args.state.now earlier c.args.links.now in
-      let new = loop_of g.K.Keeper.content g.L.Link.sent g.L.Link.waiting g.L.Link.faults c.step.new.self c.args.state.now c.drop_last.new.self c.args.links.now in
+      let old = loop_of g.K.Keeper.content g.L.Link.sent g.L.Link.waiting g.L.Link.faults g.L.Link.receives c.args.world.now c.args.state.now earlier c.args.links.now in
+      let new = loop_of g.K.Keeper.content g.L.Link.sent g.L.Link.waiting g.L.Link.faults g.L.Link.receives c.step.new.self c.args.state.now c.drop_last.new.self c.args.links.now in
       subst (λ why. GivesTo head c.args.event.now (Err why) old new) (sym c.halt_of.ensures)
       (refused head c.args.event.now c.step.result old new here (c.step.ensures.steps head (reverse earlier) here.plays) c.in_default.not-Done refl (dropped earlier c.args.ran.now c.drop_last.new.self c.args.event.now ran c.drop_last.ensures) refl);
   keeps = record {

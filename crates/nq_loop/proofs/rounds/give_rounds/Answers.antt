@@ -18,8 +18,8 @@ loop-round-preserved g c =
       loops = λ head hosts here.
           let first = before.loops head hosts here in
           let second = c.in-Ok.ensures.loops head (hosts ∙ sym before.keeps.hosts_are) first.stands in
-          rounds-more head head.hosts c.loop-round.round c.loop-round.any c.in-Ok.more c.either-any.result (loop_of g.K.Keeper.content g.L.Link.sent g.L.Link.waiting g.L.Link.faults c.args.world.now c.args.state.now c.args.ran.now c.args.links.now)
-          (loop_of g.K.Keeper.content g.L.Link.sent g.L.Link.waiting g.L.Link.faults c.loop-round.world c.loop-round.state c.loop-round.ran c.loop-round.links) (loop_of g.K.Keeper.content g.L.Link.sent g.L.Link.waiting g.L.Link.faults c.give_round.new.world c.give_round.new.state c.give_round.new.ran c.give_round.new.links) c.either-any.ensures first second;
+          rounds-more head head.hosts c.loop-round.round c.loop-round.any c.in-Ok.more c.either-any.result (loop_of g.K.Keeper.content g.L.Link.sent g.L.Link.waiting g.L.Link.faults g.L.Link.receives c.args.world.now c.args.state.now c.args.ran.now c.args.links.now)
+          (loop_of g.K.Keeper.content g.L.Link.sent g.L.Link.waiting g.L.Link.faults g.L.Link.receives c.loop-round.world c.loop-round.state c.loop-round.ran c.loop-round.links) (loop_of g.K.Keeper.content g.L.Link.sent g.L.Link.waiting g.L.Link.faults g.L.Link.receives c.give_round.new.world c.give_round.new.state c.give_round.new.ran c.give_round.new.links) c.either-any.ensures first second;
       keeps = keeps-any c.in-Ok.more c.either-any.result _ _ _ _ _ _ (keeps-then c.loop-round.any (Ok c.in-Ok.more) _ _ _ _ _ _ _ _ _ before.keeps c.in-Ok.ensures.keeps);
       follows = g.met.K.Keeper.follows_on _ _ _ before.follows c.give_round.ensures.follows;
     }
@@ -32,8 +32,8 @@ returns-in-Err g c =
           let first = before.loops head hosts here in
           let second = c.in-Err.ensures.loops head (hosts ∙ sym before.keeps.hosts_are) first.stands in
           let below : suc c.loop-round.round ≤ c.args.rounds = omega (arith, c.loop-round-test.true) in
-          rounds-stop head head.hosts c.loop-round.round c.args.rounds c.loop-round.any c.in-Err.why (loop_of g.K.Keeper.content g.L.Link.sent g.L.Link.waiting g.L.Link.faults c.args.world.now c.args.state.now c.args.ran.now c.args.links.now)
-          (loop_of g.K.Keeper.content g.L.Link.sent g.L.Link.waiting g.L.Link.faults c.loop-round.world c.loop-round.state c.loop-round.ran c.loop-round.links) (loop_of g.K.Keeper.content g.L.Link.sent g.L.Link.waiting g.L.Link.faults c.give_round.new.world c.give_round.new.state c.give_round.new.ran c.give_round.new.links) below first second;
+          rounds-stop head head.hosts c.loop-round.round c.args.rounds c.loop-round.any c.in-Err.why (loop_of g.K.Keeper.content g.L.Link.sent g.L.Link.waiting g.L.Link.faults g.L.Link.receives c.args.world.now c.args.state.now c.args.ran.now c.args.links.now)
+          (loop_of g.K.Keeper.content g.L.Link.sent g.L.Link.waiting g.L.Link.faults g.L.Link.receives c.loop-round.world c.loop-round.state c.loop-round.ran c.loop-round.links) (loop_of g.K.Keeper.content g.L.Link.sent g.L.Link.waiting g.L.Link.faults g.L.Link.receives c.give_round.new.world c.give_round.new.state c.give_round.new.ran c.give_round.new.links) below first second;
       keeps = keeps-then c.loop-round.any (Err c.in-Err.why) _ _ _ _ _ _ _ _ _ before.keeps c.in-Err.ensures.keeps;
       follows = g.met.K.Keeper.follows_on _ _ _ before.follows c.give_round.ensures.follows;
     }
@@ -42,7 +42,7 @@ pub returns : goal.returns
 returns g c = record {
   loops = λ head hosts here.
       let all : c.loop-round.round ≡ c.args.rounds = omega (arith, c.loop-round.auto.round-end, c.loop-round-test.false) in
-      subst (λ n. Loops head (rounds_steps head.hosts n) (Ok c.loop-round.any) (loop_of g.K.Keeper.content g.L.Link.sent g.L.Link.waiting g.L.Link.faults c.args.world.now c.args.state.now c.args.ran.now c.args.links.now) (loop_of g.K.Keeper.content g.L.Link.sent g.L.Link.waiting g.L.Link.faults c.loop-round.world c.loop-round.state c.loop-round.ran c.loop-round.links)) all (c.loop-round.invariant.loops head hosts here);
+      subst (λ n. Loops head (rounds_steps head.hosts n) (Ok c.loop-round.any) (loop_of g.K.Keeper.content g.L.Link.sent g.L.Link.waiting g.L.Link.faults g.L.Link.receives c.args.world.now c.args.state.now c.args.ran.now c.args.links.now) (loop_of g.K.Keeper.content g.L.Link.sent g.L.Link.waiting g.L.Link.faults g.L.Link.receives c.loop-round.world c.loop-round.state c.loop-round.ran c.loop-round.links)) all (c.loop-round.invariant.loops head hosts here);
   keeps = c.loop-round.invariant.keeps;
   follows = c.loop-round.invariant.follows;
 }

@@ -19,9 +19,9 @@ loop-host-preserved g c =
     record {
       loops = λ head hosts here.
           let first = before.loops head hosts here in
-          let second = given-step head (Event.ClientTick c.loop-host.host) (Ok c.in-Ok.more) (loop_of g.K.Keeper.content g.L.Link.sent g.L.Link.waiting g.L.Link.faults c.loop-host.world c.loop-host.state c.loop-host.ran c.loop-host.links) (loop_of g.K.Keeper.content g.L.Link.sent g.L.Link.waiting g.L.Link.faults c.give.new.world c.give.new.state c.give.new.ran c.give.new.links) (c.in-Ok.ensures.gives head (hosts ∙ sym before.keeps.hosts_are) first.stands) in
-          each-more head (λ host. Step.given (Event.ClientTick host)) c.loop-host.host c.loop-host.any c.in-Ok.more c.either-any.result (loop_of g.K.Keeper.content g.L.Link.sent g.L.Link.waiting g.L.Link.faults c.args.world.now c.args.state.now c.args.ran.now c.args.links.now)
-          (loop_of g.K.Keeper.content g.L.Link.sent g.L.Link.waiting g.L.Link.faults c.loop-host.world c.loop-host.state c.loop-host.ran c.loop-host.links) (loop_of g.K.Keeper.content g.L.Link.sent g.L.Link.waiting g.L.Link.faults c.give.new.world c.give.new.state c.give.new.ran c.give.new.links) c.either-any.ensures first second;
+          let second = given-step head (Event.ClientTick c.loop-host.host) (Ok c.in-Ok.more) (loop_of g.K.Keeper.content g.L.Link.sent g.L.Link.waiting g.L.Link.faults g.L.Link.receives c.loop-host.world c.loop-host.state c.loop-host.ran c.loop-host.links) (loop_of g.K.Keeper.content g.L.Link.sent g.L.Link.waiting g.L.Link.faults g.L.Link.receives c.give.new.world c.give.new.state c.give.new.ran c.give.new.links) (c.in-Ok.ensures.gives head (hosts ∙ sym before.keeps.hosts_are) first.stands) in
+          each-more head (λ host. Step.given (Event.ClientTick host)) c.loop-host.host c.loop-host.any c.in-Ok.more c.either-any.result (loop_of g.K.Keeper.content g.L.Link.sent g.L.Link.waiting g.L.Link.faults g.L.Link.receives c.args.world.now c.args.state.now c.args.ran.now c.args.links.now)
+          (loop_of g.K.Keeper.content g.L.Link.sent g.L.Link.waiting g.L.Link.faults g.L.Link.receives c.loop-host.world c.loop-host.state c.loop-host.ran c.loop-host.links) (loop_of g.K.Keeper.content g.L.Link.sent g.L.Link.waiting g.L.Link.faults g.L.Link.receives c.give.new.world c.give.new.state c.give.new.ran c.give.new.links) c.either-any.ensures first second;
       keeps = keeps-any c.in-Ok.more c.either-any.result _ _ _ _ _ _ (keeps-then c.loop-host.any (Ok c.in-Ok.more) _ _ _ _ _ _ _ _ _ before.keeps c.in-Ok.ensures.keeps);
       follows = g.met.K.Keeper.follows_on _ _ _ before.follows c.give.ensures.follows;
     }
@@ -32,10 +32,10 @@ returns-in-Err g c =
     record {
       loops = λ head hosts here.
           let first = before.loops head hosts here in
-          let second = given-step head (Event.ClientTick c.loop-host.host) (Err c.in-Err.why) (loop_of g.K.Keeper.content g.L.Link.sent g.L.Link.waiting g.L.Link.faults c.loop-host.world c.loop-host.state c.loop-host.ran c.loop-host.links) (loop_of g.K.Keeper.content g.L.Link.sent g.L.Link.waiting g.L.Link.faults c.give.new.world c.give.new.state c.give.new.ran c.give.new.links) (c.in-Err.ensures.gives head (hosts ∙ sym before.keeps.hosts_are) first.stands) in
+          let second = given-step head (Event.ClientTick c.loop-host.host) (Err c.in-Err.why) (loop_of g.K.Keeper.content g.L.Link.sent g.L.Link.waiting g.L.Link.faults g.L.Link.receives c.loop-host.world c.loop-host.state c.loop-host.ran c.loop-host.links) (loop_of g.K.Keeper.content g.L.Link.sent g.L.Link.waiting g.L.Link.faults g.L.Link.receives c.give.new.world c.give.new.state c.give.new.ran c.give.new.links) (c.in-Err.ensures.gives head (hosts ∙ sym before.keeps.hosts_are) first.stands) in
           let below : suc c.loop-host.host ≤ head.hosts = omega (arith, c.loop-host-test.true, hosts, c.hosts-host-end.ensures) in
-          each-stops head (λ host. Step.given (Event.ClientTick host)) c.loop-host.host head.hosts c.loop-host.any c.in-Err.why (loop_of g.K.Keeper.content g.L.Link.sent g.L.Link.waiting g.L.Link.faults c.args.world.now c.args.state.now c.args.ran.now c.args.links.now)
-          (loop_of g.K.Keeper.content g.L.Link.sent g.L.Link.waiting g.L.Link.faults c.loop-host.world c.loop-host.state c.loop-host.ran c.loop-host.links) (loop_of g.K.Keeper.content g.L.Link.sent g.L.Link.waiting g.L.Link.faults c.give.new.world c.give.new.state c.give.new.ran c.give.new.links) below first second;
+          each-stops head (λ host. Step.given (Event.ClientTick host)) c.loop-host.host head.hosts c.loop-host.any c.in-Err.why (loop_of g.K.Keeper.content g.L.Link.sent g.L.Link.waiting g.L.Link.faults g.L.Link.receives c.args.world.now c.args.state.now c.args.ran.now c.args.links.now)
+          (loop_of g.K.Keeper.content g.L.Link.sent g.L.Link.waiting g.L.Link.faults g.L.Link.receives c.loop-host.world c.loop-host.state c.loop-host.ran c.loop-host.links) (loop_of g.K.Keeper.content g.L.Link.sent g.L.Link.waiting g.L.Link.faults g.L.Link.receives c.give.new.world c.give.new.state c.give.new.ran c.give.new.links) below first second;
       keeps = keeps-then c.loop-host.any (Err c.in-Err.why) _ _ _ _ _ _ _ _ _ before.keeps c.in-Err.ensures.keeps;
       follows = g.met.K.Keeper.follows_on _ _ _ before.follows c.give.ensures.follows;
     }
@@ -44,7 +44,7 @@ pub returns : goal.returns
 returns g c = record {
   loops = λ head hosts here.
       let all : c.loop-host.host ≡ head.hosts = omega (arith, c.loop-host.auto.host-end, c.loop-host-test.false, hosts, c.hosts-host-end.ensures) in
-      subst (λ n. Loops head (each_below n (λ host. Step.given (Event.ClientTick host))) (Ok c.loop-host.any) (loop_of g.K.Keeper.content g.L.Link.sent g.L.Link.waiting g.L.Link.faults c.args.world.now c.args.state.now c.args.ran.now c.args.links.now) (loop_of g.K.Keeper.content g.L.Link.sent g.L.Link.waiting g.L.Link.faults c.loop-host.world c.loop-host.state c.loop-host.ran c.loop-host.links)) all (c.loop-host.invariant.loops head hosts here);
+      subst (λ n. Loops head (each_below n (λ host. Step.given (Event.ClientTick host))) (Ok c.loop-host.any) (loop_of g.K.Keeper.content g.L.Link.sent g.L.Link.waiting g.L.Link.faults g.L.Link.receives c.args.world.now c.args.state.now c.args.ran.now c.args.links.now) (loop_of g.K.Keeper.content g.L.Link.sent g.L.Link.waiting g.L.Link.faults g.L.Link.receives c.loop-host.world c.loop-host.state c.loop-host.ran c.loop-host.links)) all (c.loop-host.invariant.loops head hosts here);
   keeps = c.loop-host.invariant.keeps;
   follows = c.loop-host.invariant.follows;
 }

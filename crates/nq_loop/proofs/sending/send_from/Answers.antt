@@ -7,7 +7,7 @@ use Rattle.nq_loop.proofs.sending.send_from.Goals as goal
 
 pub loop-number-preserved : goal.loop-number-preserved
 loop-number-preserved g c =
-    let told = told_of g.L.Link.sent g.L.Link.waiting g.L.Link.faults in
+    let told = told_of g.L.Link.sent g.L.Link.waiting g.L.Link.faults g.L.Link.receives in
     let ds = c.args.packets.now.datagrams in
     let number = c.loop-number.number in
     let below : number < length ds = omega (arith, c.loop-number-test.true, c.len-number-end.ensures) in
@@ -17,7 +17,7 @@ loop-number-preserved g c =
 
 pub returns-in-Err : goal.returns-in-Err
 returns-in-Err g c =
-    let told = told_of g.L.Link.sent g.L.Link.waiting g.L.Link.faults in
+    let told = told_of g.L.Link.sent g.L.Link.waiting g.L.Link.faults g.L.Link.receives in
     let ds = c.args.packets.now.datagrams in
     let number = c.loop-number.number in
     let below : number < length ds = omega (arith, c.loop-number-test.true, c.len-number-end.ensures) in
@@ -27,5 +27,5 @@ returns-in-Err g c =
 
 pub returns : goal.returns
 returns g c =
-    let told = told_of g.L.Link.sent g.L.Link.waiting g.L.Link.faults in
+    let told = told_of g.L.Link.sent g.L.Link.waiting g.L.Link.faults g.L.Link.receives in
     all-sent c.args.packets.now.datagrams c.args.first c.loop-number.number (map told c.args.links.now) (map told c.loop-number.links) (omega (arith, c.loop-number-test.false, c.len-number-end.ensures)) c.loop-number.invariant

@@ -8,7 +8,7 @@ use Rattle.nq_loop.proofs.sending.send_packet.Goals as goal
 
 pub returns-then-place-links : goal.returns-then-place-links
 returns-then-place-links g c =
-    let told = told_of g.L.Link.sent g.L.Link.waiting g.L.Link.faults in
+    let told = told_of g.L.Link.sent g.L.Link.waiting g.L.Link.faults g.L.Link.receives in
     let at : c.place_of-place.result ≡ place_of c.args.packet.now.sender = c.place_of-place.ensures ∙ ap place_of c.sender-sender.ensures in
     let many = length-map c.args.links.now told in
     let over : length c.args.links.now ≤ c.place_of-place.result = c.if-place-links.true in
@@ -17,7 +17,7 @@ returns-then-place-links g c =
 
 pub returns-in-All : goal.returns-in-All
 returns-in-All g c =
-    let told = told_of g.L.Link.sent g.L.Link.waiting g.L.Link.faults in
+    let told = told_of g.L.Link.sent g.L.Link.waiting g.L.Link.faults g.L.Link.receives in
     let links = c.args.links.now in
     let place = c.place_of-place.result in
     let d = c.args.packet.now in
@@ -26,13 +26,13 @@ returns-in-All g c =
     let new = c.send.new.self in
     let bytes : c.deref.result.now ≡ d.bytes = c.deref.ensures.value ∙ c.in_ok-bytes_into.ensures.ok ∙ ap (λ xs. xs ++ d.bytes) c.clear.ensures.items in
     let same : told new ≡ with_sent d (told old) =
-    told-sent d (g.L.Link.sent old) (g.L.Link.sent new) (g.L.Link.waiting old) (g.L.Link.waiting new) (g.L.Link.faults old) (g.L.Link.faults new) c.to.result c.deref.result.now
-    c.in-All.ensures.sends c.to.ensures bytes c.send.ensures.waiting c.in-All.ensures.cause in
+    told-sent d (g.L.Link.sent old) (g.L.Link.sent new) (g.L.Link.waiting old) (g.L.Link.waiting new) (g.L.Link.faults old) (g.L.Link.faults new) (g.L.Link.receives old) (g.L.Link.receives new) c.to.result c.deref.result.now
+    c.in-All.ensures.sends c.to.ensures bytes c.send.ensures.waiting c.send.ensures.receives c.in-All.ensures.cause in
     set-changes told (with_sent d) links place old new (slice_get-get_or links place c.index-links-place.result c.if-place-links.false) same ∙ ap (λ p. changed_at p (with_sent d) (map told links)) at
 
 pub returns-in-Failed : goal.returns-in-Failed
 returns-in-Failed g c =
-    let told = told_of g.L.Link.sent g.L.Link.waiting g.L.Link.faults in
+    let told = told_of g.L.Link.sent g.L.Link.waiting g.L.Link.faults g.L.Link.receives in
     let links = c.args.links.now in
     let place = c.place_of-place.result in
     let d = c.args.packet.now in
@@ -46,7 +46,7 @@ returns-in-Failed g c =
       rose = c.in-Failed.ensures.cause;
       failed =
           map-set-slice told links place new
-          ∙ ap (λ l. slice_set (map told links) place l) (told-failed (g.L.Link.sent old) (g.L.Link.sent new) (g.L.Link.waiting old) (g.L.Link.waiting new) (g.L.Link.faults old) (g.L.Link.faults new) c.in-Failed.ensures.sends c.send.ensures.waiting);
+          ∙ ap (λ l. slice_set (map told links) place l) (told-failed (g.L.Link.sent old) (g.L.Link.sent new) (g.L.Link.waiting old) (g.L.Link.waiting new) (g.L.Link.faults old) (g.L.Link.faults new) (g.L.Link.receives old) (g.L.Link.receives new) c.in-Failed.ensures.sends c.send.ensures.waiting c.send.ensures.receives);
     } in
     record {
       front = [];

@@ -1,22 +1,25 @@
 use Rattle.std.proofs.Common.{refl, subst, Ok, Err}
 use Rattle.nq_node.specs.ClientTurn.{SendsOut}
+use Rattle.nq_node.specs.Links.{link_told}
 use Rattle.nq_node.proofs.attending.go_on.Goals as goal
 
 pub returns-in-Ok : goal.returns-in-Ok
-returns-in-Ok g c = (
-  Ok c.in-Ok.came,
-  record { sent = g.L.Link.sent c.take_from.new.link; waiting = g.L.Link.waiting c.take_from.new.link; faults = g.L.Link.faults c.take_from.new.link },
-  c.in-Ok.ensures,
-  subst (λ answer. SendsOut c.take_from.new.out.datagrams answer c.send_out.result
-      (record { sent = g.L.Link.sent c.take_from.new.link; waiting = g.L.Link.waiting c.take_from.new.link; faults = g.L.Link.faults c.take_from.new.link })
-      (record { sent = g.L.Link.sent c.send_out.new.link; waiting = g.L.Link.waiting c.send_out.new.link; faults = g.L.Link.faults c.send_out.new.link }))
-      c.first.ensures c.send_out.ensures,
-)
+returns-in-Ok g c =
+    let link_of = link_told g.L.Link.sent g.L.Link.waiting g.L.Link.faults g.L.Link.receives in (
+      Ok c.in-Ok.came,
+      link_of c.take_from.new.link,
+      c.in-Ok.ensures,
+      subst (λ answer. SendsOut c.take_from.new.out.datagrams answer c.send_out.result
+          (link_of c.take_from.new.link)
+          (link_of c.send_out.new.link))
+          c.first.ensures c.send_out.ensures,
+    )
 
 pub returns-in-Err : goal.returns-in-Err
-returns-in-Err g c = (
-  Err c.in-Err.why,
-  record { sent = g.L.Link.sent c.take_from.new.link; waiting = g.L.Link.waiting c.take_from.new.link; faults = g.L.Link.faults c.take_from.new.link },
-  c.in-Err.ensures,
-  (refl, refl),
-)
+returns-in-Err g c =
+    let link_of = link_told g.L.Link.sent g.L.Link.waiting g.L.Link.faults g.L.Link.receives in (
+      Err c.in-Err.why,
+      link_of c.take_from.new.link,
+      c.in-Err.ensures,
+      (refl, refl),
+    )

@@ -15,7 +15,7 @@ returns-in-Failed-clause-sends g c =
     let after = g.L.Link.sent c.send_one.new.link in
     let same : after ≡ before = subst (λ o. IfSome o (λ d. after ≡ before)) t.is c.in-Failed.ensures.sends in (
       sent-front all place t.element (g.L.Link.sent c.args.link.now) before after t.is c.loop-place.invariant.0 same,
-      subst (λ n. Rose n (g.L.Link.faults c.send_one.new.link)) c.loop-place.invariant.2 c.in-Failed.ensures.cause,
+      subst (λ n. Rose n (g.L.Link.faults c.send_one.new.link)) c.loop-place.invariant.3 c.in-Failed.ensures.cause,
     )
 
 pub loop-place-preserved : goal.loop-place-preserved
@@ -30,5 +30,6 @@ loop-place-preserved g c =
     rw add-one (
       sent-more all place t.element (g.L.Link.sent c.args.link.now) before after t.is c.loop-place.invariant.0 more,
       c.send_one.ensures.waiting ∙ c.loop-place.invariant.1,
-      c.in-All.ensures.cause ∙ c.loop-place.invariant.2,
+      c.send_one.ensures.receives ∙ c.loop-place.invariant.2,
+      c.in-All.ensures.cause ∙ c.loop-place.invariant.3,
     )

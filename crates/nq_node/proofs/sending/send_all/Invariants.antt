@@ -6,4 +6,5 @@ abbrev pub invariant-loop-place : goal.invariant-loop-place
 invariant-loop-place g l =
     (g.L.Link.sent l.link ≡ with_all (g.L.Link.sent l.fn.link) (take l.place l.out.datagrams))
     × (g.L.Link.waiting l.link ≡ g.L.Link.waiting l.fn.link)
+    × (g.L.Link.receives l.link ≡ g.L.Link.receives l.fn.link)
     × (g.L.Link.faults l.link ≡ g.L.Link.faults l.fn.link)

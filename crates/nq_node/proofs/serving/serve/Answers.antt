@@ -1,23 +1,29 @@
+use Rattle.nq_node.specs.Clocks.{clock_told}
+use Rattle.nq_node.specs.Links.{link_told}
 use Rattle.nq_node.proofs.ServerTurns.{stopped, went_on}
 use Rattle.nq_node.proofs.serving.serve.Goals as goal
 
 pub returns-in-Ok-clause-stages : goal.returns-in-Ok-clause-stages
 returns-in-Ok-clause-stages g c =
-    went_on g.K.Keeper.content g.K.Keeper.faults c.go_on.result c.in-Ok.ticked c.now-reading.result (g.C.Clock.readings c.args.clock.now) (g.C.Clock.readings c.now-reading.new.self)
-    (record { sent = g.L.Link.sent c.args.link.now; waiting = g.L.Link.waiting c.args.link.now; faults = g.L.Link.faults c.args.link.now })
-    (record { sent = g.L.Link.sent c.go_on.new.link; waiting = g.L.Link.waiting c.go_on.new.link; faults = g.L.Link.faults c.go_on.new.link })
+    let clock_of = clock_told g.C.Clock.floor g.C.Clock.readings in
+    let link_of = link_told g.L.Link.sent g.L.Link.waiting g.L.Link.faults g.L.Link.receives in
+    went_on g.K.Keeper.content g.K.Keeper.faults c.go_on.result c.in-Ok.ticked c.now-reading.result (clock_of c.args.clock.now) (clock_of c.now-reading.new.self)
+    (link_of c.args.link.now)
+    (link_of c.go_on.new.link)
     (record { server = c.args.server.now; out = c.args.out.now; log = c.args.log.now })
     (record { server = c.tick_to.new.server; out = c.tick_to.new.out; log = c.tick_to.new.log })
     (record { server = c.go_on.new.server; out = c.go_on.new.out; log = c.go_on.new.log })
-    c.now-reading.ensures.told c.in-Ok.ensures.ticked c.in-Ok.ensures.rose c.go_on.ensures.goes
+    (record { rises = c.now-reading.ensures.rises; floor = c.now-reading.ensures.floor; below = c.now-reading.ensures.below; told = c.now-reading.ensures.told }) c.in-Ok.ensures.ticked c.in-Ok.ensures.rose c.go_on.ensures.goes
 
 pub returns-in-Ok-clause-follows : goal.returns-in-Ok-clause-follows
 returns-in-Ok-clause-follows g c = g.met.K.Keeper.follows_on _ _ _ c.tick_to.ensures.follows c.go_on.ensures.follows
 
 pub returns-in-Err-clause-stages : goal.returns-in-Err-clause-stages
 returns-in-Err-clause-stages g c =
-    stopped g.K.Keeper.content g.K.Keeper.faults c.in-Err.why c.now-reading.result (g.C.Clock.readings c.args.clock.now) (g.C.Clock.readings c.now-reading.new.self)
-    (record { sent = g.L.Link.sent c.args.link.now; waiting = g.L.Link.waiting c.args.link.now; faults = g.L.Link.faults c.args.link.now })
+    let clock_of = clock_told g.C.Clock.floor g.C.Clock.readings in
+    let link_of = link_told g.L.Link.sent g.L.Link.waiting g.L.Link.faults g.L.Link.receives in
+    stopped g.K.Keeper.content g.K.Keeper.faults c.in-Err.why c.now-reading.result (clock_of c.args.clock.now) (clock_of c.now-reading.new.self)
+    (link_of c.args.link.now)
     (record { server = c.args.server.now; out = c.args.out.now; log = c.args.log.now })
     (record { server = c.tick_to.new.server; out = c.tick_to.new.out; log = c.tick_to.new.log })
-    c.now-reading.ensures.told c.in-Err.ensures.ticked
+    (record { rises = c.now-reading.ensures.rises; floor = c.now-reading.ensures.floor; below = c.now-reading.ensures.below; told = c.now-reading.ensures.told }) c.in-Err.ensures.ticked

@@ -2,6 +2,7 @@ use Rattle.std.proofs.Common.{◌∙◌, Some, ap, refl, sym}
 use Rattle.nq_command.specs.Commands.{command_of}
 use Rattle.nq_ending.proofs.Ends.{one_end}
 use Rattle.nq_ending.specs.declared.Ending.{Ending}
+use Rattle.nq_run.proofs.HostPromises.{serve_does, serve_usage}
 use Rattle.nq_run.proofs.LoopPromises.{loop_does, loop_lawful, loop_unless, loop_usage}
 use Rattle.nq_run.proofs.Promises.{input_lawful, input_sound}
 use Rattle.nq_run.proofs.StormPromises.{storm_does, storm_lawful, storm_never, storm_prints, storm_unless, storm_usage}
@@ -39,6 +40,18 @@ returns-in-Some-Check-clause-judged_script g c = λ is text told within number f
 pub returns-in-Some-Check-clause-judged_said : goal.returns-in-Some-Check-clause-judged_said
 unfolding most_bytes
 returns-in-Some-Check-clause-judged_said g c = λ is text told within journal. (c.judge.result, c.status-in-Some-Check.ensures, c.judge.ensures.said text told within journal)
+
+pub returns-in-Some-Serve-clause-usage : goal.returns-in-Some-Serve-clause-usage
+returns-in-Some-Serve-clause-usage g c = λ none. absurd (serve_usage _ _ _ _ _ _ _ _ _ _ _ _ _ _ _ c.served.ensures none)
+
+pub returns-in-Some-Serve-clause-nothing : goal.returns-in-Some-Serve-clause-nothing
+returns-in-Some-Serve-clause-nothing g c = λ none. absurd (serve_usage _ _ _ _ _ _ _ _ _ _ _ _ _ _ _ c.served.ensures none)
+
+pub returns-in-Some-Serve-clause-serves : goal.returns-in-Some-Serve-clause-serves
+returns-in-Some-Serve-clause-serves g c = λ turns longest is.
+    serve_does g.P.Keeper.content g.P.Keeper.faults g.P.Keeper.follows (command_of c.args.words.now) c.served.result c.in-Some-Serve.longest
+    c.in-Some-Serve.turns longest turns c.args.keeper _ _ _ _ _ _ _ _ (sym c.command.ensures.says ∙ c.in-Some-Serve.is ∙ ap Some c.in-Some-Serve.field-0-is) is
+    c.served.ensures
 
 pub returns-in-Some-Storm-clause-usage : goal.returns-in-Some-Storm-clause-usage
 returns-in-Some-Storm-clause-usage g c = λ none.

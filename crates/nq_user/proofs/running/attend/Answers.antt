@@ -1,18 +1,25 @@
 use Rattle.std.proofs.Common.{Ok, Err, refl}
+use Rattle.nq_node.specs.Clocks.{clock_told}
+use Rattle.nq_node.specs.Links.{link_told}
+use Rattle.nq_user.specs.Turning.{between}
 use Rattle.nq_user.proofs.running.attend.Goals as goal
 
 pub returns-in-Err : goal.returns-in-Err
-returns-in-Err g c = (
-  Err c.in-Err.why,
-  record { client = c.take_turns.new.client; log = c.take_turns.new.log; next = c.take_turns.new.next; clock = g.C.Clock.readings c.take_turns.new.clock; link = record { sent = g.L.Link.sent c.take_turns.new.link; waiting = g.L.Link.waiting c.take_turns.new.link; faults = g.L.Link.faults c.take_turns.new.link } },
-  c.in-Err.ensures,
-  (refl, refl),
-)
+returns-in-Err g c =
+    let clock_of = clock_told g.C.Clock.floor g.C.Clock.readings in
+    let link_of = link_told g.L.Link.sent g.L.Link.waiting g.L.Link.faults g.L.Link.receives in (
+      Err c.in-Err.why,
+      between c.take_turns.new.session (clock_of c.take_turns.new.clock) (link_of c.take_turns.new.link),
+      c.in-Err.ensures,
+      (refl, refl),
+    )
 
 pub returns-in-Ok : goal.returns-in-Ok
-returns-in-Ok g c = (
-  Ok tt,
-  record { client = c.take_turns.new.client; log = c.take_turns.new.log; next = c.take_turns.new.next; clock = g.C.Clock.readings c.take_turns.new.clock; link = record { sent = g.L.Link.sent c.take_turns.new.link; waiting = g.L.Link.waiting c.take_turns.new.link; faults = g.L.Link.faults c.take_turns.new.link } },
-  c.in-Ok.ensures,
-  c.run_lines.ensures,
-)
+returns-in-Ok g c =
+    let clock_of = clock_told g.C.Clock.floor g.C.Clock.readings in
+    let link_of = link_told g.L.Link.sent g.L.Link.waiting g.L.Link.faults g.L.Link.receives in (
+      Ok tt,
+      between c.take_turns.new.session (clock_of c.take_turns.new.clock) (link_of c.take_turns.new.link),
+      c.in-Ok.ensures,
+      c.run_lines.ensures,
+    )

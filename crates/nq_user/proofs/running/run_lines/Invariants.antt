@@ -1,12 +1,17 @@
 use Rattle.std.proofs.Common.{length}
+use Rattle.nq_node.specs.Clocks.{clock_told}
+use Rattle.nq_node.specs.Links.{link_told}
+use Rattle.nq_user.specs.Turning.{between}
 use Rattle.nq_user.proofs.Texts.{Progress}
 use Rattle.nq_user.proofs.running.run_lines.Given as goal
 
 abbrev pub invariant-loop-line : goal.invariant-loop-line
 invariant-loop-line g l =
+    let clock_of = clock_told g.C.Clock.floor g.C.Clock.readings in
+    let link_of = link_told g.L.Link.sent g.L.Link.waiting g.L.Link.faults g.L.Link.receives in
     Progress l.turns l.text l.rest l.number
-    (record { client = l.fn.client; log = l.fn.log; next = l.fn.next; clock = g.C.Clock.readings l.fn.clock; link = record { sent = g.L.Link.sent l.fn.link; waiting = g.L.Link.waiting l.fn.link; faults = g.L.Link.faults l.fn.link } })
-    (record { client = l.client; log = l.log; next = l.next; clock = g.C.Clock.readings l.clock; link = record { sent = g.L.Link.sent l.link; waiting = g.L.Link.waiting l.link; faults = g.L.Link.faults l.link } })
+    (between l.fn.session (clock_of l.fn.clock) (link_of l.fn.link))
+    (between l.session (clock_of l.clock) (link_of l.link))
 
 abbrev pub decreases-loop-line : goal.decreases-loop-line
 decreases-loop-line g l = length l.rest

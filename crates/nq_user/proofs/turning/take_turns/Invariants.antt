@@ -1,8 +1,12 @@
-use Rattle.nq_user.specs.Turning.{Goes}
+use Rattle.nq_node.specs.Clocks.{clock_told}
+use Rattle.nq_node.specs.Links.{link_told}
+use Rattle.nq_user.specs.Turning.{Goes, between}
 use Rattle.nq_user.proofs.turning.take_turns.Given as goal
 
 abbrev pub invariant-loop-turn : goal.invariant-loop-turn
 invariant-loop-turn g l =
+    let clock_of = clock_told g.C.Clock.floor g.C.Clock.readings in
+    let link_of = link_told g.L.Link.sent g.L.Link.waiting g.L.Link.faults g.L.Link.receives in
     Goes l.aim l._turn
-    (record { client = l.fn.client; log = l.fn.log; next = l.fn.next; clock = g.C.Clock.readings l.fn.clock; link = record { sent = g.L.Link.sent l.fn.link; waiting = g.L.Link.waiting l.fn.link; faults = g.L.Link.faults l.fn.link } })
-    (record { client = l.client; log = l.log; next = l.next; clock = g.C.Clock.readings l.clock; link = record { sent = g.L.Link.sent l.link; waiting = g.L.Link.waiting l.link; faults = g.L.Link.faults l.link } })
+    (between l.fn.session (clock_of l.fn.clock) (link_of l.fn.link))
+    (between l.session (clock_of l.clock) (link_of l.link))
