@@ -10,11 +10,11 @@ ghost use Rattle.nq_client.specs.Prepared.{Leaves};
 ghost use Rattle.nq_client.specs.Calling.{HasRoomToCall, IsNamedFor};
 ghost use Rattle.nq_client.specs.Tied.{Tied};
 
-use crate::losses::spans_of;
 use crate::rooms::Rooms;
 use crate::state::{State, UnderWay};
 use crate::step::Step;
 use nq_base::{Answer, Call, Entry, FileId, Losses, NoMemory, Said, Spans, Told};
+use nq_client_parts::spans_of;
 use std::alloc::Global;
 
 /// The losses that a call is told before anything else, as its answer and as a journal names them.
