@@ -11,5 +11,5 @@ pub use commands::replay;
 pub use ending::Ending;
 pub use judging::judge;
 pub use nq_base::NoMemory;
-pub use printing::{Bound, put_line};
-pub use schedules::{begin, print_journal, tell_limit};
+pub use printing::{Bound, limit_text, line_of_last, put_line};
+pub use schedules::{begin, print_journal, tell_limit, tell_script, tell_stop};

@@ -54,7 +54,7 @@ pub(crate) fn skew_text(alloc: Global, number: u32, broken: SkewBroken) -> Resul
 
 /// The line that tells where there is too much of something.
 #[tactic(auto, unfolding(crate::specs::Lines::limit_line))]
-pub(crate) fn limit_text(alloc: Global, number: usize, bound: Bound) -> Result<String, NoMemory>
+pub fn limit_text(alloc: Global, number: usize, bound: Bound) -> Result<String, NoMemory>
     ensures { IfOk result (λ line. string_bytes line ≡ limit_line number bound) }
 {
     match bound {
@@ -76,7 +76,7 @@ fn made(line: Result<String, AllocError>) -> Result<String, NoMemory>
 
 /// The number of the line in which the last of these bytes stands.
 #[tactic(auto, unfolding(crate::specs::Lines::last_line))]
-pub(crate) fn line_of_last(bytes: &[u8]) -> usize
+pub fn line_of_last(bytes: &[u8]) -> usize
     requires { 0 < length bytes.now }
     ensures { result ≡ last_line bytes.now }
 {

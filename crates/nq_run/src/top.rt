@@ -28,6 +28,7 @@ use nq_keeper::Keeper;
 use nq_link::Link;
 use nq_looping::run_loop;
 use nq_replay::{Ending, judge, put_line, replay};
+use nq_staged::run_staged;
 use nq_storm_rules::Fate;
 use nq_storm_text::first_of;
 use nq_storming::run_storm;
@@ -138,6 +139,7 @@ pub fn run<S: Source, K: Sink, P: Keeper + Drop, L: Link, C: Clock>(
     match words.command() {
         Some(Command::Replay) => replay(alloc, input, out, MOST_BYTES).status(),
         Some(Command::Check) => judge(alloc, input, out, MOST_BYTES).status(),
+        Some(Command::Staged) => run_staged(alloc, input, out, MOST_BYTES).status(),
         Some(Command::Serve { turns, longest }) => {
             serve(alloc, keeper, turns, longest, link, clock, out).status()
         }
