@@ -1,27 +1,16 @@
 -- What a run of calls prints, and how it ends. Below, `held` is what the sink held before and `now` is what it holds after, where the
 -- sink tells them; `w` and `w'` are the sink's counts of faults before and after.
-use Rattle.std.specs.Prelude.{◌≡◌, ◌⊎◌, ℕ, ◌+◌, ◌-◌, ◌==◌, List, ◌++◌, length, take, Option, Result, Ok, Err, codes}
 use Rattle.std.specs.Fmt.{decimal}
 use Rattle.std.specs.List.{count_by}
+use Rattle.std.specs.Prelude.{◌≡◌, ◌⊎◌, ℕ, ◌+◌, ◌-◌, ◌==◌, List, ◌++◌, length, take, Option, Result, Ok, Err, codes}
 use Rattle.nq_answers.specs.Answers.{answers_text}
+use Rattle.nq_answers.specs.declared.ending.Stop.{Stop}
 use Rattle.nq_base.specs.declared.Entry.{Entry}
+use Rattle.nq_ending.specs.declared.Ending.{Ending}
+use Rattle.nq_ending.specs.declared.Halt.{Halt}
 use Rattle.nq_io.specs.Faults.{Rose}
 use Rattle.nq_io.specs.Sink.{AppendsFront}
 use Rattle.nq_io.specs.Told.{with_end}
-use Rattle.nq_answers.specs.declared.ending.Halt.{Halt}
-use Rattle.nq_answers.specs.declared.ending.Stop.{Stop}
-use Rattle.nq_answers.specs.declared.ending.Used.{Used}
-
--- the exit status of an end
-abbrev pub status_of : Used → ℕ
-status_of Used.Done = 0
-status_of Used.Script = 2
-status_of Used.ReadFault = 4
-status_of Used.WriteFault = 5
-status_of Used.Memory = 7
-status_of Used.LinkFault = 8
-status_of Used.Limit = 9
-status_of Used.NoAnswer = 11
 
 -- ---- lines
 
@@ -56,27 +45,28 @@ abbrev pub Prints : (text : List ℕ) → (held now : Option (List ℕ)) → (w 
 Prints text held now w w' = ((now ≡ with_end held text) × (w' ≡ w)) ⊎ (AppendsFront text held now × Rose w w')
 
 -- it ended so, and a text was printed; or memory was wanting
-abbrev pub TellsSo : (due : Used) → (text : List ℕ) → Used → (held now : Option (List ℕ)) → (w w' : ℕ) → Type 0
+abbrev pub TellsSo : (due : Ending) → (text : List ℕ) → Ending → (held now : Option (List ℕ)) → (w w' : ℕ) → Type 0
 TellsSo due text result held now w w' =
-    ((result ≡ due) × Prints text held now w w') ⊎ ((result ≡ Used.Memory) × IsSilent held now w w')
+    ((result ≡ due) × Prints text held now w w') ⊎ ((result ≡ Ending.Memory) × IsSilent held now w w')
 
 -- what the end says of printing this text, behind which nothing is told
-abbrev pub PrintsAll : Used → (text : List ℕ) → (held now : Option (List ℕ)) → (w w' : ℕ) → Type 0
-PrintsAll Used.Done text held now w w' = (now ≡ with_end held text) × (w' ≡ w)
-PrintsAll Used.WriteFault text held now w w' = AppendsFront text held now × Rose w w'
-PrintsAll Used.Memory text held now w w' = IsSilent held now w w'
+abbrev pub PrintsAll : Ending → (text : List ℕ) → (held now : Option (List ℕ)) → (w w' : ℕ) → Type 0
+PrintsAll Ending.Done text held now w w' = (now ≡ with_end held text) × (w' ≡ w)
+PrintsAll Ending.WriteFault text held now w w' = AppendsFront text held now × Rose w w'
+PrintsAll Ending.Memory text held now w w' = IsSilent held now w w'
 PrintsAll other text held now w w' = ⊥
 
 -- what is told where calls stopped: the answers so far, and behind them the line of the call where it has no answer
-abbrev pub TellsStop : (why : Halt) → (line : ℕ) → List Entry → Used → (held now : Option (List ℕ)) → (w w' : ℕ) → Type 0
-TellsStop Halt.Link line entries result held now w w' = (result ≡ Used.LinkFault) × IsSilent held now w w'
-TellsStop Halt.Memory line entries result held now w w' = (result ≡ Used.Memory) × IsSilent held now w w'
+abbrev pub TellsStop : (why : Halt) → (line : ℕ) → List Entry → Ending → (held now : Option (List ℕ)) → (w w' : ℕ) → Type 0
+TellsStop Halt.Link line entries result held now w w' = (result ≡ Ending.LinkFault) × IsSilent held now w w'
+TellsStop Halt.Keep line entries result held now w w' = (result ≡ Ending.KeepFault) × IsSilent held now w w'
+TellsStop Halt.Memory line entries result held now w w' = (result ≡ Ending.Memory) × IsSilent held now w w'
 TellsStop Halt.Spent line entries result held now w w' =
-    TellsSo Used.Limit (answers_text entries ++ events_line line) result held now w w'
+    TellsSo Ending.Limit (answers_text entries ++ events_line line) result held now w w'
 TellsStop Halt.NoAnswer line entries result held now w w' =
-    TellsSo Used.NoAnswer (answers_text entries ++ noanswer_line line) result held now w w'
+    TellsSo Ending.NoAnswer (answers_text entries ++ noanswer_line line) result held now w w'
 
 -- what is told of calls that ended so, with this journal
-abbrev pub TellsEnd : Result Unit Stop → List Entry → Used → (held now : Option (List ℕ)) → (w w' : ℕ) → Type 0
+abbrev pub TellsEnd : Result Unit Stop → List Entry → Ending → (held now : Option (List ℕ)) → (w w' : ℕ) → Type 0
 TellsEnd (Ok done) entries result held now w w' = PrintsAll result (answers_text entries) held now w w'
 TellsEnd (Err stop) entries result held now w w' = TellsStop stop.why stop.line entries result held now w w'

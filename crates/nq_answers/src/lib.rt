@@ -5,7 +5,7 @@ mod ending;
 mod lines;
 mod telling;
 
-pub use ending::{Halt, Stop, Used};
+pub use ending::Stop;
 pub use lines::answers_text;
 pub use nq_base::NoMemory;
 pub use telling::{tell_bytes, tell_end, tell_script};

@@ -3,23 +3,30 @@
 ghost use Rattle.std.specs.Prelude.{◌≡◌, ◌<◌, ◌++◌, IfOk, length, string_bytes};
 ghost use Rattle.nq_answers.specs.Answers.{answers_text};
 ghost use Rattle.nq_answers.specs.Telling.{PrintsAll, TellsEnd, TellsSo, bytes_line, events_line, last_line, noanswer_line, script_line};
-ghost use Rattle.nq_answers.specs.declared.ending.Used.{Used};
+ghost use Rattle.nq_ending.specs.declared.Ending.{Ending};
 
-use crate::ending::{Halt, Stop, Used};
+use crate::ending::Stop;
 use crate::lines::answers_text;
 use nq_base::{Journal, NoMemory};
+use nq_ending::{Ending, Halt};
 use nq_io::{Put, Sink};
 use std::alloc::Global;
 
 /// Tells how calls ended.
-pub fn tell_end<K: Sink>(alloc: Global, ended: Result<(), Stop>, log: &Journal, out: &mut K) -> Used
+pub fn tell_end<K: Sink>(
+    alloc: Global,
+    ended: Result<(), Stop>,
+    log: &Journal,
+    out: &mut K,
+) -> Ending
     ensures { TellsEnd ended log.now.entries result (K.held out.old) (K.held out.new) (K.faults out.old) (K.faults out.new) }
 {
     match ended {
         Ok(()) => tell_answers(alloc, log, out),
         Err(stop) => match stop.why {
-            Halt::Link => Used::LinkFault,
-            Halt::Memory => Used::Memory,
+            Halt::Link => Ending::LinkFault,
+            Halt::Keep => Ending::KeepFault,
+            Halt::Memory => Ending::Memory,
             Halt::Spent => tell_spent(alloc, log, stop.line, out),
             Halt::NoAnswer => tell_no_answer(alloc, log, stop.line, out),
         },
@@ -27,52 +34,58 @@ pub fn tell_end<K: Sink>(alloc: Global, ended: Result<(), Stop>, log: &Journal, 
 }
 
 /// Prints the answers.
-fn tell_answers<K: Sink>(alloc: Global, log: &Journal, out: &mut K) -> Used
+fn tell_answers<K: Sink>(alloc: Global, log: &Journal, out: &mut K) -> Ending
     ensures { PrintsAll result (answers_text log.now.entries) (K.held out.old) (K.held out.new) (K.faults out.old) (K.faults out.new) }
 {
     match answers_text(alloc, log) {
         Ok(text) => put_all(out, &text),
-        Err(_) => Used::Memory,
+        Err(_) => Ending::Memory,
     }
 }
 
 /// Prints a text behind which nothing is told.
-fn put_all<K: Sink>(out: &mut K, text: &[u8]) -> Used
+fn put_all<K: Sink>(out: &mut K, text: &[u8]) -> Ending
     ensures { PrintsAll result text.now (K.held out.old) (K.held out.new) (K.faults out.old) (K.faults out.new) }
 {
     match out.put(text) {
-        Put::All => Used::Done,
-        Put::Failed => Used::WriteFault,
+        Put::All => Ending::Done,
+        Put::Failed => Ending::WriteFault,
     }
 }
 
 /// Tells that the client takes in no more, behind the answers.
-fn tell_spent<K: Sink>(alloc: Global, log: &Journal, number: u32, out: &mut K) -> Used
-    ensures { TellsSo Used.Limit (answers_text log.now.entries ++ events_line number) result (K.held out.old) (K.held out.new) (K.faults out.old) (K.faults out.new) }
+fn tell_spent<K: Sink>(alloc: Global, log: &Journal, number: u32, out: &mut K) -> Ending
+    ensures { TellsSo Ending.Limit (answers_text log.now.entries ++ events_line number) result (K.held out.old) (K.held out.new) (K.faults out.old) (K.faults out.new) }
 {
     match events_text(alloc, number) {
-        Ok(line) => tell_behind(alloc, log, line.as_bytes(), Used::Limit, out),
-        Err(_) => Used::Memory,
+        Ok(line) => tell_behind(alloc, log, line.as_bytes(), Ending::Limit, out),
+        Err(_) => Ending::Memory,
     }
 }
 
 /// Tells that a call has no answer, behind the answers.
-fn tell_no_answer<K: Sink>(alloc: Global, log: &Journal, number: u32, out: &mut K) -> Used
-    ensures { TellsSo Used.NoAnswer (answers_text log.now.entries ++ noanswer_line number) result (K.held out.old) (K.held out.new) (K.faults out.old) (K.faults out.new) }
+fn tell_no_answer<K: Sink>(alloc: Global, log: &Journal, number: u32, out: &mut K) -> Ending
+    ensures { TellsSo Ending.NoAnswer (answers_text log.now.entries ++ noanswer_line number) result (K.held out.old) (K.held out.new) (K.faults out.old) (K.faults out.new) }
 {
     match noanswer_text(alloc, number) {
-        Ok(line) => tell_behind(alloc, log, line.as_bytes(), Used::NoAnswer, out),
-        Err(_) => Used::Memory,
+        Ok(line) => tell_behind(alloc, log, line.as_bytes(), Ending::NoAnswer, out),
+        Err(_) => Ending::Memory,
     }
 }
 
 /// Prints the answers and a line behind them.
-fn tell_behind<K: Sink>(alloc: Global, log: &Journal, line: &[u8], due: Used, out: &mut K) -> Used
+fn tell_behind<K: Sink>(
+    alloc: Global,
+    log: &Journal,
+    line: &[u8],
+    due: Ending,
+    out: &mut K,
+) -> Ending
     ensures { TellsSo due (answers_text log.now.entries ++ line.now) result (K.held out.old) (K.held out.new) (K.faults out.old) (K.faults out.new) }
 {
     match text_behind(alloc, log, line) {
         Ok(text) => tell_so(out, &text, due),
-        Err(_) => Used::Memory,
+        Err(_) => Ending::Memory,
     }
 }
 
@@ -86,7 +99,7 @@ fn text_behind(alloc: Global, log: &Journal, line: &[u8]) -> Result<Vec<u8>, NoM
 }
 
 /// Prints a text. The end is the one that is due, even where the sink fails.
-fn tell_so<K: Sink>(out: &mut K, text: &[u8], due: Used) -> Used
+fn tell_so<K: Sink>(out: &mut K, text: &[u8], due: Ending) -> Ending
     ensures { TellsSo due text.now result (K.held out.old) (K.held out.new) (K.faults out.old) (K.faults out.new) }
 {
     match out.put(text) {
@@ -95,23 +108,23 @@ fn tell_so<K: Sink>(out: &mut K, text: &[u8], due: Used) -> Used
 }
 
 /// Tells which line spells no call.
-pub fn tell_script<K: Sink>(alloc: Global, number: u32, out: &mut K) -> Used
-    ensures { TellsSo Used.Script (script_line number) result (K.held out.old) (K.held out.new) (K.faults out.old) (K.faults out.new) }
+pub fn tell_script<K: Sink>(alloc: Global, number: u32, out: &mut K) -> Ending
+    ensures { TellsSo Ending.Script (script_line number) result (K.held out.old) (K.held out.new) (K.faults out.old) (K.faults out.new) }
 {
     match script_text(alloc, number) {
-        Ok(line) => tell_so(out, line.as_bytes(), Used::Script),
-        Err(_) => Used::Memory,
+        Ok(line) => tell_so(out, line.as_bytes(), Ending::Script),
+        Err(_) => Ending::Memory,
     }
 }
 
 /// Tells in which line the input passes the limit. The bytes are those up to the first beyond it.
-pub fn tell_bytes<K: Sink>(alloc: Global, front: &[u8], out: &mut K) -> Used
+pub fn tell_bytes<K: Sink>(alloc: Global, front: &[u8], out: &mut K) -> Ending
     requires { 0 < length front.now }
-    ensures { TellsSo Used.Limit (bytes_line (last_line front.now)) result (K.held out.old) (K.held out.new) (K.faults out.old) (K.faults out.new) }
+    ensures { TellsSo Ending.Limit (bytes_line (last_line front.now)) result (K.held out.old) (K.held out.new) (K.faults out.old) (K.faults out.new) }
 {
     match bytes_text(alloc, line_of_last(front)) {
-        Ok(line) => tell_so(out, line.as_bytes(), Used::Limit),
-        Err(_) => Used::Memory,
+        Ok(line) => tell_so(out, line.as_bytes(), Ending::Limit),
+        Err(_) => Ending::Memory,
     }
 }
 

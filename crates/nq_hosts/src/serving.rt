@@ -3,10 +3,10 @@
 ghost use Rattle.std.specs.Prelude.{◌≡◌, ◌<◌, ◌≤◌, ◌^◌, IfOk, string_bytes};
 ghost use Rattle.nq_hosts.specs.Serving.{EndsBoot, PrintsTurns, Ran, Runs, Serves, Tells, turns_line};
 
-use crate::ending::{Halt, Served};
 use crate::turning::take_turns;
 use nq_base::{Journal, NoMemory, Ticks};
 use nq_clock::Clock;
+use nq_ending::{Ending, Halt};
 use nq_io::{Put, Sink};
 use nq_keeper::Keeper;
 use nq_link::Link;
@@ -29,24 +29,25 @@ pub fn serve<K: Keeper + Drop, L: Link, C: Clock, S: Sink>(
     link: &mut L,
     clock: &mut C,
     out: &mut S,
-) -> Served
+) -> Ending
     requires long { 5 ≤ longest }
     requires short { longest ≤ 600 }
-    ensures { Tells result turns (λ ended. Serves K.content K.faults longest turns keeper ended (C.readings clock.old) (C.readings clock.new)
+    ensures { Tells result turns (λ ended. Serves K.content K.faults K.follows longest turns keeper ended (C.readings clock.old) (C.readings clock.new)
         (record { sent = L.sent link.old; waiting = L.waiting link.old; faults = L.faults link.old })
         (record { sent = L.sent link.new; waiting = L.waiting link.new; faults = L.faults link.new }))
         (S.held out.old) (S.held out.new) (S.faults out.old) (S.faults out.new) }
 {
     let now = clock.now();
     let Ok(line) = turns_text(alloc, turns) else {
-        return Served::Memory;
+        return Ending::Memory;
     };
     match boot_and_run(alloc, keeper, now, turns, longest, link, clock) {
         Ok(()) => put_turns(out, line.as_bytes()),
-        Err(Halt::Link) => Served::LinkFault,
-        Err(Halt::Keep) => Served::KeepFault,
-        Err(Halt::Memory) => Served::Memory,
-        Err(Halt::Spent) => Served::Spent,
+        Err(Halt::Link) => Ending::LinkFault,
+        Err(Halt::Keep) => Ending::KeepFault,
+        Err(Halt::Memory) => Ending::Memory,
+        Err(Halt::Spent) => Ending::Spent,
+        Err(Halt::NoAnswer) => Ending::NoAnswer,
     }
 }
 
@@ -62,12 +63,12 @@ fn turns_text(alloc: Global, turns: u32) -> Result<String, NoMemory>
 }
 
 /// Prints the line that tells how many turns were taken.
-fn put_turns<S: Sink>(out: &mut S, line: &[u8]) -> Served
+fn put_turns<S: Sink>(out: &mut S, line: &[u8]) -> Ending
     ensures { PrintsTurns result line.now (S.held out.old) (S.held out.new) (S.faults out.old) (S.faults out.new) }
 {
     match out.put(line) {
-        Put::All => Served::Done,
-        Put::Failed => Served::WriteFault,
+        Put::All => Ending::Done,
+        Put::Failed => Ending::WriteFault,
     }
 }
 
@@ -84,7 +85,7 @@ fn boot_and_run<K: Keeper + Drop, L: Link, C: Clock>(
     requires long { 5 ≤ longest }
     requires short { longest ≤ 600 }
     requires early { now < 2 ^ 62 }
-    ensures { Runs K.content K.faults longest turns now keeper result (C.readings clock.old) (C.readings clock.new)
+    ensures { Runs K.content K.faults K.follows longest turns now keeper result (C.readings clock.old) (C.readings clock.new)
         (record { sent = L.sent link.old; waiting = L.waiting link.old; faults = L.faults link.old })
         (record { sent = L.sent link.new; waiting = L.waiting link.new; faults = L.faults link.new }) }
 {
@@ -104,7 +105,7 @@ fn booted<K: Keeper + Drop>(
     requires long { 5 ≤ longest }
     requires short { longest ≤ 600 }
     requires early { now < 2 ^ 62 }
-    ensures { EndsBoot K.content K.faults longest now keeper result }
+    ensures { EndsBoot K.content K.faults K.follows longest now keeper result }
 {
     match Server::boot(alloc, keeper, longest, now) {
         Ok(server) => Ok(server),
@@ -122,7 +123,7 @@ fn run_server<K: Keeper + Drop, L: Link, C: Clock>(
     link: &mut L,
     clock: &mut C,
 ) -> Result<(), Halt>
-    ensures { Ran K.content K.faults turns server result (C.readings clock.old) (C.readings clock.new)
+    ensures { Ran K.content K.faults K.follows turns server result (C.readings clock.old) (C.readings clock.new)
         (record { sent = L.sent link.old; waiting = L.waiting link.old; faults = L.faults link.old })
         (record { sent = L.sent link.new; waiting = L.waiting link.new; faults = L.faults link.new }) }
 {

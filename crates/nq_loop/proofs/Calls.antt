@@ -9,8 +9,8 @@ use Rattle.nq_base.specs.declared.Call.{Call}
 use Rattle.nq_base.specs.declared.Event.{Event}
 use Rattle.nq_client.specs.Counted.{Counted}
 use Rattle.nq_client.specs.State.{call_of}
-use Rattle.nq_loop.specs.Counting.{Counts, begins, begun_in}
 use Rattle.nq_loop.proofs.Whole.{one-step}
+use Rattle.nq_loop.specs.Counting.{Counts, begins, begun_in}
 use Rattle.nq_loop.specs.Holding.{GivesTo, IsLooping, Loop, Loops, moment_of}
 use Rattle.nq_loop.specs.Looping.{GivesDue, Step, call_behind, call_due, is_busy}
 use Rattle.nq_loop.specs.declared.turns.Halt.{Halt}

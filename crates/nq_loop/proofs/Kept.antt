@@ -1,9 +1,15 @@
 -- What the events of a loop write.
 use Rattle.std.proofs.Common.{ℕ}
+use Rattle.nq_base.specs.declared.Call.{Call}
 use Rattle.nq_base.specs.declared.Event.{Event}
-use Rattle.nq_loop.specs.Holding.{IsLooped}
+use Rattle.nq_loop.specs.Holding.{IsLoopCall, IsLooped}
+use Rattle.nq_script.specs.Calls.{IsFilledCall}
 use Rattle.nq_script.specs.Lines.{IsFilledEvent}
-use Rattle.nq_storm.proofs.Passing.{filled_call}
+
+filled_call : (call : Call) → IsLoopCall call → IsFilledCall call
+filled_call (Call.Write file block body) writes = writes
+filled_call (Call.WriteSync file block body) writes = absurd writes
+filled_call other writes = tt
 
 -- what an event of a loop writes is filled with a number
 pub filled_event : (hosts : ℕ) (event : Event) → IsLooped hosts event → IsFilledEvent event

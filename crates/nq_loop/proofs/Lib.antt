@@ -7,3 +7,10 @@ pub mod Events
 pub mod Hearing
 pub mod Turned
 pub mod Kept
+pub mod Spelling
+pub mod Counting
+pub mod Telling
+pub mod Playing
+pub mod Heads
+pub mod Takings
+pub mod Ends

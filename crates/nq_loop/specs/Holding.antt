@@ -1,8 +1,9 @@
 -- The loop over a world as contracts see it. Below, `before` and `now` are the keeper's counts of faults.
-use Rattle.std.specs.Prelude.{◌≡◌, ◌<◌, ℕ, Bool, List, [], ◌∷◌, Option, Result, Ok, Err, map, reverse}
 use Rattle.std.specs.List.{AllByRecursion}
+use Rattle.std.specs.Prelude.{◌≡◌, ◌<◌, ◌^◌, ℕ, Bool, List, [], ◌∷◌, Option, Result, Ok, Err, map, reverse}
+use Rattle.nq_base.specs.Block.{filled}
+use Rattle.nq_base.specs.declared.Call.{Call}
 use Rattle.nq_base.specs.declared.Event.{Event}
-use Rattle.nq_storm_rules.specs.Stormy.{WritesNumber}
 use Rattle.nq_io.specs.Faults.{Rose}
 use Rattle.nq_keeper.specs.Keeping.{StaysOrEnds}
 use Rattle.nq_link.specs.Link.{Letters}
@@ -42,9 +43,16 @@ loop_of content sent waiting faults world state ran links = record {
 abbrev pub moment_of : {K : Type 0} → Loop K → Moment
 moment_of l = record { events = reverse l.ran; links = l.links }
 
--- an event of a loop among so many hosts: a tick, a delivery, or a call that reads, synchronizes, or writes the block of a number
+-- a call of a loop: it reads, synchronizes, or writes the block of a number
+abbrev pub IsLoopCall : Call → Type 0
+IsLoopCall (Call.Read file block) = Unit {0}
+IsLoopCall (Call.Write file block body) = (number : ℕ) × (number < 2 ^ 32) × (body ≡ filled number)
+IsLoopCall (Call.Sync file) = Unit {0}
+IsLoopCall other = ⊥
+
+-- an event of a loop among so many hosts: a tick, a delivery, or a call of a loop
 abbrev pub IsLooped : (hosts : ℕ) → Event → Type 0
-IsLooped hosts (Event.Call host call) = (host < hosts) × WritesNumber call
+IsLooped hosts (Event.Call host call) = (host < hosts) × IsLoopCall call
 IsLooped hosts (Event.ClientTick host) = host < hosts
 IsLooped hosts (Event.Restart host) = ⊥
 IsLooped hosts (Event.Crash longest) = ⊥

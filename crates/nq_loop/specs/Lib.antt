@@ -4,3 +4,7 @@ pub mod Looping
 pub mod Matching
 pub mod Sending
 pub mod Steps
+pub mod Counts
+pub mod Printed
+pub mod Turning
+pub mod Whole

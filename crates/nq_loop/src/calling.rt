@@ -2,8 +2,7 @@
 
 ghost use Rattle.std.specs.Prelude.{◌≡◌, ◌<◌, ◌≤◌, ◌∷◌, [], ℕ, List, length, slice_get, IfSome};
 ghost use Rattle.nq_base.specs.declared.Event.{Event};
-ghost use Rattle.nq_storm_rules.specs.Stormy.{WritesNumber};
-ghost use Rattle.nq_loop.specs.Holding.{IsLooping, Keeps, Loops, loop_of};
+ghost use Rattle.nq_loop.specs.Holding.{IsLoopCall, IsLooping, Keeps, Loops, loop_of};
 ghost use Rattle.nq_loop.specs.Looping.{Step, call_behind, call_steps, is_busy};
 ghost use Rattle.nq_model.specs.World.{Head, run};
 ghost use Rattle.nq_world.specs.Playing.{Plays};
@@ -35,6 +34,7 @@ pub(crate) fn begin_calls<K: Keeper, L: Link>(
         (loop_of K.content L.sent L.waiting L.faults world.new state.new ran.new links.new) }
     ensures keeps { Keeps result (K.faults world.old.server.keeper) (K.faults world.new.server.keeper)
         (length world.old.clients) (length world.new.clients) (length state.old.begun) (length state.new.begun) }
+    ensures follows { K.follows world.old.server.keeper world.new.server.keeper }
 {
     let mut any = false;
     for host in 0..state.hosts() {
@@ -64,6 +64,7 @@ fn begin_call<K: Keeper, L: Link>(
         (loop_of K.content L.sent L.waiting L.faults world.new state.new ran.new links.new) }
     ensures keeps { Keeps result (K.faults world.old.server.keeper) (K.faults world.new.server.keeper)
         (length world.old.clients) (length world.new.clients) (length state.old.begun) (length state.new.begun) }
+    ensures follows { K.follows world.old.server.keeper world.new.server.keeper }
 {
     if is_busy(world, host) {
         return Ok(false);
@@ -104,7 +105,7 @@ fn call_behind(hosts: u32, host: u32, begun: u8) -> Option<Call>
     requires there { host < hosts }
     requires few { hosts ≤ 64 }
     ensures call { result ≡ call_behind hosts host begun }
-    ensures writes { IfSome result WritesNumber }
+    ensures writes { IfSome result IsLoopCall }
 {
     let file = FileId(1);
     match begun {

@@ -36,6 +36,7 @@ pub(crate) fn give<K: Keeper, L: Link>(
         (loop_of K.content L.sent L.waiting L.faults world.new state.new ran.new links.new) }
     ensures keeps { Keeps result (K.faults world.old.server.keeper) (K.faults world.new.server.keeper)
         (length world.old.clients) (length world.new.clients) (length state.old.begun) (length state.new.begun) }
+    ensures follows { K.follows world.old.server.keeper world.new.server.keeper }
 {
     give_event(alloc, world, links, state, ran, &event)
 }
@@ -57,6 +58,7 @@ fn give_event<K: Keeper, L: Link>(
         (loop_of K.content L.sent L.waiting L.faults world.new state.new ran.new links.new) }
     ensures keeps { Keeps result (K.faults world.old.server.keeper) (K.faults world.new.server.keeper)
         (length world.old.clients) (length world.new.clients) (length state.old.begun) (length state.new.begun) }
+    ensures follows { K.follows world.old.server.keeper world.new.server.keeper }
 {
     let sent = world.packets().len();
     match keep(state, ran, sent as usize, event) {
@@ -105,6 +107,7 @@ fn give_last<K: Keeper, L: Link>(
         (loop_of K.content L.sent L.waiting L.faults world.new state.new ran.new links.new) }
     ensures keeps { Keeps result (K.faults world.old.server.keeper) (K.faults world.new.server.keeper)
         (length world.old.clients) (length world.new.clients) (length state.old.begun) (length state.new.begun) }
+    ensures follows { K.follows world.old.server.keeper world.new.server.keeper }
 {
     match world.step(event) {
         Stepped::Done => {

@@ -1,19 +1,22 @@
-//! Turns of a loop: a world whose packets travel over real links, and whose clocks follow a real clock.
+//! Loops: a world whose packets travel over real links, and whose clocks follow a real clock, and the command `loop N TURNS`.
 //!
-//! [`loop_turn`] takes a turn, and keeps the events that it made of readings and datagrams. What a turn is stands in `specs/Looping`.
+//! A turn keeps the events that it made of readings and datagrams; [`run_loop`] takes turns, and prints that schedule, its journal
+//! and its counts. What a turn is stands in `specs/Looping`, what turns are in `specs/Turning`, and what is printed in `specs/Printed`.
 #![tactic(auto)]
 
 mod calling;
+mod counts;
 mod giving;
 mod matching;
+mod printing;
 mod receiving;
 mod rounds;
+mod running;
+mod schedules;
 mod sending;
 mod state;
+mod taking;
 mod turning;
 mod turns;
 
-pub use calling::is_busy;
-pub use state::LoopState;
-pub use turning::loop_turn;
-pub use turns::LoopTurn;
+pub use running::run_loop;

@@ -41,6 +41,7 @@ pub(crate) fn receive_each<K: Keeper, L: Link>(
         (loop_of K.content L.sent L.waiting L.faults world.new state.new ran.new links.new) }
     ensures keeps { Keeps result (K.faults world.old.server.keeper) (K.faults world.new.server.keeper)
         (length world.old.clients) (length world.new.clients) (length state.old.begun) (length state.new.begun) }
+    ensures follows { K.follows world.old.server.keeper world.new.server.keeper }
 {
     match receive(alloc, world, links, state, ran, Party::Server) {
         Ok(came) => behind(came, receive_hosts(alloc, world, links, state, ran)),
@@ -64,6 +65,7 @@ fn receive_hosts<K: Keeper, L: Link>(
         (loop_of K.content L.sent L.waiting L.faults world.new state.new ran.new links.new) }
     ensures keeps { Keeps result (K.faults world.old.server.keeper) (K.faults world.new.server.keeper)
         (length world.old.clients) (length world.new.clients) (length state.old.begun) (length state.new.begun) }
+    ensures follows { K.follows world.old.server.keeper world.new.server.keeper }
 {
     let mut any = false;
     for host in 0..state.hosts() {
@@ -94,6 +96,7 @@ fn receive<K: Keeper, L: Link>(
         (loop_of K.content L.sent L.waiting L.faults world.new state.new ran.new links.new) }
     ensures keeps { Keeps result (K.faults world.old.server.keeper) (K.faults world.new.server.keeper)
         (length world.old.clients) (length world.new.clients) (length state.old.begun) (length state.new.begun) }
+    ensures follows { K.follows world.old.server.keeper world.new.server.keeper }
 {
     let mut buffer = [0; MOST_BYTES];
     receive_through(alloc, world, links, state, ran, &party, &mut buffer)
@@ -118,6 +121,7 @@ fn receive_through<K: Keeper, L: Link>(
         (loop_of K.content L.sent L.waiting L.faults world.new state.new ran.new links.new) }
     ensures keeps { Keeps result (K.faults world.old.server.keeper) (K.faults world.new.server.keeper)
         (length world.old.clients) (length world.new.clients) (length state.old.begun) (length state.new.begun) }
+    ensures follows { K.follows world.old.server.keeper world.new.server.keeper }
 {
     let place = place_of(party);
     match bring(links, place, buffer) {
@@ -163,6 +167,7 @@ fn take_in<K: Keeper, L: Link>(
         (loop_of K.content L.sent L.waiting L.faults world.new state.new ran.new links.new) }
     ensures keeps { Keeps result (K.faults world.old.server.keeper) (K.faults world.new.server.keeper)
         (length world.old.clients) (length world.new.clients) (length state.old.begun) (length state.new.begun) }
+    ensures follows { K.follows world.old.server.keeper world.new.server.keeper }
 {
     let letter = Letter {
         sender,

@@ -33,6 +33,7 @@ pub(crate) fn give_rounds<K: Keeper, L: Link>(
         (loop_of K.content L.sent L.waiting L.faults world.new state.new ran.new links.new) }
     ensures keeps { Keeps result (K.faults world.old.server.keeper) (K.faults world.new.server.keeper)
         (length world.old.clients) (length world.new.clients) (length state.old.begun) (length state.new.begun) }
+    ensures follows { K.follows world.old.server.keeper world.new.server.keeper }
 {
     let mut any = false;
     for round in 0..rounds {
@@ -66,6 +67,7 @@ fn give_round<K: Keeper, L: Link>(
         (loop_of K.content L.sent L.waiting L.faults world.new state.new ran.new links.new) }
     ensures keeps { Keeps result (K.faults world.old.server.keeper) (K.faults world.new.server.keeper)
         (length world.old.clients) (length world.new.clients) (length state.old.begun) (length state.new.begun) }
+    ensures follows { K.follows world.old.server.keeper world.new.server.keeper }
 {
     match tick_hosts(alloc, world, links, state, ran) {
         Ok(ticked) => behind(
@@ -101,6 +103,7 @@ fn tick_hosts<K: Keeper, L: Link>(
         (loop_of K.content L.sent L.waiting L.faults world.new state.new ran.new links.new) }
     ensures keeps { Keeps result (K.faults world.old.server.keeper) (K.faults world.new.server.keeper)
         (length world.old.clients) (length world.new.clients) (length state.old.begun) (length state.new.begun) }
+    ensures follows { K.follows world.old.server.keeper world.new.server.keeper }
 {
     let mut any = false;
     for host in 0..state.hosts() {

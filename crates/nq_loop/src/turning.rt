@@ -48,6 +48,7 @@ pub fn loop_turn<K: Keeper, L: Link, C: Clock>(
         (loop_of K.content L.sent L.waiting L.faults world.new state.new ran.new links.new) }
     ensures keeps { KeepsTurn result (K.faults world.old.server.keeper) (K.faults world.new.server.keeper)
         (length world.old.clients) (length world.new.clients) (length state.old.begun) (length state.new.begun) }
+    ensures follows { K.follows world.old.server.keeper world.new.server.keeper }
 {
     let reading = clock.now();
     let rounds = rounds_due(world.server_time(), reading);
@@ -79,6 +80,7 @@ fn take_turn<K: Keeper, L: Link>(
         (loop_of K.content L.sent L.waiting L.faults world.new state.new ran.new links.new) }
     ensures keeps { Keeps result (K.faults world.old.server.keeper) (K.faults world.new.server.keeper)
         (length world.old.clients) (length world.new.clients) (length state.old.begun) (length state.new.begun) }
+    ensures follows { K.follows world.old.server.keeper world.new.server.keeper }
 {
     match give_rounds(alloc, world, links, state, ran, rounds) {
         Ok(ticked) => behind(ticked, call_and_receive(alloc, world, links, state, ran)),
@@ -103,6 +105,7 @@ fn call_and_receive<K: Keeper, L: Link>(
         (loop_of K.content L.sent L.waiting L.faults world.new state.new ran.new links.new) }
     ensures keeps { Keeps result (K.faults world.old.server.keeper) (K.faults world.new.server.keeper)
         (length world.old.clients) (length world.new.clients) (length state.old.begun) (length state.new.begun) }
+    ensures follows { K.follows world.old.server.keeper world.new.server.keeper }
 {
     match begin_calls(alloc, world, links, state, ran) {
         Ok(called) => behind(called, receive_each(alloc, world, links, state, ran)),

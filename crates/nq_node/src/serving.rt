@@ -37,6 +37,7 @@ pub fn serve_turn<K: Keeper, L: Link, C: Clock>(
         (record { sent = L.sent link.old; waiting = L.waiting link.old; faults = L.faults link.old })
         (record { sent = L.sent link.new; waiting = L.waiting link.new; faults = L.faults link.new })
         server.old server.new log.old log.new }
+    ensures follows { K.follows server.old.keeper server.new.keeper }
 {
     let mut out = Outbox::new(alloc, *next).unwrap();
     let ended = serve(alloc, server, link, clock, &mut out, log);
@@ -67,11 +68,12 @@ fn serve<K: Keeper, L: Link, C: Clock>(
     out: &mut Outbox,
     log: &mut Journal,
 ) -> Result<bool, Halt>
-    ensures { Stages K.content K.faults result (C.readings clock.old) (C.readings clock.new)
+    ensures stages { Stages K.content K.faults result (C.readings clock.old) (C.readings clock.new)
         (record { sent = L.sent link.old; waiting = L.waiting link.old; faults = L.faults link.old })
         (record { sent = L.sent link.new; waiting = L.waiting link.new; faults = L.faults link.new })
         (record { server = server.old; out = out.old; log = log.old })
         (record { server = server.new; out = out.new; log = log.new }) }
+    ensures follows { K.follows server.old.keeper server.new.keeper }
 {
     let reading = clock.now();
     match tick_to(server, reading, out, log) {
@@ -89,11 +91,12 @@ fn go_on<K: Keeper, L: Link>(
     out: &mut Outbox,
     log: &mut Journal,
 ) -> Result<bool, Halt>
-    ensures { GoesOn K.content K.faults (Ok tt) result ticked
+    ensures goes { GoesOn K.content K.faults (Ok tt) result ticked
         (record { sent = L.sent link.old; waiting = L.waiting link.old; faults = L.faults link.old })
         (record { sent = L.sent link.new; waiting = L.waiting link.new; faults = L.faults link.new })
         (record { server = server.old; out = out.old; log = log.old })
         (record { server = server.new; out = out.new; log = log.new }) }
+    ensures follows { K.follows server.old.keeper server.new.keeper }
 {
     match take_from(alloc, server, link, out, log) {
         Ok(came) => send_out(link, out, either(ticked, came)),
@@ -132,6 +135,7 @@ fn tick_to<K: Keeper>(
         (record { server = server.old; out = out.old; log = log.old })
         (record { server = server.new; out = out.new; log = log.new }) }
     ensures rose { IfOk result (λ ticked. ticked ≡ nat_lt server.old.beside.time reading) }
+    ensures follows { K.follows server.old.keeper server.new.keeper }
 {
     if reading <= server.time() {
         return Ok(false);
@@ -149,11 +153,12 @@ fn take_from<K: Keeper, L: Link>(
     out: &mut Outbox,
     log: &mut Journal,
 ) -> Result<bool, Halt>
-    ensures { Receives K.content K.faults result
+    ensures receives { Receives K.content K.faults result
         (record { sent = L.sent link.old; waiting = L.waiting link.old; faults = L.faults link.old })
         (record { sent = L.sent link.new; waiting = L.waiting link.new; faults = L.faults link.new })
         (record { server = server.old; out = out.old; log = log.old })
         (record { server = server.new; out = out.new; log = log.new }) }
+    ensures follows { K.follows server.old.keeper server.new.keeper }
 {
     let mut buffer = [0; MOST_BYTES];
     take_through(alloc, server, link, &mut buffer, out, log)
@@ -169,11 +174,12 @@ fn take_through<K: Keeper, L: Link>(
     log: &mut Journal,
 ) -> Result<bool, Halt>
     requires { length buffer.old ≡ most_bytes }
-    ensures { Receives K.content K.faults result
+    ensures receives { Receives K.content K.faults result
         (record { sent = L.sent link.old; waiting = L.waiting link.old; faults = L.faults link.old })
         (record { sent = L.sent link.new; waiting = L.waiting link.new; faults = L.faults link.new })
         (record { server = server.old; out = out.old; log = log.old })
         (record { server = server.new; out = out.new; log = log.new }) }
+    ensures follows { K.follows server.old.keeper server.new.keeper }
 {
     match link.receive(buffer) {
         Came::Nothing => Ok(false),
@@ -208,9 +214,10 @@ fn take_in<K: Keeper>(
     out: &mut Outbox,
     log: &mut Journal,
 ) -> Result<(), Halt>
-    ensures { Takes K.content K.faults (given_by (sender, datagram.now)) result
+    ensures takes { Takes K.content K.faults (given_by (sender, datagram.now)) result
         (record { server = server.old; out = out.old; log = log.old })
         (record { server = server.new; out = out.new; log = log.new }) }
+    ensures follows { K.follows server.old.keeper server.new.keeper }
 {
     match sender {
         Party::Server => Ok(()),

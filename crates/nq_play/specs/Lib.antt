@@ -1,3 +1,5 @@
 pub mod Delivering
 pub mod Playing
 pub mod Lawful
+pub mod Going
+pub mod Reaching

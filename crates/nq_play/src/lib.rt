@@ -1,11 +1,18 @@
-//! How the lines of a schedule are played: as definitions, which packets were delivered so far, and what is known of each run.
+//! How the lines of a schedule are played: as definitions, over a world, and what is known of each run.
 //!
 //! The definitions are in `specs/`: `Delivering` (the least packet that was never delivered), `Playing` (an event, a round, a
-//! flow, the lines of a schedule), and `Lawful`, which says what holds of each schedule that was played to its end.
+//! flow, the lines of a schedule), and `Lawful`, which says what holds of each schedule that was played to its end. [`play`] plays
+//! lines over a world. No line is unrolled: a round, a flow and repeated ticks are loops.
 #![tactic(auto)]
 
 mod delivered;
+mod events;
 mod laws;
+mod lines;
+mod played;
 
 pub use delivered::Delivered;
+pub use events::note;
 pub use laws::played_runs_are_lawful;
+pub use lines::play;
+pub use played::Played;

@@ -1,19 +1,18 @@
 -- A schedule that was read can be played over a world.
 use Rattle.std.proofs.Common.{◌≡◌, ◌⊎◌, inl, inr, ℕ, ◌+◌, ◌<◌, ◌≤◌, ◌^◌, List, [], ◌∷◌, ◌++◌, length, arith, length-append}
 use Rattle.std.specs.Prelude.{codes}
+use Rattle.law_bounds.specs.Within.{AreDistinct, IsNew}
 use Rattle.nq_base.specs.declared.Event.{Event}
-use Rattle.nq_lines.specs.Going.{AreForWorld, IsForWorld}
 use Rattle.nq_model.specs.Profile.{shortest_term}
+use Rattle.nq_play.specs.Going.{AreForWorld, IsForWorld}
 use Rattle.nq_replay.specs.Schedules.{IsReady}
-use Rattle.nq_script.specs.Heads.{FitFiles, head_lines}
-use Rattle.nq_script.specs.Heads.{AreDistinct as Differ, IsNew as IsOther}
+use Rattle.nq_script.specs.Heads.{FitFiles, head_lines, AreDistinct as Differ, IsNew as IsOther}
 use Rattle.nq_script.specs.Lines.{Allows, HasEvent, SpellsLine}
 use Rattle.nq_script.specs.Schedule.{SpellsLines}
 use Rattle.nq_script.specs.Text.{text_of}
 use Rattle.nq_script.specs.declared.heads.Head.{Head}
 use Rattle.nq_script.specs.declared.lines.Line.{Line}
 use Rattle.nq_script.specs.declared.scripts.Script.{Script}
-use Rattle.law_bounds.specs.Within.{AreDistinct, IsNew}
 use Rattle.nq_world.specs.First.{AreFirstFiles}
 use Rattle.nq_world.specs.Playing.{CanCome, HasSettings, WorldOver}
 

@@ -1,24 +1,26 @@
 -- Places and lines of a journal that was read stand within its text.
-use Rattle.std.proofs.Common.{◌≡◌, ℕ, ◌+◌, ◌<◌, ◌≤◌, ◌^◌, List, [], ◌∷◌, ◌++◌, length, reverse, Option, Some, None, sym, ◌∙◌, ap, subst, arith, length-append}
-use Rattle.std.specs.Prelude.{codes}
+use Rattle.std.proofs.Common.{◌≡◌, ℕ, ◌+◌, ◌<◌, ◌≤◌, ◌^◌, List, [], ◌∷◌, ◌++◌, length, reverse, Option, Some, None, inl, inr, refl, sym, ◌∙◌, ap, subst, arith, length-append}
+use Rattle.std.proofs.lemmas.List.{length-reverse}
 use Rattle.std.specs.List.{flat_map}
 use Rattle.std.specs.Option.{option_or}
-use Rattle.std.proofs.lemmas.List.{length-reverse}
+use Rattle.std.specs.Prelude.{codes}
 use Rattle.nq_base.specs.declared.Entry.{Entry}
-use Rattle.nq_rules.specs.declared.Rule.{Rule}
 use Rattle.nq_rules.specs.Rules.{first_rule}
 use Rattle.nq_rules.specs.Verdict.{Fault, IsVerdict, fault_at, least_fault, verdict}
 use Rattle.nq_rules.specs.declared.Judged.{Judged}
+use Rattle.nq_rules.specs.declared.Rule.{Rule}
+use Rattle.nq_ending.specs.declared.Ending.{Ending}
 use Rattle.nq_io.specs.Faults.{Rose}
 use Rattle.nq_io.specs.Sink.{AppendsFront}
 use Rattle.nq_io.specs.Told.{with_end}
-use Rattle.nq_journal.specs.Fault.{IsFaultyAt, ended}
+use Rattle.nq_io.specs.Whole.{IsAll, IsOver}
+use Rattle.nq_journal.specs.Fault.{IsFaultyAt, IsJournal, ended}
 use Rattle.nq_journal.specs.Parsing.{IsFault, IsTextOf, named}
 use Rattle.nq_journal.specs.Text.{IsText, entry_line, entry_words, end_line, head_line, journal_text}
-use Rattle.nq_words.specs.Words.{line, joined}
-use Rattle.nq_replay.specs.Judging.{JudgesText, PrintsWrong, TellsVerdict, yes_line}
+use Rattle.nq_replay.specs.Ending.{IsUnlessFault, TellsOver}
+use Rattle.nq_replay.specs.Judging.{IsJudged, IsSaidUnlessFault, Judges, JudgesText, PrintsWrong, TellsVerdict, yes_line}
 use Rattle.nq_replay.specs.Lines.{PrintsLine, script_line}
-use Rattle.nq_replay.specs.declared.ending.Ending.{Ending}
+use Rattle.nq_words.specs.Words.{line, joined}
 
 -- ---- the place of a fault
 
@@ -112,11 +114,7 @@ judged_text Ending.NotSound (Judged.No p r) entries text held now w w' v t h =
     record { fault = record { place = p; rule = r }; judged = record { version = t.version; entries = entries; spelled = t.text; judged = v }; printed = h }
 judged_text Ending.NotSound Judged.Memory entries text held now w w' v t h = absurd h
 judged_text Ending.Memory judged entries text held now w w' v t h = h
-judged_text Ending.Usage judged entries text held now w w' v t h = absurd h
-judged_text Ending.Script judged entries text held now w w' v t h = absurd h
-judged_text Ending.Skew judged entries text held now w w' v t h = absurd h
-judged_text Ending.ReadFault judged entries text held now w w' v t h = absurd h
-judged_text Ending.Limit judged entries text held now w w' v t h = absurd h
+judged_text other judged entries text held now w w' v t h = absurd h
 
 -- a faulty line that was printed is the text's first one
 pub wrong_text : (number : ℕ) (text bytes : List ℕ) (held now : Option (List ℕ)) (w w' : ℕ) → IsFault number text → length text < 2 ^ 31 → bytes ≡ script_line number → PrintsLine bytes held now w w' → PrintsWrong text held now w w'
@@ -134,3 +132,40 @@ tells_yes judged held now w w' e h = subst (λ (j : Judged). TellsVerdict Ending
 pub tells_front : (judged : Judged) (held now : Option (List ℕ)) (w w' : ℕ) → judged ≡ Judged.Yes → AppendsFront (codes "yes\n") held now → Rose w w' → TellsVerdict Ending.WriteFault judged held now w w'
 unfolding yes_line
 tells_front judged held now w w' e h r = subst (λ (j : Judged). TellsVerdict Ending.WriteFault j held now w w') (sym e) (h, r)
+
+-- ---- the input
+
+-- what was said of a text that was read is what was said of the input
+pub judges_text : (end : Ending) (text : List ℕ) (limit : ℕ) (left rest held now : Option (List ℕ)) (r r' w w' : ℕ) → IsAll text limit left rest → JudgesText end text held now w w' → Judges end limit left rest held now r r' w w'
+judges_text Ending.Done text limit left rest held now r r' w w' read judges = record { text = text; read = read; so = judges }
+judges_text Ending.Script text limit left rest held now r r' w w' read judges = record { text = text; read = read; so = judges }
+judges_text Ending.WriteFault text limit left rest held now r r' w w' read judges = record { text = text; read = read; so = judges }
+judges_text Ending.Memory text limit left rest held now r r' w w' read judges = (judges, inr (inl (text, read)))
+judges_text Ending.NotSound text limit left rest held now r r' w w' read judges = record { text = text; read = read; so = judges }
+judges_text other text limit left rest held now r r' w w' read judges = absurd judges
+
+pub judges_over : (end : Ending) (front : List ℕ) (limit : ℕ) (left rest held now : Option (List ℕ)) (r r' w w' : ℕ) → IsOver front limit left rest → TellsOver end front held now w w' → Judges end limit left rest held now r r' w w'
+judges_over Ending.Memory front limit left rest held now r r' w w' over tells = (tells, inr (inr (front, over)))
+judges_over Ending.Limit front limit left rest held now r r' w w' over tells = record { front = front; passes = over; printed = tells }
+judges_over other front limit left rest held now r r' w w' over tells = absurd tells
+
+is_journal : (text : List ℕ) (found : Option Fault) → IsJudged text found → IsJournal text
+is_journal text found judged = record { version = judged.version; entries = judged.entries; text = judged.spelled }
+
+-- of a text that is no journal's the faulty line is told
+pub script_said : (end : Ending) (text : List ℕ) (number : ℕ) (held now : Option (List ℕ)) (r r' w w' : ℕ) → IsFaultyAt number text → JudgesText end text held now w w' → IsUnlessFault end Ending.Script r r' w w'
+script_said Ending.Done text number held now r r' w w' faulty judges = absurd (faulty.no_journal (is_journal text None judges.0))
+script_said Ending.Script text number held now r r' w w' faulty judges = inl refl
+script_said Ending.WriteFault text number held now r r' w w' faulty judges = inr judges.2
+script_said Ending.Memory text number held now r r' w w' faulty judges = inr tt
+script_said Ending.NotSound text number held now r r' w w' faulty judges = absurd (faulty.no_journal (is_journal text (Some judges.fault) judges.judged))
+script_said other text number held now r r' w w' faulty judges = absurd judges
+
+-- of a text that is a journal's the verdict is said
+pub verdict_said : (end : Ending) (text : List ℕ) (held now : Option (List ℕ)) (r r' w w' : ℕ) → IsJournal text → JudgesText end text held now w w' → IsSaidUnlessFault end r r' w w'
+verdict_said Ending.Done text held now r r' w w' journal judges = inl refl
+verdict_said Ending.Script text held now r r' w w' journal judges = absurd (judges.faulty.no_journal journal)
+verdict_said Ending.WriteFault text held now r r' w w' journal judges = inr (inr judges.2)
+verdict_said Ending.Memory text held now r r' w w' journal judges = inr (inr tt)
+verdict_said Ending.NotSound text held now r r' w w' journal judges = inr (inl refl)
+verdict_said other text held now r r' w w' journal judges = absurd judges

@@ -1,5 +1,8 @@
 pub mod Begun
 mod Endings
+pub mod Printings
+mod Appending
+mod Parts
 pub mod Heads
 pub mod Journals
 pub mod Judgements

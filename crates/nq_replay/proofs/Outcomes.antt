@@ -2,14 +2,14 @@
 use Rattle.std.proofs.Common.{◌≡◌, ◌⊎◌, inl, inr, ℕ, List, Option, refl, sym, subst}
 use Rattle.nq_base.specs.declared.Event.{Event}
 use Rattle.nq_base.specs.declared.SkewBroken.{SkewBroken}
-use Rattle.nq_lines.specs.Going.{Comes, StoppedAt}
-use Rattle.nq_lines.specs.declared.played.Played.{Played}
+use Rattle.nq_ending.specs.declared.Ending.{Ending}
 use Rattle.nq_model.specs.Stepped.{Stepped as Answer, done, no_packet, out_of_skew, too_many_events, too_many_packets}
+use Rattle.nq_play.specs.Going.{Comes, StoppedAt}
 use Rattle.nq_play.specs.Playing.{Ended, play, ran, stopped}
+use Rattle.nq_play.specs.declared.played.Played.{Played}
 use Rattle.nq_replay.specs.Ending.{EndsText, IsUnlessFault}
 use Rattle.nq_replay.specs.Replay.{FaultyLine, Passes, Runs, Stops}
 use Rattle.nq_replay.specs.Schedules.{EndsPlayed, TellsStop}
-use Rattle.nq_replay.specs.declared.ending.Ending.{Ending}
 use Rattle.nq_replay.specs.declared.printing.Bound.{Bound}
 use Rattle.nq_script.specs.Faults.{Names}
 use Rattle.nq_script.specs.Schedule.{FirstBadLine, SpellsSchedule}
@@ -24,70 +24,34 @@ use Rattle.nq_world.specs.declared.stepped.Stepped.{Stepped}
 
 text_of_run : (end : Ending) (head : Head) (events : List Event) (text : List ℕ) (held now : Option (List ℕ)) (w w' : ℕ) → Runs text head events → EndsPlayed end head (ran events) held now w w' → EndsText end text held now w w'
 text_of_run Ending.Done head events text held now w w' runs prints = record { head = head; events = events; runs = runs; printed = prints }
-text_of_run Ending.Usage head events text held now w w' runs prints = prints
-text_of_run Ending.Script head events text held now w w' runs prints = absurd prints
-text_of_run Ending.Skew head events text held now w w' runs prints = absurd prints
-text_of_run Ending.ReadFault head events text held now w w' runs prints = prints
 text_of_run Ending.WriteFault head events text held now w w' runs prints = (record { head = head; events = events; runs = runs; printed = prints.0 }, prints.1)
 text_of_run Ending.Memory head events text held now w w' runs (inl same) = inl same
 text_of_run Ending.Memory head events text held now w w' runs (inr front) = inr (record { head = head; events = events; runs = runs; printed = front })
-text_of_run Ending.Limit head events text held now w w' runs prints = absurd prints
-text_of_run Ending.NotSound head events text held now w w' runs prints = prints
+text_of_run other head events text held now w w' runs prints = absurd prints
 
 text_of_packet : (end : Ending) (line : ℕ) (text : List ℕ) (held now : Option (List ℕ)) (w w' : ℕ) → FaultyLine text line → TellsStop end line Stepped.NoPacket held now w w' → EndsText end text held now w w'
-text_of_packet Ending.Done line text held now w w' faulty tells = absurd tells
-text_of_packet Ending.Usage line text held now w w' faulty tells = tells
 text_of_packet Ending.Script line text held now w w' faulty tells = record { number = line; faulty = faulty; printed = tells }
-text_of_packet Ending.Skew line text held now w w' faulty tells = absurd tells
-text_of_packet Ending.ReadFault line text held now w w' faulty tells = tells
-text_of_packet Ending.WriteFault line text held now w w' faulty tells = absurd tells
 text_of_packet Ending.Memory line text held now w w' faulty tells = inl tells
-text_of_packet Ending.Limit line text held now w w' faulty tells = absurd tells
-text_of_packet Ending.NotSound line text held now w w' faulty tells = tells
+text_of_packet other line text held now w w' faulty tells = absurd tells
 
 text_of_skew : (end : Ending) (line : ℕ) (broken : SkewBroken) (text : List ℕ) (held now : Option (List ℕ)) (w w' : ℕ) → Stops text line (out_of_skew broken) → TellsStop end line (Stepped.SkewBroken broken) held now w w' → EndsText end text held now w w'
-text_of_skew Ending.Done line broken text held now w w' stops tells = absurd tells
-text_of_skew Ending.Usage line broken text held now w w' stops tells = tells
-text_of_skew Ending.Script line broken text held now w w' stops tells = absurd tells
 text_of_skew Ending.Skew line broken text held now w w' stops tells = record { number = line; broken = broken; breaks = stops; printed = tells }
-text_of_skew Ending.ReadFault line broken text held now w w' stops tells = tells
-text_of_skew Ending.WriteFault line broken text held now w w' stops tells = absurd tells
 text_of_skew Ending.Memory line broken text held now w w' stops tells = inl tells
-text_of_skew Ending.Limit line broken text held now w w' stops tells = absurd tells
-text_of_skew Ending.NotSound line broken text held now w w' stops tells = tells
+text_of_skew other line broken text held now w w' stops tells = absurd tells
 
 text_of_events : (end : Ending) (line : ℕ) (text : List ℕ) (held now : Option (List ℕ)) (w w' : ℕ) → Stops text line too_many_events → TellsStop end line (Stepped.Limit Limit.Events) held now w w' → EndsText end text held now w w'
-text_of_events Ending.Done line text held now w w' stops tells = absurd tells
-text_of_events Ending.Usage line text held now w w' stops tells = tells
-text_of_events Ending.Script line text held now w w' stops tells = absurd tells
-text_of_events Ending.Skew line text held now w w' stops tells = absurd tells
-text_of_events Ending.ReadFault line text held now w w' stops tells = tells
-text_of_events Ending.WriteFault line text held now w w' stops tells = absurd tells
 text_of_events Ending.Memory line text held now w w' stops tells = inl tells
 text_of_events Ending.Limit line text held now w w' stops tells = record { number = line; bound = Bound.Events; passes = stops; printed = tells }
-text_of_events Ending.NotSound line text held now w w' stops tells = tells
+text_of_events other line text held now w w' stops tells = absurd tells
 
 text_of_packets : (end : Ending) (line : ℕ) (text : List ℕ) (held now : Option (List ℕ)) (w w' : ℕ) → Stops text line too_many_packets → TellsStop end line (Stepped.Limit Limit.Packets) held now w w' → EndsText end text held now w w'
-text_of_packets Ending.Done line text held now w w' stops tells = absurd tells
-text_of_packets Ending.Usage line text held now w w' stops tells = tells
-text_of_packets Ending.Script line text held now w w' stops tells = absurd tells
-text_of_packets Ending.Skew line text held now w w' stops tells = absurd tells
-text_of_packets Ending.ReadFault line text held now w w' stops tells = tells
-text_of_packets Ending.WriteFault line text held now w w' stops tells = absurd tells
 text_of_packets Ending.Memory line text held now w w' stops tells = inl tells
 text_of_packets Ending.Limit line text held now w w' stops tells = record { number = line; bound = Bound.Packets; passes = stops; printed = tells }
-text_of_packets Ending.NotSound line text held now w w' stops tells = tells
+text_of_packets other line text held now w w' stops tells = absurd tells
 
 text_of_done : (end : Ending) (line : ℕ) (text : List ℕ) (held now : Option (List ℕ)) (w w' : ℕ) → TellsStop end line Stepped.Done held now w w' → EndsText end text held now w w'
-text_of_done Ending.Done line text held now w w' tells = absurd tells
-text_of_done Ending.Usage line text held now w w' tells = tells
-text_of_done Ending.Script line text held now w w' tells = absurd tells
-text_of_done Ending.Skew line text held now w w' tells = absurd tells
-text_of_done Ending.ReadFault line text held now w w' tells = tells
-text_of_done Ending.WriteFault line text held now w w' tells = absurd tells
 text_of_done Ending.Memory line text held now w w' tells = inl tells
-text_of_done Ending.Limit line text held now w w' tells = absurd tells
-text_of_done Ending.NotSound line text held now w w' tells = tells
+text_of_done other line text held now w w' tells = absurd tells
 
 text_of_stop : (end : Ending) (head : Head) (line : ℕ) (answer : Answer) (text : List ℕ) (held now : Option (List ℕ)) (w w' : ℕ) → Stops text line answer → TellsStop end line (answer_of answer) held now w w' → EndsText end text held now w w'
 text_of_stop end head line done text held now w w' stops tells = text_of_done end line text held now w w' tells
@@ -121,46 +85,23 @@ ending_of too_many_packets = Ending.Limit
 pub script_unless : (end : Ending) (line : ℕ) (held now : Option (List ℕ)) (w w' : ℕ) → TellsStop end line Stepped.NoPacket held now w w' → IsUnlessFault end Ending.Script 0 0 w w'
 script_unless Ending.Script line held now w w' tells = inl refl
 script_unless Ending.Memory line held now w w' tells = inr tt
-script_unless Ending.Done line held now w w' tells = absurd tells
-script_unless Ending.Usage line held now w w' tells = absurd tells
-script_unless Ending.Skew line held now w w' tells = absurd tells
-script_unless Ending.ReadFault line held now w w' tells = absurd tells
-script_unless Ending.WriteFault line held now w w' tells = absurd tells
-script_unless Ending.Limit line held now w w' tells = absurd tells
-script_unless Ending.NotSound line held now w w' tells = absurd tells
+script_unless other line held now w w' tells = absurd tells
 
 skew_unless : (end : Ending) (line : ℕ) (broken : SkewBroken) (held now : Option (List ℕ)) (w w' : ℕ) → TellsStop end line (Stepped.SkewBroken broken) held now w w' → IsUnlessFault end Ending.Skew 0 0 w w'
 skew_unless Ending.Skew line broken held now w w' tells = inl refl
 skew_unless Ending.Memory line broken held now w w' tells = inr tt
-skew_unless Ending.Done line broken held now w w' tells = absurd tells
-skew_unless Ending.Usage line broken held now w w' tells = absurd tells
-skew_unless Ending.Script line broken held now w w' tells = absurd tells
-skew_unless Ending.ReadFault line broken held now w w' tells = absurd tells
-skew_unless Ending.WriteFault line broken held now w w' tells = absurd tells
-skew_unless Ending.Limit line broken held now w w' tells = absurd tells
-skew_unless Ending.NotSound line broken held now w w' tells = absurd tells
+skew_unless other line broken held now w w' tells = absurd tells
 
 limit_unless : (end : Ending) (line : ℕ) (limit : Limit) (held now : Option (List ℕ)) (w w' : ℕ) → TellsStop end line (Stepped.Limit limit) held now w w' → IsUnlessFault end Ending.Limit 0 0 w w'
 limit_unless Ending.Limit line limit held now w w' tells = inl refl
 limit_unless Ending.Memory line limit held now w w' tells = inr tt
-limit_unless Ending.Done line limit held now w w' tells = absurd tells
-limit_unless Ending.Usage line limit held now w w' tells = absurd tells
-limit_unless Ending.Script line limit held now w w' tells = absurd tells
-limit_unless Ending.Skew line limit held now w w' tells = absurd tells
-limit_unless Ending.ReadFault line limit held now w w' tells = absurd tells
-limit_unless Ending.WriteFault line limit held now w w' tells = absurd tells
-limit_unless Ending.NotSound line limit held now w w' tells = absurd tells
+limit_unless other line limit held now w w' tells = absurd tells
 
 done_unless : (end : Ending) (head : Head) (events : List Event) (held now : Option (List ℕ)) (w w' : ℕ) → EndsPlayed end head (ran events) held now w w' → IsUnlessFault end Ending.Done 0 0 w w'
 done_unless Ending.Done head events held now w w' prints = inl refl
 done_unless Ending.Memory head events held now w w' prints = inr tt
 done_unless Ending.WriteFault head events held now w w' prints = inr prints.1
-done_unless Ending.Usage head events held now w w' prints = absurd prints
-done_unless Ending.Script head events held now w w' prints = absurd prints
-done_unless Ending.Skew head events held now w w' prints = absurd prints
-done_unless Ending.ReadFault head events held now w w' prints = absurd prints
-done_unless Ending.Limit head events held now w w' prints = absurd prints
-done_unless Ending.NotSound head events held now w w' prints = absurd prints
+done_unless other head events held now w w' prints = absurd prints
 
 -- the schedule that was read is the one that is spelled
 pub is_due : (head h : Head) (lines ls : List Line) (due : Ended) → (head ≡ h) × (lines ≡ ls) → play h ls ≡ due → play head lines ≡ due
@@ -213,8 +154,6 @@ stop_memory end head line said (stopped number answer) held now w w' is = rw is.
 
 silent : (end : Ending) (line : ℕ) (said : Stepped) (held now : Option (List ℕ)) (w w' : ℕ) → (said ≡ Stepped.Fault) ⊎ (said ≡ Stepped.Memory) → TellsStop end line said held now w w' → (end ≡ Ending.Memory) × (now ≡ held)
 silent Ending.Memory line said held now w w' which tells = (refl, tells)
-silent Ending.Done line said held now w w' which tells = absurd tells
-silent Ending.Usage line said held now w w' which tells = absurd tells
 silent Ending.Script line Stepped.Fault held now w w' which tells = absurd tells
 silent Ending.Script line Stepped.Memory held now w w' which tells = absurd tells
 silent Ending.Script line Stepped.Done held now w w' which tells = absurd tells
@@ -229,8 +168,6 @@ silent Ending.Skew line Stepped.NoPacket held now w w' which tells = absurd tell
 silent Ending.Skew line (Stepped.SkewBroken b) held now w w' (inl e) tells = absurd (cc)
 silent Ending.Skew line (Stepped.SkewBroken b) held now w w' (inr e) tells = absurd (cc)
 silent Ending.Skew line (Stepped.Limit l) held now w w' which tells = absurd tells
-silent Ending.ReadFault line said held now w w' which tells = absurd tells
-silent Ending.WriteFault line said held now w w' which tells = absurd tells
 silent Ending.Limit line Stepped.Fault held now w w' which tells = absurd tells
 silent Ending.Limit line Stepped.Memory held now w w' which tells = absurd tells
 silent Ending.Limit line Stepped.Done held now w w' which tells = absurd tells
@@ -238,7 +175,7 @@ silent Ending.Limit line Stepped.NoPacket held now w w' which tells = absurd tel
 silent Ending.Limit line (Stepped.SkewBroken b) held now w w' which tells = absurd tells
 silent Ending.Limit line (Stepped.Limit l) held now w w' (inl e) tells = absurd (cc)
 silent Ending.Limit line (Stepped.Limit l) held now w w' (inr e) tells = absurd (cc)
-silent Ending.NotSound line said held now w w' which tells = absurd tells
+silent other line said held now w w' which tells = absurd tells
 
 stop_at : (end : Ending) (head : Head) (line : ℕ) (said : Stepped) (due : Ended) (held now : Option (List ℕ)) (w w' : ℕ) → StoppedAt due line said → TellsStop end line said held now w w' → EndsPlayed end head due held now w w'
 stop_at end head line said (ran events) held now w w' is tells = absurd is

@@ -1,19 +1,18 @@
 -- The journal of a schedule has entries of its version alone.
-use Rattle.std.proofs.Common.{◌≡◌, ◌≤◌, ◌⊎◌, inl, inr, ℕ, ◌+◌, List, [], ◌∷◌, map, Option, refl, sym, subst, ◌∙◌, arith}
+use Rattle.std.proofs.Common.{◌≡◌, ◌≤◌, ◌⊎◌, inl, inr, ℕ, ◌+◌, List, [], ◌∷◌, ◌++◌, map, reverse, Option, refl, sym, subst, ◌∙◌, arith}
+use Rattle.std.proofs.lemmas.Grind.{reverse_onto}
 use Rattle.std.proofs.lemmas.List.Elements.{All-nil, All-cons}
 use Rattle.std.specs.List.{All, AllByRecursion}
+use Rattle.law_versions.proofs.FirstRuns.{first-tells}
+use Rattle.law_versions.specs.Versions.{IsOfFirst}
 use Rattle.nq_base.specs.Plain.{plain}
 use Rattle.nq_base.specs.declared.Call.{Call}
 use Rattle.nq_base.specs.declared.Entry.{Entry}
 use Rattle.nq_base.specs.declared.Event.{Event}
 use Rattle.nq_base.specs.declared.Told.{Told}
-use Rattle.law_reports.proofs.Tallies.{each-reverse}
-use Rattle.law_versions.proofs.FirstRuns.{first-tells}
-use Rattle.law_versions.specs.Versions.{IsOfFirst}
 use Rattle.nq_words.specs.Forms.{HasTold}
 use Rattle.nq_journal.specs.Text.{Has}
-use Rattle.nq_lines.specs.Going.{Comes, RanTo}
-use Rattle.nq_lines.specs.declared.played.Played.{Played}
+use Rattle.nq_model.proofs.Lists.{each-append}
 use Rattle.nq_model.specs.ClientStep.{told}
 use Rattle.nq_model.specs.Journal.{Each}
 use Rattle.nq_model.specs.Kept.{Kept}
@@ -21,7 +20,9 @@ use Rattle.nq_model.specs.Stepped.{most_events, stepped}
 use Rattle.nq_model.specs.World.{run}
 use Rattle.nq_play.proofs.Ending.{Ends, Keeps, ends-answered, keeps-flow, keeps-repeated, keeps-round}
 use Rattle.nq_play.proofs.Lawfully.{played-runs-are-lawful}
+use Rattle.nq_play.specs.Going.{Comes, RanTo}
 use Rattle.nq_play.specs.Playing.{Ended, Played as Due, at_line, beginning, play, play_event, play_line, play_lines, play_round, ran, refused, stopped, took}
+use Rattle.nq_play.specs.declared.played.Played.{Played}
 use Rattle.nq_replay.specs.Schedules.{IsReady}
 use Rattle.nq_script.specs.Calls.{HasCall}
 use Rattle.nq_script.specs.Lines.{HasEvent, SpellsLine}
@@ -30,6 +31,10 @@ use Rattle.nq_script.specs.declared.heads.Head.{Head}
 use Rattle.nq_script.specs.declared.lines.Line.{Line}
 use Rattle.nq_script.specs.declared.scripts.Script.{Script}
 use Rattle.nq_world.specs.Playing.{Plays, WorldOver}
+
+each-reverse : {X : Type 0} (F : X → Type 0) (xs : List X) → Each F xs → Each F (reverse xs)
+each-reverse F [] each = tt
+each-reverse F (x ∷ xs) each = subst (Each F) (sym (reverse_onto xs x [])) (each-append F (reverse xs) (x ∷ []) (each-reverse F xs each.1) (each.0, tt))
 
 -- ---- the events of a schedule of version 1
 

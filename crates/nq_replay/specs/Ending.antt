@@ -2,26 +2,12 @@
 -- source tells them; `held` is what the sink held before it and `now` is what it holds after it, where the sink tells
 -- them; `r` and `r'` are the source's counts of faults before and after, and `w` and `w'` the sink's.
 use Rattle.std.specs.Prelude.{◌≡◌, ◌⊎◌, ℕ, List, Option}
+use Rattle.nq_ending.specs.declared.Ending.{Ending}
 use Rattle.nq_io.specs.Faults.{Rose}
-use Rattle.nq_replay.specs.Lines.{PrintsLine, usage_line}
-use Rattle.nq_replay.specs.Replay.{OfInput, PrintsFaulty, PrintsJournal, PrintsLimit, PrintsPart, PrintsPassing, PrintsSkew}
-use Rattle.nq_replay.specs.declared.ending.Ending.{Ending}
-
--- the exit status of an end
-abbrev pub status_of : Ending → ℕ
-status_of Ending.Done = 0
-status_of Ending.Usage = 1
-status_of Ending.Script = 2
-status_of Ending.Skew = 3
-status_of Ending.ReadFault = 4
-status_of Ending.WriteFault = 5
-status_of Ending.Memory = 7
-status_of Ending.Limit = 9
-status_of Ending.NotSound = 12
-
--- the exit status is that of an end of which this holds
-abbrev pub WithStatus : (status : ℕ) → (P : Ending → Type 0) → Type 0
-WithStatus status P = (end : Ending) × (status ≡ status_of end) × P end
+use Rattle.nq_io.specs.Whole.{TakesSome}
+use Rattle.nq_replay.specs.Lines.{PrintsLine, last_line, limit_line}
+use Rattle.nq_replay.specs.Replay.{OfInput, PrintsFaulty, PrintsJournal, PrintsLimit, PrintsPart, PrintsPassing, PrintsSkew, TakesInput}
+use Rattle.nq_replay.specs.declared.printing.Bound.{Bound}
 
 -- what running a text that was read printed, by the end
 abbrev pub EndsText : Ending → (text : List ℕ) → (held now : Option (List ℕ)) → (w w' : ℕ) → Type 0
@@ -36,17 +22,22 @@ EndsText other text held now w w' = ⊥
 -- what a run read and printed, by its end
 abbrev pub Ends : Ending → (limit : ℕ) → (left rest held now : Option (List ℕ)) → (r r' w w' : ℕ) → Type 0
 Ends Ending.Done limit left rest held now r r' w w' = OfInput limit left rest (λ text. PrintsJournal text held now)
-Ends Ending.Usage limit left rest held now r r' w w' = (rest ≡ left) × PrintsLine usage_line held now w w'
 Ends Ending.Script limit left rest held now r r' w w' = OfInput limit left rest (λ text. PrintsFaulty text held now w w')
 Ends Ending.Skew limit left rest held now r r' w w' = OfInput limit left rest (λ text. PrintsSkew text held now w w')
-Ends Ending.ReadFault limit left rest held now r r' w w' = (now ≡ held) × Rose r r'
+Ends Ending.ReadFault limit left rest held now r r' w w' = (now ≡ held) × Rose r r' × TakesSome limit left rest
 Ends Ending.WriteFault limit left rest held now r r' w w' =
     OfInput limit left rest (λ text. PrintsPart text held now × Rose w w')
 Ends Ending.Memory limit left rest held now r r' w w' =
-    (now ≡ held) ⊎ OfInput limit left rest (λ text. PrintsPart text held now)
+    ((now ≡ held) × TakesInput limit left rest) ⊎ OfInput limit left rest (λ text. PrintsPart text held now)
 Ends Ending.Limit limit left rest held now r r' w w' =
     PrintsLimit limit left rest held now w w' ⊎ OfInput limit left rest (λ text. PrintsPassing text held now w w')
-Ends Ending.NotSound limit left rest held now r r' w w' = ⊥
+Ends other limit left rest held now r r' w w' = ⊥
+
+-- what telling that the input passes the limit did, by the end; the front has one byte more than the limit
+abbrev pub TellsOver : Ending → (front : List ℕ) → (held now : Option (List ℕ)) → (w w' : ℕ) → Type 0
+TellsOver Ending.Limit front held now w w' = PrintsLine (limit_line (last_line front) Bound.Bytes) held now w w'
+TellsOver Ending.Memory front held now w w' = now ≡ held
+TellsOver other front held now w w' = ⊥
 
 -- an end that may come in place of another: memory was wanting, or an object's count of faults rose
 abbrev pub IsFault : Ending → (r r' w w' : ℕ) → Type 0

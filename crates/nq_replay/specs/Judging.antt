@@ -1,20 +1,22 @@
 -- What `check` reads and prints. The names of what stands in the source and in the sink before and after, and of the counts
 -- of faults, are those of `Ending`.
-use Rattle.std.specs.Prelude.{◌≡◌, ℕ, ◌+◌, List, ◌++◌, Option, Some, None, reverse, codes}
 use Rattle.std.specs.Fmt.{decimal}
+use Rattle.std.specs.Prelude.{◌≡◌, ◌⊎◌, ℕ, ◌+◌, List, ◌++◌, Option, Some, None, reverse, codes}
 use Rattle.nq_base.specs.declared.Entry.{Entry}
 use Rattle.nq_rules.specs.Verdict.{Fault, verdict}
 use Rattle.nq_rules.specs.Words.{word_of}
 use Rattle.nq_rules.specs.declared.Judged.{Judged}
 use Rattle.nq_rules.specs.declared.Rule.{Rule}
+use Rattle.nq_ending.specs.declared.Ending.{Ending}
 use Rattle.nq_io.specs.Faults.{Rose}
 use Rattle.nq_io.specs.Sink.{AppendsFront}
 use Rattle.nq_io.specs.Told.{with_end}
+use Rattle.nq_io.specs.Whole.{TakesSome}
 use Rattle.nq_journal.specs.Fault.{IsFaultyAt}
 use Rattle.nq_journal.specs.Text.{IsText}
+use Rattle.nq_replay.specs.Ending.{IsFault}
 use Rattle.nq_replay.specs.Lines.{PrintsLine, script_line}
-use Rattle.nq_replay.specs.Replay.{OfInput, PrintsLimit}
-use Rattle.nq_replay.specs.declared.ending.Ending.{Ending}
+use Rattle.nq_replay.specs.Replay.{OfInput, PrintsLimit, TakesInput}
 
 -- the line of a sound journal
 unfoldable pub yes_line : List ℕ
@@ -62,8 +64,12 @@ JudgesText other text held now w w' = ⊥
 
 -- what judging read and printed, by its end
 abbrev pub Judges : Ending → (limit : ℕ) → (left rest held now : Option (List ℕ)) → (r r' w w' : ℕ) → Type 0
-Judges Ending.ReadFault limit left rest held now r r' w w' = (now ≡ held) × Rose r r'
-Judges Ending.Memory limit left rest held now r r' w w' = now ≡ held
+Judges Ending.ReadFault limit left rest held now r r' w w' = (now ≡ held) × Rose r r' × TakesSome limit left rest
+Judges Ending.Memory limit left rest held now r r' w w' = (now ≡ held) × TakesInput limit left rest
 Judges Ending.Limit limit left rest held now r r' w w' = PrintsLimit limit left rest held now w w'
 Judges Ending.Usage limit left rest held now r r' w w' = ⊥
 Judges end limit left rest held now r r' w w' = OfInput limit left rest (λ text. JudgesText end text held now w w')
+
+-- the verdict was said, if no fault came in its place
+abbrev pub IsSaidUnlessFault : (end : Ending) → (r r' w w' : ℕ) → Type 0
+IsSaidUnlessFault end r r' w w' = (end ≡ Ending.Done) ⊎ ((end ≡ Ending.NotSound) ⊎ IsFault end r r' w w')

@@ -102,6 +102,11 @@ pub record PrintsLimit (limit : ℕ) (left rest held now : Option (List ℕ)) (w
   pub passes : IsOver front limit left rest
   pub printed : PrintsLine (limit_line (last_line front) Bound.Bytes) held now w w'
 
+-- what was taken of an input behind which memory was wanting: nothing, all of it, or one byte more than the limit
+abbrev pub TakesInput : (limit : ℕ) → (left rest : Option (List ℕ)) → Type 0
+TakesInput limit left rest =
+    (rest ≡ left) ⊎ (((bytes : List ℕ) × IsAll bytes limit left rest) ⊎ ((bytes : List ℕ) × IsOver bytes limit left rest))
+
 -- the input was read to its end, and this holds of its text
 pub record OfInput (limit : ℕ) (left rest : Option (List ℕ)) (P : List ℕ → Type 0) : Type 0 where
   pub text : List ℕ

@@ -1,15 +1,15 @@
 -- What running a schedule that was read prints. The names of what the sink holds and of its counts of faults are those of `Lines`.
 use Rattle.std.specs.Prelude.{◌≡◌, ◌⊎◌, ◌+◌, ◌<◌, ◌^◌, ℕ, List, Option, Result, Ok, Err, length}
 use Rattle.nq_base.specs.declared.Entry.{Entry}
+use Rattle.nq_ending.specs.declared.Ending.{Ending}
 use Rattle.nq_io.specs.Faults.{Rose}
 use Rattle.nq_io.specs.Sink.{AppendsFront}
 use Rattle.nq_io.specs.Told.{with_end}
 use Rattle.nq_journal.specs.Text.{journal_text}
-use Rattle.nq_lines.specs.declared.played.Played.{Played}
 use Rattle.nq_play.specs.Playing.{Ended, ran, stopped}
+use Rattle.nq_play.specs.declared.played.Played.{Played}
 use Rattle.nq_replay.specs.Lines.{PrintsLine, limit_line, script_line, skew_line}
 use Rattle.nq_replay.specs.Replay.{journal_of}
-use Rattle.nq_replay.specs.declared.ending.Ending.{Ending}
 use Rattle.nq_replay.specs.declared.printing.Bound.{Bound}
 use Rattle.nq_script.specs.Heads.{head_lines}
 use Rattle.nq_script.specs.Schedule.{SpellsSchedule}
@@ -28,6 +28,13 @@ pub record IsReady (script : Script) : Type 0 where
   pub spelled : SpellsSchedule script.head script.lines text
   pub short : length text < 2 ^ 31
   pub first : script.first ≡ length (head_lines script.head) + 1
+
+-- what printing these bytes did, by its end
+abbrev pub PrintsBytes : Ending → (bytes : List ℕ) → (held now : Option (List ℕ)) → (w w' : ℕ) → Type 0
+PrintsBytes Ending.Done bytes held now w w' = now ≡ with_end held bytes
+PrintsBytes Ending.WriteFault bytes held now w w' = AppendsFront bytes held now × Rose w w'
+PrintsBytes Ending.Memory bytes held now w w' = AppendsFront bytes held now
+PrintsBytes other bytes held now w w' = ⊥
 
 -- what printing these entries in a version did, by the end
 abbrev pub PrintsEntries : Ending → (version : ℕ) → List Entry → (held now : Option (List ℕ)) → (w w' : ℕ) → Type 0

@@ -3,15 +3,15 @@
 ghost use Rattle.std.specs.Prelude.{◌≡◌, ◌<◌, ◌≤◌, ◌^◌, ℕ, List, Some, length};
 ghost use Rattle.nq_base.specs.declared.Event.{Event};
 ghost use Rattle.nq_base.specs.declared.SkewBroken.{SkewBroken};
+ghost use Rattle.nq_ending.specs.declared.Ending.{Ending};
 ghost use Rattle.nq_replay.specs.Ending.{Ends, IsUnlessFault};
 ghost use Rattle.nq_replay.specs.Replay.{BreaksSkew, FaultyLine, OfInput, Passes, PrintsWithin, Runs};
-ghost use Rattle.nq_replay.specs.declared.ending.Ending.{Ending};
 ghost use Rattle.nq_replay.specs.declared.printing.Bound.{Bound};
 ghost use Rattle.nq_script.specs.declared.heads.Head.{Head};
 
-use crate::ending::Ending;
-use crate::printing::{Bound, limit_text, line_of_last, put_line};
+use crate::printing::{Bound, tell_over};
 use crate::schedules::replay_text;
+use nq_ending::Ending;
 use nq_io::{Sink, Source, Whole, read_all};
 use std::alloc::Global;
 
@@ -23,7 +23,7 @@ use std::alloc::Global;
 ///   from 1.
 /// - `Skew`: a tick of the server's clock breaks the rule on skew (Macklem 1994); prints `skew line N host H server S client C` with
 ///   the lowest such host, and how often both clocks ticked in the shortest part of the schedule that breaks the rule.
-/// - `ReadFault`: the source failed, which it has counted; prints nothing.
+/// - `ReadFault`: the source failed, which it has counted, behind a front of what was left in it; prints nothing.
 /// - `WriteFault`: the sink failed, which it has counted; a front of the journal is printed.
 /// - `Memory`: memory was wanting; a front of the journal may be printed.
 /// - `Limit`: the input has more bytes than the limit, the schedule more than 100,000 events, or an event comes after more than
@@ -82,13 +82,7 @@ fn replay_whole<S: Source, K: Sink>(
 {
     match read_all(alloc, input, limit) {
         Whole::All(text) => replay_text(alloc, &text, out),
-        Whole::Over(front) => match limit_text(alloc, line_of_last(&front), Bound::Bytes) {
-            Ok(line) => {
-                put_line(out, line.as_bytes());
-                Ending::Limit
-            }
-            Err(_) => Ending::Memory,
-        },
+        Whole::Over(front) => tell_over(alloc, &front, out),
         Whole::Failed => Ending::ReadFault,
         Whole::Memory => Ending::Memory,
     }

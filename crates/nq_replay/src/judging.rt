@@ -1,15 +1,16 @@
 //! Judging a journal.
 
-ghost use Rattle.std.specs.Prelude.{◌≡◌, ◌<◌, ◌^◌, ◌+◌, ℕ, IfOk, Some, length, string_bytes};
+ghost use Rattle.std.specs.Prelude.{◌≡◌, ◌<◌, ◌≤◌, ◌^◌, ◌+◌, ℕ, List, IfOk, Some, length, string_bytes};
 ghost use Rattle.nq_rules.specs.Verdict.{Fault, IsVerdict};
+ghost use Rattle.nq_journal.specs.Fault.{IsFaultyAt, IsJournal};
+ghost use Rattle.nq_ending.specs.declared.Ending.{Ending};
 ghost use Rattle.nq_replay.specs.Ending.{IsUnlessFault};
-ghost use Rattle.nq_replay.specs.Judging.{Judges, JudgesText, TellsVerdict, no_line};
-ghost use Rattle.nq_replay.specs.declared.ending.Ending.{Ending};
+ghost use Rattle.nq_replay.specs.Judging.{IsSaidUnlessFault, Judges, JudgesText, TellsVerdict, no_line};
 
-use crate::ending::Ending;
-use crate::printing::{Bound, limit_text, line_of_last, put_line, script_text};
+use crate::printing::{put_line, script_text, tell_over};
 use nq_base::NoMemory;
 use nq_check::{Judged, Rule, check};
+use nq_ending::Ending;
 use nq_io::{Put, Sink, Source, Whole, read_all};
 use nq_journal::{JournalFault, parse};
 use std::alloc::Global;
@@ -28,16 +29,17 @@ pub fn judge<S: Source, K: Sink>(alloc: Global, input: &mut S, out: &mut K, limi
     ensures judges { Judges result limit (S.left input.old) (S.left input.new) (K.held out.old) (K.held out.new)
         (S.faults input.old) (S.faults input.new) (K.faults out.old) (K.faults out.new) }
     ensures usage { result ≡ Ending.Usage → ⊥ }
+    ensures limit { (text : List ℕ) → S.left input.old ≡ Some text → limit < length text
+        → IsUnlessFault result Ending.Limit (S.faults input.old) (S.faults input.new) (K.faults out.old) (K.faults out.new) }
+    ensures script { (text : List ℕ) → S.left input.old ≡ Some text → length text ≤ limit
+        → (number : ℕ) → IsFaultyAt number text
+        → IsUnlessFault result Ending.Script (S.faults input.old) (S.faults input.new) (K.faults out.old) (K.faults out.new) }
+    ensures said { (text : List ℕ) → S.left input.old ≡ Some text → length text ≤ limit → IsJournal text
+        → IsSaidUnlessFault result (S.faults input.old) (S.faults input.new) (K.faults out.old) (K.faults out.new) }
 {
     match read_all(alloc, input, limit) {
         Whole::All(text) => judge_text(alloc, &text, out),
-        Whole::Over(front) => match limit_text(alloc, line_of_last(&front), Bound::Bytes) {
-            Ok(line) => {
-                put_line(out, line.as_bytes());
-                Ending::Limit
-            }
-            Err(_) => Ending::Memory,
-        },
+        Whole::Over(front) => tell_over(alloc, &front, out),
         Whole::Failed => Ending::ReadFault,
         Whole::Memory => Ending::Memory,
     }

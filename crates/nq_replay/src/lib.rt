@@ -2,14 +2,14 @@
 #![tactic(auto)]
 
 mod commands;
-mod ending;
 mod judging;
+mod parts;
 mod printing;
 mod schedules;
 
 pub use commands::replay;
-pub use ending::Ending;
 pub use judging::judge;
 pub use nq_base::NoMemory;
-pub use printing::{Bound, limit_text, line_of_last, put_line};
-pub use schedules::{begin, print_journal, tell_limit, tell_script, tell_stop};
+pub use parts::print_parts;
+pub use printing::{Bound, put_line};
+pub use schedules::{begin, begin_surely, print_journal, tell_limit};

@@ -1,9 +1,11 @@
 //! The lines that tell faults.
 
 ghost use Rattle.std.specs.Prelude.{◌≡◌, ◌<◌, IfOk, length, string_bytes, Ok};
+ghost use Rattle.nq_replay.specs.Ending.{TellsOver};
 ghost use Rattle.nq_replay.specs.Lines.{PrintsLine, script_line, skew_line, limit_line, last_line};
 
 use nq_base::{NoMemory, SkewBroken};
+use nq_ending::Ending;
 use nq_io::{Put, Sink};
 use std::alloc::{AllocError, Global};
 
@@ -54,13 +56,27 @@ pub(crate) fn skew_text(alloc: Global, number: u32, broken: SkewBroken) -> Resul
 
 /// The line that tells where there is too much of something.
 #[tactic(auto, unfolding(crate::specs::Lines::limit_line))]
-pub fn limit_text(alloc: Global, number: usize, bound: Bound) -> Result<String, NoMemory>
+pub(crate) fn limit_text(alloc: Global, number: usize, bound: Bound) -> Result<String, NoMemory>
     ensures { IfOk result (λ line. string_bytes line ≡ limit_line number bound) }
 {
     match bound {
         Bound::Bytes => made(format!(in alloc; "limit line {number} bytes\n")),
         Bound::Events => made(format!(in alloc; "limit line {number} events\n")),
         Bound::Packets => made(format!(in alloc; "limit line {number} packets\n")),
+    }
+}
+
+/// Tells in which line the input passes the limit on bytes. The front has one byte more than the limit.
+pub(crate) fn tell_over<K: Sink>(alloc: Global, front: &[u8], out: &mut K) -> Ending
+    requires { 0 < length front.now }
+    ensures { TellsOver result front.now (K.held out.old) (K.held out.new) (K.faults out.old) (K.faults out.new) }
+{
+    match limit_text(alloc, line_of_last(front), Bound::Bytes) {
+        Ok(line) => {
+            put_line(out, line.as_bytes());
+            Ending::Limit
+        }
+        Err(_) => Ending::Memory,
     }
 }
 
@@ -76,7 +92,7 @@ fn made(line: Result<String, AllocError>) -> Result<String, NoMemory>
 
 /// The number of the line in which the last of these bytes stands.
 #[tactic(auto, unfolding(crate::specs::Lines::last_line))]
-pub fn line_of_last(bytes: &[u8]) -> usize
+fn line_of_last(bytes: &[u8]) -> usize
     requires { 0 < length bytes.now }
     ensures { result ≡ last_line bytes.now }
 {

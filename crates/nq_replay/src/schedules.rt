@@ -5,28 +5,28 @@ ghost use Rattle.nq_base.specs.Plain.{plain};
 ghost use Rattle.nq_base.specs.declared.Entry.{Entry};
 ghost use Rattle.nq_base.specs.declared.Event.{Event};
 ghost use Rattle.nq_base.specs.declared.SkewBroken.{SkewBroken};
+ghost use Rattle.nq_ending.specs.declared.Ending.{Ending};
 ghost use Rattle.nq_journal.specs.Text.{Has, IsVersion};
 ghost use Rattle.nq_keeper.specs.StoredKeeper.{empty_kept};
-ghost use Rattle.nq_lines.specs.Going.{Comes};
-ghost use Rattle.nq_lines.specs.declared.played.Played.{Played};
+ghost use Rattle.nq_play.specs.Going.{Comes};
 ghost use Rattle.nq_play.specs.Playing.{Ended, beginning, play};
+ghost use Rattle.nq_play.specs.declared.played.Played.{Played};
 ghost use Rattle.nq_replay.specs.Ending.{EndsText, IsUnlessFault};
 ghost use Rattle.nq_replay.specs.Replay.{BreaksSkew, FaultyLine, Passes, Runs};
 ghost use Rattle.nq_replay.specs.Schedules.{CountsBegin, EndsPlayed, HasReason, IsReady, IsReason, NeverFails, PrintsEntries, TellsStop, bound_of};
-ghost use Rattle.nq_replay.specs.declared.ending.Ending.{Ending};
 ghost use Rattle.nq_replay.specs.declared.printing.Bound.{Bound};
 ghost use Rattle.nq_script.specs.Heads.{FitsHead};
 ghost use Rattle.nq_script.specs.declared.heads.Head.{Head};
 ghost use Rattle.nq_world.specs.Playing.{HasSettings, Plays, keeper_in};
 ghost use Rattle.nq_world.specs.declared.stepped.Stepped.{Stepped};
 
-use crate::ending::Ending;
 use crate::printing::{Bound, limit_text, put_line, script_text, skew_text};
 use nq_base::{Journal, NoMemory, SkewBroken};
+use nq_ending::Ending;
 use nq_io::Sink;
 use nq_journal::{Printed, is_in, print};
 use nq_keeper::{Keeper, ListKeeper};
-use nq_lines::{Played, play};
+use nq_play::{Played, play};
 use nq_script::{Head, Script, ScriptFault, parse};
 use nq_world::{Limit, MOST_EVENTS, NewFault, Stepped, World};
 use std::alloc::Global;
@@ -124,7 +124,11 @@ pub fn begin<L: Keeper>(alloc: Global, head: &Head, keeper: L) -> Result<World<L
 }
 
 /// The world before the first event of a schedule with this head, over a keeper that keeps nothing yet and never fails.
-fn begin_surely<L: Keeper + Drop>(
+///
+/// # Errors
+///
+/// Only want of memory.
+pub fn begin_surely<L: Keeper + Drop>(
     alloc: Global,
     head: &Head,
     keeper: L,
@@ -191,7 +195,7 @@ pub fn print_journal<K: Sink>(alloc: Global, journal: &Journal, version: u32, ou
 }
 
 /// Tells at which line a schedule stopped, and why.
-pub fn tell_stop<K: Sink>(alloc: Global, line: u32, answer: Stepped, out: &mut K) -> Ending
+fn tell_stop<K: Sink>(alloc: Global, line: u32, answer: Stepped, out: &mut K) -> Ending
     requires { IsReason answer }
     ensures { TellsStop result line answer (K.held out.old) (K.held out.new) (K.faults out.old) (K.faults out.new) }
 {
@@ -205,7 +209,7 @@ pub fn tell_stop<K: Sink>(alloc: Global, line: u32, answer: Stepped, out: &mut K
 }
 
 /// Tells a faulty line.
-pub fn tell_script<K: Sink>(alloc: Global, line: u32, out: &mut K) -> Ending
+fn tell_script<K: Sink>(alloc: Global, line: u32, out: &mut K) -> Ending
     ensures { TellsStop result line Stepped.NoPacket (K.held out.old) (K.held out.new) (K.faults out.old) (K.faults out.new) }
 {
     match script_text(alloc, line as usize) {

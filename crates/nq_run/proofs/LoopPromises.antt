@@ -1,31 +1,16 @@
 -- What the command of loops promises.
-use Rattle.std.proofs.Common.{◌≡◌, ℕ, List, Option, Some, refl, subst, arith}
+use Rattle.std.proofs.Common.{◌≡◌, ℕ, List, Option, Some, subst}
 use Rattle.nq_command.specs.declared.Command.{Command}
-use Rattle.nq_looping.specs.Ending.{status_of as status_of_loop}
-use Rattle.nq_looping.specs.Looped.{LoopEnds}
-use Rattle.nq_looping.specs.Whole.{loop_head}
-use Rattle.nq_looping.specs.declared.Looped.{Looped}
+use Rattle.nq_ending.proofs.Ends.{one_end}
+use Rattle.nq_ending.specs.Status.{status_of}
+use Rattle.nq_ending.specs.declared.Ending.{Ending}
+use Rattle.nq_loop.specs.Looped.{LoopEnds}
+use Rattle.nq_loop.specs.Whole.{loop_head}
 use Rattle.nq_node.specs.Links.{LinkTold}
-use Rattle.nq_replay.specs.Ending.{status_of}
-use Rattle.nq_replay.specs.declared.Ending.{Ending}
 use Rattle.nq_run.proofs.Promises.{faultless, holds_throughout}
 use Rattle.nq_run.specs.Looping.{LoopsFor, LoopsLawfully}
 
-looped_by : (end : Looped) (status : ℕ) → status ≡ status_of_loop end → status ≡ status_of Ending.Done → end ≡ Looped.Done
-looped_by Looped.Done status is done = refl
-looped_by Looped.WriteFault status is done = absurd (omega arith)
-looped_by Looped.Memory status is done = absurd (omega arith)
-looped_by Looped.LinkFault status is done = absurd (omega arith)
-looped_by Looped.Limit status is done = absurd (omega arith)
-
-never_usage : (end : Looped) (status : ℕ) → status ≡ status_of_loop end → status ≡ status_of Ending.Usage → ⊥
-never_usage Looped.Done status is none = omega arith
-never_usage Looped.WriteFault status is none = omega arith
-never_usage Looped.Memory status is none = omega arith
-never_usage Looped.LinkFault status is none = omega arith
-never_usage Looped.Limit status is none = omega arith
-
-done_looped : (hosts turns : ℕ) (clock clock' : Option (List ℕ)) (links links' : List LinkTold) (held now : Option (List ℕ)) (w w' : ℕ) → LoopEnds Looped.Done hosts turns clock clock' links links' held now w w'
+done_looped : (hosts turns : ℕ) (clock clock' : Option (List ℕ)) (links links' : List LinkTold) (held now : Option (List ℕ)) (w w' : ℕ) → LoopEnds Ending.Done hosts turns clock clock' links links' held now w w'
     → LoopsLawfully hosts turns clock clock' links links' held now
 done_looped hosts turns clock clock' links links' held now w w' ends =
     let holds = holds_throughout (loop_head hosts) ends.events ends.whole.lawful in
@@ -43,7 +28,7 @@ done_looped hosts turns clock clock' links links' held now w w' ends =
 -- a loop does not end with usage
 pub loop_usage : (status hosts turns : ℕ) (clock clock' : Option (List ℕ)) (links links' : List LinkTold) (held now : Option (List ℕ)) (w w' : ℕ) → LoopsFor status hosts turns clock clock' links links' held now w w'
     → status ≡ status_of Ending.Usage → ⊥
-loop_usage status hosts turns clock clock' links links' held now w w' does none = never_usage does.end status does.status none
+loop_usage status hosts turns clock clock' links links' held now w w' does none = subst (λ e. LoopEnds e hosts turns clock clock' links links' held now w w') (one_end does.end Ending.Usage status does.status none) does.ends
 
 pub loop_does : (said : Option Command) (status hosts turns hosts' turns' : ℕ) (clock clock' : Option (List ℕ)) (links links' : List LinkTold) (held now : Option (List ℕ)) (w w' : ℕ) → said ≡ Some (Command.Loop hosts turns) → said ≡ Some (Command.Loop hosts' turns')
     → LoopsFor status hosts turns clock clock' links links' held now w w' → LoopsFor status hosts' turns' clock clock' links links' held now w w'
@@ -57,4 +42,4 @@ pub loop_lawful : (status hosts turns : ℕ) (clock clock' : Option (List ℕ)) 
     → status ≡ status_of Ending.Done → LoopsLawfully hosts turns clock clock' links links' held now
 loop_lawful status hosts turns clock clock' links links' held now w w' does done =
     done_looped hosts turns clock clock' links links' held now w w'
-    (subst (λ e. LoopEnds e hosts turns clock clock' links links' held now w w') (looped_by does.end status does.status done) does.ends)
+    (subst (λ e. LoopEnds e hosts turns clock clock' links links' held now w w') (one_end does.end Ending.Done status does.status done) does.ends)

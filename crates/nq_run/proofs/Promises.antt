@@ -1,5 +1,5 @@
 -- What a replay prints is lawful and sound.
-use Rattle.std.proofs.Common.{◌≡◌, ℕ, List, [], Option, None, reverse, refl, subst, arith}
+use Rattle.std.proofs.Common.{◌≡◌, ℕ, List, [], Option, None, reverse, refl, subst}
 use Rattle.std.proofs.lemmas.List.{reverse-reverse}
 use Rattle.nq_base.specs.declared.Event.{Event}
 use Rattle.nq_rules.proofs.Sounds.{faultless_where_sound}
@@ -12,8 +12,6 @@ use Rattle.nq_play.specs.Lawful.{IsLawful}
 use Rattle.nq_play.specs.Playing.{beginning}
 use Rattle.nq_promises.specs.Bounds.{KeepsBounds}
 use Rattle.nq_promises.specs.Headline.{HeadlineHolds}
-use Rattle.nq_replay.specs.Ending.{status_of}
-use Rattle.nq_replay.specs.declared.Ending.{Ending}
 use Rattle.nq_replay.specs.Replay.{OfInput, PrintsWithin}
 use Rattle.nq_run.specs.Promised.{HoldsThroughout, PrintsLawfully, PrintsSound}
 use Rattle.nq_script.specs.declared.heads.Head.{Head}
@@ -46,18 +44,6 @@ prints_sound : (text : List ℕ) (held now : Option (List ℕ)) → PrintsLawful
 prints_sound text held now p =
     let journal = (run (beginning p.head) p.events).journal in
     record { version = p.head.version; entries = reverse journal; printed = p.printed; judged = rw (reverse-reverse journal) (faultless p.head p.events p.holds) }
-
--- only one end has the status 0
-pub done_by : (end : Ending) (status : ℕ) → status ≡ status_of end → status ≡ status_of Ending.Done → end ≡ Ending.Done
-done_by Ending.Done status is done = refl
-done_by Ending.Usage status is done = absurd (omega arith)
-done_by Ending.Script status is done = absurd (omega arith)
-done_by Ending.Skew status is done = absurd (omega arith)
-done_by Ending.ReadFault status is done = absurd (omega arith)
-done_by Ending.WriteFault status is done = absurd (omega arith)
-done_by Ending.Memory status is done = absurd (omega arith)
-done_by Ending.Limit status is done = absurd (omega arith)
-done_by Ending.NotSound status is done = absurd (omega arith)
 
 -- of an input whose journal was printed
 pub input_lawful : (limit : ℕ) (left rest held now : Option (List ℕ)) → OfInput limit left rest (λ text. PrintsWithin text held now) → OfInput limit left rest (λ text. PrintsLawfully text held now)

@@ -1,17 +1,18 @@
 -- What the command of storms promises.
-use Rattle.std.proofs.Common.{◌≡◌, ℕ, ◌<◌, List, ◌∷◌, ◌++◌, length, Option, Some, None, sym, subst, arith, length-append}
+use Rattle.std.proofs.Common.{◌≡◌, ℕ, ◌<◌, List, ◌∷◌, ◌++◌, length, Option, Some, None, ap, refl, sym, subst, ◌∙◌, inl, inr, arith, length-append}
 use Rattle.std.proofs.Math.Seq.{get_or-append_seam}
 use Rattle.std.specs.Prelude.{All, IfSome, IsSomeAnd, ◌≢◌}
 use Rattle.nq_command.specs.declared.Command.{Command}
-use Rattle.nq_storm_rules.specs.Rules.{Rule}
-use Rattle.nq_replay.specs.Ending.{WithStatus, status_of}
+use Rattle.nq_ending.proofs.Ends.{one_end}
+use Rattle.nq_ending.specs.Status.{WithStatus, status_of}
+use Rattle.nq_ending.specs.declared.Ending.{Ending}
 use Rattle.nq_replay.specs.Lines.{PrintsLine, usage_line}
-use Rattle.nq_replay.specs.declared.Ending.{Ending}
-use Rattle.nq_run.proofs.Promises.{done_by, faultless, holds_throughout}
-use Rattle.nq_run.specs.Storming.{DoesStorm, NeverRuns, RunsNothing, RunsStorm, StormsLawfully}
-use Rattle.nq_storm_text.specs.Kinds.{IsFirstOf, LackKind, TellOthers}
-use Rattle.nq_storm_text.specs.Whole.{storm_head}
-use Rattle.nq_storming.specs.Printed.{StormEnds}
+use Rattle.nq_run.proofs.Promises.{faultless, holds_throughout}
+use Rattle.nq_run.specs.Storming.{DoesStorm, NeverRuns, RunsNothing, RunsStorm, StormsLawfully, StormsUnlessFault}
+use Rattle.nq_storm.specs.Heads.{storm_head}
+use Rattle.nq_storm.specs.Kinds.{IsFirstOf, LackKind, TellOthers}
+use Rattle.nq_storm.specs.Printed.{StormEnds}
+use Rattle.nq_storm_rules.specs.Rules.{Rule}
 
 -- ---- status 0
 
@@ -29,25 +30,19 @@ done_lawfully kind start count told held now w w' ran =
       judged = faultless storm_head ran.ends.events holds;
     }
 
-storms_lawfully : (end : Ending) (status kind start count : ℕ) (told : List (Option Rule)) (held now : Option (List ℕ)) (w w' : ℕ) → status ≡ status_of end → DoesStorm end kind start count told held now w w' → status ≡ status_of Ending.Done
-    → StormsLawfully kind start count told held now
-storms_lawfully end status kind start count told held now w w' is does done =
-    done_lawfully kind start count told held now w w' (subst (λ e. DoesStorm e kind start count told held now w w') (done_by end status is done) does)
+storms_lawfully : (end : Ending) (kind start count : ℕ) (told : List (Option Rule)) (held now : Option (List ℕ)) (w w' : ℕ) → end ≡ Ending.Done → DoesStorm end kind start count told held now w w' → StormsLawfully kind start count told held now
+storms_lawfully end kind start count told held now w w' done (inl ran) =
+    done_lawfully kind start count told held now w w' (subst (λ e. RunsStorm e kind start count told held now w w') done ran)
+storms_lawfully end kind start count told held now w w' done (inr none) = let usage = none.0 in absurd (cc)
 
 -- ---- usage
 
--- the end of a storm says nothing of usage
+-- a storm that is run does not end with usage
 no_fate : (end : Ending) (status kind start count : ℕ) (told : List (Option Rule)) (held now : Option (List ℕ)) (w w' : ℕ) → status ≡ status_of end → DoesStorm end kind start count told held now w w' → status ≡ status_of Ending.Usage
     → LackKind kind told × PrintsLine usage_line held now w w'
-no_fate Ending.Usage status kind start count told held now w w' is does none = does
-no_fate Ending.Done status kind start count told held now w w' is does none = absurd (omega arith)
-no_fate Ending.Script status kind start count told held now w w' is does none = absurd (omega arith)
-no_fate Ending.Skew status kind start count told held now w w' is does none = absurd (omega arith)
-no_fate Ending.ReadFault status kind start count told held now w w' is does none = absurd (omega arith)
-no_fate Ending.WriteFault status kind start count told held now w w' is does none = absurd (omega arith)
-no_fate Ending.Memory status kind start count told held now w w' is does none = absurd (omega arith)
-no_fate Ending.Limit status kind start count told held now w w' is does none = absurd (omega arith)
-no_fate Ending.NotSound status kind start count told held now w w' is does none = absurd (omega arith)
+no_fate end status kind start count told held now w w' is (inl ran) none =
+    absurd (subst (λ e. StormEnds e start count ran.first held now w w') (one_end end Ending.Usage status is none) ran.ends)
+no_fate end status kind start count told held now w w' is (inr usage) none = (usage.1, usage.2)
 
 both_kinds : (kind : ℕ) (found : Option Rule) → IsSomeAnd found (λ rule. rule.kind ≢ kind) → IfSome found (λ rule. rule.kind ≡ kind) → ⊥
 both_kinds kind None other is = absurd other
@@ -64,30 +59,10 @@ none_of kind told found others first =
 
 never_of : (end : Ending) (status kind start count : ℕ) (told : List (Option Rule)) (held now : Option (List ℕ)) (w w' : ℕ) → status ≡ status_of end → DoesStorm end kind start count told held now w w' → TellOthers kind told
     → status ≡ status_of Ending.Usage
-never_of Ending.Usage status kind start count told held now w w' is does others = is
-never_of Ending.Done status kind start count told held now w w' is does others = absurd (none_of kind told does.first others does.found)
-never_of Ending.Script status kind start count told held now w w' is does others = absurd (none_of kind told does.first others does.found)
-never_of Ending.Skew status kind start count told held now w w' is does others = absurd (none_of kind told does.first others does.found)
-never_of Ending.ReadFault status kind start count told held now w w' is does others = absurd (none_of kind told does.first others does.found)
-never_of Ending.WriteFault status kind start count told held now w w' is does others = absurd (none_of kind told does.first others does.found)
-never_of Ending.Memory status kind start count told held now w w' is does others = absurd (none_of kind told does.first others does.found)
-never_of Ending.Limit status kind start count told held now w w' is does others = absurd (none_of kind told does.first others does.found)
-never_of Ending.NotSound status kind start count told held now w w' is does others = absurd (none_of kind told does.first others does.found)
+never_of end status kind start count told held now w w' is (inl ran) others = absurd (none_of kind told ran.first others ran.found)
+never_of end status kind start count told held now w w' is (inr usage) others = is ∙ ap status_of usage.0
 
 -- ---- what `run` says
-
--- a storm of the first fate of the kind ended so
-pub does_storm : (end : Ending) (kind start count : ℕ) (told : List (Option Rule)) (first : Option Rule) (held now : Option (List ℕ)) (w w' : ℕ) → IsFirstOf kind told first → StormEnds end start count first held now w w'
-    → DoesStorm end kind start count told held now w w'
-does_storm Ending.Usage kind start count told first held now w w' found ends = absurd ends
-does_storm Ending.Done kind start count told first held now w w' found ends = record { first = first; found = found; ends = ends }
-does_storm Ending.Script kind start count told first held now w w' found ends = absurd ends
-does_storm Ending.Skew kind start count told first held now w w' found ends = absurd ends
-does_storm Ending.ReadFault kind start count told first held now w w' found ends = absurd ends
-does_storm Ending.WriteFault kind start count told first held now w w' found ends = record { first = first; found = found; ends = ends }
-does_storm Ending.Memory kind start count told first held now w w' found ends = record { first = first; found = found; ends = ends }
-does_storm Ending.Limit kind start count told first held now w w' found ends = record { first = first; found = found; ends = ends }
-does_storm Ending.NotSound kind start count told first held now w w' found ends = absurd ends
 
 pub storm_usage : (said : Option Command) (status kind start count : ℕ) (told : List (Option Rule)) (held now : Option (List ℕ)) (w w' : ℕ) → said ≡ Some (Command.Storm kind start count)
     → WithStatus status (λ end. DoesStorm end kind start count told held now w w') → status ≡ status_of Ending.Usage → RunsNothing said told
@@ -115,4 +90,18 @@ storm_does said status kind start count kind' start' count' told held now w w' i
 
 pub storm_lawful : (status kind start count : ℕ) (told : List (Option Rule)) (held now : Option (List ℕ)) (w w' : ℕ) → WithStatus status (λ end. DoesStorm end kind start count told held now w w') → status ≡ status_of Ending.Done
     → StormsLawfully kind start count told held now
-storm_lawful status kind start count told held now w w' does done = storms_lawfully does.0 status kind start count told held now w w' does.1 does.2 done
+storm_lawful status kind start count told held now w w' does done = storms_lawfully does.0 kind start count told held now w w' (one_end does.0 Ending.Done status does.1 done) does.2
+
+ends_unless : (end : Ending) (start count : ℕ) (first : Option Rule) (held now : Option (List ℕ)) (w w' : ℕ) → StormEnds end start count first held now w w' → StormsUnlessFault end w w'
+ends_unless Ending.Done start count first held now w w' ends = inr (inl refl)
+ends_unless Ending.WriteFault start count first held now w w' ends = inr (inr (inr ends.printed.1))
+ends_unless Ending.Memory start count first held now w w' ends = inr (inr (inr tt))
+ends_unless Ending.Limit start count first held now w w' ends = inr (inr (inl refl))
+ends_unless other start count first held now w w' ends = absurd ends
+
+does_unless : (end : Ending) (kind start count : ℕ) (told : List (Option Rule)) (held now : Option (List ℕ)) (w w' : ℕ) → DoesStorm end kind start count told held now w w' → StormsUnlessFault end w w'
+does_unless end kind start count told held now w w' (inl ran) = ends_unless end start count ran.first held now w w' ran.ends
+does_unless end kind start count told held now w w' (inr usage) = inl usage.0
+
+pub storm_unless : (status kind start count : ℕ) (told : List (Option Rule)) (held now : Option (List ℕ)) (w w' : ℕ) → WithStatus status (λ end. DoesStorm end kind start count told held now w w') → WithStatus status (λ end. StormsUnlessFault end w w')
+storm_unless status kind start count told held now w w' does = (does.0, does.1, does_unless does.0 kind start count told held now w w' does.2)

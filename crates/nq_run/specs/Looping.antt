@@ -4,12 +4,12 @@
 use Rattle.std.specs.Prelude.{◌≡◌, ℕ, List, Option, None}
 use Rattle.nq_base.specs.declared.Event.{Event}
 use Rattle.nq_rules.specs.Verdict.{verdict}
+use Rattle.nq_ending.specs.Status.{status_of}
+use Rattle.nq_ending.specs.declared.Ending.{Ending}
 use Rattle.nq_io.specs.Told.{with_end}
-use Rattle.nq_looping.specs.Ending.{status_of as status_of_loop}
-use Rattle.nq_looping.specs.Looped.{IsWhole, LoopEnds}
-use Rattle.nq_looping.specs.Printed.{loop_text}
-use Rattle.nq_looping.specs.Whole.{loop_head}
-use Rattle.nq_looping.specs.declared.Looped.{Looped}
+use Rattle.nq_loop.specs.Looped.{IsWhole, LoopEnds}
+use Rattle.nq_loop.specs.Printed.{loop_text}
+use Rattle.nq_loop.specs.Whole.{loop_head}
 use Rattle.nq_model.specs.World.{run}
 use Rattle.nq_node.specs.Links.{LinkTold}
 use Rattle.nq_play.specs.Playing.{beginning}
@@ -17,8 +17,8 @@ use Rattle.nq_run.specs.Promised.{HoldsThroughout}
 
 -- a loop among so many hosts took its turns, or ended before, and the status is that of its end
 pub record LoopsFor (code hosts turns : ℕ) (clock clock' : Option (List ℕ)) (links links' : List LinkTold) (held now : Option (List ℕ)) (w w' : ℕ) : Type 0 where
-  pub end : Looped
-  pub status : code ≡ status_of_loop end
+  pub end : Ending
+  pub status : code ≡ status_of end
   pub ends : LoopEnds end hosts turns clock clock' links links' held now w w'
 
 -- a loop printed the text of the schedule that its turns made, the text of that schedule's journal, and its counts. The headline holds at

@@ -1,21 +1,22 @@
 -- What the command of storms does. Below, `told` are what the fates that were handed in tell of their rules, in their order; `held` is
 -- what the sink held before and `now` is what it holds after, where the sink tells them; `w` and `w'` are its counts of faults before
 -- and after.
-use Rattle.std.specs.Prelude.{◌≡◌, ℕ, List, Option, Some, None}
+use Rattle.std.specs.Prelude.{◌≡◌, ◌⊎◌, ℕ, List, Option, Some, None}
 use Rattle.nq_base.specs.declared.Event.{Event}
 use Rattle.nq_rules.specs.Verdict.{verdict}
 use Rattle.nq_command.specs.declared.Command.{Command}
-use Rattle.nq_storm_rules.specs.Rules.{Rule}
+use Rattle.nq_ending.specs.declared.Ending.{Ending}
 use Rattle.nq_io.specs.Told.{with_end}
 use Rattle.nq_model.specs.World.{run}
 use Rattle.nq_play.specs.Playing.{beginning}
+use Rattle.nq_replay.specs.Ending.{IsFault}
 use Rattle.nq_replay.specs.Lines.{PrintsLine, usage_line}
-use Rattle.nq_replay.specs.declared.Ending.{Ending}
 use Rattle.nq_run.specs.Promised.{HoldsThroughout}
-use Rattle.nq_storm_text.specs.Kinds.{IsFirstOf, LackKind, TellOthers}
-use Rattle.nq_storm_text.specs.Whole.{storm_head}
-use Rattle.nq_storming.specs.Printed.{StormEnds, storm_text}
-use Rattle.nq_storming.specs.Whole.{IsWholeStorm}
+use Rattle.nq_storm.specs.Heads.{storm_head}
+use Rattle.nq_storm.specs.Kinds.{IsFirstOf, LackKind, TellOthers}
+use Rattle.nq_storm.specs.Printed.{StormEnds, storm_text}
+use Rattle.nq_storm.specs.Whole.{IsWholeStorm}
+use Rattle.nq_storm_rules.specs.Rules.{Rule}
 
 -- words that say none of the commands that are run, or a storm for which each fate that tells its rule is of another kind
 abbrev pub RunsNothing : Option Command → (told : List (Option Rule)) → Type 0
@@ -39,10 +40,15 @@ pub record RunsStorm (end : Ending) (kind start count : ℕ) (told : List (Optio
   pub found : IsFirstOf kind told first
   pub ends : StormEnds end start count first held now w w'
 
--- what the words of a storm did, by the end
+-- what the words of a storm did: a storm was run, or no fate is of the kind, as far as they tell
 abbrev pub DoesStorm : Ending → (kind start count : ℕ) → (told : List (Option Rule)) → (held now : Option (List ℕ)) → (w w' : ℕ) → Type 0
-DoesStorm Ending.Usage kind start count told held now w w' = LackKind kind told × PrintsLine usage_line held now w w'
-DoesStorm end kind start count told held now w w' = RunsStorm end kind start count told held now w w'
+DoesStorm end kind start count told held now w w' =
+    RunsStorm end kind start count told held now w w'
+    ⊎ ((end ≡ Ending.Usage) × LackKind kind told × PrintsLine usage_line held now w w')
+
+-- a storm had all its events or came to a limit, if no fault came in the place of that
+abbrev pub StormsUnlessFault : (end : Ending) → (w w' : ℕ) → Type 0
+StormsUnlessFault end w w' = (end ≡ Ending.Usage) ⊎ ((end ≡ Ending.Done) ⊎ ((end ≡ Ending.Limit) ⊎ IsFault end 0 0 w w'))
 
 -- a storm of the first fate of the kind printed the text of its schedule, the text of that schedule's journal, and its counts. The
 -- headline holds at each moment of its run, and nothing in its journal is at fault

@@ -5,33 +5,34 @@ ghost use Rattle.nq_base.specs.declared.Event.{Event};
 ghost use Rattle.nq_base.specs.declared.SkewBroken.{SkewBroken};
 ghost use Rattle.nq_command.specs.Commands.{IsCheck, IsReplay, command_of};
 ghost use Rattle.nq_command.specs.declared.Command.{Command};
+ghost use Rattle.nq_ending.specs.Status.{WithStatus, status_of};
+ghost use Rattle.nq_ending.specs.declared.Ending.{Ending};
+ghost use Rattle.nq_journal.specs.Fault.{IsFaultyAt, IsJournal};
 ghost use Rattle.nq_loop.specs.Sending.{told_of};
-ghost use Rattle.nq_replay.specs.Ending.{Ends, IsUnlessFault, WithStatus, status_of};
-ghost use Rattle.nq_replay.specs.Judging.{Judges};
+ghost use Rattle.nq_replay.specs.Ending.{Ends, IsUnlessFault};
+ghost use Rattle.nq_replay.specs.Judging.{IsSaidUnlessFault, Judges};
 ghost use Rattle.nq_replay.specs.Lines.{PrintsLine, usage_line};
 ghost use Rattle.nq_replay.specs.Replay.{BreaksSkew, FaultyLine, OfInput, Passes, Runs};
-ghost use Rattle.nq_replay.specs.declared.Ending.{Ending};
 ghost use Rattle.nq_replay.specs.declared.Bound.{Bound};
 ghost use Rattle.nq_run.specs.Frames.{reads_clock, reads_input, uses_link, uses_links};
 ghost use Rattle.nq_run.specs.Hosting.{Attends, ServesFor};
 ghost use Rattle.nq_run.specs.Looping.{LoopsFor, LoopsLawfully};
 ghost use Rattle.nq_run.specs.Promised.{PrintsLawfully, PrintsSound, most_bytes};
-ghost use Rattle.nq_run.specs.Storming.{DoesStorm, NeverRuns, RunsNothing, StormsLawfully};
+ghost use Rattle.nq_run.specs.Storming.{DoesStorm, NeverRuns, RunsNothing, StormsLawfully, StormsUnlessFault};
 ghost use Rattle.nq_script.specs.declared.heads.Head.{Head};
 
 use nq_base::{Host, Inc};
 use nq_clock::Clock;
 use nq_command::{Command, Words};
+use nq_ending::Ending;
 use nq_hosts::serve;
 use nq_io::{Sink, Source};
 use nq_keeper::Keeper;
 use nq_link::Link;
-use nq_looping::run_loop;
-use nq_replay::{Ending, judge, put_line, replay};
-use nq_staged::run_staged;
+use nq_loop::run_loop;
+use nq_replay::{judge, put_line, replay};
+use nq_storm::{first_of, run_storm};
 use nq_storm_rules::Fate;
-use nq_storm_text::first_of;
-use nq_storming::run_storm;
 use nq_user::client;
 use std::alloc::Global;
 
@@ -44,24 +45,9 @@ const MOST_BYTES: usize = 16_777_216;
 /// [`run_loop`] tells. The headline of `nq_laws` holds at each moment of the run whose journal `replay`, `storm` or `loop` printed, and that
 /// journal is sound for `check`: leases, ticks, restarts and crashes included. That the schedule is within skew and keeps to the bounds
 /// is no premise, since the run itself tests it. What the words have no use for stays as it was: the input, the link, the links of a loop, the
-/// clock. The exit statuses:
+/// clock.
 ///
-/// - 0: the journal of the run was printed, and of a storm or a loop its schedule before it and its counts behind it; or `yes`, since the
-///   journal that was read is sound; or the turns of the server, or the answers of the client.
-/// - 1: the words say none of these, or no fate is of the kind; prints `usage`.
-/// - 2: a line is outside the grammar, or delivers a packet that was not sent; prints `script line N`, with lines counted from 1.
-/// - 3: a tick of the server's clock breaks the rule on skew (Macklem 1994); prints `skew line N host H server S client C`.
-/// - 4: the source failed, which it has counted; prints nothing.
-/// - 5: the sink failed, which it has counted; a front of what is due is printed.
-/// - 6: the keeper failed, which it has counted; prints nothing.
-/// - 7: memory was wanting; a front of what is due may be printed.
-/// - 8: the link, or one of those of a loop, failed, which it has counted.
-/// - 9: the input has more than 16,777,216 bytes, the schedule more than 100,000 events, or an event comes after more than 999,936
-///   packets; prints `limit line N bytes`, `events` or `packets`, with line 0 for a storm or a loop. A client that can take in no more prints
-///   `events`.
-/// - 10: no number is left for a boot of the server, or for what it takes in; prints nothing.
-/// - 11: no turn of the client ended a call, or attaching, which is line 0; prints `noanswer line N`.
-/// - 12: the journal that was read is not sound; prints `no line N RULE` with the line of the first entry at fault.
+/// The answer is the exit status. `docs/commands.md` says when each comes, and what is printed then.
 #[tactic(auto, using(crate::proofs::Commands::says_replay, crate::proofs::Commands::says_check), unfolding(crate::specs::Promised::most_bytes))]
 pub fn run<S: Source, K: Sink, P: Keeper + Drop, L: Link, C: Clock>(
     alloc: Global,
@@ -80,6 +66,16 @@ pub fn run<S: Source, K: Sink, P: Keeper + Drop, L: Link, C: Clock>(
         (S.faults input.old) (S.faults input.new) (K.faults out.old) (K.faults out.new)) }
     ensures judges { IsCheck words.now
         → WithStatus result (λ end. Judges end most_bytes (S.left input.old) (S.left input.new) (K.held out.old) (K.held out.new)
+        (S.faults input.old) (S.faults input.new) (K.faults out.old) (K.faults out.new)) }
+    ensures judged_limit { IsCheck words.now → (text : List ℕ) → S.left input.old ≡ Some text → most_bytes < length text
+        → WithStatus result (λ end. IsUnlessFault end Ending.Limit
+        (S.faults input.old) (S.faults input.new) (K.faults out.old) (K.faults out.new)) }
+    ensures judged_script { IsCheck words.now → (text : List ℕ) → S.left input.old ≡ Some text → length text ≤ most_bytes
+        → (number : ℕ) → IsFaultyAt number text
+        → WithStatus result (λ end. IsUnlessFault end Ending.Script
+        (S.faults input.old) (S.faults input.new) (K.faults out.old) (K.faults out.new)) }
+    ensures judged_said { IsCheck words.now → (text : List ℕ) → S.left input.old ≡ Some text → length text ≤ most_bytes → IsJournal text
+        → WithStatus result (λ end. IsSaidUnlessFault end
         (S.faults input.old) (S.faults input.new) (K.faults out.old) (K.faults out.new)) }
     ensures usage { result ≡ status_of Ending.Usage → RunsNothing (command_of words.now) (map (λ fate. told fate) fates.items) }
     ensures never { NeverRuns (command_of words.now) (map (λ fate. told fate) fates.items) → result ≡ status_of Ending.Usage }
@@ -109,7 +105,7 @@ pub fn run<S: Source, K: Sink, P: Keeper + Drop, L: Link, C: Clock>(
     ensures sound { IsReplay words.now → result ≡ status_of Ending.Done
         → OfInput most_bytes (S.left input.old) (S.left input.new) (λ text. PrintsSound (K.held out.old) (K.held out.new)) }
     ensures serves { (turns longest : ℕ) → command_of words.now ≡ Some (Command.Serve turns longest)
-        → ServesFor P.content P.faults result longest turns keeper (C.readings clock.old) (C.readings clock.new)
+        → ServesFor P.content P.faults P.follows result longest turns keeper (C.readings clock.old) (C.readings clock.new)
         (record { sent = L.sent link.old; waiting = L.waiting link.old; faults = L.faults link.old })
         (record { sent = L.sent link.new; waiting = L.waiting link.new; faults = L.faults link.new })
         (K.held out.old) (K.held out.new) (K.faults out.old) (K.faults out.new) }
@@ -121,6 +117,8 @@ pub fn run<S: Source, K: Sink, P: Keeper + Drop, L: Link, C: Clock>(
     ensures storms { (kind start events : ℕ) → command_of words.now ≡ Some (Command.Storm kind start events)
         → WithStatus result (λ end. DoesStorm end kind start events (map (λ fate. told fate) fates.items)
         (K.held out.old) (K.held out.new) (K.faults out.old) (K.faults out.new)) }
+    ensures stormed { (kind start events : ℕ) → command_of words.now ≡ Some (Command.Storm kind start events)
+        → WithStatus result (λ end. StormsUnlessFault end (K.faults out.old) (K.faults out.new)) }
     ensures lawful { (kind start events : ℕ) → command_of words.now ≡ Some (Command.Storm kind start events) → result ≡ status_of Ending.Done
         → StormsLawfully kind start events (map (λ fate. told fate) fates.items) (K.held out.old) (K.held out.new) }
     ensures loops { (hosts turns : ℕ) → command_of words.now ≡ Some (Command.Loop hosts turns)
@@ -139,7 +137,6 @@ pub fn run<S: Source, K: Sink, P: Keeper + Drop, L: Link, C: Clock>(
     match words.command() {
         Some(Command::Replay) => replay(alloc, input, out, MOST_BYTES).status(),
         Some(Command::Check) => judge(alloc, input, out, MOST_BYTES).status(),
-        Some(Command::Staged) => run_staged(alloc, input, out, MOST_BYTES).status(),
         Some(Command::Serve { turns, longest }) => {
             serve(alloc, keeper, turns, longest, link, clock, out).status()
         }

@@ -1,4 +1,8 @@
+mod Finding
+pub mod Counting
+pub mod Playing
+pub mod Spelling
 pub mod Choosing
-pub mod Limits
 pub mod Passing
 pub mod Whole
+pub mod Telling

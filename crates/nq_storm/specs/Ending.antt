@@ -1,24 +1,19 @@
 -- How a storm over a world ends. Below, `told` is what the world's keeper told of its content before a call and `tells` is what it tells
 -- after it; `flags` tells which packets were delivered; `before` and `count` are the keeper's counts of faults.
-use Rattle.std.specs.Prelude.{◌≡◌, ◌<◌, ◌≤◌, ℕ, Bool, List, ◌∷◌, length, Option}
+use Rattle.std.specs.Prelude.{◌≡◌, ◌<◌, ℕ, Bool, List, ◌∷◌, length, Option}
 use Rattle.nq_base.specs.declared.Event.{Event}
-use Rattle.nq_storm_rules.specs.Rules.{Rule}
 use Rattle.nq_io.specs.Faults.{Rose}
 use Rattle.nq_keeper.specs.Keeping.{StaysOrEnds}
-use Rattle.nq_lines.specs.Going.{IsAt}
 use Rattle.nq_model.specs.Kept.{Kept}
-use Rattle.nq_model.specs.Stepped.{done, most_events, most_sent, stepped}
+use Rattle.nq_model.specs.Stepped.{done, stepped}
 use Rattle.nq_model.specs.World.{Head, run}
-use Rattle.nq_storm_text.specs.Storming.{IsStorm}
+use Rattle.nq_play.specs.Going.{IsAt}
+use Rattle.nq_play.specs.Reaching.{IsReached}
+use Rattle.nq_storm.specs.Storming.{IsStorm}
 use Rattle.nq_storm.specs.declared.stormed.Stormed.{Stormed}
+use Rattle.nq_storm_rules.specs.Rules.{Rule}
 use Rattle.nq_world.specs.Playing.{IsAsBefore, Plays, WorldOver}
-use Rattle.nq_world.specs.declared.stepped.Limit.{Limit}
 use Rattle.nq_world.specs.declared.stepped.Stepped.{Stepped}
-
--- a limit is reached after so many events and packets; that of events is tested first
-abbrev pub IsReached : Limit → (events packets : ℕ) → Type 0
-IsReached Limit.Events events packets = most_events ≤ events
-IsReached Limit.Packets events packets = (events < most_events) × (most_sent < packets)
 
 -- why nothing came behind these events
 abbrev pub Halts : Stormed → Head → List Event → Type 0
@@ -58,6 +53,11 @@ pub record Storms {K : Type 0} (ended : Stormed) (head : Head) (start wanted : �
 abbrev pub CountsFaults : Stormed → (before count : ℕ) → Type 0
 CountsFaults Stormed.Fault before count = Rose before count
 CountsFaults other before count = count ≡ before
+
+-- a storm ended for no fault of a keeper
+abbrev pub IsNoFault : Stormed → Type 0
+IsNoFault Stormed.Fault = ⊥
+IsNoFault other = Unit {0}
 
 -- how a storm ends where a world did not take an event in. A world that plays the run takes each event of its menu in, but for a limit, a
 -- fault, or want of memory

@@ -1,12 +1,23 @@
-//! Storms: random schedules, of which boxed fates choose the events.
+//! Storms: random schedules, of which boxed fates choose the events, and the command `storm KIND START N`.
 //!
-//! [`storm`] gives the events that a fate chooses to a world, one after another, and keeps them. What a storm is stands in
-//! `specs/Storming` of `nq_storm_text`.
+//! [`storm`] gives the events that a fate chooses to a world, one after another, and keeps them; [`run_storm`] prints them, their
+//! journal and counts. What a storm is stands in `specs/Storming`, what a whole one is in `specs/Whole`, and what is printed in
+//! `specs/Printed`. Of a storm's schedule `storms_are_lawful` says that its run is that storm, is within skew and keeps to the bounds.
 #![tactic(auto)]
 
+mod counts;
+mod fates;
+mod laws;
 mod moments;
+mod printing;
+mod running;
+mod schedules;
 mod stormed;
 mod storms;
 
+pub use fates::first_of;
+pub use laws::storms_are_lawful;
+pub use running::run_storm;
+pub use schedules::{schedule_text, storm_head};
 pub use stormed::Stormed;
 pub use storms::storm;

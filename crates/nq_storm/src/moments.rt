@@ -1,23 +1,23 @@
 //! One moment of a storm.
 
-ghost use Rattle.std.specs.Prelude.{◌≡◌, ◌<◌, ◌≤◌, ◌+◌, ◌-◌, ◌^◌, ◌++◌, ◌∷◌, [], ℕ, List, Option, IfSome, IsNone, length, reverse, take};
 ghost use Rattle.std.specs.List.{AllByRecursion};
+ghost use Rattle.std.specs.Prelude.{◌≡◌, ◌<◌, ◌≤◌, ◌+◌, ◌-◌, ◌^◌, ◌++◌, ◌∷◌, [], ℕ, List, Option, IfSome, IsNone, length, reverse, take};
 ghost use Rattle.nq_base.specs.declared.Event.{Event};
-ghost use Rattle.nq_storm_rules.specs.Rules.{Rule};
-ghost use Rattle.nq_storm_rules.specs.Stormy.{IsStormy};
-ghost use Rattle.nq_lines.specs.Going.{IsAt};
 ghost use Rattle.nq_model.specs.Stepped.{most_events, most_sent};
 ghost use Rattle.nq_model.specs.World.{Head};
-ghost use Rattle.nq_storm.specs.Ending.{CountsFaults, Gives, Halts, IsInStorm, IsReached, Stands, ending_of};
-ghost use Rattle.nq_storm_text.specs.Storming.{IsChosen, IsOffered, word_behind};
+ghost use Rattle.nq_play.specs.Going.{IsAt};
+ghost use Rattle.nq_play.specs.Reaching.{IsReached};
+ghost use Rattle.nq_storm.specs.Ending.{CountsFaults, Gives, Halts, IsInStorm, Stands, ending_of};
+ghost use Rattle.nq_storm.specs.Storming.{IsChosen, IsOffered, word_behind};
 ghost use Rattle.nq_storm.specs.declared.stormed.Stormed.{Stormed};
+ghost use Rattle.nq_storm_rules.specs.Rules.{Rule};
+ghost use Rattle.nq_storm_rules.specs.Stormy.{IsStormy};
 ghost use Rattle.nq_world.specs.Playing.{HasSettings};
 
 use crate::stormed::Stormed;
 use nq_base::Event;
 use nq_keeper::Keeper;
-use nq_lines::note;
-use nq_play::Delivered;
+use nq_play::{Delivered, note};
 use nq_script::Schedule;
 use nq_storm_rules::{Fate, Offer, choose_event};
 use nq_world::{Limit, MOST_EVENTS, MOST_SENT, Stepped, World};
@@ -77,6 +77,7 @@ fn give_last<K: Keeper>(
     ensures kept { result ≡ Stormed.Done → ran.new ≡ ran.old }
     ensures dropped { (result ≡ Stormed.Done → ⊥) → ran.new ≡ take (length ran.old - 1) ran.old }
     ensures faults { CountsFaults result (K.faults world.old.server.keeper) (K.faults world.new.server.keeper) }
+    ensures follows { K.follows world.old.server.keeper world.new.server.keeper }
     ensures settings { HasSettings 4 60 30 world.new }
 {
     match world.step(event) {
@@ -106,6 +107,7 @@ fn give<K: Keeper>(
     ensures kept { result ≡ Stormed.Done → ran.new ≡ ran.old ++ event.now ∷ [] }
     ensures same { (result ≡ Stormed.Done → ⊥) → ran.new ≡ ran.old }
     ensures faults { CountsFaults result (K.faults world.old.server.keeper) (K.faults world.new.server.keeper) }
+    ensures follows { K.follows world.old.server.keeper world.new.server.keeper }
     ensures settings { HasSettings 4 60 30 world.new }
 {
     match ran.push_filled(event) {
@@ -135,6 +137,7 @@ pub(crate) fn pass_moment<K: Keeper>(
     ensures same { (result ≡ Stormed.Done → ⊥) → ran.new ≡ ran.old }
     ensures stormy { AllByRecursion IsStormy ran.old → AllByRecursion IsStormy ran.new }
     ensures faults { CountsFaults result (K.faults world.old.server.keeper) (K.faults world.new.server.keeper) }
+    ensures follows { K.follows world.old.server.keeper world.new.server.keeper }
     ensures settings { HasSettings 4 60 30 world.new }
 {
     let sent = world.packets().len();

@@ -1,10 +1,10 @@
 //! Storms over a world.
 
-ghost use Rattle.std.specs.Prelude.{◌≡◌, [], length, reverse};
 ghost use Rattle.std.specs.List.{AllByRecursion};
-ghost use Rattle.nq_storm_rules.specs.Stormy.{IsStormy};
+ghost use Rattle.std.specs.Prelude.{◌≡◌, [], length, reverse};
 ghost use Rattle.nq_model.specs.World.{Head};
 ghost use Rattle.nq_storm.specs.Ending.{CountsFaults, Storms};
+ghost use Rattle.nq_storm_rules.specs.Stormy.{IsStormy};
 ghost use Rattle.nq_world.specs.Playing.{HasSettings, Plays};
 
 use crate::moments::pass_moment;
@@ -36,6 +36,7 @@ pub fn storm<K: Keeper>(
         → Storms result head start events (told fate) (reverse ran.new) world.new (K.content world.new.server.keeper) }
     ensures stormy { AllByRecursion IsStormy ran.new }
     ensures faults { CountsFaults result (K.faults world.old.server.keeper) (K.faults world.new.server.keeper) }
+    ensures follows { K.follows world.old.server.keeper world.new.server.keeper }
     ensures settings { HasSettings 4 60 30 world.new }
 {
     let mut fate = fate;

@@ -1,7 +1,7 @@
 -- Turns and calls of a client, case by case.
 use Rattle.std.proofs.Common.{◌≡◌, ℕ, Bool, true, false, Some, None, Result, Ok, Err, refl, subst}
-use Rattle.nq_answers.specs.declared.Halt.{Halt}
 use Rattle.nq_base.specs.declared.Answer.{Answer}
+use Rattle.nq_ending.specs.declared.Halt.{Halt}
 use Rattle.nq_link.specs.Link.{Letters}
 use Rattle.nq_node.specs.Links.{LinkTold}
 use Rattle.nq_user.specs.Calling.{FollowsUp, SendsOut, Waits, refusal_of}
@@ -13,6 +13,7 @@ pub stopped : (aim : Aim) (turns : ℕ) (why : Halt) (at after : Between) → En
 stopped aim turns Halt.Link at after ends = ends
 stopped aim turns Halt.Memory at after ends = ends
 stopped aim turns Halt.Spent at after ends = ends
+stopped aim turns Halt.Keep at after ends = ends
 stopped aim turns Halt.NoAnswer at after ends = absurd ends.last
 
 -- a call that has its answer at once

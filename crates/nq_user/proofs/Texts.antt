@@ -2,13 +2,15 @@
 use Rattle.std.proofs.Common.{◌≡◌, ℕ, ◌+◌, ◌<◌, ◌≤◌, List, [], ◌∷◌, ◌++◌, Some, None, Ok, Err, length, refl, ap, sym, subst, ◌∙◌, arith, append_assoc, append-nil, length-append}
 use Rattle.std.proofs.lemmas.Option.{none-some}
 use Rattle.std.specs.List.{AllByRecursion}
-use Rattle.nq_answers.specs.declared.Halt.{Halt}
 use Rattle.nq_calls.specs.Lines.{AreCalls, IsCall}
+use Rattle.nq_ending.specs.declared.Halt.{Halt}
 use Rattle.nq_words.specs.Reading.{cut}
 use Rattle.nq_script.specs.Text.{text_of}
 use Rattle.nq_script.proofs.Cuts.{cut-again, cut-found}
 use Rattle.nq_script.proofs.FileLines.{one-line}
 use Rattle.nq_script.proofs.Fitting.{each-back}
+use Rattle.nq_words.specs.Reading.{cut}
+use Rattle.nq_script.specs.Text.{text_of}
 use Rattle.nq_user.specs.Running.{AnswersAll, RunsLine, RunsText}
 use Rattle.nq_user.specs.Turning.{Between}
 

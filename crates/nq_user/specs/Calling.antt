@@ -4,6 +4,7 @@ use Rattle.nq_base.specs.declared.Answer.{Answer}
 use Rattle.nq_base.specs.declared.Call.{Call}
 use Rattle.nq_client.specs.Counted.{Counted}
 use Rattle.nq_client.specs.Outcome.{Called}
+use Rattle.nq_ending.specs.declared.Halt.{Halt}
 use Rattle.nq_base.specs.Entries.{EntryList}
 use Rattle.nq_link.specs.Link.{Letters}
 use Rattle.nq_link.specs.declared.Sent.{Sent}
@@ -12,7 +13,6 @@ use Rattle.nq_model.specs.Profile.{most_taken_by_client}
 use Rattle.nq_node.specs.Links.{LinkTold, SendsAll}
 use Rattle.nq_user.specs.Turning.{Between, TakesTurns, reached}
 use Rattle.nq_user.specs.declared.aims.Aim.{Aim}
-use Rattle.nq_answers.specs.declared.Halt.{Halt}
 use Rattle.nq_wire.specs.Outbox.{Datagrams}
 
 -- all of these datagrams went over the link, or it failed behind a front of them

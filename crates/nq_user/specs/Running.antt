@@ -1,11 +1,13 @@
 -- Running the calls of a text, line by line, with a client that is started, attached, and stopped in the end.
 use Rattle.std.specs.Prelude.{◌≡◌, ◌+◌, ℕ, List, [], ◌∷◌, ◌++◌, length, map, Option, Result, Ok, Err}
+use Rattle.nq_answers.specs.declared.Stop.{Stop}
 use Rattle.nq_base.specs.declared.Call.{Call}
 use Rattle.nq_base.specs.declared.Who.{Who}
 use Rattle.nq_calls.specs.Lines.{AreCalls}
 use Rattle.nq_client.specs.Counted.{Counted}
 use Rattle.nq_client.specs.Finishing.{to_server}
 use Rattle.nq_clock.specs.Clock.{Reads}
+use Rattle.nq_ending.specs.declared.Halt.{Halt}
 use Rattle.nq_base.specs.Entries.{EntryList}
 use Rattle.nq_model.specs.ClientStep.{starts}
 use Rattle.nq_node.specs.Links.{LinkTold}
@@ -13,8 +15,6 @@ use Rattle.nq_script.specs.Calls.{SpellsCall}
 use Rattle.nq_user.specs.Calling.{RunsCall, SendsOut}
 use Rattle.nq_user.specs.Turning.{Between, TakesTurns}
 use Rattle.nq_user.specs.declared.aims.Aim.{Aim}
-use Rattle.nq_answers.specs.declared.Halt.{Halt}
-use Rattle.nq_answers.specs.declared.Stop.{Stop}
 
 -- the term that a client wants, in ticks
 abbrev pub term_wanted : ℕ

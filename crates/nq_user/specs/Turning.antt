@@ -2,13 +2,13 @@
 use Rattle.std.specs.Prelude.{◌≡◌, ◌<◌, ℕ, zero, suc, Bool, true, false, is_none, List, Option, Some, None, Result, Ok, Err}
 use Rattle.nq_base.specs.declared.Answer.{Answer}
 use Rattle.nq_client.specs.Counted.{Counted}
+use Rattle.nq_ending.specs.declared.Halt.{Halt}
 use Rattle.nq_base.specs.Entries.{EntryList}
 use Rattle.nq_model.specs.Client.{Client}
 use Rattle.nq_node.specs.ClientTurn.{AttendsTurn}
 use Rattle.nq_node.specs.Links.{LinkTold}
 use Rattle.nq_node.specs.declared.ClientTurn.{ClientTurn}
 use Rattle.nq_user.specs.declared.aims.Aim.{Aim}
-use Rattle.nq_answers.specs.declared.Halt.{Halt}
 
 -- a client between two turns, with its journal, the number that it is told of the next datagram that it is given, the readings of
 -- the clock to come, and its link
@@ -45,6 +45,7 @@ abbrev pub Stops : Halt → (at after : Between) → Type 0
 Stops Halt.Link at after = Attends ClientTurn.Link at after
 Stops Halt.Memory at after = Attends ClientTurn.Memory at after
 Stops Halt.Spent at after = Attends ClientTurn.Spent at after
+Stops Halt.Keep at after = ⊥
 Stops Halt.NoAnswer at after = ⊥
 
 -- one turn: it went on, or it stopped so

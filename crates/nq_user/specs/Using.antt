@@ -3,9 +3,9 @@
 use Rattle.std.specs.Prelude.{◌≡◌, ℕ, List, [], Option, Some, None, Result}
 use Rattle.nq_answers.specs.Telling.{IsSilent, TellsEnd, TellsSo, bytes_line, last_line, script_line}
 use Rattle.nq_answers.specs.declared.Stop.{Stop}
-use Rattle.nq_answers.specs.declared.Used.{Used}
 use Rattle.nq_base.specs.declared.Who.{Who}
 use Rattle.nq_calls.specs.Lines.{Tells}
+use Rattle.nq_ending.specs.declared.Ending.{Ending}
 use Rattle.nq_io.specs.Whole.{CountsWhole, ReadsWhole}
 use Rattle.nq_io.specs.declared.Whole.{Whole}
 use Rattle.nq_base.specs.Entries.{EntryList}
@@ -13,7 +13,7 @@ use Rattle.nq_node.specs.Links.{LinkTold}
 use Rattle.nq_user.specs.Running.{Runs}
 
 -- the calls of a text were run with a journal that was empty at first, and what came of them was told
-pub record RunsAndTells (turns : ℕ) (who : Who) (text : List ℕ) (result : Used) (held now : Option (List ℕ)) (w w' : ℕ) (clock clock' : Option (List ℕ)) (link link' : LinkTold) : Type 0 where
+pub record RunsAndTells (turns : ℕ) (who : Who) (text : List ℕ) (result : Ending) (held now : Option (List ℕ)) (w w' : ℕ) (clock clock' : Option (List ℕ)) (link link' : LinkTold) : Type 0 where
   pub log : EntryList
   pub log' : EntryList
   pub empty : log.entries ≡ []
@@ -22,25 +22,25 @@ pub record RunsAndTells (turns : ℕ) (who : Who) (text : List ℕ) (result : Us
   pub tells : TellsEnd ended log'.entries result held now w w'
 
 -- what comes of a text with this fault: its line is told and nothing else is done, or its calls are run
-abbrev pub UsesText : Option ℕ → (turns : ℕ) → Who → (text : List ℕ) → Used → (held now : Option (List ℕ)) → (w w' : ℕ) → (clock clock' : Option (List ℕ)) → (link link' : LinkTold) → Type 0
+abbrev pub UsesText : Option ℕ → (turns : ℕ) → Who → (text : List ℕ) → Ending → (held now : Option (List ℕ)) → (w w' : ℕ) → (clock clock' : Option (List ℕ)) → (link link' : LinkTold) → Type 0
 UsesText (Some number) turns who text result held now w w' clock clock' link link' =
-    TellsSo Used.Script (script_line number) result held now w w' × (clock' ≡ clock) × (link' ≡ link)
+    TellsSo Ending.Script (script_line number) result held now w w' × (clock' ≡ clock) × (link' ≡ link)
 UsesText None turns who text result held now w w' clock clock' link link' =
     RunsAndTells turns who text result held now w w' clock clock' link link'
 
 -- what comes of the input that was read so
-abbrev pub UsesInput : Whole → (turns : ℕ) → Who → Used → (held now : Option (List ℕ)) → (w w' : ℕ) → (clock clock' : Option (List ℕ)) → (link link' : LinkTold) → Type 0
+abbrev pub UsesInput : Whole → (turns : ℕ) → Who → Ending → (held now : Option (List ℕ)) → (w w' : ℕ) → (clock clock' : Option (List ℕ)) → (link link' : LinkTold) → Type 0
 UsesInput (Whole.All text) turns who result held now w w' clock clock' link link' =
     (fault : Option ℕ) × Tells fault text.items × UsesText fault turns who text.items result held now w w' clock clock' link link'
 UsesInput (Whole.Over front) turns who result held now w w' clock clock' link link' =
-    TellsSo Used.Limit (bytes_line (last_line front.items)) result held now w w' × (clock' ≡ clock) × (link' ≡ link)
+    TellsSo Ending.Limit (bytes_line (last_line front.items)) result held now w w' × (clock' ≡ clock) × (link' ≡ link)
 UsesInput Whole.Failed turns who result held now w w' clock clock' link link' =
-    (result ≡ Used.ReadFault) × IsSilent held now w w' × (clock' ≡ clock) × (link' ≡ link)
+    (result ≡ Ending.ReadFault) × IsSilent held now w w' × (clock' ≡ clock) × (link' ≡ link)
 UsesInput Whole.Memory turns who result held now w w' clock clock' link link' =
-    (result ≡ Used.Memory) × IsSilent held now w w' × (clock' ≡ clock) × (link' ≡ link)
+    (result ≡ Ending.Memory) × IsSilent held now w w' × (clock' ≡ clock) × (link' ≡ link)
 
 -- the input was read to its end, or to the limit, and this came of it
-pub record Uses (turns : ℕ) (who : Who) (limit : ℕ) (result : Used) (left rest : Option (List ℕ)) (s s' : ℕ) (held now : Option (List ℕ)) (w w' : ℕ) (clock clock' : Option (List ℕ)) (link link' : LinkTold) : Type 0 where
+pub record Uses (turns : ℕ) (who : Who) (limit : ℕ) (result : Ending) (left rest : Option (List ℕ)) (s s' : ℕ) (held now : Option (List ℕ)) (w w' : ℕ) (clock clock' : Option (List ℕ)) (link link' : LinkTold) : Type 0 where
   pub whole : Whole
   pub reads : ReadsWhole whole limit left rest
   pub counts : CountsWhole whole s s'

@@ -9,5 +9,4 @@ mod sending;
 mod turning;
 mod using;
 
-pub use nq_answers::Used;
 pub use using::client;

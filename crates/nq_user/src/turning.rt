@@ -4,10 +4,10 @@ ghost use Rattle.std.specs.Prelude.{◌≡◌};
 ghost use Rattle.nq_user.specs.Turning.{Between, TakesTurn, TakesTurns, reached};
 
 use crate::aims::Aim;
-use nq_answers::Halt;
 use nq_base::Journal;
 use nq_client::Client;
 use nq_clock::Clock;
+use nq_ending::Halt;
 use nq_link::Link;
 use nq_node::{ClientTurn, client_turn};
 use std::alloc::Global;

@@ -5,10 +5,11 @@ ghost use Rattle.nq_calls.specs.Lines.{AreCalls, Tells};
 ghost use Rattle.nq_user.specs.Using.{RunsAndTells, Uses, UsesText};
 
 use crate::running::run;
-use nq_answers::{Used, tell_bytes, tell_end, tell_script};
+use nq_answers::{tell_bytes, tell_end, tell_script};
 use nq_base::{Host, Inc, Journal};
 use nq_calls::find_fault;
 use nq_clock::Clock;
+use nq_ending::Ending;
 use nq_io::{Sink, Source, Whole, read_all};
 use nq_link::Link;
 use std::alloc::Global;
@@ -37,7 +38,7 @@ pub fn client<S: Source, K: Sink, L: Link, C: Clock>(
     out: &mut K,
     link: &mut L,
     clock: &mut C,
-) -> Used
+) -> Ending
     requires { limit < 2 ^ 31 }
     ensures { Uses turns (record { host = host; inc = inc }) limit result (S.left input.old) (S.left input.new) (S.faults input.old) (S.faults input.new)
         (K.held out.old) (K.held out.new) (K.faults out.old) (K.faults out.new) (C.readings clock.old) (C.readings clock.new)
@@ -47,8 +48,8 @@ pub fn client<S: Source, K: Sink, L: Link, C: Clock>(
     match read_all(alloc, input, limit) {
         Whole::All(text) => use_text(alloc, host, inc, turns, &text, out, link, clock),
         Whole::Over(front) => tell_bytes(alloc, &front, out),
-        Whole::Failed => Used::ReadFault,
-        Whole::Memory => Used::Memory,
+        Whole::Failed => Ending::ReadFault,
+        Whole::Memory => Ending::Memory,
     }
 }
 
@@ -62,7 +63,7 @@ fn use_text<K: Sink, L: Link, C: Clock>(
     out: &mut K,
     link: &mut L,
     clock: &mut C,
-) -> Used
+) -> Ending
     requires { length text.now < 2 ^ 31 }
     ensures { (fault : Option ℕ) × Tells fault text.now × UsesText fault turns (record { host = host; inc = inc }) text.now result
         (K.held out.old) (K.held out.new) (K.faults out.old) (K.faults out.new) (C.readings clock.old) (C.readings clock.new)
@@ -85,7 +86,7 @@ fn run_and_tell<K: Sink, L: Link, C: Clock>(
     out: &mut K,
     link: &mut L,
     clock: &mut C,
-) -> Used
+) -> Ending
     requires short { length text.now < 2 ^ 31 }
     requires calls { (lines : List (List ℕ)) × AreCalls lines text.now }
     ensures { RunsAndTells turns (record { host = host; inc = inc }) text.now result

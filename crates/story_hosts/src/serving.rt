@@ -2,7 +2,8 @@
 
 use nq_base::{Host, Party, Ticks};
 use nq_clock::MemClock;
-use nq_hosts::{Served, serve};
+use nq_ending::Ending;
+use nq_hosts::serve;
 use nq_io::MemSink;
 use nq_keeper::ListKeeper;
 use nq_link::MemLink;
@@ -15,7 +16,7 @@ const LOOKUP: [u8; 56] = [
 ];
 
 /// Serves for so many turns over a keeper that keeps nothing. Answers how it ended, and what was printed.
-fn served(rt: &HostRuntime, turns: u32, link: &mut MemLink) -> Result<(Served, MemSink), Fail> {
+fn served(rt: &HostRuntime, turns: u32, link: &mut MemLink) -> Result<(Ending, MemSink), Fail> {
     let alloc = rt.alloc();
     let keeper = ListKeeper::new(alloc, Vec::new(alloc))?;
     let mut clock = MemClock::new(vec![in alloc; Ticks(0)]?);

@@ -4,9 +4,10 @@ ghost use Rattle.std.specs.Prelude.{◌≡◌, IfOk, vec_len};
 
 use nq_base::{Host, Party, Ticks};
 use nq_clock::{Clock, MemClock, StdClock};
+use nq_ending::Ending;
 use nq_io::{MemSink, MemSource};
 use nq_link::{Link, MemLink, UdpLink};
-use nq_looping::{Looped, run_loop};
+use nq_loop::run_loop;
 use nq_replay::replay;
 use std::test::Fail;
 
@@ -54,7 +55,7 @@ fn a_host_alone_has_no_answer(rt: HostRuntime) -> Result<(), Fail> {
     let mut clock = MemClock::new(vec![in alloc; Ticks(0), Ticks(1)]?);
     let mut out = MemSink::new(alloc, 1000, Vec::new(alloc))?;
     let ended = run_loop(alloc, 1, 2, &mut links, &mut clock, &mut out);
-    assert!(rt; ended == Looped::Done);
+    assert!(rt; ended == Ending::Done);
     assert_eq!(rt; out.bytes(), ALONE.as_bytes());
     assert!(rt; has_sent(&links, 0, 0));
     assert!(rt; has_sent(&links, 1, 1));

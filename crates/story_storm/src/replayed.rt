@@ -2,8 +2,8 @@
 
 use nq_io::{MemSink, MemSource};
 use nq_replay::replay;
+use nq_storm::run_storm;
 use nq_storm_rules::{Fate, LossyFate, SteadyFate};
-use nq_storming::run_storm;
 use std::test::Fail;
 
 /// How many bytes there are up to the first line `end`, with that line.

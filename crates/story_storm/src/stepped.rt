@@ -1,7 +1,7 @@
 //! The events of a storm are given to another world, one by one, and to `replay`.
 
-ghost use Rattle.std.specs.Prelude.{IfOk, IsTrue};
 ghost use Rattle.std.specs.List.{AllByRecursion};
+ghost use Rattle.std.specs.Prelude.{IfOk, IsTrue};
 ghost use Rattle.nq_storm_rules.specs.Stormy.{IsStormy};
 ghost use Rattle.nq_world.specs.Playing.{CanCome, HasSettings};
 
@@ -10,9 +10,8 @@ use nq_io::{MemSink, MemSource};
 use nq_keeper::{Keeper, ListKeeper};
 use nq_replay::{begin, print_journal, replay};
 use nq_script::Schedule;
-use nq_storm::{Stormed, storm};
+use nq_storm::{Stormed, schedule_text, storm, storm_head};
 use nq_storm_rules::LossyFate;
-use nq_storm_text::{schedule_text, storm_head};
 use nq_world::{Stepped, World};
 use std::test::Fail;
 

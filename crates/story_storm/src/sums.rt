@@ -1,8 +1,8 @@
 //! All that a storm prints, beside the SHA-256 of what another program prints for it.
 
 use nq_io::MemSink;
+use nq_storm::run_storm;
 use nq_storm_rules::{CutFate, Fate, HostileFate, LossyFate, SteadyFate};
-use nq_storming::run_storm;
 use sha2::{Digest, Sha256};
 use std::test::Fail;
 

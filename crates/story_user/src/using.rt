@@ -2,9 +2,10 @@
 
 use nq_base::{Host, Inc, Party, Ticks};
 use nq_clock::MemClock;
+use nq_ending::Ending;
 use nq_io::{MemSink, MemSource};
 use nq_link::MemLink;
-use nq_user::{Used, client};
+use nq_user::client;
 use std::test::Fail;
 
 /// The reply to request 1: the server attached the host.
@@ -13,7 +14,7 @@ const ATTACHED: [u8; 32] = [
 ];
 
 /// Runs the calls of an input at host 0, in 3 turns each. Answers how it ended, and what was printed.
-fn used(rt: &HostRuntime, input: &[u8], link: &mut MemLink) -> Result<(Used, MemSink), Fail> {
+fn used(rt: &HostRuntime, input: &[u8], link: &mut MemLink) -> Result<(Ending, MemSink), Fail> {
     let alloc = rt.alloc();
     let mut bytes = Vec::new(alloc);
     bytes.extend_from_slice(input)?;

@@ -1,7 +1,7 @@
 use Rattle.std.proofs.Common.{◌≡◌, ◌∙◌, inl, length, map, refl, sym, ap, subst}
 use Rattle.std.specs.Prelude.{reverse}
-use Rattle.nq_loop.specs.Counting.{Counts}
 use Rattle.nq_loop.proofs.Kept.{filled_event}
+use Rattle.nq_loop.specs.Counting.{Counts}
 use Rattle.nq_loop.specs.Holding.{IsLooping, loop_of}
 use Rattle.nq_loop.specs.Sending.{told_of}
 use Rattle.nq_loop.proofs.giving.give_event.Goals as goal
@@ -26,6 +26,7 @@ returns-in-Ok g c = record {
     clients_are = c.give_last.ensures.keeps.clients_are;
     hosts_are = c.give_last.ensures.keeps.hosts_are ∙ ap length c.keep.ensures.begun;
   };
+  follows = c.give_last.ensures.follows;
 }
 
 pub returns-in-Err : goal.returns-in-Err
@@ -46,4 +47,5 @@ returns-in-Err g c = record {
         };
       };
   keeps = record { faults = refl; clients_are = refl; hosts_are = ap length c.keep.ensures.begun };
+  follows = g.met.K.Keeper.follows_itself c.args.world.now.server.keeper;
 }

@@ -1,10 +1,10 @@
 use Rattle.std.proofs.Common.{◌≤◌, Err, length, drop, map, refl, sym, subst, arith}
 use Rattle.std.specs.Prelude.{reverse}
-use Rattle.nq_lines.proofs.Steps.{has_flag}
 use Rattle.nq_loop.proofs.Events.{can-come, counts-refused, counts-taken, has-count, refused, taken}
 use Rattle.nq_loop.specs.Holding.{CountsKeep, GivesTo, IsLooped, loop_of}
 use Rattle.nq_loop.specs.Sending.{SendsAll, told_of}
-use Rattle.nq_storm.proofs.Choosing.{dropped}
+use Rattle.nq_play.proofs.Dropping.{dropped}
+use Rattle.nq_play.proofs.Steps.{has_flag}
 use Rattle.nq_loop.proofs.giving.give_last.Goals as goal
 
 pub step-requires : goal.step-requires
@@ -32,6 +32,7 @@ returns-in-Done g c =
         clients_are = c.step.ensures.settings.hosts_are;
         hosts_are = c.note.ensures.hosts;
       };
+      follows = c.step.ensures.follows;
     }
 
 pub returns-in_default : goal.returns-in_default
@@ -46,4 +47,5 @@ returns-in_default g c = record {
     clients_are = c.step.ensures.settings.hosts_are;
     hosts_are = refl;
   };
+  follows = c.step.ensures.follows;
 }

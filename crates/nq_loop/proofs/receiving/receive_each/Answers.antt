@@ -1,9 +1,9 @@
 use Rattle.std.proofs.Common.{◌∙◌, ◌∷◌, [], length, sym, subst}
 use Rattle.nq_base.specs.declared.Party.{Party}
-use Rattle.nq_loop.specs.Looping.{Step, receive_steps}
-use Rattle.nq_loop.specs.Steps.{each_below}
 use Rattle.nq_loop.proofs.Whole.{cut-first, keeps-behind, then}
 use Rattle.nq_loop.specs.Holding.{Keeps, Loops, loop_of}
+use Rattle.nq_loop.specs.Looping.{Step, receive_steps}
+use Rattle.nq_loop.specs.Steps.{each_below}
 use Rattle.nq_loop.proofs.receiving.receive_each.Goals as goal
 
 pub returns-in-Ok : goal.returns-in-Ok
@@ -16,6 +16,7 @@ returns-in-Ok g c = record {
       (loop_of g.K.Keeper.content g.L.Link.sent g.L.Link.waiting g.L.Link.faults c.receive.new.world c.receive.new.state c.receive.new.ran c.receive.new.links)
       (loop_of g.K.Keeper.content g.L.Link.sent g.L.Link.waiting g.L.Link.faults c.receive_hosts.new.world c.receive_hosts.new.state c.receive_hosts.new.ran c.receive_hosts.new.links) first second);
   keeps = subst (λ r. Keeps r (g.K.Keeper.faults c.args.world.now.server.keeper) (g.K.Keeper.faults c.receive_hosts.new.world.server.keeper) (length c.args.world.now.clients) (length c.receive_hosts.new.world.clients) (length c.args.state.now.begun) (length c.receive_hosts.new.state.begun)) (sym c.behind.ensures) (keeps-behind c.in-Ok.came c.receive_hosts.result _ _ _ _ _ _ _ _ _ c.in-Ok.ensures.keeps c.receive_hosts.ensures.keeps);
+  follows = g.met.K.Keeper.follows_on _ _ _ c.receive.ensures.follows c.receive_hosts.ensures.follows;
 }
 
 pub returns-in-Err : goal.returns-in-Err
@@ -24,4 +25,5 @@ returns-in-Err g c = record {
       cut-first head (Step.receive Party.Server ∷ []) (each_below head.hosts (λ host. Step.receive (Party.Client host))) c.in-Err.why (loop_of g.K.Keeper.content g.L.Link.sent g.L.Link.waiting g.L.Link.faults c.args.world.now c.args.state.now c.args.ran.now c.args.links.now)
       (loop_of g.K.Keeper.content g.L.Link.sent g.L.Link.waiting g.L.Link.faults c.receive.new.world c.receive.new.state c.receive.new.ran c.receive.new.links) (c.in-Err.ensures.loops head hosts here);
   keeps = c.in-Err.ensures.keeps;
+  follows = c.receive.ensures.follows;
 }

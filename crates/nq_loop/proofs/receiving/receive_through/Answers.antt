@@ -16,6 +16,7 @@ returns-in-Nothing g c =
           none-came head c.args.party.now (loop_of g.K.Keeper.content g.L.Link.sent g.L.Link.waiting g.L.Link.faults c.args.world.now c.args.state.now c.args.ran.now c.args.links.now) links here
           (subst (λ p. HearsAt p None (map told c.args.links.now) links) c.place_of-place.ensures c.in-Nothing.ensures);
       keeps = record { faults = refl; clients_are = refl; hosts_are = refl };
+      follows = g.met.K.Keeper.follows_itself c.args.world.now.server.keeper;
     }
 
 pub returns-in-Failed : goal.returns-in-Failed
@@ -27,6 +28,7 @@ returns-in-Failed g c =
           none-heard head c.args.party.now (loop_of g.K.Keeper.content g.L.Link.sent g.L.Link.waiting g.L.Link.faults c.args.world.now c.args.state.now c.args.ran.now c.args.links.now) links here
           (subst (λ p. FailsAt p (map told c.args.links.now) links) c.place_of-place.ensures c.in-Failed.ensures);
       keeps = record { faults = refl; clients_are = refl; hosts_are = refl };
+      follows = g.met.K.Keeper.follows_itself c.args.world.now.server.keeper;
     }
 
 pub returns-in-Datagram : goal.returns-in-Datagram
@@ -42,4 +44,5 @@ returns-in-Datagram g c =
           (subst (λ p. HearsAt p (Some letter) (map told c.args.links.now) links) c.place_of-place.ensures c.in-Datagram.ensures.1)
           (c.take_in.ensures.takes head hosts (relinked head old links here));
       keeps = c.take_in.ensures.keeps;
+      follows = c.take_in.ensures.follows;
     }

@@ -13,6 +13,7 @@ returns-in-Ok-Some g c = record {
       (loop_of g.K.Keeper.content g.L.Link.sent g.L.Link.waiting g.L.Link.faults c.give.new.world c.give.new.state c.give.new.ran c.give.new.links)
       here c.packets.ensures ((rw c.in-Ok-Some.field-0-is at c.in-Ok-Some.ensures) (reverse c.args.ran.now) here.marks) (c.give.ensures.gives head hosts here);
   keeps = c.give.ensures.keeps;
+  follows = c.give.ensures.follows;
 }
 
 pub returns-in-Ok-None : goal.returns-in-Ok-None
@@ -21,10 +22,12 @@ returns-in-Ok-None g c = record {
       drops-it head (came_to c.args.to.now (c.args.sender, c.args.datagram.now)) c.packets.result.now.datagrams (loop_of g.K.Keeper.content g.L.Link.sent g.L.Link.waiting g.L.Link.faults c.args.world.now c.args.state.now c.args.ran.now c.args.links.now)
       here c.packets.ensures ((rw c.in-Ok-None.field-0-is at c.in-Ok-None.ensures) (reverse c.args.ran.now) here.marks);
   keeps = record { faults = refl; clients_are = refl; hosts_are = refl };
+  follows = g.met.K.Keeper.follows_itself c.args.world.now.server.keeper;
 }
 
 pub returns-in-Err : goal.returns-in-Err
 returns-in-Err g c = record {
   takes = λ head hosts here. wants-memory head _ _ here;
   keeps = record { faults = refl; clients_are = refl; hosts_are = refl };
+  follows = g.met.K.Keeper.follows_itself c.args.world.now.server.keeper;
 }

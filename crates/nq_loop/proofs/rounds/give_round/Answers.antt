@@ -1,9 +1,9 @@
 use Rattle.std.proofs.Common.{◌∙◌, ◌∷◌, [], length, sym, subst}
 use Rattle.nq_base.specs.declared.Event.{Event}
-use Rattle.nq_loop.specs.Looping.{Step, round_steps}
-use Rattle.nq_loop.specs.Steps.{each_below}
 use Rattle.nq_loop.proofs.Whole.{cut-first, given-step, keeps-behind, then}
 use Rattle.nq_loop.specs.Holding.{Keeps, Loops, loop_of}
+use Rattle.nq_loop.specs.Looping.{Step, round_steps}
+use Rattle.nq_loop.specs.Steps.{each_below}
 use Rattle.nq_loop.proofs.rounds.give_round.Goals as goal
 
 pub returns-in-Ok : goal.returns-in-Ok
@@ -16,6 +16,7 @@ returns-in-Ok g c = record {
       (loop_of g.K.Keeper.content g.L.Link.sent g.L.Link.waiting g.L.Link.faults c.tick_hosts.new.world c.tick_hosts.new.state c.tick_hosts.new.ran c.tick_hosts.new.links)
       (loop_of g.K.Keeper.content g.L.Link.sent g.L.Link.waiting g.L.Link.faults c.give.new.world c.give.new.state c.give.new.ran c.give.new.links) first second);
   keeps = subst (λ r. Keeps r (g.K.Keeper.faults c.args.world.now.server.keeper) (g.K.Keeper.faults c.give.new.world.server.keeper) (length c.args.world.now.clients) (length c.give.new.world.clients) (length c.args.state.now.begun) (length c.give.new.state.begun)) (sym c.behind.ensures) (keeps-behind c.in-Ok.ticked c.give.result _ _ _ _ _ _ _ _ _ c.in-Ok.ensures.keeps c.give.ensures.keeps);
+  follows = g.met.K.Keeper.follows_on _ _ _ c.tick_hosts.ensures.follows c.give.ensures.follows;
 }
 
 pub returns-in-Err : goal.returns-in-Err
@@ -24,4 +25,5 @@ returns-in-Err g c = record {
       cut-first head (each_below head.hosts (λ host. Step.given (Event.ClientTick host))) (Step.given Event.ServerTick ∷ []) c.in-Err.why (loop_of g.K.Keeper.content g.L.Link.sent g.L.Link.waiting g.L.Link.faults c.args.world.now c.args.state.now c.args.ran.now c.args.links.now)
       (loop_of g.K.Keeper.content g.L.Link.sent g.L.Link.waiting g.L.Link.faults c.tick_hosts.new.world c.tick_hosts.new.state c.tick_hosts.new.ran c.tick_hosts.new.links) (c.in-Err.ensures.loops head hosts here);
   keeps = c.in-Err.ensures.keeps;
+  follows = c.tick_hosts.ensures.follows;
 }

@@ -8,6 +8,7 @@ pub loop-round-init : goal.loop-round-init
 loop-round-init g c = record {
   loops = λ head hosts here. no-steps head _ here;
   keeps = record { faults = refl; clients_are = refl; hosts_are = refl };
+  follows = g.met.K.Keeper.follows_itself c.args.world.now.server.keeper;
 }
 
 pub loop-round-preserved : goal.loop-round-preserved
@@ -20,6 +21,7 @@ loop-round-preserved g c =
           rounds-more head head.hosts c.loop-round.round c.loop-round.any c.in-Ok.more c.either-any.result (loop_of g.K.Keeper.content g.L.Link.sent g.L.Link.waiting g.L.Link.faults c.args.world.now c.args.state.now c.args.ran.now c.args.links.now)
           (loop_of g.K.Keeper.content g.L.Link.sent g.L.Link.waiting g.L.Link.faults c.loop-round.world c.loop-round.state c.loop-round.ran c.loop-round.links) (loop_of g.K.Keeper.content g.L.Link.sent g.L.Link.waiting g.L.Link.faults c.give_round.new.world c.give_round.new.state c.give_round.new.ran c.give_round.new.links) c.either-any.ensures first second;
       keeps = keeps-any c.in-Ok.more c.either-any.result _ _ _ _ _ _ (keeps-then c.loop-round.any (Ok c.in-Ok.more) _ _ _ _ _ _ _ _ _ before.keeps c.in-Ok.ensures.keeps);
+      follows = g.met.K.Keeper.follows_on _ _ _ before.follows c.give_round.ensures.follows;
     }
 
 pub returns-in-Err : goal.returns-in-Err
@@ -33,6 +35,7 @@ returns-in-Err g c =
           rounds-stop head head.hosts c.loop-round.round c.args.rounds c.loop-round.any c.in-Err.why (loop_of g.K.Keeper.content g.L.Link.sent g.L.Link.waiting g.L.Link.faults c.args.world.now c.args.state.now c.args.ran.now c.args.links.now)
           (loop_of g.K.Keeper.content g.L.Link.sent g.L.Link.waiting g.L.Link.faults c.loop-round.world c.loop-round.state c.loop-round.ran c.loop-round.links) (loop_of g.K.Keeper.content g.L.Link.sent g.L.Link.waiting g.L.Link.faults c.give_round.new.world c.give_round.new.state c.give_round.new.ran c.give_round.new.links) below first second;
       keeps = keeps-then c.loop-round.any (Err c.in-Err.why) _ _ _ _ _ _ _ _ _ before.keeps c.in-Err.ensures.keeps;
+      follows = g.met.K.Keeper.follows_on _ _ _ before.follows c.give_round.ensures.follows;
     }
 
 pub returns : goal.returns
@@ -41,4 +44,5 @@ returns g c = record {
       let all : c.loop-round.round ≡ c.args.rounds = omega (arith, c.loop-round.auto.round-end, c.loop-round-test.false) in
       subst (λ n. Loops head (rounds_steps head.hosts n) (Ok c.loop-round.any) (loop_of g.K.Keeper.content g.L.Link.sent g.L.Link.waiting g.L.Link.faults c.args.world.now c.args.state.now c.args.ran.now c.args.links.now) (loop_of g.K.Keeper.content g.L.Link.sent g.L.Link.waiting g.L.Link.faults c.loop-round.world c.loop-round.state c.loop-round.ran c.loop-round.links)) all (c.loop-round.invariant.loops head hosts here);
   keeps = c.loop-round.invariant.keeps;
+  follows = c.loop-round.invariant.follows;
 }

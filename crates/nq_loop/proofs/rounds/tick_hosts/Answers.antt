@@ -10,6 +10,7 @@ pub loop-host-init : goal.loop-host-init
 loop-host-init g c = record {
   loops = λ head hosts here. no-steps head _ here;
   keeps = record { faults = refl; clients_are = refl; hosts_are = refl };
+  follows = g.met.K.Keeper.follows_itself c.args.world.now.server.keeper;
 }
 
 pub loop-host-preserved : goal.loop-host-preserved
@@ -22,6 +23,7 @@ loop-host-preserved g c =
           each-more head (λ host. Step.given (Event.ClientTick host)) c.loop-host.host c.loop-host.any c.in-Ok.more c.either-any.result (loop_of g.K.Keeper.content g.L.Link.sent g.L.Link.waiting g.L.Link.faults c.args.world.now c.args.state.now c.args.ran.now c.args.links.now)
           (loop_of g.K.Keeper.content g.L.Link.sent g.L.Link.waiting g.L.Link.faults c.loop-host.world c.loop-host.state c.loop-host.ran c.loop-host.links) (loop_of g.K.Keeper.content g.L.Link.sent g.L.Link.waiting g.L.Link.faults c.give.new.world c.give.new.state c.give.new.ran c.give.new.links) c.either-any.ensures first second;
       keeps = keeps-any c.in-Ok.more c.either-any.result _ _ _ _ _ _ (keeps-then c.loop-host.any (Ok c.in-Ok.more) _ _ _ _ _ _ _ _ _ before.keeps c.in-Ok.ensures.keeps);
+      follows = g.met.K.Keeper.follows_on _ _ _ before.follows c.give.ensures.follows;
     }
 
 pub returns-in-Err : goal.returns-in-Err
@@ -35,6 +37,7 @@ returns-in-Err g c =
           each-stops head (λ host. Step.given (Event.ClientTick host)) c.loop-host.host head.hosts c.loop-host.any c.in-Err.why (loop_of g.K.Keeper.content g.L.Link.sent g.L.Link.waiting g.L.Link.faults c.args.world.now c.args.state.now c.args.ran.now c.args.links.now)
           (loop_of g.K.Keeper.content g.L.Link.sent g.L.Link.waiting g.L.Link.faults c.loop-host.world c.loop-host.state c.loop-host.ran c.loop-host.links) (loop_of g.K.Keeper.content g.L.Link.sent g.L.Link.waiting g.L.Link.faults c.give.new.world c.give.new.state c.give.new.ran c.give.new.links) below first second;
       keeps = keeps-then c.loop-host.any (Err c.in-Err.why) _ _ _ _ _ _ _ _ _ before.keeps c.in-Err.ensures.keeps;
+      follows = g.met.K.Keeper.follows_on _ _ _ before.follows c.give.ensures.follows;
     }
 
 pub returns : goal.returns
@@ -43,4 +46,5 @@ returns g c = record {
       let all : c.loop-host.host ≡ head.hosts = omega (arith, c.loop-host.auto.host-end, c.loop-host-test.false, hosts, c.hosts-host-end.ensures) in
       subst (λ n. Loops head (each_below n (λ host. Step.given (Event.ClientTick host))) (Ok c.loop-host.any) (loop_of g.K.Keeper.content g.L.Link.sent g.L.Link.waiting g.L.Link.faults c.args.world.now c.args.state.now c.args.ran.now c.args.links.now) (loop_of g.K.Keeper.content g.L.Link.sent g.L.Link.waiting g.L.Link.faults c.loop-host.world c.loop-host.state c.loop-host.ran c.loop-host.links)) all (c.loop-host.invariant.loops head hosts here);
   keeps = c.loop-host.invariant.keeps;
+  follows = c.loop-host.invariant.follows;
 }

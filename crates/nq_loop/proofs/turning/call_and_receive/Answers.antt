@@ -1,7 +1,7 @@
 use Rattle.std.proofs.Common.{◌∙◌, ◌++◌, length, sym, subst}
-use Rattle.nq_loop.specs.Looping.{call_steps, receive_steps}
 use Rattle.nq_loop.proofs.Whole.{cut-first, keeps-behind, then}
 use Rattle.nq_loop.specs.Holding.{Keeps, Loops, loop_of}
+use Rattle.nq_loop.specs.Looping.{call_steps, receive_steps}
 use Rattle.nq_loop.proofs.turning.call_and_receive.Goals as goal
 
 pub returns-in-Ok : goal.returns-in-Ok
@@ -14,6 +14,7 @@ returns-in-Ok g c = record {
       (loop_of g.K.Keeper.content g.L.Link.sent g.L.Link.waiting g.L.Link.faults c.begin_calls.new.world c.begin_calls.new.state c.begin_calls.new.ran c.begin_calls.new.links)
       (loop_of g.K.Keeper.content g.L.Link.sent g.L.Link.waiting g.L.Link.faults c.receive_each.new.world c.receive_each.new.state c.receive_each.new.ran c.receive_each.new.links) first second);
   keeps = subst (λ r. Keeps r (g.K.Keeper.faults c.args.world.now.server.keeper) (g.K.Keeper.faults c.receive_each.new.world.server.keeper) (length c.args.world.now.clients) (length c.receive_each.new.world.clients) (length c.args.state.now.begun) (length c.receive_each.new.state.begun)) (sym c.behind.ensures) (keeps-behind c.in-Ok.called c.receive_each.result _ _ _ _ _ _ _ _ _ c.in-Ok.ensures.keeps c.receive_each.ensures.keeps);
+  follows = g.met.K.Keeper.follows_on _ _ _ c.begin_calls.ensures.follows c.receive_each.ensures.follows;
 }
 
 pub returns-in-Err : goal.returns-in-Err
@@ -22,4 +23,5 @@ returns-in-Err g c = record {
       cut-first head (call_steps head.hosts) (receive_steps head.hosts) c.in-Err.why (loop_of g.K.Keeper.content g.L.Link.sent g.L.Link.waiting g.L.Link.faults c.args.world.now c.args.state.now c.args.ran.now c.args.links.now)
       (loop_of g.K.Keeper.content g.L.Link.sent g.L.Link.waiting g.L.Link.faults c.begin_calls.new.world c.begin_calls.new.state c.begin_calls.new.ran c.begin_calls.new.links) (c.in-Err.ensures.loops head hosts here);
   keeps = c.in-Err.ensures.keeps;
+  follows = c.begin_calls.ensures.follows;
 }

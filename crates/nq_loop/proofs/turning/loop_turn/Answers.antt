@@ -10,4 +10,5 @@ returns g c = record {
       (loop_of g.K.Keeper.content g.L.Link.sent g.L.Link.waiting g.L.Link.faults c.take_turn.new.world c.take_turn.new.state c.take_turn.new.ran c.take_turn.new.links)
       c.answered.ensures c.now-reading.ensures.told c.rounds_due-rounds.ensures c.server_time.ensures here (c.take_turn.ensures.loops head hosts here);
   keeps = keeps-turn c.answered.result c.take_turn.result _ _ _ _ _ _ c.answered.ensures c.take_turn.ensures.keeps;
+  follows = c.take_turn.ensures.follows;
 }

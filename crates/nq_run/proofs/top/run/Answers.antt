@@ -1,8 +1,10 @@
 use Rattle.std.proofs.Common.{◌∙◌, Some, ap, refl, sym}
 use Rattle.nq_command.specs.Commands.{command_of}
+use Rattle.nq_ending.proofs.Ends.{one_end}
+use Rattle.nq_ending.specs.declared.Ending.{Ending}
 use Rattle.nq_run.proofs.LoopPromises.{loop_does, loop_lawful, loop_usage}
-use Rattle.nq_run.proofs.Promises.{done_by, input_lawful, input_sound}
-use Rattle.nq_run.proofs.StormPromises.{storm_does, storm_lawful, storm_never, storm_prints, storm_usage}
+use Rattle.nq_run.proofs.Promises.{input_lawful, input_sound}
+use Rattle.nq_run.proofs.StormPromises.{storm_does, storm_lawful, storm_never, storm_prints, storm_unless, storm_usage}
 use Rattle.nq_run.specs.Promised.{most_bytes}
 use Rattle.nq_run.proofs.top.run.Goals as goal
 
@@ -20,11 +22,23 @@ returns-in-Some-Replay-clause-done g c = λ is text told within head events runs
 
 pub returns-in-Some-Replay-clause-headline : goal.returns-in-Some-Replay-clause-headline
 unfolding most_bytes
-returns-in-Some-Replay-clause-headline g c = λ is done. input_lawful _ _ _ _ _ (c.replay.ensures.lawful (done_by c.replay.result c.status.result c.status.ensures done))
+returns-in-Some-Replay-clause-headline g c = λ is done. input_lawful _ _ _ _ _ (c.replay.ensures.lawful (one_end c.replay.result Ending.Done c.status.result c.status.ensures done))
 
 pub returns-in-Some-Replay-clause-sound : goal.returns-in-Some-Replay-clause-sound
 unfolding most_bytes
-returns-in-Some-Replay-clause-sound g c = λ is done. input_sound _ _ _ _ _ (c.replay.ensures.lawful (done_by c.replay.result c.status.result c.status.ensures done))
+returns-in-Some-Replay-clause-sound g c = λ is done. input_sound _ _ _ _ _ (c.replay.ensures.lawful (one_end c.replay.result Ending.Done c.status.result c.status.ensures done))
+
+pub returns-in-Some-Check-clause-judged_limit : goal.returns-in-Some-Check-clause-judged_limit
+unfolding most_bytes
+returns-in-Some-Check-clause-judged_limit g c = λ is text told longer. (c.judge.result, c.status-in-Some-Check.ensures, c.judge.ensures.limit text told longer)
+
+pub returns-in-Some-Check-clause-judged_script : goal.returns-in-Some-Check-clause-judged_script
+unfolding most_bytes
+returns-in-Some-Check-clause-judged_script g c = λ is text told within number faulty. (c.judge.result, c.status-in-Some-Check.ensures, c.judge.ensures.script text told within number faulty)
+
+pub returns-in-Some-Check-clause-judged_said : goal.returns-in-Some-Check-clause-judged_said
+unfolding most_bytes
+returns-in-Some-Check-clause-judged_said g c = λ is text told within journal. (c.judge.result, c.status-in-Some-Check.ensures, c.judge.ensures.said text told within journal)
 
 pub returns-in-Some-Storm-clause-usage : goal.returns-in-Some-Storm-clause-usage
 returns-in-Some-Storm-clause-usage g c = λ none.
@@ -41,6 +55,10 @@ returns-in-Some-Storm-clause-nothing g c = λ none.
 pub returns-in-Some-Storm-clause-storms : goal.returns-in-Some-Storm-clause-storms
 returns-in-Some-Storm-clause-storms g c = λ kind start events is.
     storm_does (command_of c.args.words.now) c.storm.result c.in-Some-Storm.kind c.in-Some-Storm.start c.in-Some-Storm.events kind start events _ _ _ _ _ (sym c.command.ensures.says ∙ c.in-Some-Storm.is ∙ ap Some c.in-Some-Storm.field-0-is) is c.storm.ensures
+
+pub returns-in-Some-Storm-clause-stormed : goal.returns-in-Some-Storm-clause-stormed
+returns-in-Some-Storm-clause-stormed g c = λ kind start events is.
+    storm_unless c.storm.result c.in-Some-Storm.kind c.in-Some-Storm.start c.in-Some-Storm.events _ _ _ _ _ c.storm.ensures
 
 pub returns-in-Some-Storm-clause-lawful : goal.returns-in-Some-Storm-clause-lawful
 returns-in-Some-Storm-clause-lawful g c = λ kind start events is done.

@@ -1,8 +1,8 @@
 use Rattle.std.proofs.Common.{◌∙◌, refl, subst, sym, arith}
 use Rattle.std.proofs.lemmas.List.{length-reverse}
 use Rattle.std.specs.Prelude.{reverse}
-use Rattle.nq_storm.specs.Ending.{IsInStorm}
 use Rattle.nq_storm.proofs.Whole.{begins, counts_on, drawn, further, is_cut, is_whole}
+use Rattle.nq_storm.specs.Ending.{IsInStorm}
 use Rattle.nq_storm.proofs.storms.storm.Goals as goal
 
 pub loop-earlier-init : goal.loop-earlier-init
@@ -12,6 +12,7 @@ loop-earlier-init g c = record {
   storm = λ head plays. begins head _ _ c.args.ran.now _ _ _ c.requires.empty plays c.new-delivered.ensures;
   stormy = rw c.requires.empty tt;
   faults = refl;
+  follows = g.met.K.Keeper.follows_itself c.args.world.now.server.keeper;
   settings = c.requires.settings;
 }
 
@@ -28,6 +29,7 @@ loop-earlier-preserved g c =
           (sym c.deref_box_mut-1.ensures.value.1) (c.loop-earlier.invariant.storm head plays));
       stormy = c.pass_moment.ensures.stormy c.loop-earlier.invariant.stormy;
       faults = c.in-Done.ensures.faults ∙ c.loop-earlier.invariant.faults;
+      follows = g.met.K.Keeper.follows_on _ _ _ c.loop-earlier.invariant.follows c.pass_moment.ensures.follows;
       settings = c.pass_moment.ensures.settings;
     }
 
@@ -44,6 +46,7 @@ returns-in_default g c =
           (c.pass_moment.ensures.halts other head (reverse ran) count here.at);
       stormy = c.pass_moment.ensures.stormy c.loop-earlier.invariant.stormy;
       faults = counts_on c.pass_moment.result _ _ _ c.loop-earlier.invariant.faults c.pass_moment.ensures.faults;
+      follows = g.met.K.Keeper.follows_on _ _ _ c.loop-earlier.invariant.follows c.pass_moment.ensures.follows;
       settings = c.pass_moment.ensures.settings;
     }
 
@@ -52,5 +55,6 @@ returns g c = record {
   storms = λ head plays. is_whole head c.args.start c.args.events _ _ c.loop-earlier.ran _ _ _ (c.loop-earlier.invariant.many ∙ omega (arith, c.loop-earlier.auto.earlier-end, c.loop-earlier-test.false)) (c.loop-earlier.invariant.storm head plays);
   stormy = c.loop-earlier.invariant.stormy;
   faults = c.loop-earlier.invariant.faults;
+  follows = c.loop-earlier.invariant.follows;
   settings = c.loop-earlier.invariant.settings;
 }

@@ -1,10 +1,10 @@
 use Rattle.std.proofs.Common.{◌≡◌, [], length}
 use Rattle.std.specs.List.{AllByRecursion}
 use Rattle.std.specs.Prelude.{reverse}
-use Rattle.nq_storm_rules.specs.Stormy.{IsStormy}
 use Rattle.nq_model.specs.World.{Head}
 use Rattle.nq_storm.specs.Ending.{IsInStorm}
-use Rattle.nq_storm_text.specs.Storming.{generator}
+use Rattle.nq_storm.specs.Storming.{generator}
+use Rattle.nq_storm_rules.specs.Stormy.{IsStormy}
 use Rattle.nq_world.specs.Playing.{HasSettings, Plays}
 use Rattle.nq_storm.proofs.storms.storm.Given as goal
 
@@ -17,5 +17,6 @@ invariant-loop-earlier g l = record {
       ((goal.Fate-dyn g (l.fate.vtable, l.fate.value)).told l.fate.value) l.world (g.K.Keeper.content l.world.server.keeper) l.delivered;
   stormy : AllByRecursion IsStormy l.ran;
   faults : g.K.Keeper.faults l.world.server.keeper ≡ g.K.Keeper.faults l.fn.world.server.keeper;
+  follows : g.K.Keeper.follows l.fn.world.server.keeper l.world.server.keeper;
   settings : HasSettings 4 60 30 l.world;
 }

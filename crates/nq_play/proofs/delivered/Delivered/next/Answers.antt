@@ -1,8 +1,8 @@
 use Rattle.std.proofs.Common.{◌∙◌}
-use Rattle.nq_play.specs.Delivering.{Marks}
 use Rattle.nq_play.proofs.Flags.{next-some, next-none}
-use Rattle.nq_play.proofs.delivered.Delivered.next.Goals.{then-self-sent, else-self-sent}
+use Rattle.nq_play.specs.Delivering.{Marks}
 use Rattle.nq_play.proofs.delivered.Delivered.next.Goals as goal
+use Rattle.nq_play.proofs.delivered.Delivered.next.Goals.{then-self-sent, else-self-sent}
 
 pub returns-clause-next : goal.returns-clause-next
 returns-clause-next c = λ events marks.

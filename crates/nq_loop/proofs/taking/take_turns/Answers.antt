@@ -1,0 +1,63 @@
+use Rattle.std.proofs.Common.{◌≡◌, ◌≤◌, ◌∙◌, inl, inr, length, refl, sym, arith}
+use Rattle.std.specs.Prelude.{reverse}
+use Rattle.nq_loop.proofs.Takings.{now_at, stopped, stopped-counts, went, went-counts}
+use Rattle.nq_loop.specs.Holding.{loop_of}
+use Rattle.nq_loop.proofs.taking.take_turns.Goals as goal
+
+pub loop-turn-init : goal.loop-turn-init
+loop-turn-init g c = record {
+  goes = λ head hosts here. (refl, here);
+  clients = refl;
+  hosts = refl;
+  faults = refl;
+  follows = g.met.P.Keeper.follows_itself c.args.world.now.server.keeper;
+}
+
+pub loop-turn-preserved : goal.loop-turn-preserved
+loop-turn-preserved g c = record {
+  goes = λ head hosts here.
+      let before = c.loop-turn.invariant.goes head hosts here in
+      let mine : head.hosts ≡ length c.loop-turn.state.begun = hosts ∙ sym c.loop-turn.invariant.hosts in
+      let left = sym (c.all_answered.ensures head (reverse c.loop-turn.ran) mine before.1.plays before.1.counts) ∙ c.if-all_answered.false in
+      let turned = c.loop_turn.ensures.turn head mine before.1 in
+      went head c.loop-turn.turn c.loop_turn.result (now_at (loop_of g.P.Keeper.content g.L.Link.sent g.L.Link.waiting g.L.Link.faults c.args.world.now c.args.state.now c.args.ran.now c.args.links.now) (g.C.Clock.readings c.args.clock.now)) (g.C.Clock.readings c.loop-turn.clock) (g.C.Clock.readings c.loop_turn.new.clock)
+      (loop_of g.P.Keeper.content g.L.Link.sent g.L.Link.waiting g.L.Link.faults c.loop-turn.world c.loop-turn.state c.loop-turn.ran c.loop-turn.links)
+      (loop_of g.P.Keeper.content g.L.Link.sent g.L.Link.waiting g.L.Link.faults c.loop_turn.new.world c.loop_turn.new.state c.loop_turn.new.ran c.loop_turn.new.links)
+      (sym c.went_on.ensures ∙ c.in-Ok.is) before.0 left turned;
+  clients = c.loop_turn.ensures.keeps.clients_are ∙ c.loop-turn.invariant.clients;
+  hosts = c.loop_turn.ensures.keeps.hosts_are ∙ c.loop-turn.invariant.hosts;
+  faults = went-counts c.loop_turn.result _ _ (sym c.went_on.ensures ∙ c.in-Ok.is) c.loop_turn.ensures.keeps.faults ∙ c.loop-turn.invariant.faults;
+  follows = g.met.P.Keeper.follows_on _ _ _ c.loop-turn.invariant.follows c.loop_turn.ensures.follows;
+}
+
+pub returns-in-Err-clause-turns : goal.returns-in-Err-clause-turns
+returns-in-Err-clause-turns g c = λ head hosts here.
+    let before = c.loop-turn.invariant.goes head hosts here in
+    let mine : head.hosts ≡ length c.loop-turn.state.begun = hosts ∙ sym c.loop-turn.invariant.hosts in
+    let left = sym (c.all_answered.ensures head (reverse c.loop-turn.ran) mine before.1.plays before.1.counts) ∙ c.if-all_answered.false in
+    let turned = c.loop_turn.ensures.turn head mine before.1 in
+    stopped head c.loop-turn.turn c.args.turns c.loop_turn.result c.in-Err.stopped (now_at (loop_of g.P.Keeper.content g.L.Link.sent g.L.Link.waiting g.L.Link.faults c.args.world.now c.args.state.now c.args.ran.now c.args.links.now) (g.C.Clock.readings c.args.clock.now)) (g.C.Clock.readings c.loop-turn.clock) (g.C.Clock.readings c.loop_turn.new.clock)
+    (loop_of g.P.Keeper.content g.L.Link.sent g.L.Link.waiting g.L.Link.faults c.loop-turn.world c.loop-turn.state c.loop-turn.ran c.loop-turn.links)
+    (loop_of g.P.Keeper.content g.L.Link.sent g.L.Link.waiting g.L.Link.faults c.loop_turn.new.world c.loop_turn.new.state c.loop_turn.new.ran c.loop_turn.new.links)
+    (sym c.went_on.ensures ∙ c.in-Err.is) c.loop-turn-test.true before.0 left turned
+
+pub returns-then-all_answered-clause-turns : goal.returns-then-all_answered-clause-turns
+returns-then-all_answered-clause-turns g c = λ head hosts here.
+    let before = c.loop-turn.invariant.goes head hosts here in
+    let mine : head.hosts ≡ length c.loop-turn.state.begun = hosts ∙ sym c.loop-turn.invariant.hosts in
+    let all = sym (c.all_answered.ensures head (reverse c.loop-turn.ran) mine before.1.plays before.1.counts) ∙ c.if-all_answered.true in
+    let within : c.loop-turn.turn ≤ c.args.turns = omega (arith, c.loop-turn-test.true) in
+    (record { count = c.loop-turn.turn; within = within; goes = before.0; ends = inr all }, before.1)
+
+pub returns-clause-turns : goal.returns-clause-turns
+returns-clause-turns g c = λ head hosts here.
+    let before = c.loop-turn.invariant.goes head hosts here in
+    let within : c.loop-turn.turn ≤ c.args.turns = c.loop-turn.auto.turn-end in
+    (record { count = c.loop-turn.turn; within = within; goes = before.0; ends = inl (omega (arith, within, c.loop-turn-test.false)) }, before.1)
+
+pub returns-in-Err-clause-faults : goal.returns-in-Err-clause-faults
+returns-in-Err-clause-faults g c =
+    stopped-counts c.loop_turn.result c.in-Err.stopped _ _ _ (sym c.went_on.ensures ∙ c.in-Err.is) c.loop-turn.invariant.faults c.loop_turn.ensures.keeps.faults
+
+pub returns-in-Err-clause-follows : goal.returns-in-Err-clause-follows
+returns-in-Err-clause-follows g c = g.met.P.Keeper.follows_on _ _ _ c.loop-turn.invariant.follows c.loop_turn.ensures.follows

@@ -1,0 +1,69 @@
+-- The turns of a loop, one after another. The events of a run are told with the newest first.
+use Rattle.std.specs.Prelude.{◌≡◌, ◌⊎◌, ◌≤◌, ◌<◌, ◌&&◌, ℕ, Bool, true, false, not, List, Option, Result, Ok, Err, nat_le, slice_get, zero, suc}
+use Rattle.nq_base.specs.declared.Event.{Event}
+use Rattle.nq_loop.specs.Counting.{begun_in}
+use Rattle.nq_loop.specs.Looping.{Moment, TakesTurn, is_busy}
+use Rattle.nq_loop.specs.declared.turns.LoopTurn.{LoopTurn}
+use Rattle.nq_model.specs.World.{Head, run}
+
+-- a loop between two turns: its moment, and the readings of the clock to come
+pub record Between : Type 0 where
+  pub moment : Moment
+  pub clock : Option (List ℕ)
+
+-- whether a host has begun its three calls, and none is under way
+abbrev pub is_through : Head → List Event → (host : ℕ) → Bool
+is_through head events host = nat_le 3 (begun_in host events) && not (is_busy (slice_get (run head events).clients host))
+
+-- whether this is so of each number below a count
+abbrev pub all_below : (count : ℕ) → (ℕ → Bool) → Bool
+all_below zero test = true
+all_below (suc count) test = all_below count test && test count
+
+-- whether all calls of all hosts were answered
+abbrev pub all_answered : Head → List Event → Bool
+all_answered head events = all_below head.hosts (is_through head events)
+
+-- a call is left, and this turn did not stop
+abbrev pub GoesOn : Head → (at after : Between) → Type 0
+GoesOn head at after =
+    (all_answered head at.moment.events ≡ false)
+    × (TakesTurn head LoopTurn.Took at.clock after.clock at.moment after.moment ⊎ TakesTurn head LoopTurn.Quiet at.clock after.clock at.moment after.moment)
+
+-- so many turns one after another, none of which stopped, each while a call was left
+abbrev pub Goes : Head → (count : ℕ) → (at after : Between) → Type 0
+Goes head zero at after = after ≡ at
+Goes head (suc count) at after =
+    (between : Between) × Goes head count at between × GoesOn head between after
+
+-- turns were taken until all calls were answered, or so many turns were taken
+pub record Ran (head : Head) (turns : ℕ) (at after : Between) : Type 0 where
+  pub count : ℕ
+  pub within : count ≤ turns
+  pub goes : Goes head count at after
+  pub ends : (count ≡ turns) ⊎ (all_answered head after.moment.events ≡ true)
+
+-- fewer turns than so many were taken, and one more, which stopped with this answer
+pub record Stops (head : Head) (turns : ℕ) (turn : LoopTurn) (at after : Between) : Type 0 where
+  pub count : ℕ
+  pub fewer : count < turns
+  pub between : Between
+  pub goes : Goes head count at between
+  pub left : all_answered head between.moment.events ≡ false
+  pub last : TakesTurn head turn between.clock after.clock between.moment after.moment
+
+-- what taking so many turns at most did, by the answer: that of the turn that stopped, or of one that did not
+abbrev pub TakesTurns : Head → (turns : ℕ) → LoopTurn → (at after : Between) → Type 0
+TakesTurns head turns LoopTurn.Took at after = Ran head turns at after
+TakesTurns head turns LoopTurn.Quiet at after = Ran head turns at after
+TakesTurns head turns other at after = Stops head turns other at after
+
+-- whether a loop goes on behind a turn with this answer, or with which it stops
+abbrev pub went_on : LoopTurn → Result Unit LoopTurn
+went_on LoopTurn.Took = Ok tt
+went_on LoopTurn.Quiet = Ok tt
+went_on other = Err other
+
+-- whether a host is through that began so many of its calls, and has one under way or not
+abbrev pub is_over : (begun : ℕ) → (busy : Bool) → Bool
+is_over begun busy = nat_le 3 begun && not busy

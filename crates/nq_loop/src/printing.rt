@@ -1,0 +1,44 @@
+//! Printing a loop.
+
+ghost use Rattle.std.specs.List.{AllByRecursion};
+ghost use Rattle.std.specs.Prelude.{◌≡◌, map, reverse};
+ghost use Rattle.nq_loop.specs.Printed.{PrintsRan};
+ghost use Rattle.nq_play.specs.Playing.{beginning};
+ghost use Rattle.nq_script.specs.Heads.{FitsHead};
+ghost use Rattle.nq_script.specs.Lines.{Allows, HasEvent};
+ghost use Rattle.nq_world.specs.Playing.{Plays};
+
+use crate::counts::{answers, calls, count_text};
+use crate::schedules::schedule_text;
+use nq_ending::Ending;
+use nq_io::Sink;
+use nq_keeper::Keeper;
+use nq_replay::print_parts;
+use nq_script::{Head, Schedule};
+use nq_world::World;
+use std::alloc::Global;
+
+/// Prints the schedule of a loop, its journal and its counts.
+pub(crate) fn print_loop<P: Keeper, K: Sink>(
+    alloc: Global,
+    head: &Head,
+    world: &World<P>,
+    ran: &Schedule,
+    out: &mut K,
+) -> Ending
+    requires fits { FitsHead head.now }
+    requires first { head.now.version ≡ 1 }
+    requires lines { AllByRecursion (HasEvent 1) ran.now }
+    requires allowed { AllByRecursion (Allows head.now) ran.now }
+    ensures { Plays (beginning head.now) (reverse ran.now) world.now (P.content world.now.server.keeper)
+        → PrintsRan result head.now ran.now (K.held out.old) (K.held out.new) (K.faults out.old) (K.faults out.new) }
+{
+    let Ok(text) = schedule_text(alloc, head, ran) else {
+        return Ending::Memory;
+    };
+    let entries = world.journal().entries();
+    let Ok(line) = count_text(alloc, calls(entries), answers(entries)) else {
+        return Ending::Memory;
+    };
+    print_parts(alloc, &text, world.journal(), line.as_bytes(), out)
+}

@@ -1,0 +1,106 @@
+//! Turns of a loop, one after another.
+
+ghost use Rattle.std.specs.Prelude.{◌≡◌, ◌≤◌, ◌<◌, ◌+◌, ◌&&◌, ℕ, List, length, slice_get};
+ghost use Rattle.nq_base.specs.declared.Event.{Event};
+ghost use Rattle.nq_loop.specs.Counting.{Counts};
+ghost use Rattle.nq_loop.specs.Holding.{CountsTurn, IsLooping, StandsBehind, loop_of, moment_of};
+ghost use Rattle.nq_loop.specs.Turning.{TakesTurns, all_answered, is_over, is_through, went_on};
+ghost use Rattle.nq_model.specs.World.{Head};
+ghost use Rattle.nq_world.specs.Playing.{Plays};
+
+use crate::calling::is_busy;
+use crate::state::LoopState;
+use crate::turning::loop_turn;
+use crate::turns::LoopTurn;
+use nq_base::Host;
+use nq_clock::Clock;
+use nq_keeper::Keeper;
+use nq_link::Link;
+use nq_script::Schedule;
+use nq_world::World;
+use std::alloc::Global;
+
+/// Takes turns of a loop until all calls were answered, or so many turns were taken, or one stops. It answers the turn that stopped, or
+/// one that did not.
+pub(crate) fn take_turns<P: Keeper, L: Link, C: Clock>(
+    alloc: Global,
+    world: &mut World<P>,
+    links: &mut [L],
+    clock: &mut C,
+    state: &mut LoopState,
+    ran: &mut Schedule,
+    turns: u32,
+) -> LoopTurn
+    requires hosts { length world.old.clients ≡ length state.old.begun }
+    requires few { length state.old.begun ≤ 64 }
+    requires links { length links.old ≡ length state.old.begun + 1 }
+    ensures turns { (head : Head) → head.hosts ≡ length state.old.begun
+        → IsLooping head (loop_of P.content L.sent L.waiting L.faults world.old state.old ran.old links.old)
+        → TakesTurns head turns result
+        (record { moment = moment_of (loop_of P.content L.sent L.waiting L.faults world.old state.old ran.old links.old); clock = C.readings clock.old })
+        (record { moment = moment_of (loop_of P.content L.sent L.waiting L.faults world.new state.new ran.new links.new); clock = C.readings clock.new })
+        × StandsBehind head result (loop_of P.content L.sent L.waiting L.faults world.new state.new ran.new links.new) }
+    ensures faults { CountsTurn result (P.faults world.old.server.keeper) (P.faults world.new.server.keeper) }
+    ensures follows { P.follows world.old.server.keeper world.new.server.keeper }
+{
+    for turn in 0..turns {
+        if all_answered(world, state) {
+            return LoopTurn::Quiet;
+        }
+        match went_on(loop_turn(alloc, world, links, clock, state, ran)) {
+            Ok(()) => {}
+            Err(stopped) => return stopped,
+        }
+    }
+    LoopTurn::Quiet
+}
+
+/// Whether a loop goes on behind a turn with this answer, or with which it stops.
+fn went_on(turn: LoopTurn) -> Result<(), LoopTurn>
+    ensures { result ≡ went_on turn }
+{
+    match turn {
+        LoopTurn::Took | LoopTurn::Quiet => Ok(()),
+        stopped => Err(stopped),
+    }
+}
+
+/// Whether all calls of all hosts were answered.
+fn all_answered<P: Keeper>(world: &World<P>, state: &LoopState) -> bool
+    requires { length world.now.clients ≡ length state.now.begun }
+    ensures { (head : Head) (events : List Event) → head.hosts ≡ length state.now.begun → Plays head events world.now (P.content world.now.server.keeper)
+        → Counts state.now.begun events → result ≡ all_answered head events }
+{
+    let mut all = true;
+    for host in 0..state.hosts() {
+        let through = is_through(world, state, host);
+        all = both(all, through);
+    }
+    all
+}
+
+/// Whether the two are so.
+fn both(one: bool, other: bool) -> bool
+    ensures { result ≡ (one && other) }
+{
+    one && other
+}
+
+/// Whether a host has begun its three calls, and none is under way.
+fn is_through<P: Keeper>(world: &World<P>, state: &LoopState, host: u32) -> bool
+    requires there { host < length world.now.clients }
+    requires hosts { length world.now.clients ≡ length state.now.begun }
+    ensures { (head : Head) (events : List Event) → Plays head events world.now (P.content world.now.server.keeper)
+        → Counts state.now.begun events → result ≡ is_through head events host }
+{
+    let begun = state.begun(Host(host));
+    let busy = is_busy(world, host);
+    is_over(begun, busy)
+}
+
+/// Whether a host is through that began so many of its calls, and has one under way or not.
+fn is_over(begun: u8, busy: bool) -> bool
+    ensures { result ≡ is_over begun busy }
+{
+    begun >= 3 && !busy
+}

@@ -1,6 +1,0 @@
-pub mod Counts
-pub mod Ending
-pub mod Looped
-pub mod Printed
-pub mod Turning
-pub mod Whole

@@ -1,4 +1,0 @@
-mod Finding
-pub mod Counting
-pub mod Playing
-pub mod Spelling

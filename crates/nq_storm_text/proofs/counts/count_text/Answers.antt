@@ -1,6 +1,0 @@
-use Rattle.nq_storm_text.specs.Printed.{storm_line}
-use Rattle.nq_storm_text.proofs.counts.count_text.Goals as goal
-
-pub returns-in-Ok : goal.returns-in-Ok
-unfolding storm_line
-returns-in-Ok c = c.in-Ok.ensures.ok

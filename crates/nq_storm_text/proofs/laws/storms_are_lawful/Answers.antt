@@ -1,5 +1,0 @@
-use Rattle.nq_storm_text.proofs.Playing.{storms-are-lawful}
-use Rattle.nq_storm_text.proofs.laws.storms_are_lawful.Goals as goal
-
-pub returns : goal.returns
-returns c = storms-are-lawful

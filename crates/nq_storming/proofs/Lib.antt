@@ -1,3 +1,0 @@
-mod Appending
-mod Parts
-pub mod Whole
