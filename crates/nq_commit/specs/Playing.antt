@@ -1,57 +1,43 @@
 -- A world with staged writes over a keeper as contracts see it, and the staged run that it plays. Below, `told` is what the server's
 -- keeper told of its content before a call, and `tells` is what it tells after it.
-use Rattle.std.specs.Prelude.{◌≡◌, ◌⊎◌, ◌<◌, ℕ, Bool, true, false, List, [], ◌∷◌, Option, length, map, reverse, nat_lt, if◌then◌else◌}
+use Rattle.std.specs.Prelude.{◌≡◌, ◌⊎◌, ◌<◌, ◌≤◌, ℕ, Bool, List, [], ◌∷◌, ◌++◌, Option, length, reverse, nat_lt, if◌then◌else◌}
 use Rattle.nq_base.specs.declared.Event.{Event}
 use Rattle.nq_keeper.specs.Keeping.{StaysOrEnds}
 use Rattle.nq_model.specs.Kept.{Kept}
 use Rattle.nq_model.specs.SkewBroken.{skew_broken}
-use Rattle.nq_model.specs.Stepped.{Stepped as Answer, done, no_packet, too_many_events, most_events, tested_room, tested_skew}
-use Rattle.nq_model.specs.World.{Head}
-use Rattle.nq_net.specs.Packets.{Datagram}
-use Rattle.nq_pool.specs.Bodies.{Bodies}
-use Rattle.nq_staged_run.specs.declared.StagedCounts.{StagedCounts}
+use Rattle.nq_model.specs.Stepped.{Stepped as Answer, done, no_packet, out_of_skew, too_many_events, most_events, stepped, tested_room, tested_skew}
+use Rattle.nq_model.specs.World.{Head, run, step}
 use Rattle.nq_staged_run.specs.declared.StagedEvent.{StagedEvent}
-use Rattle.nq_staged_run.specs.Outer.{Outer, Counts, Side, Outside}
+use Rattle.nq_staged_run.specs.Outer.{Outside}
 use Rattle.nq_staged_run.specs.Outside.{outside_run}
 use Rattle.nq_staged_run.specs.Theorem.{AreFit}
 use Rattle.nq_world.specs.Answering.{told as answer_of}
-use Rattle.nq_world.specs.Playing.{WorldOver, Plays, CanCome, IsAsBefore}
+use Rattle.nq_world.specs.Playing.{WorldOver, Plays, CanCome}
 use Rattle.nq_world.specs.declared.Stepped.{Stepped}
+use Rattle.nq_commit.specs.Around.{AroundOver, IsSettled, counted, renewed_around, shown}
 
--- a world with staged writes: the inner world, the pool, the sides by host, what travels with the oldest first, the inner events with
--- the oldest first, the counts, how many events were taken in, and whether memory was wanting in the midst of one
+-- a world with staged writes: the inner world, what stands around it, the inner events with the oldest first, and how many events were
+-- taken in
 pub record StagedOver (K : Type 0) : Type 0 where
   pub inner : WorldOver K
-  pub pool : Bodies
-  pub sides : List Side
-  pub sent : List Outer
+  pub around : AroundOver
   pub ran : List Event
-  pub counts : Counts
   pub events : ℕ
-  pub torn : Bool
 
--- datagrams with the inner packets for which they stand
-abbrev pub travelling : List Datagram → List (Option ℕ) → List Outer
-travelling [] stands = []
-travelling (d ∷ ds) [] = []
-travelling (d ∷ ds) (s ∷ stands) =
-    record { sender = d.sender; to = d.to; bytes = d.bytes; stands = s } ∷ travelling ds stands
-
--- the counts of the code
-abbrev pub counts_of : StagedCounts → Counts
-counts_of c = record { staged = c.staged; commits = c.commits; unstaged = c.unstaged }
+-- An inner world and what stands around it have come to the end of the staged run of these events: the inner world plays the run of the
+-- inner events, what is shown is what the staged run says, and all numbers that it told were within their fields.
+pub record Reaches {K : Type 0} (head : Head) (events : List StagedEvent) (w : StagedOver K) (told : Option Kept) : Type 0 where
+  pub inner : Plays head (reverse w.ran) w.inner told
+  pub shows : shown (run head (reverse w.ran)) (reverse w.ran) w.around ≡ outside_run head events
+  pub gone : w.around.gone ≤ length w.inner.datagrams
+  pub fit : AreFit head events
 
 -- a world plays the staged run of these events from this head
 pub record PlaysOutside {K : Type 0} (head : Head) (events : List StagedEvent) (w : StagedOver K) (told : Option Kept) : Type 0 where
-  pub inner : Plays head (outside_run head events).ran w.inner told
-  pub pool : w.pool ≡ (outside_run head events).pool
-  pub sides : w.sides ≡ (outside_run head events).sides
-  pub sent : w.sent ≡ (outside_run head events).sent
-  pub ran : w.ran ≡ reverse (outside_run head events).ran
-  pub counts : w.counts ≡ (outside_run head events).counts
+  pub reaches : Reaches head events w told
   pub counted : w.events ≡ length events
-  pub fit : AreFit head events
-  pub whole : w.torn ≡ false
+
+-- ---- what is answered
 
 -- the tests behind that of the number of events, over what travels outside. The rule on skew is that of the inner events
 abbrev pub tested_outside : Head → Outside → StagedEvent → Answer
@@ -71,26 +57,55 @@ abbrev pub CanComeOutside : (hosts longest : ℕ) → StagedEvent → Type 0
 CanComeOutside hosts longest (StagedEvent.Stage host) = host < hosts
 CanComeOutside hosts longest (StagedEvent.Plain event) = CanCome hosts longest event
 
--- a world is as before, but for its keeper
-pub record IsAsBeforeOutside {K : Type 0} (old new : StagedOver K) : Type 0 where
-  pub inner : IsAsBefore old.inner new.inner
-  pub pool : new.pool ≡ old.pool
-  pub sides : new.sides ≡ old.sides
-  pub sent : new.sent ≡ old.sent
-  pub ran : new.ran ≡ old.ran
-  pub counts : new.counts ≡ old.counts
-  pub events : new.events ≡ old.events
-  pub torn : new.torn ≡ old.torn
+-- What a step leads to by its answer, where `P` says what holds of the events of a run and of what the keeper tells. `Done`: the event
+-- was to be taken, and `P` holds with it. After every other answer `P` holds as before; a keeper that failed may tell nothing any more.
+abbrev pub Leads : Head → (events : List StagedEvent) → StagedEvent → Stepped → (told tells : Option Kept) → (P : List StagedEvent → Option Kept → Type 0) → Type 0
+Leads head events event Stepped.Done told tells P = (stepped_outside head events event ≡ done) × P (event ∷ events) tells
+Leads head events event Stepped.Fault told tells P =
+    (stepped_outside head events event ≡ done) × (tells ≡ told → P events tells) × StaysOrEnds told tells
+Leads head events event Stepped.Memory told tells P = P events tells × (tells ≡ told)
+Leads head events event said told tells P = (answer_of (stepped_outside head events event) ≡ said) × P events tells × (tells ≡ told)
 
--- What a step does to a world that plays the staged run of these events, by its answer. `Done`: it plays the run with this event.
--- Every other answer has its cause, and the world is as before, but where memory was wanting in the midst of the event: then it takes
--- in no other.
-abbrev pub StepsOutside : {K : Type 0} → (head : Head) (events : List StagedEvent) (event : StagedEvent) → Stepped → (old new : StagedOver K) → (told tells : Option Kept) → Type 0
-StepsOutside head events event Stepped.Done old new told tells =
-    (stepped_outside head events event ≡ done) × PlaysOutside head (event ∷ events) new tells
-StepsOutside head events event Stepped.Fault old new told tells =
-    (stepped_outside head events event ≡ done) × IsAsBeforeOutside old new × StaysOrEnds told tells
-StepsOutside head events event Stepped.Memory old new told tells =
-    (stepped_outside head events event ≡ done) × ((IsAsBeforeOutside old new × (tells ≡ told)) ⊎ (new.torn ≡ true))
-StepsOutside head events event other old new told tells =
-    (answer_of (stepped_outside head events event) ≡ other) × IsAsBeforeOutside old new × (tells ≡ told)
+-- what a step does to a world that plays the staged run of these events
+abbrev pub StepsOutside : {K : Type 0} → Head → (events : List StagedEvent) → StagedEvent → Stepped → (new : StagedOver K) → (told tells : Option Kept) → Type 0
+StepsOutside head events event said new told tells = Leads head events event said told tells (λ es t. PlaysOutside head es new t)
+
+-- ---- the parts of a step
+
+-- an answer that is left to the inner world: the rule on skew is tested there
+abbrev pub IsLeft : Answer → Type 0
+IsLeft done = Unit {0}
+IsLeft (out_of_skew broken) = Unit {0}
+IsLeft other = ⊥
+
+-- what the tests said, where `Done` leaves the answer to the inner world
+abbrev pub IsTested : Stepped → Answer → Type 0
+IsTested Stepped.Done answer = IsLeft answer
+IsTested said answer = answer_of answer ≡ said
+
+-- what running an inner event did to the parts of a world whose inner world plays the run of its events, by the answer
+abbrev pub RunsInner : {K : Type 0} → Head → Event → (commit : Bool) → Stepped → (old new : StagedOver K) → (told tells : Option Kept) → Type 0
+RunsInner head event commit Stepped.Done old new told tells =
+    (stepped head (reverse old.ran) event ≡ done)
+    × Plays head (event ∷ reverse old.ran) new.inner tells
+    × (new.ran ≡ old.ran ++ event ∷ [])
+    × (new.around ≡ renewed_around event (step (run head (reverse old.ran)) event) (record old.around { counts = counted commit old.around.counts }))
+RunsInner head event commit Stepped.Fault old new told tells =
+    (stepped head (reverse old.ran) event ≡ done)
+    × (tells ≡ told → Plays head (reverse old.ran) new.inner tells) × StaysOrEnds told tells
+    × (new.ran ≡ old.ran) × (new.around ≡ old.around)
+RunsInner head event commit Stepped.Memory old new told tells =
+    Plays head (reverse old.ran) new.inner tells × (tells ≡ told) × (new.ran ≡ old.ran) × (new.around ≡ old.around)
+RunsInner head event commit said old new told tells =
+    (answer_of (stepped head (reverse old.ran) event) ≡ said)
+    × Plays head (reverse old.ran) new.inner tells × (tells ≡ told) × (new.ran ≡ old.ran) × (new.around ≡ old.around)
+
+-- a world whose inner world has sent nothing that has not gone out
+abbrev pub IsReady : {K : Type 0} → StagedOver K → Type 0
+IsReady w = IsSettled (length w.inner.datagrams) w.around
+
+-- what an offer may be answered
+abbrev pub IsOfOffers : Stepped → Type 0
+IsOfOffers Stepped.Done = Unit {0}
+IsOfOffers Stepped.Memory = Unit {0}
+IsOfOffers other = ⊥

@@ -1,10 +1,14 @@
 //! Copies of events, which the schedule of the inner world keeps.
 
+ghost use Rattle.std.specs.Prelude.{◌≡◌, IfOk};
+
 use nq_base::{Call, Event, NoMemory};
 use std::alloc::Global;
 
 /// The event once more. A body that a number fills takes no memory.
-pub(crate) fn copied(alloc: Global, event: &Event) -> Result<Event, NoMemory> {
+pub(crate) fn copied(alloc: Global, event: &Event) -> Result<Event, NoMemory>
+    ensures { IfOk result (λ e. e ≡ event.now) }
+{
     Ok(match event {
         Event::Call { host, call } => Event::Call {
             host: *host,
@@ -19,7 +23,9 @@ pub(crate) fn copied(alloc: Global, event: &Event) -> Result<Event, NoMemory> {
 }
 
 /// The call, with a body of its own.
-fn copied_call(alloc: Global, call: &Call) -> Result<Call, NoMemory> {
+fn copied_call(alloc: Global, call: &Call) -> Result<Call, NoMemory>
+    ensures { IfOk result (λ c. c ≡ call.now) }
+{
     Ok(match call {
         Call::Create { name, blocks } => Call::Create {
             name: *name,

@@ -1,28 +1,24 @@
 //! What a staged run prints.
 
-use nq_base::NoMemory;
+ghost use Rattle.std.specs.Prelude.{◌≡◌, ◌++◌, IfOk, string_bytes};
+ghost use Rattle.nq_commit.specs.Around.{counts_of};
+ghost use Rattle.nq_journal.specs.Text.{journal_text};
+ghost use Rattle.nq_replay.specs.Schedules.{PrintsBytes};
+ghost use Rattle.nq_staged.specs.Running.{count_line};
+
+use crate::schedules::VERSION;
+use nq_base::{Journal, NoMemory};
+use nq_ending::Ending;
 use nq_io::{Put, Sink};
-use nq_journal::Journal;
-use nq_replay::{Ending, print_journal};
-use nq_script::{Head, Schedule, print_head};
+use nq_journal::{Printed, is_in, print};
 use nq_staged_run::StagedCounts;
 use std::alloc::Global;
 
-/// The version in which all is printed.
-const VERSION: u32 = 2;
-
-/// The text of a schedule with this head.
-fn schedule_text(alloc: Global, head: &Head, ran: &Schedule) -> Result<Vec<u8>, NoMemory> {
-    let mut text = print_head(alloc, head)?;
-    for place in 0..ran.len() {
-        ran.append_line(place, VERSION, &mut text)?;
-    }
-    text.extend_from_slice(b"end\n")?;
-    Ok(text)
-}
-
 /// The line of what was counted.
-fn count_line(alloc: Global, counts: StagedCounts) -> Result<String, NoMemory> {
+#[tactic(auto, unfolding(crate::specs::Running::count_line))]
+pub(crate) fn count_text(alloc: Global, counts: StagedCounts) -> Result<String, NoMemory>
+    ensures { IfOk result (λ line. string_bytes line ≡ count_line (counts_of counts)) }
+{
     let StagedCounts {
         staged,
         commits,
@@ -34,38 +30,34 @@ fn count_line(alloc: Global, counts: StagedCounts) -> Result<String, NoMemory> {
     }
 }
 
-/// Prints the schedule of the inner world, its journal, and what was counted. How it ends:
+/// Prints a text, a journal in version 2, and another text. How it ends:
 ///
 /// - `Done`: all of that was printed.
 /// - `WriteFault`: the sink failed, which it has counted; a front of that is printed.
-/// - `Memory`: memory was wanting; a front of that may be printed.
-pub(crate) fn print_run<K: Sink>(
+/// - `Memory`: memory was wanting, or version 2 lacks an entry; a front of that is printed.
+pub(crate) fn print_parts<K: Sink>(
     alloc: Global,
-    head: &Head,
-    ran: &Schedule,
+    before: &[u8],
     journal: &Journal,
-    counts: StagedCounts,
+    after: &[u8],
     out: &mut K,
-) -> Ending {
-    let Ok(text) = schedule_text(alloc, head, ran) else {
+) -> Ending
+    ensures { PrintsBytes result (before.now ++ (journal_text 2 journal.now.entries ++ after.now))
+        (K.held out.old) (K.held out.new) (K.faults out.old) (K.faults out.new) }
+{
+    if !is_in(journal, VERSION) {
         return Ending::Memory;
-    };
-    let Ok(line) = count_line(alloc, counts) else {
-        return Ending::Memory;
-    };
-    match put(&text, out) {
-        Ending::Done => {}
-        fault => return fault,
     }
-    match print_journal(alloc, journal, VERSION, out) {
-        Ending::Done => put(line.as_bytes(), out),
-        fault => fault,
+    match out.put(before) {
+        Put::All => {}
+        Put::Failed => return Ending::WriteFault,
     }
-}
-
-/// Puts a text.
-fn put<K: Sink>(text: &[u8], out: &mut K) -> Ending {
-    match out.put(text) {
+    match print(alloc, journal, VERSION, out) {
+        Printed::All => {}
+        Printed::Failed => return Ending::WriteFault,
+        Printed::Memory => return Ending::Memory,
+    }
+    match out.put(after) {
         Put::All => Ending::Done,
         Put::Failed => Ending::WriteFault,
     }
