@@ -12,6 +12,7 @@ use Rattle.nq_io.specs.Told.{with_end}
 use Rattle.nq_io.specs.Whole.{TakesSome}
 use Rattle.nq_journal.specs.Text.{journal_text}
 use Rattle.nq_model.specs.Stepped.{Stepped, no_packet, out_of_skew, too_many_events, too_many_packets}
+use Rattle.nq_play.specs.Lawful.{IsLawful}
 use Rattle.nq_play.specs.Playing.{beginning}
 use Rattle.nq_replay.specs.Lines.{PrintsLine, limit_line, script_line, skew_line}
 use Rattle.nq_replay.specs.Replay.{OfInput, PrintsLimit, TakesInput}
@@ -70,8 +71,10 @@ behind_schedule o = journal_text 2 (reverse o.world.journal) ++ count_line o.cou
 abbrev pub end_of : Head → List StagedEvent → Outside
 end_of head events = outside_run (beginning head) events
 
--- The text of the inner schedule, each of whose events has a line, the journal of its run, and what was counted.
+-- The text of the inner schedule, each of whose events has a line, the journal of its run, and what was counted. The inner schedule is
+-- within skew and keeps to the bounds.
 pub record IsPrinted (head : Head) (events : List StagedEvent) (bytes : List ℕ) : Type 0 where
+  pub lawful : IsLawful (beginning head) (end_of head events).ran
   pub text : List ℕ
   pub spelled : SpellsSchedule head (map once (reverse (end_of head events).ran)) text
   pub bytes_are : bytes ≡ text ++ behind_schedule (end_of head events)

@@ -15,13 +15,16 @@ pub data StagedLine : Type 0 where
 -- ---- lines of a text
 
 -- a byte in front of lines, and of what is left behind the last line feed
+abbrev pub in_lines : ℕ → List (List ℕ) → (rest : List ℕ) → List (List ℕ) × List ℕ
+in_lines b [] rest = ([], b ∷ rest)
+in_lines b (line ∷ lines) rest = ((b ∷ line) ∷ lines, rest)
+
 abbrev pub in_front : ℕ → List (List ℕ) × List ℕ → List (List ℕ) × List ℕ
-in_front b ([], rest) = ([], b ∷ rest)
-in_front b (line ∷ lines, rest) = ((b ∷ line) ∷ lines, rest)
+in_front b p = in_lines b p.0 p.1
 
 -- an empty line in front of them
 abbrev pub new_line : List (List ℕ) × List ℕ → List (List ℕ) × List ℕ
-new_line (lines, rest) = ([] ∷ lines, rest)
+new_line p = ([] ∷ p.0, p.1)
 
 -- the lines of bytes, and what is left behind the last line feed
 abbrev pub lines_in : List ℕ → List (List ℕ) × List ℕ

@@ -1,0 +1,6 @@
+pub mod Steps
+pub mod Onward
+pub mod Lines
+pub mod Texts
+pub mod Tellable
+pub mod Outcomes
