@@ -4,3 +4,4 @@ pub mod Lines
 pub mod Texts
 pub mod Tellable
 pub mod Outcomes
+pub mod Endings
