@@ -4,17 +4,22 @@ use Rattle.std.proofs.lemmas.List.{length-map, reverse-append}
 use Rattle.std.proofs.lemmas.List.Elements.{All-head, All-tail}
 use Rattle.std.specs.Prelude.{All, slice_get}
 use Rattle.nq_base.specs.declared.Event.{Event}
-use Rattle.nq_datagrams.specs.Messages.{FitsMessage}
+use Rattle.nq_base.specs.declared.Party.{Party}
+use Rattle.nq_client.specs.Counted.{Counted}
+use Rattle.nq_datagrams.specs.Messages.{FitsMessage, bytes_of}
 use Rattle.nq_keeper.specs.Keeping.{StaysOrEnds}
 use Rattle.nq_model.specs.Client.{Client}
 use Rattle.nq_model.specs.Journal.{Each}
 use Rattle.nq_model.specs.Kept.{Kept}
 use Rattle.nq_model.specs.Message.{Packet}
 use Rattle.nq_model.specs.Stepped.{Stepped as Answer, done, stepped}
-use Rattle.nq_model.specs.World.{Head, World, run, step}
+use Rattle.nq_model.specs.World.{Head, World, run, start, step}
+use Rattle.nq_stage.specs.declared.Pushed.{Pushed}
+use Rattle.nq_stager.specs.Shortening.{shortening}
+use Rattle.nq_stager.specs.Staged.{new_stager}
 use Rattle.nq_staged_run.specs.declared.StagedEvent.{StagedEvent}
-use Rattle.nq_staged_run.specs.Outer.{Outer, Outside}
-use Rattle.nq_staged_run.specs.Outside.{inner, outside_run, outside_step, renewed, sends, sends_all}
+use Rattle.nq_staged_run.specs.Outer.{Outer, Outside, Side, outside_start}
+use Rattle.nq_staged_run.specs.Outside.{inner, outside_run, outside_step, renewed, sends, sends_all, sends_as, sends_by, sends_from}
 use Rattle.nq_staged_run.specs.Theorem.{AreFit, FitsEvent}
 use Rattle.nq_staged_run.proofs.Inner.{Inner, sent-all}
 use Rattle.nq_world.specs.Answering.{told as answer_of}
@@ -23,7 +28,7 @@ use Rattle.nq_world.specs.Shown.{FitsPacket, datagram}
 use Rattle.nq_world.specs.declared.Stepped.{Stepped}
 use Rattle.nq_commit.proofs.Growing.{grows}
 use Rattle.nq_commit.proofs.Sending.{settled-shows}
-use Rattle.nq_commit.specs.Around.{AroundOver, IsSettled, counted, once_sent, over, renewed_around, shown, with_due}
+use Rattle.nq_commit.specs.Around.{AroundOver, IsSettled, counted, new_around, once_sent, over, renewed_around, shown, with_due}
 use Rattle.nq_commit.specs.Playing.{IsReady, Leads, PlaysOutside, Reaches, RunsInner, StagedOver, stepped_outside}
 use Rattle.nq_commit.specs.Taking.{running}
 
@@ -187,3 +192,85 @@ inner-leads head events event e commit (Stepped.SkewBroken broken) old new told 
     (ap answer_of (sym agree) ∙ ran.0, reaches-same head events old new told tells r ran.1 ran.2.1.0 ran.2.1.1, ran.2.0)
 inner-leads head events event e commit (Stepped.Limit limit) old new told tells ready r agree leads offer ran =
     (ap answer_of (sym agree) ∙ ran.0, reaches-same head events old new told tells r ran.1 ran.2.1.0 ran.2.1.1, ran.2.0)
+
+-- ---- sending what is due
+
+pub settled-plays : {K : Type 0} (head : Head) (events : List StagedEvent) (w : StagedOver K) (a : AroundOver) (told : Option Kept)
+    → ((v : World) (ran : List Event) → w.inner.datagrams ≡ map datagram v.packets → shown v ran a ≡ shown v ran w.around)
+    → (w.around.gone ≤ length w.inner.datagrams → a.gone ≤ length w.inner.datagrams)
+    → PlaysOutside head events w told → PlaysOutside head events (record w { around = a }) told
+settled-plays head events w a told same gone p =
+    let r = p.reaches in
+    let v = run head (reverse w.ran) in
+    record {
+      reaches = record { inner = r.inner; shows = same v (reverse w.ran) r.inner.shown.shows.datagrams ∙ r.shows; gone = gone r.gone; fit = r.fit };
+      counted = p.counted;
+    }
+
+pub settled-ready : (n : ℕ) (a : AroundOver) → a.due ≡ None → n ≤ a.gone → a.gone ≤ n → IsSettled n a
+settled-ready n a none all gone = record { none_due = none; all_gone = omega arith }
+
+-- ---- the counts
+
+counts-as : (o : Outside) (number host : ℕ) (p : Packet) (side : Side) (short : Option (Pushed × ℕ)) → (sends_as o number host p side short).counts ≡ o.counts
+unfolding sends
+counts-as o number host p side None = refl
+counts-as o number host p side (Some push) = refl
+
+counts-by : (o : Outside) (number host : ℕ) (p : Packet) (side : Option Side) → (sends_by o number host p side).counts ≡ o.counts
+unfolding sends
+counts-by o number host p None = refl
+counts-by o number host p (Some side) = counts-as o number host p side (shortening side.stager (bytes_of p.message))
+
+counts-from : (o : Outside) (number : ℕ) (p : Packet) (from : Party) → (sends_from o number p from).counts ≡ o.counts
+unfolding sends
+counts-from o number p Party.Server = refl
+counts-from o number p (Party.Client host) = counts-by o number host p (slice_get o.sides host)
+
+counts-all : (o : Outside) (number : ℕ) (ps : List Packet) → (sends_all o number ps).counts ≡ o.counts
+counts-all o number [] = refl
+counts-all o number (p ∷ ps) = counts-all (sends_from o number p p.sender) (number + 1) ps ∙ counts-from o number p p.sender
+
+counts-due : (o : Outside) (due : Option Outer) → (with_due due o).counts ≡ o.counts
+unfolding sends
+counts-due o None = refl
+counts-due o (Some p) = refl
+
+pub reached-counts : {K : Type 0} (head : Head) (events : List StagedEvent) (w : StagedOver K) (told : Option Kept) → Reaches head events w told → w.around.counts ≡ (outside_run head events).counts
+reached-counts head events w told r =
+    let v = run head (reverse w.ran) in
+    sym (counts-all (once_sent v (reverse w.ran) w.around) w.around.gone (drop w.around.gone v.packets) ∙ counts-due (over v (reverse w.ran) w.around) w.around.due)
+    ∙ ap (λ o. o.counts) r.shows
+
+-- ---- the beginning
+
+abbrev pub first-sides : (clients : List Counted) → List Side
+first-sides clients = map (λ c. record { stager = new_stager c.client.who; last = None }) clients
+
+sides-of : (clients : List Counted) → first-sides clients ≡ map (λ (c : Client). record { stager = new_stager c.who; last = None }) (map (λ c. c.client) clients)
+sides-of [] = refl
+sides-of (c ∷ clients) = ap (λ l. record { stager = new_stager c.client.who; last = None } ∷ l) (sides-of clients)
+
+start-packets : (head : Head) → (start head).packets ≡ []
+unfolding start
+start-packets head = refl
+
+begins-outside : (head : Head) (boot : ℕ) (sides : List Side) → boot ≡ (start head).server.table.boot → sides ≡ map (λ (c : Client). record { stager = new_stager c.who; last = None }) (start head).clients → over (start head) [] (new_around boot sides) ≡ outside_start head
+unfolding outside_start
+begins-outside head boot sides b s = rw (b, s) refl
+
+pub begins-plays : {K : Type 0} (head : Head) (w : WorldOver K) (told : Option Kept) → Plays head [] w told → PlaysOutside head [] (record { inner = w; around = new_around w.server.beside.table.boot (first-sides w.clients); ran = []; events = 0 }) told
+begins-plays head w told plays =
+    let a = new_around w.server.beside.table.boot (first-sides w.clients) in
+    let boot : w.server.beside.table.boot ≡ (start head).server.table.boot = ap (λ b. b.table.boot) plays.holds in
+    let sides : first-sides w.clients ≡ map (λ (c : Client). record { stager = new_stager c.who; last = None }) (start head).clients =
+    sides-of w.clients ∙ ap (map (λ (c : Client). record { stager = new_stager c.who; last = None })) plays.shown.shows.clients in
+    record {
+      reaches = record {
+        inner = plays;
+        shows = ap (λ ps. sends_all (over (start head) [] a) 0 ps) (start-packets head) ∙ begins-outside head w.server.beside.table.boot (first-sides w.clients) boot sides;
+        gone = omega arith;
+        fit = tt;
+      };
+      counted = refl;
+    }

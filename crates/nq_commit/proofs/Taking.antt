@@ -96,10 +96,13 @@ again-as o host side other v tells = absurd tells
 pub again-taken : (a : AroundOver) (host : ℕ) (p : Outer) (side : Side) (v : Vec ℕ Global) (kept : Staged) → slice_get a.sides host ≡ Some side → Tells (HeardStage.Again v) (told_by side.stager p.bytes) → kept ≡ kept_by side.stager (told_by side.stager p.bytes)
     → IsTakenIn Taken.Beside None a (record a { sides = slice_set a.sides host (record side { stager = kept }); due = Some (record { sender = Party.Client host; to = Party.Server; bytes = v.items; stands = side.last }) })
     (λ w ran. heard_by (over w ran a) host p (slice_get a.sides host))
-again-taken a host p side v kept there tells is = (refl, λ w ran.
-    ap (λ k. sends (record (over w ran a) { sides = slice_set a.sides host (record side { stager = k }) }) (record { sender = Party.Client host; to = Party.Server; bytes = v.items; stands = side.last })) is
-    ∙ again-as (over w ran a) host side (told_by side.stager p.bytes) v tells
-    ∙ ap (heard_by (over w ran a) host p) (sym there))
+again-taken a host p side v kept there tells is = (
+  refl,
+  λ w ran.
+      ap (λ k. sends (record (over w ran a) { sides = slice_set a.sides host (record side { stager = k }) }) (record { sender = Party.Client host; to = Party.Server; bytes = v.items; stands = side.last })) is
+      ∙ again-as (over w ran a) host side (told_by side.stager p.bytes) v tells
+      ∙ ap (heard_by (over w ran a) host p) (sym there),
+)
 
 silent-as : (o : Outside) (host : ℕ) (side : Side) (told : Told) → ((bytes : List ℕ) → told ≡ again bytes → ⊥) → record o { sides = slice_set o.sides host (record side { stager = kept_by side.stager told }) } ≡ told_side o host side told
 silent-as o host side (acknowledged w verifier) silent = refl
@@ -119,11 +122,14 @@ not-again HeardStage.Memory told tells no bytes is = tells
 pub silent-taken : (a : AroundOver) (host : ℕ) (p : Outer) (side : Side) (said : HeardStage) (kept : Staged) → a.due ≡ None → slice_get a.sides host ≡ Some side → Tells said (told_by side.stager p.bytes) → ((v : Vec ℕ Global) → said ≡ HeardStage.Again v → ⊥) → kept ≡ kept_by side.stager (told_by side.stager p.bytes)
     → IsTakenIn Taken.Beside None a (record a { sides = slice_set a.sides host (record side { stager = kept }) })
     (λ w ran. heard_by (over w ran a) host p (slice_get a.sides host))
-silent-taken a host p side said kept none there tells silent is = (refl, λ w ran.
-    none-due w ran (record a { sides = slice_set a.sides host (record side { stager = kept }) }) none
-    ∙ ap (λ k. record (over w ran a) { sides = slice_set a.sides host (record side { stager = k }) }) is
-    ∙ silent-as (over w ran a) host side (told_by side.stager p.bytes) (not-again said (told_by side.stager p.bytes) tells silent)
-    ∙ ap (heard_by (over w ran a) host p) (sym there))
+silent-taken a host p side said kept none there tells silent is = (
+  refl,
+  λ w ran.
+      none-due w ran (record a { sides = slice_set a.sides host (record side { stager = kept }) }) none
+      ∙ ap (λ k. record (over w ran a) { sides = slice_set a.sides host (record side { stager = k }) }) is
+      ∙ silent-as (over w ran a) host side (told_by side.stager p.bytes) (not-again said (told_by side.stager p.bytes) tells silent)
+      ∙ ap (heard_by (over w ran a) host p) (sym there),
+)
 
 -- ---- an offer
 

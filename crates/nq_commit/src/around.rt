@@ -1,9 +1,9 @@
 //! What stands around an inner world.
 
-ghost use Rattle.std.specs.Prelude.{◌≡◌, ◌<◌, ◌≤◌, [], ◌∷◌, ◌++◌, List, None, Some, length, map, slice_get, IfOk, IfSome, OnOk, OnErr};
+ghost use Rattle.std.specs.Prelude.{◌≡◌, ◌<◌, ◌≤◌, ◌+◌, [], ◌∷◌, ◌++◌, List, None, Some, length, map, slice_get, IfOk, IfSome, OnOk, OnErr};
 ghost use Rattle.nq_base.specs.declared.Event.{Event};
 ghost use Rattle.nq_base.specs.declared.Party.{Party};
-ghost use Rattle.nq_commit.specs.Around.{counted, flushed, new_around, passed, passed_at, prepared, prepared_from, shown, travelling};
+ghost use Rattle.nq_commit.specs.Around.{counted, due_as, flushed, new_around, passed, passed_at, prepared, prepared_from, shown, travelling};
 ghost use Rattle.nq_model.specs.World.{World};
 ghost use Rattle.nq_net.specs.Packets.{Datagram};
 ghost use Rattle.nq_world.specs.Shown.{datagram};
@@ -163,7 +163,7 @@ impl Around {
         ensures gone { self.old.gone ≤ length packets.now.datagrams → self.new.gone ≤ length packets.now.datagrams }
     {
         self.flush()?;
-        while self.gone < packets.len() {
+        'packets: while self.gone < packets.len() {
             self.prepare(packets)?;
             self.flush()?;
         }
@@ -175,10 +175,10 @@ impl Around {
         ensures sent { OnOk result (self.new ≡ flushed self.old) }
         ensures refused { OnErr result (self.new ≡ self.old) }
     {
-        match &self.due {
-            Some(due) => push(&mut self.packets, &mut self.stands, due)?,
-            None => {}
-        }
+        let Some(due) = &self.due else {
+            return Ok(());
+        };
+        push(&mut self.packets, &mut self.stands, due)?;
         self.due = None;
         Ok(())
     }
@@ -202,22 +202,35 @@ impl Around {
         ensures prepared { OnOk result (self.new ≡ prepared_from self.old (record { sender = sender; to = to; bytes = bytes.items }) sender) }
         ensures refused { OnErr result (self.new ≡ self.old) }
     {
-        let number = self.gone;
-        let Some(gone) = number.checked_add(1) else {
+        let Some(gone) = self.gone.checked_add(1) else {
             return Err(NoMemory::Memory);
         };
-        let bytes = match sender {
-            Party::Server => bytes,
-            Party::Client(host) => pass_at(&mut self.sides, self.alloc, host.0 as usize, number, bytes)?,
-        };
+        match sender {
+            Party::Server => {
+                self.put_due(sender, to, bytes, gone);
+                Ok(())
+            }
+            Party::Client(host) => {
+                let number = self.gone;
+                let bytes = pass_at(&mut self.sides, self.alloc, host.0 as usize, number, bytes)?;
+                self.put_due(sender, to, bytes, gone);
+                Ok(())
+            }
+        }
+    }
+
+    /// Makes the next packet of the inner world due, as these bytes. So many packets have gone out then.
+    fn put_due(&mut self, sender: Party, to: Party, bytes: Vec<u8>, gone: u64)
+        requires { gone ≡ self.old.gone + 1 }
+        ensures { (d : Datagram) → d.sender ≡ sender → d.to ≡ to → self.new ≡ due_as self.old d bytes.items self.old.sides }
+    {
         self.due = Some(Outgoing {
             sender,
             to,
             bytes,
-            stands: Some(number),
+            stands: Some(self.gone),
         });
         self.gone = gone;
-        Ok(())
     }
 }
 

@@ -3,12 +3,13 @@
 ghost use Rattle.std.specs.Prelude.{◌≡◌, ◌<◌, ◌≤◌, List, Option, length, reverse, nat_lt, OnOk, if◌then◌else◌};
 ghost use Rattle.nq_base.specs.declared.Event.{Event};
 ghost use Rattle.nq_commit.specs.Around.{renewed_around};
-ghost use Rattle.nq_commit.specs.Playing.{CanComeOutside, IsLeft, IsOfOffers, IsReady, IsTested, Leads, PlaysOutside, Reaches, RunsInner, StepsOutside, stepped_outside};
+ghost use Rattle.nq_commit.specs.Playing.{CanComeOutside, IsLeft, IsOfOffers, IsReady, IsTested, Leads, PlaysOutside, Reaches, RunsInner, StepsOutside, stepped_outside, tested_outside};
 ghost use Rattle.nq_model.specs.Kept.{Kept};
 ghost use Rattle.nq_model.specs.SkewBroken.{skew_broken};
 ghost use Rattle.nq_model.specs.Stepped.{most_events, no_packet, tested_room, tested_skew};
 ghost use Rattle.nq_model.specs.World.{Head, World as Model};
 ghost use Rattle.nq_staged_run.specs.declared.StagedEvent.{StagedEvent};
+ghost use Rattle.nq_staged_run.specs.Outside.{outside_run};
 ghost use Rattle.nq_world.specs.Answering.{IsOfTests, told};
 ghost use Rattle.nq_world.specs.Moving.{clients_in};
 ghost use Rattle.nq_world.specs.Playing.{CanCome, GoesOn, Plays};
@@ -56,9 +57,24 @@ impl<K: Keeper> StagedWorld<K> {
             return Stepped::Limit(Limit::Events);
         }
         match event {
-            StagedEvent::Plain(Event::Deliver(number)) => self.test_packet(*number),
-            StagedEvent::Plain(Event::ServerTick) => self.test_tick(),
-            _ => self.test_room(),
+            StagedEvent::Stage(_) => self.test_room(),
+            StagedEvent::Plain(event) => self.test_plain(event),
+        }
+    }
+
+    /// The same of an event of the inner world, or of a delivery, behind the test of the number of events.
+    fn test_plain(&self, event: &Event) -> Stepped
+        ensures tests { (head : Head) (events : List StagedEvent) (told : Option Kept) → IsReady self.now → Reaches head events self.now told
+            → IsTested result (tested_outside head (outside_run head events) (StagedEvent.Plain event.now)) }
+        ensures own { IsOfTests result }
+    {
+        match event {
+            Event::Deliver(number) => self.test_packet(*number),
+            Event::ServerTick => self.test_tick(),
+            Event::Call { .. } => self.test_room(),
+            Event::ClientTick(_) => self.test_room(),
+            Event::Restart(_) => self.test_room(),
+            Event::Crash { .. } => self.test_room(),
         }
     }
 
@@ -108,11 +124,13 @@ impl<K: Keeper> StagedWorld<K> {
             → StepsOutside head events event.now result self.new (K.content self.old.inner.server.keeper) (K.content self.new.inner.server.keeper) }
         ensures goes { GoesOn K.faults K.follows result self.old.inner self.new.inner }
     {
-        let stepped = self.play(event);
-        if matches!(stepped, Stepped::Done) {
-            self.events += 1;
+        match self.play(event) {
+            Stepped::Done => {
+                self.events += 1;
+                Stepped::Done
+            }
+            other => other,
         }
-        stepped
     }
 
     /// Takes in an event that passed the tests.
@@ -126,8 +144,26 @@ impl<K: Keeper> StagedWorld<K> {
     {
         match event {
             StagedEvent::Stage(host) => self.offer(*host),
-            StagedEvent::Plain(Event::Deliver(number)) => self.deliver(*number),
-            StagedEvent::Plain(event) => self.run(event, false),
+            StagedEvent::Plain(event) => self.play_plain(event),
+        }
+    }
+
+    /// Takes in an event of the inner world, or a delivery, that passed the tests.
+    fn play_plain(&mut self, event: &Event) -> Stepped
+        requires { CanCome (length self.old.inner.clients) self.old.inner.skew.window event.now }
+        ensures leads { (head : Head) (events : List StagedEvent) → IsReady self.old → Reaches head events self.old (K.content self.old.inner.server.keeper)
+            → IsLeft (stepped_outside head events (StagedEvent.Plain event.now))
+            → Leads head events (StagedEvent.Plain event.now) result (K.content self.old.inner.server.keeper) (K.content self.new.inner.server.keeper) (λ es kept. Reaches head es self.new kept) }
+        ensures goes { GoesOn K.faults K.follows result self.old.inner self.new.inner }
+        ensures count { self.new.events ≡ self.old.events }
+    {
+        match event {
+            Event::Deliver(number) => self.deliver(*number),
+            Event::ServerTick => self.run(event, false),
+            Event::Call { .. } => self.run(event, false),
+            Event::ClientTick(_) => self.run(event, false),
+            Event::Restart(_) => self.run(event, false),
+            Event::Crash { .. } => self.run(event, false),
         }
     }
 

@@ -15,12 +15,7 @@ use nq_world::Stepped;
 use std::alloc::Global;
 
 /// Tells at which line a staged schedule stopped, and why.
-pub(crate) fn tell_stop<K: Sink>(
-    alloc: Global,
-    line: u32,
-    answer: Stepped,
-    out: &mut K,
-) -> Ending
+pub(crate) fn tell_stop<K: Sink>(alloc: Global, line: u32, answer: Stepped, out: &mut K) -> Ending
     requires { IsReason answer }
     ensures { TellsStop result line answer (K.held out.old) (K.held out.new) (K.faults out.old) (K.faults out.new) }
 {
