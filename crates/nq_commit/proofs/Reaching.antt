@@ -181,17 +181,17 @@ pub inner-leads : {K : Type 0} (head : Head) (events : List StagedEvent) (event 
     → RunsInner head e commit said old new told tells
     → Leads head events event said told tells (λ es kept. Reaches head es new kept)
 inner-leads head events event e commit Stepped.Done old new told tells ready r agree leads offer ran =
-    (sym agree ∙ ran.0, reaches-inner head events event e commit old new told tells ready r leads ran.1 ran.2.0 ran.2.1 offer)
+    (sym agree ∙ ran.0, reaches-inner head events event e commit old new told tells ready r leads ran.1 ran.2 ran.3 offer)
 inner-leads head events event e commit Stepped.Fault old new told tells ready r agree leads offer ran =
-    (sym agree ∙ ran.0, λ same. reaches-same head events old new told tells r (ran.1 same) ran.2.1.0 ran.2.1.1, ran.2.0)
+    (sym agree ∙ ran.0, λ same. reaches-same head events old new told tells r (ran.1 same) ran.3 ran.4, ran.2)
 inner-leads head events event e commit Stepped.Memory old new told tells ready r agree leads offer ran =
-    (reaches-same head events old new told tells r ran.0 ran.2.0 ran.2.1, ran.1)
+    (reaches-same head events old new told tells r ran.0 ran.2 ran.3, ran.1)
 inner-leads head events event e commit Stepped.NoPacket old new told tells ready r agree leads offer ran =
-    (ap answer_of (sym agree) ∙ ran.0, reaches-same head events old new told tells r ran.1 ran.2.1.0 ran.2.1.1, ran.2.0)
+    (ap answer_of (sym agree) ∙ ran.0, reaches-same head events old new told tells r ran.1 ran.3 ran.4, ran.2)
 inner-leads head events event e commit (Stepped.SkewBroken broken) old new told tells ready r agree leads offer ran =
-    (ap answer_of (sym agree) ∙ ran.0, reaches-same head events old new told tells r ran.1 ran.2.1.0 ran.2.1.1, ran.2.0)
+    (ap answer_of (sym agree) ∙ ran.0, reaches-same head events old new told tells r ran.1 ran.3 ran.4, ran.2)
 inner-leads head events event e commit (Stepped.Limit limit) old new told tells ready r agree leads offer ran =
-    (ap answer_of (sym agree) ∙ ran.0, reaches-same head events old new told tells r ran.1 ran.2.1.0 ran.2.1.1, ran.2.0)
+    (ap answer_of (sym agree) ∙ ran.0, reaches-same head events old new told tells r ran.1 ran.3 ran.4, ran.2)
 
 -- ---- sending what is due
 

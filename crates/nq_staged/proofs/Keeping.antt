@@ -115,7 +115,7 @@ module _ (head : Head) (second : head.version ≡ 2) where
 
   pub events_told : (stages : List (Option ℕ)) (lines : List Line) (text : List ℕ) (events : List StagedEvent) → SpellsSchedule head lines text → play head (mixed stages lines) ≡ ran events → AreTold head events
   unfolding play
-  events_told stages lines text events spelled is = lines_told (most_events + 1) (length (head_lines head) + 1) stages lines spelled.1.0.1.0 [] events spelled.1.0.1.1.0 tt is
+  events_told stages lines text events spelled is = lines_told (most_events + 1) (length (head_lines head) + 1) stages lines spelled.1.1.0 [] events spelled.1.1.1 tt is
 
 -- ---- so can all inner events
 

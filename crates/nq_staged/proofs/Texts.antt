@@ -53,7 +53,6 @@ stages-none hosts rest lacks = ap (λ (p : List (List ℕ) × List ℕ). map (st
 -- the head of a schedule is the one that stands in front of its text
 pub same-head : (g h : Head) (rest text : List ℕ) (lines : List Line) → FitsHead g → text ≡ text_of (head_lines g) ++ rest → SpellsSchedule h lines text → h ≡ g
 same-head g h rest text lines fits split spelled =
-    let whole = spelled.1.0 in
-    let inside = spelled.1.0.1 in
-    one-text-head h g (text_of (inside.0 ++ codes "end" ∷ [])) rest whole.0 fits
-    (sym (text_of-append (head_lines h) (inside.0 ++ codes "end" ∷ [])) ∙ ap text_of (sym inside.1.1) ∙ sym spelled.1.1 ∙ split)
+    let texts = spelled.1.1.0 in
+    one-text-head h g (text_of (texts ++ codes "end" ∷ [])) rest spelled.1.0 fits
+    (sym (text_of-append (head_lines h) (texts ++ codes "end" ∷ [])) ∙ ap text_of (sym spelled.1.1.2) ∙ sym spelled.2 ∙ split)
