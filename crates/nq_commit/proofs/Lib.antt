@@ -1,6 +1,6 @@
 pub mod Travelling
 pub mod Sending
-pub mod Taking
+pub mod TakenIn
 pub mod Growing
 pub mod Bounded
 pub mod Agreeing

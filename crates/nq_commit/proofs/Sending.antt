@@ -77,12 +77,12 @@ short-as number side bytes commit new (Some push) is =
     let e : shortened side.stager push.0 push.1 bytes ≡ (commit, new) = cc in
     ap (λ (s : List ℕ × Staged). let r : List ℕ × Side = (s.0, side_of number s.1) in r) (sym e)
 
-pub passes-short : (number : ℕ) (side : Side) (bytes commit : List ℕ) (new : Staged) → option_map (λ s. shortened side.stager s.0 s.1 bytes) (shortening side.stager bytes) ≡ Some (commit, new) → (commit, side_of number new) ≡ passed number side bytes
-passes-short number side bytes commit new is = short-as number side bytes commit new (shortening side.stager bytes) is
+pub passes_short : (number : ℕ) (side : Side) (bytes commit : List ℕ) (new : Staged) → option_map (λ s. shortened side.stager s.0 s.1 bytes) (shortening side.stager bytes) ≡ Some (commit, new) → (commit, side_of number new) ≡ passed number side bytes
+passes_short number side bytes commit new is = short-as number side bytes commit new (shortening side.stager bytes) is
 
 -- bytes that it does not shorten
-pub passes-whole : (number : ℕ) (side new : Side) (bytes : List ℕ) → shortening side.stager bytes ≡ None → new ≡ side → (bytes, new) ≡ passed number side bytes
-passes-whole number side new bytes none same = ap (λ s. let r : List ℕ × Side = (bytes, s) in r) same ∙ ap (passed_as number side bytes) (sym none)
+pub passes_whole : (number : ℕ) (side new : Side) (bytes : List ℕ) → shortening side.stager bytes ≡ None → new ≡ side → (bytes, new) ≡ passed number side bytes
+passes_whole number side new bytes none same = ap (λ s. let r : List ℕ × Side = (bytes, s) in r) same ∙ ap (passed_as number side bytes) (sym none)
 
 -- ---- the next inner packet
 

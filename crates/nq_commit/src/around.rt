@@ -107,7 +107,7 @@ impl Around {
     }
 
     /// How many packets have gone out.
-    #[tactic(auto, using(crate::proofs::Travelling::length-travelling))]
+    #[tactic(auto, using(crate::proofs::Travelling::length_travelling))]
     pub(crate) fn sent(&self) -> u64
         ensures { result ≡ length self.now.sent }
     {
@@ -115,7 +115,7 @@ impl Around {
     }
 
     /// The packet of a number that travels.
-    #[tactic(auto, using(crate::proofs::Travelling::at-travelling))]
+    #[tactic(auto, using(crate::proofs::Travelling::at_travelling))]
     pub(crate) fn read(&self, number: u64) -> Result<Outgoing, NoMemory>
         requires { number < length self.now.sent }
         ensures { IfOk result (λ p. slice_get self.now.sent number ≡ Some p) }
@@ -252,7 +252,7 @@ fn pass_at(
 }
 
 /// The bytes as which a packet of this number goes out through a side.
-#[tactic(auto, using(crate::proofs::Passing::passes_by))]
+#[tactic(auto, using(crate::proofs::Sending::passes_short, crate::proofs::Sending::passes_whole))]
 fn pass(
     side: &mut HostSide,
     alloc: Global,
@@ -272,7 +272,7 @@ fn pass(
 }
 
 /// Adds a packet to those that travel.
-#[tactic(auto, using(crate::proofs::Travelling::travelling-more))]
+#[tactic(auto, using(crate::proofs::Travelling::travelling_more))]
 fn push(
     packets: &mut Packets,
     stands: &mut Vec<Option<u64>>,

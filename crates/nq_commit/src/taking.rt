@@ -36,7 +36,6 @@ pub(crate) enum Taken {
 
 impl Around {
     /// Takes in the packet of a number, which travels.
-    #[tactic(auto, using(crate::proofs::Taking::takes-read))]
     pub(crate) fn take_in(&mut self, number: u64) -> Taken
         requires there { number < length self.old.sent }
         requires settled { self.old.due ≡ None }

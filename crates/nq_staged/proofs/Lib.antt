@@ -1,7 +1,7 @@
 pub mod Steps
 pub mod Onward
-pub mod Lines
-pub mod Texts
+pub mod Mixing
+pub mod Lining
 pub mod Tellable
 pub mod Keeping
 pub mod Outcomes
