@@ -3,13 +3,14 @@
 ghost use Rattle.std.specs.Prelude.{◌≡◌, ◌+◌, ◌<◌, ◌≤◌, ℕ, List, Some, false, length, map};
 ghost use Rattle.nq_base.specs.declared.Event.{Event};
 ghost use Rattle.nq_base.specs.declared.SkewBroken.{SkewBroken};
-ghost use Rattle.nq_command.specs.Commands.{IsCheck, IsReplay, command_of};
+ghost use Rattle.nq_command.specs.Commands.{IsCheck, IsReplay, IsStaged, command_of};
 ghost use Rattle.nq_command.specs.declared.Command.{Command};
 ghost use Rattle.nq_ending.specs.Status.{WithStatus, status_of};
 ghost use Rattle.nq_ending.specs.declared.Ending.{Ending};
 ghost use Rattle.nq_journal.specs.Fault.{IsFaultyAt, IsJournal};
 ghost use Rattle.nq_loop.specs.Looped.{LoopsUnlessFault};
 ghost use Rattle.nq_loop.specs.Sending.{told_of};
+ghost use Rattle.nq_model.specs.Stepped.{out_of_skew};
 ghost use Rattle.nq_replay.specs.Ending.{Ends, IsUnlessFault};
 ghost use Rattle.nq_replay.specs.Judging.{IsSaidUnlessFault, Judges};
 ghost use Rattle.nq_replay.specs.Lines.{PrintsLine, usage_line};
@@ -19,8 +20,11 @@ ghost use Rattle.nq_run.specs.Frames.{reads_clock, reads_input, uses_link, uses_
 ghost use Rattle.nq_run.specs.Hosting.{Attends, AttendsUnlessFault, ServesFor, ServesUnlessFault};
 ghost use Rattle.nq_run.specs.Looping.{LoopsFor, LoopsLawfully};
 ghost use Rattle.nq_run.specs.Promised.{PrintsLawfully, PrintsSound, most_bytes};
+ghost use Rattle.nq_run.specs.Staging.{StagesLawfully};
 ghost use Rattle.nq_run.specs.Storming.{DoesStorm, NeverRuns, RunsNothing, StormsLawfully, StormsUnlessFault};
 ghost use Rattle.nq_script.specs.declared.heads.Head.{Head};
+ghost use Rattle.nq_staged.specs.Running.{EndsStaged, FaultyStaged, PassesStaged, RunsStaged, StopsStaged};
+ghost use Rattle.nq_staged_run.specs.declared.StagedEvent.{StagedEvent};
 
 use nq_base::{Host, Inc};
 use nq_clock::Clock;
@@ -32,6 +36,7 @@ use nq_keeper::Keeper;
 use nq_link::Link;
 use nq_loop::run_loop;
 use nq_replay::{judge, put_line, replay};
+use nq_staged::run_staged;
 use nq_storm::{first_of, run_storm};
 use nq_storm_rules::Fate;
 use nq_user::client;
@@ -40,7 +45,7 @@ use std::alloc::Global;
 // The most bytes of a schedule, a journal or a list of calls that are read.
 const MOST_BYTES: usize = 16_777_216;
 
-/// Runs what the words say, with input of at most 16,777,216 bytes: `replay` and `check`, as [`replay`] and [`judge`] tell, `serve` over
+/// Runs what the words say, with input of at most 16,777,216 bytes: `replay` and `check`, as [`replay`] and [`judge`] tell, `staged`, as [`run_staged`] tells, `serve` over
 /// the keeper, the link and the clock, as [`serve`] tells, `client` over the link and the clock, as [`client`] tells, `storm` by the
 /// first fate of the kind, as [`run_storm`] tells, and `loop` over the clock and the links, of which the server's is the first, as
 /// [`run_loop`] tells. The headline of `nq_laws` holds at each moment of the run whose journal `replay`, `storm` or `loop` printed, and that
@@ -49,7 +54,7 @@ const MOST_BYTES: usize = 16_777_216;
 /// clock.
 ///
 /// The answer is the exit status. `docs/commands.md` says when each comes, and what is printed then.
-#[tactic(auto, using(crate::proofs::Commands::says_replay, crate::proofs::Commands::says_check), unfolding(crate::specs::Promised::most_bytes))]
+#[tactic(auto, using(crate::proofs::Commands::says_replay, crate::proofs::Commands::says_check, crate::proofs::Commands::says_staged), unfolding(crate::specs::Promised::most_bytes))]
 pub fn run<S: Source, K: Sink, P: Keeper + Drop, L: Link, C: Clock>(
     alloc: Global,
     words: &Words,
@@ -105,6 +110,30 @@ pub fn run<S: Source, K: Sink, P: Keeper + Drop, L: Link, C: Clock>(
         → OfInput most_bytes (S.left input.old) (S.left input.new) (λ text. PrintsLawfully text (K.held out.old) (K.held out.new)) }
     ensures sound { IsReplay words.now → result ≡ status_of Ending.Done
         → OfInput most_bytes (S.left input.old) (S.left input.new) (λ text. PrintsSound (K.held out.old) (K.held out.new)) }
+    ensures stages { IsStaged words.now
+        → WithStatus result (λ end. EndsStaged end most_bytes (S.left input.old) (S.left input.new) (K.held out.old) (K.held out.new)
+        (S.faults input.old) (S.faults input.new) (K.faults out.old) (K.faults out.new)) }
+    ensures staged_limit { IsStaged words.now → (text : List ℕ) → S.left input.old ≡ Some text → most_bytes < length text
+        → WithStatus result (λ end. IsUnlessFault end Ending.Limit
+        (S.faults input.old) (S.faults input.new) (K.faults out.old) (K.faults out.new)) }
+    ensures staged_script { IsStaged words.now → (text : List ℕ) → S.left input.old ≡ Some text → length text ≤ most_bytes
+        → (number : ℕ) → FaultyStaged text number
+        → WithStatus result (λ end. IsUnlessFault end Ending.Script
+        (S.faults input.old) (S.faults input.new) (K.faults out.old) (K.faults out.new)) }
+    ensures staged_skew { IsStaged words.now → (text : List ℕ) → S.left input.old ≡ Some text → length text ≤ most_bytes
+        → (number : ℕ) (broken : SkewBroken) → StopsStaged text number (out_of_skew broken)
+        → WithStatus result (λ end. IsUnlessFault end Ending.Skew
+        (S.faults input.old) (S.faults input.new) (K.faults out.old) (K.faults out.new)) }
+    ensures staged_passes { IsStaged words.now → (text : List ℕ) → S.left input.old ≡ Some text → length text ≤ most_bytes
+        → (number : ℕ) (bound : Bound) → PassesStaged text number bound
+        → WithStatus result (λ end. IsUnlessFault end Ending.Limit
+        (S.faults input.old) (S.faults input.new) (K.faults out.old) (K.faults out.new)) }
+    ensures staged_done { IsStaged words.now → (text : List ℕ) → S.left input.old ≡ Some text → length text ≤ most_bytes
+        → (head : Head) (events : List StagedEvent) → RunsStaged text head events
+        → WithStatus result (λ end. IsUnlessFault end Ending.Done
+        (S.faults input.old) (S.faults input.new) (K.faults out.old) (K.faults out.new)) }
+    ensures staged_headline { IsStaged words.now → result ≡ status_of Ending.Done
+        → OfInput most_bytes (S.left input.old) (S.left input.new) (λ text. StagesLawfully text (K.held out.old) (K.held out.new)) }
     ensures serves { (turns longest : ℕ) → command_of words.now ≡ Some (Command.Serve turns longest)
         → ServesFor P.content P.faults P.follows result longest turns keeper (C.readings clock.old) (C.readings clock.new)
         (record { sent = L.sent link.old; waiting = L.waiting link.old; faults = L.faults link.old })
@@ -147,6 +176,7 @@ pub fn run<S: Source, K: Sink, P: Keeper + Drop, L: Link, C: Clock>(
     match words.command() {
         Some(Command::Replay) => replay(alloc, input, out, MOST_BYTES).status(),
         Some(Command::Check) => judge(alloc, input, out, MOST_BYTES).status(),
+        Some(Command::Staged) => run_staged(alloc, input, out, MOST_BYTES).status(),
         Some(Command::Serve { turns, longest }) => {
             serve(alloc, keeper, turns, longest, link, clock, out).status()
         }

@@ -1,4 +1,4 @@
-use Rattle.std.proofs.Common.{◌∙◌, Some, ap, refl, sym}
+use Rattle.std.proofs.Common.{◌∙◌, Some, ap, refl, subst, sym}
 use Rattle.nq_command.specs.Commands.{command_of}
 use Rattle.nq_ending.proofs.Ends.{one_end}
 use Rattle.nq_ending.specs.declared.Ending.{Ending}
@@ -6,7 +6,9 @@ use Rattle.nq_run.proofs.HostPromises.{attends_unless, serves_unless}
 use Rattle.nq_run.proofs.LoopPromises.{loop_does, loop_lawful, loop_unless, loop_usage}
 use Rattle.nq_run.proofs.Promises.{input_lawful, input_sound}
 use Rattle.nq_run.proofs.StormPromises.{storm_does, storm_lawful, storm_never, storm_prints, storm_unless, storm_usage}
+use Rattle.nq_run.proofs.StagedPromises.{input_staged}
 use Rattle.nq_run.specs.Promised.{most_bytes}
+use Rattle.nq_staged.specs.Running.{EndsStaged}
 use Rattle.nq_run.proofs.top.run.Goals as goal
 
 pub returns-in-Some-Replay-clause-script : goal.returns-in-Some-Replay-clause-script
@@ -94,3 +96,32 @@ pub returns-in-Some-Loop-clause-looped : goal.returns-in-Some-Loop-clause-looped
 returns-in-Some-Loop-clause-looped g c = λ hosts turns is done.
     loop_lawful c.looped.result hosts turns _ _ _ _ _ _ _ _
     (loop_does (command_of c.args.words.now) c.looped.result c.in-Some-Loop.hosts c.in-Some-Loop.turns hosts turns _ _ _ _ _ _ _ _ (sym c.command.ensures.says ∙ c.in-Some-Loop.is ∙ ap Some c.in-Some-Loop.field-0-is) is c.looped.ensures) done
+
+pub returns-in-Some-Staged-clause-stages : goal.returns-in-Some-Staged-clause-stages
+unfolding most_bytes
+returns-in-Some-Staged-clause-stages g c = λ is. (c.run_staged.result, c.status-in-Some-Staged.ensures, c.run_staged.ensures.ends)
+
+pub returns-in-Some-Staged-clause-staged_limit : goal.returns-in-Some-Staged-clause-staged_limit
+unfolding most_bytes
+returns-in-Some-Staged-clause-staged_limit g c = λ is text told longer. (c.run_staged.result, c.status-in-Some-Staged.ensures, c.run_staged.ensures.limit text told longer)
+
+pub returns-in-Some-Staged-clause-staged_script : goal.returns-in-Some-Staged-clause-staged_script
+unfolding most_bytes
+returns-in-Some-Staged-clause-staged_script g c = λ is text told within number faulty. (c.run_staged.result, c.status-in-Some-Staged.ensures, c.run_staged.ensures.script text told within number faulty)
+
+pub returns-in-Some-Staged-clause-staged_skew : goal.returns-in-Some-Staged-clause-staged_skew
+unfolding most_bytes
+returns-in-Some-Staged-clause-staged_skew g c = λ is text told within number broken breaks. (c.run_staged.result, c.status-in-Some-Staged.ensures, c.run_staged.ensures.skew text told within number broken breaks)
+
+pub returns-in-Some-Staged-clause-staged_passes : goal.returns-in-Some-Staged-clause-staged_passes
+unfolding most_bytes
+returns-in-Some-Staged-clause-staged_passes g c = λ is text told within number bound passes. (c.run_staged.result, c.status-in-Some-Staged.ensures, c.run_staged.ensures.passes text told within number bound passes)
+
+pub returns-in-Some-Staged-clause-staged_done : goal.returns-in-Some-Staged-clause-staged_done
+unfolding most_bytes
+returns-in-Some-Staged-clause-staged_done g c = λ is text told within head events runs. (c.run_staged.result, c.status-in-Some-Staged.ensures, c.run_staged.ensures.done text told within head events runs)
+
+pub returns-in-Some-Staged-clause-staged_headline : goal.returns-in-Some-Staged-clause-staged_headline
+unfolding most_bytes
+returns-in-Some-Staged-clause-staged_headline g c = λ is done.
+    input_staged _ _ _ _ _ (subst (λ e. EndsStaged e 16777216 _ _ _ _ _ _ _ _) (one_end c.run_staged.result Ending.Done c.status-in-Some-Staged.result c.status-in-Some-Staged.ensures done) c.run_staged.ensures.ends)

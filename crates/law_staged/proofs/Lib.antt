@@ -1,0 +1,5 @@
+mod Apart
+mod KnownClient
+mod KnownRuns
+mod Datagrams
+mod Meant
