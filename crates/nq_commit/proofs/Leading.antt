@@ -22,7 +22,7 @@ use Rattle.nq_world.specs.Answering.{IsOfTests}
 use Rattle.nq_world.specs.Playing.{Plays, WorldOver}
 use Rattle.nq_world.specs.declared.Stepped.{Stepped}
 use Rattle.nq_commit.proofs.Agreeing.{NoDelivery, deliver-agrees, deliver-done, deliver-there, inner-agrees, stage-done}
-use Rattle.nq_commit.proofs.Reaching.{inner-leads, reached-over, reached-ran, reaches-beside}
+use Rattle.nq_commit.proofs.Reaching.{inner-leads, reached-over, reached-ran, reaches-beside, reaches-same}
 use Rattle.nq_commit.proofs.Sending.{there}
 use Rattle.nq_commit.specs.Around.{AroundOver, once_sent, over}
 use Rattle.nq_commit.specs.Playing.{IsLeft, IsReady, IsTested, Leads, Reaches, RunsInner, StagedOver, stepped_outside}
@@ -73,6 +73,15 @@ delivered-beside head events n old new told ready r inner ran less taken left =
       reaches-beside head events (StagedEvent.Plain (Event.Deliver n)) old new told ready r inner ran is.0
           (is.1 v rn ∙ sym (delivers-some (over v rn old.around) n x.0 x.1)) tt,
     )
+
+pub delivered-memory : {K : Type 0} (head : Head) (events : List StagedEvent) (n : ℕ) (old new : StagedOver K) (told : Option Kept) → Reaches head events old told
+    → new.inner ≡ old.inner → new.ran ≡ old.ran → n < length old.around.sent
+    → IfSome (slice_get old.around.sent n) (λ p. IsTakenIn Taken.Memory p.stands old.around new.around (λ w ran. takes (over w ran old.around) p p.to))
+    → Reaches head events new told
+delivered-memory head events n old new told r inner ran less taken =
+    let x = there old.around.sent n less in
+    let is : new.around ≡ old.around = subst (λ o. IfSome o (λ p. IsTakenIn Taken.Memory p.stands old.around new.around (λ w ran. takes (over w ran old.around) p p.to))) x.1 taken in
+    reaches-same head events old new told told r (subst (λ i. Plays head (reverse old.ran) i told) (sym inner) r.inner) ran is
 
 pub delivered-inner : {K : Type 0} (head : Head) (events : List StagedEvent) (n k : ℕ) (commit : Bool) (said : Stepped) (old mid new : StagedOver K) (told tells : Option Kept) → IsReady old → Reaches head events old told
     → n < length old.around.sent

@@ -127,7 +127,7 @@ settled-shows w ran a n settled many =
 
 -- ---- step by step
 
-there : {X : Type 0} (xs : List X) (i : ℕ) → i < length xs → (x : X) × (slice_get xs i ≡ Some x)
+pub there : {X : Type 0} (xs : List X) (i : ℕ) → i < length xs → (x : X) × (slice_get xs i ≡ Some x)
 there [] i less = absurd (omega arith)
 there (x ∷ xs) zero less = (x, refl)
 there (x ∷ xs) (suc i) less = there xs i (omega arith)

@@ -123,3 +123,21 @@ offers_shown w ran a host c dirty push stage sides none d p is =
     let same : (stage, sides) ≡ offers_at a.sides host c.dirty c.push (slice_get a.sides host) = is ∙ ap (λ l. offers_at a.sides host l push (slice_get a.sides host)) (sym d) ∙ ap (λ q. offers_at a.sides host c.dirty q (slice_get a.sides host)) (sym p) in
     ap (λ (g : Option (List ℕ) × List Side). once_sent w ran (record a { sides = g.1; due = stage_due host g.0 })) same
     ∙ side-shown w ran a host c (slice_get a.sides host) none refl
+
+-- where a STAGE is due
+pub offer-put : (w : World) (ran : List Event) (a b : AroundOver) (host : ℕ) (c : Client) (dirty : List Push) (push : Option Push) (o : Option (Vec ℕ Global)) (v : Vec ℕ Global) (sides : List Side) (made : Outer) → a.due ≡ None → c.dirty ≡ dirty → c.push ≡ push
+    → (option_map (λ x. x.items) o, sides) ≡ offers_at a.sides host dirty push (slice_get a.sides host) → o ≡ Some v → made ≡ beside (Party.Client host) Party.Server v.items → b ≡ record a { sides = sides; due = Some made }
+    → once_sent w ran b ≡ offers (over w ran a) host (slice_get a.sides host) (Some c)
+offer-put w ran a b host c dirty push o v sides made none d p is some beside-is b-is =
+    ap (once_sent w ran) (b-is ∙ ap (λ m. record a { sides = sides; due = Some m }) beside-is)
+    ∙ ap (λ x. once_sent w ran (record a { sides = sides; due = stage_due host (option_map (λ (y : Vec ℕ Global). y.items) x) })) (sym some)
+    ∙ offers_shown w ran a host c dirty push (option_map (λ x. x.items) o) sides none d p is
+
+-- where there was nothing to offer
+pub offer-none : (w : World) (ran : List Event) (a : AroundOver) (host : ℕ) (c : Client) (dirty : List Push) (push : Option Push) (o : Option (Vec ℕ Global)) (sides : List Side) → a.due ≡ None → c.dirty ≡ dirty → c.push ≡ push
+    → (option_map (λ x. x.items) o, sides) ≡ offers_at a.sides host dirty push (slice_get a.sides host) → o ≡ None
+    → once_sent w ran (record a { sides = sides }) ≡ offers (over w ran a) host (slice_get a.sides host) (Some c)
+offer-none w ran a host c dirty push o sides none d p is nothing =
+    ap (λ x. once_sent w ran (record a { sides = sides; due = x })) none
+    ∙ ap (λ x. once_sent w ran (record a { sides = sides; due = stage_due host (option_map (λ (y : Vec ℕ Global). y.items) x) })) (sym nothing)
+    ∙ offers_shown w ran a host c dirty push (option_map (λ x. x.items) o) sides none d p is

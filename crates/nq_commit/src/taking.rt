@@ -163,7 +163,7 @@ impl Around {
         ensures gone { self.new.gone ≡ self.old.gone }
         ensures refused { OnErr result (self.new ≡ self.old) }
     {
-        let stage = offer_at(&mut self.sides, self.alloc, host.0 as usize, dirty)?;
+        let stage = offer_at(&mut self.sides, self.alloc, host, dirty)?;
         match stage {
             Some(stage) => {
                 self.put(stage_from(host, stage));
@@ -223,13 +223,14 @@ fn stage_from(host: Host, bytes: Vec<u8>) -> Outgoing
 fn offer_at(
     sides: &mut Vec<HostSide>,
     alloc: Global,
-    place: usize,
+    host: Host,
     dirty: &Dirty,
 ) -> Result<Option<Vec<u8>>, NoMemory>
-    ensures offers { IfOk result (λ o. (option_map (λ v. v.items) o, sides.new.items) ≡ offers_at sides.old.items place dirty.now.dirty dirty.now.push (slice_get sides.old.items place)) }
-    ensures fits { OnOk result (IfSome (slice_get sides.old.items place) (λ s. FitsOffering s.stager (offer_of s.stager dirty.now.dirty dirty.now.push))) }
+    ensures offers { IfOk result (λ o. (option_map (λ v. v.items) o, sides.new.items) ≡ offers_at sides.old.items host dirty.now.dirty dirty.now.push (slice_get sides.old.items host)) }
+    ensures fits { OnOk result (IfSome (slice_get sides.old.items host) (λ s. FitsOffering s.stager (offer_of s.stager dirty.now.dirty dirty.now.push))) }
     ensures refused { OnErr result (sides.new.items ≡ sides.old.items) }
 {
+    let place = host.0 as usize;
     if place >= sides.len() {
         return Ok(None);
     }
