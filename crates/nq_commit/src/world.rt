@@ -136,14 +136,12 @@ impl<K: Keeper> StagedWorld<K> {
     ///
     /// `NoMemory` where memory is wanting; the world plays the same run then.
     pub fn sent(&mut self) -> Result<u64, NoMemory>
-        ensures same { (head : Head) (events : List StagedEvent) (told : Option Kept) → PlaysOutside head events self.old told
-            → PlaysOutside head events self.new told × IfOk result (λ packets. packets ≡ length (outside_run head events).sent) }
+        ensures same { (head : Head) (events : List StagedEvent) (told : Option Kept) → PlaysOutside head events self.old told → PlaysOutside head events self.new told }
+        ensures packets { IfOk result (λ packets. (head : Head) (events : List StagedEvent) (told : Option Kept) → PlaysOutside head events self.old told → packets ≡ length (outside_run head events).sent) }
         ensures inner { self.new.inner ≡ self.old.inner }
     {
-        match self.settle() {
-            Ok(()) => Ok(self.around.sent()),
-            Err(NoMemory::Memory) => Err(NoMemory::Memory),
-        }
+        self.settle()?;
+        Ok(self.around.sent())
     }
 
     /// What was counted.
