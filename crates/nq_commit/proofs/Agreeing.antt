@@ -60,17 +60,17 @@ both-few few few' x y a b same = ap (λ t. if t then y else too_many_events) b �
 
 -- ---- an event that is no delivery
 
-abbrev NoDelivery : Event → Type 0
+abbrev pub NoDelivery : Event → Type 0
 NoDelivery (Event.Deliver k) = ⊥
 NoDelivery other = Unit {0}
 
 tests-agree : (head : Head) (o : Outside) (event : Event) (packets : ℕ) → NoDelivery event → packets ≤ length o.sent → IsLeft (tested_outside head o (StagedEvent.Plain event)) → tested head o.ran packets event ≡ tested_outside head o (StagedEvent.Plain event)
-tests-agree head o (Event.Call host op) packets no less left = room-agrees packets (length o.sent) less left
-tests-agree head o (Event.Deliver k) packets no less left = absurd no
-tests-agree head o Event.ServerTick packets no less left = skew-agrees packets (length o.sent) (skew_broken head.hosts head.longest o.ran) less left
-tests-agree head o (Event.ClientTick host) packets no less left = room-agrees packets (length o.sent) less left
-tests-agree head o (Event.Restart host) packets no less left = room-agrees packets (length o.sent) less left
-tests-agree head o (Event.Crash longest) packets no less left = room-agrees packets (length o.sent) less left
+tests-agree head o (Event.Call host op) packets free less left = room-agrees packets (length o.sent) less left
+tests-agree head o (Event.Deliver k) packets free less left = absurd free
+tests-agree head o Event.ServerTick packets free less left = skew-agrees packets (length o.sent) (skew_broken head.hosts head.longest o.ran) less left
+tests-agree head o (Event.ClientTick host) packets free less left = room-agrees packets (length o.sent) less left
+tests-agree head o (Event.Restart host) packets free less left = room-agrees packets (length o.sent) less left
+tests-agree head o (Event.Crash longest) packets free less left = room-agrees packets (length o.sent) less left
 
 packets-run : (head : Head) (events : List StagedEvent) → length (run head (outside_run head events).ran).packets ≤ length (outside_run head events).sent
 packets-run head events =
@@ -80,11 +80,11 @@ few-inner : (head : Head) (events : List StagedEvent) → nat_lt (length events)
 few-inner head events few = less-more (length (outside_run head events).ran) (length events) most_events (few-run head events) few
 
 pub inner-agrees : (head : Head) (events : List StagedEvent) (event : Event) → NoDelivery event → IsLeft (stepped_outside head events (StagedEvent.Plain event)) → stepped head (outside_run head events).ran event ≡ stepped_outside head events (StagedEvent.Plain event)
-inner-agrees head events event no left =
+inner-agrees head events event free left =
     let o = outside_run head events in
     let first = left-first (nat_lt (length events) most_events) (tested_outside head o (StagedEvent.Plain event)) left in
     both-few (nat_lt (length events) most_events) (nat_lt (length o.ran) most_events) (tested_outside head o (StagedEvent.Plain event)) (tested head o.ran (length (run head o.ran).packets) event)
-    first.0 (few-inner head events first.0) (tests-agree head o event (length (run head o.ran).packets) no (packets-run head events) first.1)
+    first.0 (few-inner head events first.0) (tests-agree head o event (length (run head o.ran).packets) free (packets-run head events) first.1)
 
 -- ---- what is left and breaks no rule on skew was to be taken
 
@@ -136,14 +136,14 @@ few-tested head events event n is few =
     ap (λ t. if t then tested_outside head (outside_run head events) event else too_many_events) under
 
 tested-as : (answer : Answer) → ((b : SkewBroken) → answer ≡ out_of_skew b → ⊥) → IsTested (answer_of answer) answer
-tested-as done no = tt
-tested-as no_packet no = refl
-tested-as (out_of_skew broken) no = absurd (no broken refl)
-tested-as too_many_events no = refl
-tested-as too_many_packets no = refl
+tested-as done free = tt
+tested-as no_packet free = refl
+tested-as (out_of_skew broken) free = absurd (free broken refl)
+tested-as too_many_events free = refl
+tested-as too_many_packets free = refl
 
 pub tested-is : (said : Stepped) (answer : Answer) → said ≡ answer_of answer → ((b : SkewBroken) → answer ≡ out_of_skew b → ⊥) → IsTested said answer
-tested-is said answer is no = subst (λ s. IsTested s answer) (sym is) (tested-as answer no)
+tested-is said answer is free = subst (λ s. IsTested s answer) (sym is) (tested-as answer free)
 
 room-no-skew : (over : Bool) (b : SkewBroken) → (if over then too_many_packets else done) ≡ out_of_skew b → ⊥
 room-no-skew true b is = cc
@@ -163,8 +163,18 @@ tick-lawful hosts longest sent earlier said within next is =
     subst (λ b. IsTested said (tested_skew sent b)) (sym none) (tested-is said (tested_room sent) is (no-skew-room sent))
 
 tick-left : (sent : ℕ) (b : Option SkewBroken) → (b ≡ None → ⊥) → IsTested Stepped.Done (tested_skew sent b)
-tick-left sent None no = absurd (no refl)
-tick-left sent (Some b) no = tt
+tick-left sent None free = absurd (free refl)
+tick-left sent (Some b) free = tt
 
 pub tick-unlawful : (hosts longest sent : ℕ) (earlier : List Event) → IsWithinSkew hosts longest earlier → (IsWithinSkew hosts longest (Event.ServerTick ∷ earlier) → ⊥) → IsTested Stepped.Done (tested_skew sent (skew_broken hosts longest earlier))
 tick-unlawful hosts longest sent earlier within not = tick-left sent (skew_broken hosts longest earlier) (λ none. not ((each-tick-is-judged hosts longest earlier within).within none))
+
+-- what is left to be delivered travels
+pub deliver-there : (head : Head) (events : List StagedEvent) (n : ℕ) → IsLeft (stepped_outside head events (StagedEvent.Plain (Event.Deliver n))) → n < length (outside_run head events).sent
+deliver-there head events n left =
+    let o = outside_run head events in
+    let there = nat_lt n (length o.sent) in
+    let first = left-first (nat_lt (length events) most_events) (if there then tested_room (length o.sent) else no_packet) left in
+    let second = sent-left there (length o.sent) first.1 in
+    let is : nat_lt n (length o.sent) ≡ true = second.0 in
+    grind (arith, nat_tests)

@@ -220,14 +220,14 @@ delivery-next o (Some number) fine = inner-next o (Event.Deliver number) fine
 stage-next : (o : Outside) (host : ℕ) (given : List ℕ × Bodies) → IsFine o → Next (length o.ran) (takes_stage o host given)
 unfolding takes_stage
 stage-next o host given fine =
-    let p = record { sender = Party.Server; to = Party.Client host; bytes = given.0; stands = None } in
+    let p : Outer = record { sender = Party.Server; to = Party.Client host; bytes = given.0; stands = None } in
     next-sends (record o { pool = given.1; counts = record o.counts { staged = o.counts.staged + 1 } }) p (below-none (length o.world.packets)) (record { bounded = record { sent = fine.bounded.sent; sides = fine.bounded.sides }; many = fine.many })
 
 commit-next : (o : Outside) (host : ℕ) (stands : Option ℕ) (a : Answer) → IsFine o → Next (length o.ran) (takes_commit o host stands a)
 commit-next o host stands (write bytes) fine =
     delivery-next (record o { counts = record o.counts { commits = o.counts.commits + 1 } }) stands (record { bounded = record { sent = fine.bounded.sent; sides = fine.bounded.sides }; many = fine.many })
 commit-next o host stands (unstaged bytes) fine =
-    let p = record { sender = Party.Server; to = Party.Client host; bytes = bytes; stands = None } in
+    let p : Outer = record { sender = Party.Server; to = Party.Client host; bytes = bytes; stands = None } in
     next-sends (record o { counts = record o.counts { unstaged = o.counts.unstaged + 1 } }) p (below-none (length o.world.packets)) (record { bounded = record { sent = fine.bounded.sent; sides = fine.bounded.sides }; many = fine.many })
 
 served-commit-next : (o : Outside) (host : ℕ) (p : Outer) (c : Option Commit) → IsFine o → Next (length o.ran) (served_commit o host p c)

@@ -5,3 +5,4 @@ pub mod Growing
 pub mod Bounded
 pub mod Agreeing
 pub mod Reaching
+pub mod Leading

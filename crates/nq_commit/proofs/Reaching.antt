@@ -1,8 +1,9 @@
 -- The parts of a world come to the end of a staged run, and go on.
-use Rattle.std.proofs.Common.{◌≡◌, ◌≤◌, ℕ, ◌+◌, Bool, true, false, List, [], ◌∷◌, ◌++◌, length, drop, map, reverse, Option, Some, None, refl, sym, ap, subst, ◌∙◌, arith}
-use Rattle.std.proofs.lemmas.List.{length-map, reverse-append}
+use Rattle.std.proofs.Common.{◌≡◌, ◌≤◌, ◌<◌, ℕ, ◌+◌, Bool, true, false, List, [], ◌∷◌, ◌++◌, length, drop, take, map, reverse, Option, Some, None, refl, sym, ap, subst, ◌∙◌, arith}
+use Rattle.std.proofs.lemmas.List.{length-map, map_more, reverse-append, take_all}
 use Rattle.std.proofs.lemmas.List.Elements.{All-head, All-tail}
-use Rattle.std.specs.Prelude.{All, slice_get}
+use Rattle.std.proofs.lemmas.Option.{get_or_from_slice_get}
+use Rattle.std.specs.Prelude.{All, IfSome, slice_get}
 use Rattle.nq_base.specs.declared.Event.{Event}
 use Rattle.nq_base.specs.declared.Party.{Party}
 use Rattle.nq_client.specs.Counted.{Counted}
@@ -27,7 +28,7 @@ use Rattle.nq_world.specs.Playing.{Plays, WorldOver}
 use Rattle.nq_world.specs.Shown.{FitsPacket, datagram}
 use Rattle.nq_world.specs.declared.Stepped.{Stepped}
 use Rattle.nq_commit.proofs.Growing.{grows}
-use Rattle.nq_commit.proofs.Sending.{settled-shows}
+use Rattle.nq_commit.proofs.Sending.{settled-shows, there}
 use Rattle.nq_commit.specs.Around.{AroundOver, IsSettled, counted, new_around, once_sent, over, renewed_around, shown, with_due}
 use Rattle.nq_commit.specs.Playing.{IsReady, Leads, PlaysOutside, Reaches, RunsInner, StagedOver, stepped_outside}
 use Rattle.nq_commit.specs.Taking.{running}
@@ -274,3 +275,17 @@ begins-plays head w told plays =
       };
       counted = refl;
     }
+
+abbrev first-side : Counted → Side
+first-side c = record { stager = new_stager c.client.who; last = None }
+
+pub sides_more : (clients : List Counted) (host : ℕ) (sides more : List Side) (side : Side) → sides ≡ map first-side (take host clients) → host < length clients → IfSome (slice_get clients host) (λ c. side ≡ first-side c) → more ≡ sides ++ side ∷ [] → more ≡ map first-side (take (host + 1) clients)
+sides_more clients host sides more side are less is more-is =
+    let x = there clients host less in
+    let same : side ≡ first-side x.0 = subst (λ o. IfSome o (λ c. side ≡ first-side c)) x.1 is in
+    more-is ∙ ap (λ l. l ++ side ∷ []) are
+    ∙ ap (λ s. map first-side (take host clients) ++ s ∷ []) (same ∙ ap first-side (sym (get_or_from_slice_get clients host x.0 x.0 x.1)))
+    ∙ sym (map_more first-side clients host x.0 less)
+
+pub sides_all : (clients : List Counted) (hosts : ℕ) (sides : List Side) → length clients ≤ hosts → sides ≡ map first-side (take hosts clients) → sides ≡ map first-side clients
+sides_all clients hosts sides all are = are ∙ ap (map first-side) (take_all hosts clients all)

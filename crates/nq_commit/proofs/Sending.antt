@@ -1,9 +1,9 @@
 -- What is still to go out shows in the same way before it goes and after.
-use Rattle.std.proofs.Common.{◌≡◌, ℕ, ◌+◌, ◌≤◌, ◌<◌, List, [], ◌∷◌, ◌++◌, length, drop, map, Option, Some, None, refl, sym, ap, subst, ◌∙◌, arith}
+use Rattle.std.proofs.Common.{◌≡◌, ℕ, zero, suc, ◌+◌, ◌≤◌, ◌<◌, List, [], ◌∷◌, ◌++◌, length, drop, map, Option, Some, None, refl, sym, ap, subst, ◌∙◌, arith}
 use Rattle.std.proofs.lemmas.List.{drop_all, drop_more, set-get_or}
 use Rattle.std.proofs.lemmas.Option.{get_or_from_slice_get, slice_get_within, slice_get-map}
 use Rattle.std.specs.Option.{option_map}
-use Rattle.std.specs.Prelude.{slice_get, slice_set}
+use Rattle.std.specs.Prelude.{Result, Ok, Err, OnErr, OnOk, slice_get, slice_set}
 use Rattle.nq_base.specs.declared.Event.{Event}
 use Rattle.nq_base.specs.declared.Party.{Party}
 use Rattle.nq_datagrams.specs.Messages.{bytes_of}
@@ -34,7 +34,7 @@ pub record OfDatagram (packets : List Packet) (k : ℕ) (d : Datagram) : Type 0 
 
 of-option : (o : Option Packet) (d : Datagram) → option_map datagram o ≡ Some d → (p : Packet) × ((o ≡ Some p) × (datagram p ≡ d))
 of-option None d is = absurd (cc)
-of-option (Some p) d is = (p, refl, (let e : datagram p ≡ d = cc in e))
+of-option (Some p) d is = (p, (refl, (let e : datagram p ≡ d = cc in e)))
 
 pub of-datagram : (packets : List Packet) (datagrams : List Datagram) (k : ℕ) (d : Datagram) → datagrams ≡ map datagram packets → slice_get datagrams k ≡ Some d → OfDatagram packets k d
 of-datagram packets datagrams k d are there =
@@ -124,3 +124,54 @@ pub settled-shows : (w : World) (ran : List Event) (a : AroundOver) (n : ℕ) �
 settled-shows w ran a n settled many =
     let all : length w.packets ≤ a.gone = (let e = settled.all_gone in omega arith) in
     ap (λ ps. sends_all (once_sent w ran a) a.gone ps) (drop_all a.gone w.packets all) ∙ none-due w ran a settled.none_due
+
+-- ---- step by step
+
+pub there : {X : Type 0} (xs : List X) (i : ℕ) → i < length xs → (x : X) × (slice_get xs i ≡ Some x)
+there [] i less = absurd (omega arith)
+there (x ∷ xs) zero less = (x, refl)
+there (x ∷ xs) (suc i) less = there xs i (omega arith)
+
+gone-from : (a : AroundOver) (d : Datagram) (from : Party) → (prepared_from a d from).gone ≡ a.gone + 1
+gone-from a d Party.Server = refl
+gone-from a d (Party.Client host) = refl
+
+-- the next packet was made due
+pub prepared-gone : (packets : List Datagram) (a b : AroundOver) → a.gone < length packets → ((d : Datagram) → slice_get packets a.gone ≡ Some d → b ≡ prepared a d) → b.gone ≡ a.gone + 1
+prepared-gone packets a b less is =
+    let x = there packets a.gone less in
+    ap (λ (c : AroundOver). c.gone) (is x.0 x.1) ∙ gone-from a x.0 x.0.sender
+
+pub prepared-shows : (packets : List Datagram) (a b : AroundOver) → a.due ≡ None → a.gone < length packets → ((d : Datagram) → slice_get packets a.gone ≡ Some d → b ≡ prepared a d)
+    → (w : World) (ran : List Event) → packets ≡ map datagram w.packets → shown w ran b ≡ shown w ran a
+prepared-shows packets a b none less is w ran are =
+    let x = there packets a.gone less in
+    let p = of-datagram w.packets packets a.gone x.0 are x.1 in
+    ap (shown w ran) (is x.0 x.1 ∙ ap (prepared a) (sym p.tells)) ∙ prepare-shows w ran a p.packet none p.there
+
+-- a host's packet that went through its side
+pub due_passed : (a b : AroundOver) (d : Datagram) (host : ℕ) (bytes : List ℕ) (sides : List Side) → (bytes, sides) ≡ passed_at a.gone a.sides host d.bytes (slice_get a.sides host) → b ≡ due_as (record a { sides = sides }) (record d { bytes = bytes }) bytes sides → b ≡ prepared_from a d (Party.Client host)
+due_passed a b d host bytes sides went is = is ∙ ap (λ (g : List ℕ × List Side). due_as a d g.0 g.1) went
+
+-- ---- by whether there was memory
+
+pub flush_all : {A E : Type 0} (r : Result A E) (a b : AroundOver) → OnOk r (b ≡ flushed a) → OnErr r (b ≡ a) → (w : World) (ran : List Event) → shown w ran b ≡ shown w ran a
+flush_all (Ok x) a b sent refused w ran = ap (shown w ran) sent ∙ flush-shows w ran a
+flush_all (Err e) a b sent refused w ran = ap (shown w ran) refused
+
+pub flush_due : {A E : Type 0} (r : Result A E) (a b : AroundOver) → OnOk r (b ≡ flushed a) → OnOk r (b.due ≡ None)
+flush_due (Ok x) a b sent = ap (λ (c : AroundOver). c.due) sent ∙ flush-none a
+flush_due (Err e) a b sent = tt
+
+pub flush_same : {A E : Type 0} (r : Result A E) (a b : AroundOver) → OnOk r (b ≡ flushed a) → OnErr r (b ≡ a) → b.gone ≡ a.gone
+flush_same (Ok x) a b sent refused = ap (λ (c : AroundOver). c.gone) sent ∙ flush-gone a
+flush_same (Err e) a b sent refused = ap (λ (c : AroundOver). c.gone) refused
+
+pub prepare_all : {A E : Type 0} (r : Result A E) (packets : List Datagram) (a b : AroundOver) → a.due ≡ None → a.gone < length packets → ((d : Datagram) → slice_get packets a.gone ≡ Some d → OnOk r (b ≡ prepared a d)) → OnErr r (b ≡ a)
+    → (w : World) (ran : List Event) → packets ≡ map datagram w.packets → shown w ran b ≡ shown w ran a
+prepare_all (Ok x) packets a b none less made refused w ran are = prepared-shows packets a b none less made w ran are
+prepare_all (Err e) packets a b none less made refused w ran are = ap (shown w ran) refused
+
+pub prepare_one : {A E : Type 0} (r : Result A E) (packets : List Datagram) (a b : AroundOver) → a.gone < length packets → ((d : Datagram) → slice_get packets a.gone ≡ Some d → OnOk r (b ≡ prepared a d)) → OnOk r (b.gone ≡ a.gone + 1)
+prepare_one (Ok x) packets a b less made = prepared-gone packets a b less made
+prepare_one (Err e) packets a b less made = tt

@@ -5,6 +5,7 @@ use Rattle.std.specs.Option.{option_map}
 use Rattle.std.specs.Prelude.{slice_get, slice_set}
 use Rattle.nq_base.specs.declared.Event.{Event}
 use Rattle.nq_base.specs.declared.Party.{Party}
+use Rattle.nq_base.specs.declared.Push.{Push}
 use Rattle.nq_model.specs.Client.{Client}
 use Rattle.nq_model.specs.World.{World}
 use Rattle.nq_pool.specs.Answering.{Answer, write, unstaged, answered, own_commit, own_stage, staged}
@@ -18,7 +19,7 @@ use Rattle.nq_stager.specs.Offering.{offer_of, offered}
 use Rattle.nq_stager.specs.Staged.{Staged}
 use Rattle.nq_staged_run.specs.Outer.{Outer, Side, Outside}
 use Rattle.nq_staged_run.specs.Outside.{beside, heard_by, inner, inner_delivery, offers, offers_body, sends, sends_stage, served_commit, served_stage, takes_commit, takes_stage, told_side}
-use Rattle.nq_commit.specs.Around.{AroundOver, counted, once_sent, over}
+use Rattle.nq_commit.specs.Around.{AroundOver, counted, offers_at, once_sent, over, side_offers, side_offers_as}
 use Rattle.nq_commit.specs.Taking.{IsTakenIn, Leading, running, taken_by}
 use Rattle.nq_commit.specs.declared.taking.Taken.{Taken}
 use Rattle.nq_commit.proofs.Sending.{none-due, set-same}
@@ -45,11 +46,11 @@ stage-as o host p (Some s) reply pool is =
     let e : staged o.pool s ≡ (reply, pool) = cc in
     ap (takes_stage o host) (sym e)
 
-pub stage-taken : (a : AroundOver) (host : ℕ) (p : Outer) (reply : List ℕ) (pool : Bodies) → option_map (staged a.pool) (own_stage host p.bytes) ≡ Some (reply, pool)
+pub stage_taken : (a : AroundOver) (host : ℕ) (p : Outer) (reply : List ℕ) (pool : Bodies) → option_map (staged a.pool) (own_stage host p.bytes) ≡ Some (reply, pool)
     → IsTakenIn Taken.Beside p.stands a (record a { pool = pool; counts = record a.counts { staged = a.counts.staged + 1 }; due = Some (beside Party.Server (Party.Client host) reply) })
     (λ w ran. served_stage (over w ran a) host p (own_stage host p.bytes))
 unfolding takes_stage
-stage-taken a host p reply pool is = (refl, λ w ran. stage-as (over w ran a) host p (own_stage host p.bytes) reply pool is)
+stage_taken a host p reply pool is = (refl, λ w ran. stage-as (over w ran a) host p (own_stage host p.bytes) reply pool is)
 
 -- what is no STAGE
 pub no-stage : (r : Taken) (old new : AroundOver) (host : ℕ) (p : Outer) → own_stage host p.bytes ≡ None
@@ -84,78 +85,59 @@ pub no-commit : (r : Taken) (old new : AroundOver) (host : ℕ) (p : Outer) → 
 no-commit r old new host p none is =
     leads-same r p.stands old new (λ w ran. inner_delivery (over w ran old) p.stands) (λ w ran. served_commit (over w ran old) host p (own_commit host p.bytes)) (λ w ran. ap (served_commit (over w ran old) host p) (sym none)) is
 
--- ---- a side
-
-again-as : (o : Outside) (host : ℕ) (side : Side) (told : Told) (v : Vec ℕ Global) → Tells (HeardStage.Again v) told
-    → sends (record o { sides = slice_set o.sides host (record side { stager = kept_by side.stager told }) }) (record { sender = Party.Client host; to = Party.Server; bytes = v.items; stands = side.last }) ≡ told_side o host side told
-again-as o host side (acknowledged w verifier) v tells = absurd tells
-again-as o host side (again bytes) v tells =
-    ap (λ b. sends (record o { sides = slice_set o.sides host (record side { stager = kept_by side.stager (again bytes) }) }) (record { sender = Party.Client host; to = Party.Server; bytes = b; stands = side.last })) tells
-again-as o host side other v tells = absurd tells
-
-pub again-taken : (a : AroundOver) (host : ℕ) (p : Outer) (side : Side) (v : Vec ℕ Global) (kept : Staged) → slice_get a.sides host ≡ Some side → Tells (HeardStage.Again v) (told_by side.stager p.bytes) → kept ≡ kept_by side.stager (told_by side.stager p.bytes)
-    → IsTakenIn Taken.Beside None a (record a { sides = slice_set a.sides host (record side { stager = kept }); due = Some (record { sender = Party.Client host; to = Party.Server; bytes = v.items; stands = side.last }) })
-    (λ w ran. heard_by (over w ran a) host p (slice_get a.sides host))
-again-taken a host p side v kept there tells is = (
-  refl,
-  λ w ran.
-      ap (λ k. sends (record (over w ran a) { sides = slice_set a.sides host (record side { stager = k }) }) (record { sender = Party.Client host; to = Party.Server; bytes = v.items; stands = side.last })) is
-      ∙ again-as (over w ran a) host side (told_by side.stager p.bytes) v tells
-      ∙ ap (heard_by (over w ran a) host p) (sym there),
-)
-
-silent-as : (o : Outside) (host : ℕ) (side : Side) (told : Told) → ((bytes : List ℕ) → told ≡ again bytes → ⊥) → record o { sides = slice_set o.sides host (record side { stager = kept_by side.stager told }) } ≡ told_side o host side told
-silent-as o host side (acknowledged w verifier) silent = refl
-silent-as o host side (again bytes) silent = absurd (silent bytes refl)
-silent-as o host side other silent = refl
-
-not-again : (said : HeardStage) (told : Told) → Tells said told → ((v : Vec ℕ Global) → said ≡ HeardStage.Again v → ⊥) → (bytes : List ℕ) → told ≡ again bytes → ⊥
-not-again HeardStage.Acknowledged (acknowledged w verifier) tells other bytes is = cc
-not-again HeardStage.Acknowledged (again write) tells no bytes is = tells
-not-again HeardStage.Acknowledged other tells no bytes is = tells
-not-again (HeardStage.Again v) told tells no bytes is = no v refl
-not-again HeardStage.Other (acknowledged w verifier) tells no bytes is = tells
-not-again HeardStage.Other (again write) tells no bytes is = tells
-not-again HeardStage.Other other tells no bytes is = cc
-not-again HeardStage.Memory told tells no bytes is = tells
-
-pub silent-taken : (a : AroundOver) (host : ℕ) (p : Outer) (side : Side) (said : HeardStage) (kept : Staged) → a.due ≡ None → slice_get a.sides host ≡ Some side → Tells said (told_by side.stager p.bytes) → ((v : Vec ℕ Global) → said ≡ HeardStage.Again v → ⊥) → kept ≡ kept_by side.stager (told_by side.stager p.bytes)
-    → IsTakenIn Taken.Beside None a (record a { sides = slice_set a.sides host (record side { stager = kept }) })
-    (λ w ran. heard_by (over w ran a) host p (slice_get a.sides host))
-silent-taken a host p side said kept none there tells silent is = (
-  refl,
-  λ w ran.
-      none-due w ran (record a { sides = slice_set a.sides host (record side { stager = kept }) }) none
-      ∙ ap (λ k. record (over w ran a) { sides = slice_set a.sides host (record side { stager = k }) }) is
-      ∙ silent-as (over w ran a) host side (told_by side.stager p.bytes) (not-again said (told_by side.stager p.bytes) tells silent)
-      ∙ ap (heard_by (over w ran a) host p) (sym there),
-)
-
 -- ---- an offer
 
-offered-as : (o : Outside) (host : ℕ) (side : Side) (b : Option (Written × List ℕ)) (stage : List ℕ) (kept : Staged) → option_map (λ x. offered side.stager x.0 x.1) b ≡ Some (stage, kept)
-    → sends_stage o host side (stage, kept) ≡ offers_body o host side b
-offered-as o host side None stage kept is = absurd (cc)
-offered-as o host side (Some b) stage kept is =
+some-as : (side : Side) (b : Option (Written × List ℕ)) (stage : List ℕ) (kept : Staged) → option_map (λ x. offered side.stager x.0 x.1) b ≡ Some (stage, kept) → (Some stage, record side { stager = kept }) ≡ side_offers_as side b
+some-as side None stage kept is = absurd (cc)
+some-as side (Some b) stage kept is =
     let e : offered side.stager b.0 b.1 ≡ (stage, kept) = cc in
-    ap (sends_stage o host side) (sym e)
+    ap (λ (g : List ℕ × Staged). let r : Option (List ℕ) × Side = (Some g.0, record side { stager = g.1 }) in r) (sym e)
 
-pub offers-stage : (w : World) (ran : List Event) (c : Client) (a : AroundOver) (host : ℕ) (side : Side) (stage : List ℕ) (kept : Staged) → slice_get a.sides host ≡ Some side → option_map (λ x. offered side.stager x.0 x.1) (offer_of side.stager c.dirty c.push) ≡ Some (stage, kept)
-    → once_sent w ran (record a { sides = slice_set a.sides host (record side { stager = kept }); due = Some (beside (Party.Client host) Party.Server stage) })
-    ≡ offers (over w ran a) host (slice_get a.sides host) (Some c)
+pub offers_some : (side : Side) (dirty : List Push) (push : Option Push) (stage : List ℕ) (kept : Staged) → option_map (λ x. offered side.stager x.0 x.1) (offer_of side.stager dirty push) ≡ Some (stage, kept) → (Some stage, record side { stager = kept }) ≡ side_offers side dirty push
+offers_some side dirty push stage kept is = some-as side (offer_of side.stager dirty push) stage kept is
+
+pub offers_nothing : (side : Side) (dirty : List Push) (push : Option Push) (kept : Staged) → offer_of side.stager dirty push ≡ None → kept ≡ side.stager → (let r : Option (List ℕ) × Side = (None, record side { stager = kept }) in r) ≡ side_offers side dirty push
+offers_nothing side dirty push kept none same =
+    ap (λ (k : Staged). let r : Option (List ℕ) × Side = (None, record side { stager = k }) in r) same ∙ ap (side_offers_as side) (sym none)
+
+-- what is due behind an offer
+abbrev pub stage_due : (host : ℕ) → Option (List ℕ) → Option Outer
+stage_due host None = None
+stage_due host (Some stage) = Some (beside (Party.Client host) Party.Server stage)
+
+body-shown : (w : World) (ran : List Event) (a : AroundOver) (host : ℕ) (side : Side) (b : Option (Written × List ℕ)) → a.due ≡ None → slice_get a.sides host ≡ Some side
+    → once_sent w ran (record a { sides = slice_set a.sides host (side_offers_as side b).1; due = stage_due host (side_offers_as side b).0 }) ≡ offers_body (over w ran a) host side b
 unfolding sends_stage
-offers-stage w ran c a host side stage kept there is =
-    offered-as (over w ran a) host side (offer_of side.stager c.dirty c.push) stage kept is
-    ∙ ap (λ s. offers (over w ran a) host s (Some c)) (sym there)
+body-shown w ran a host side None none there = ap (λ sides. record (over w ran a) { sides = sides }) (set-same a.sides host side there)
+body-shown w ran a host side (Some b) none there = refl
 
-pub offers-none : (w : World) (ran : List Event) (c : Client) (a : AroundOver) (host : ℕ) (side : Side) → a.due ≡ None → slice_get a.sides host ≡ Some side → offer_of side.stager c.dirty c.push ≡ None
-    → once_sent w ran (record a { sides = slice_set a.sides host side }) ≡ offers (over w ran a) host (slice_get a.sides host) (Some c)
-offers-none w ran c a host side none there is =
-    none-due w ran (record a { sides = slice_set a.sides host side }) none
-    ∙ ap (λ sides. record (over w ran a) { sides = sides }) (set-same a.sides host side there)
-    ∙ ap (offers_body (over w ran a) host side) (sym is)
-    ∙ ap (λ s. offers (over w ran a) host s (Some c)) (sym there)
+side-shown : (w : World) (ran : List Event) (a : AroundOver) (host : ℕ) (c : Client) (o : Option Side) → a.due ≡ None → slice_get a.sides host ≡ o
+    → once_sent w ran (record a { sides = (offers_at a.sides host c.dirty c.push o).1; due = stage_due host (offers_at a.sides host c.dirty c.push o).0 }) ≡ offers (over w ran a) host o (Some c)
+side-shown w ran a host c None none there = refl
+side-shown w ran a host c (Some side) none there = body-shown w ran a host side (offer_of side.stager c.dirty c.push) none there
 
-pub offers-nobody : (w : World) (ran : List Event) (c : Client) (a : AroundOver) (host : ℕ) → a.due ≡ None → slice_get a.sides host ≡ None
-    → once_sent w ran a ≡ offers (over w ran a) host (slice_get a.sides host) (Some c)
-offers-nobody w ran c a host none there = none-due w ran a none ∙ ap (λ s. offers (over w ran a) host s (Some c)) (sym there)
+pub offers_shown : (w : World) (ran : List Event) (a : AroundOver) (host : ℕ) (c : Client) (dirty : List Push) (push : Option Push) (stage : Option (List ℕ)) (sides : List Side) → a.due ≡ None → c.dirty ≡ dirty → c.push ≡ push
+    → (stage, sides) ≡ offers_at a.sides host dirty push (slice_get a.sides host)
+    → once_sent w ran (record a { sides = sides; due = stage_due host stage }) ≡ offers (over w ran a) host (slice_get a.sides host) (Some c)
+offers_shown w ran a host c dirty push stage sides none d p is =
+    let same : (stage, sides) ≡ offers_at a.sides host c.dirty c.push (slice_get a.sides host) = is ∙ ap (λ l. offers_at a.sides host l push (slice_get a.sides host)) (sym d) ∙ ap (λ q. offers_at a.sides host c.dirty q (slice_get a.sides host)) (sym p) in
+    ap (λ (g : Option (List ℕ) × List Side). once_sent w ran (record a { sides = g.1; due = stage_due host g.0 })) same
+    ∙ side-shown w ran a host c (slice_get a.sides host) none refl
+
+-- where a STAGE is due
+pub offer-put : (w : World) (ran : List Event) (a b : AroundOver) (host : ℕ) (c : Client) (dirty : List Push) (push : Option Push) (o : Option (Vec ℕ Global)) (v : Vec ℕ Global) (sides : List Side) (made : Outer) → a.due ≡ None → c.dirty ≡ dirty → c.push ≡ push
+    → (option_map (λ x. x.items) o, sides) ≡ offers_at a.sides host dirty push (slice_get a.sides host) → o ≡ Some v → made ≡ beside (Party.Client host) Party.Server v.items → b ≡ record a { sides = sides; due = Some made }
+    → once_sent w ran b ≡ offers (over w ran a) host (slice_get a.sides host) (Some c)
+offer-put w ran a b host c dirty push o v sides made none d p is some beside-is b-is =
+    ap (once_sent w ran) (b-is ∙ ap (λ m. record a { sides = sides; due = Some m }) beside-is)
+    ∙ ap (λ x. once_sent w ran (record a { sides = sides; due = stage_due host (option_map (λ (y : Vec ℕ Global). y.items) x) })) (sym some)
+    ∙ offers_shown w ran a host c dirty push (option_map (λ x. x.items) o) sides none d p is
+
+-- where there was nothing to offer
+pub offer-none : (w : World) (ran : List Event) (a : AroundOver) (host : ℕ) (c : Client) (dirty : List Push) (push : Option Push) (o : Option (Vec ℕ Global)) (sides : List Side) → a.due ≡ None → c.dirty ≡ dirty → c.push ≡ push
+    → (option_map (λ x. x.items) o, sides) ≡ offers_at a.sides host dirty push (slice_get a.sides host) → o ≡ None
+    → once_sent w ran (record a { sides = sides }) ≡ offers (over w ran a) host (slice_get a.sides host) (Some c)
+offer-none w ran a host c dirty push o sides none d p is nothing =
+    ap (λ x. once_sent w ran (record a { sides = sides; due = x })) none
+    ∙ ap (λ x. once_sent w ran (record a { sides = sides; due = stage_due host (option_map (λ (y : Vec ℕ Global). y.items) x) })) (sym nothing)
+    ∙ offers_shown w ran a host c dirty push (option_map (λ x. x.items) o) sides none d p is

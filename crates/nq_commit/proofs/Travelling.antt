@@ -1,6 +1,7 @@
 -- What travels, as two lists that are kept side by side.
 use Rattle.std.proofs.Common.{◌≡◌, ℕ, zero, suc, ◌+◌, List, [], ◌∷◌, ◌++◌, length, Option, Some, None, refl, sym, ap, ◌∙◌, arith}
 use Rattle.std.specs.Prelude.{slice_get}
+use Rattle.nq_base.specs.declared.Party.{Party}
 use Rattle.nq_net.specs.Packets.{Datagram}
 use Rattle.nq_staged_run.specs.Outer.{Outer}
 use Rattle.nq_commit.specs.Around.{outer_of, travelling}
@@ -23,3 +24,7 @@ travelling_more [] [] d s same = refl
 travelling_more [] (x ∷ stands) d s same = absurd (omega arith)
 travelling_more (x ∷ ds) [] d s same = absurd (omega arith)
 travelling_more (x ∷ ds) (y ∷ stands) d s same = ap (λ l. outer_of x y ∷ l) (travelling_more ds stands d s (omega arith))
+
+-- a packet that was read
+pub read-is : (sent : List Outer) (k : ℕ) (d : Datagram) (sender to : Party) (bytes : List ℕ) (stands : Option ℕ) → slice_get sent k ≡ Some (outer_of d stands) → sender ≡ d.sender → to ≡ d.to → bytes ≡ d.bytes → slice_get sent k ≡ Some (record { sender = sender; to = to; bytes = bytes; stands = stands })
+read-is sent k d sender to bytes stands there s t b = rw (s, t, b) there

@@ -2,10 +2,13 @@
 use Rattle.std.specs.Prelude.{◌≡◌, ℕ, ◌+◌, Bool, true, false, List, [], ◌∷◌, ◌++◌, Option, Some, None, drop, slice_get, slice_set}
 use Rattle.nq_base.specs.declared.Event.{Event}
 use Rattle.nq_base.specs.declared.Party.{Party}
+use Rattle.nq_base.specs.declared.Push.{Push}
 use Rattle.nq_model.specs.World.{World}
 use Rattle.nq_net.specs.Packets.{Datagram}
 use Rattle.nq_pool.specs.Bodies.{Bodies}
 use Rattle.nq_stage.specs.declared.Pushed.{Pushed}
+use Rattle.nq_stage.specs.declared.Written.{Written}
+use Rattle.nq_stager.specs.Offering.{offer_of, offered}
 use Rattle.nq_stager.specs.Shortening.{shortening, shortened}
 use Rattle.nq_staged_run.specs.declared.StagedCounts.{StagedCounts}
 use Rattle.nq_staged_run.specs.Outer.{Outer, Counts, Side, Outside, new_pool}
@@ -109,6 +112,21 @@ prepared_from a d (Party.Client host) = prepared_by a d (passed_at a.gone a.side
 
 abbrev pub prepared : AroundOver → Datagram → AroundOver
 prepared a d = prepared_from a d d.sender
+
+-- ---- offering
+
+-- what a side offers of these delayed writes, and the side then
+abbrev pub side_offers_as : Side → Option (Written × List ℕ) → Option (List ℕ) × Side
+side_offers_as side None = (None, side)
+side_offers_as side (Some b) = (Some (offered side.stager b.0 b.1).0, record side { stager = (offered side.stager b.0 b.1).1 })
+
+abbrev pub side_offers : Side → List Push → Option Push → Option (List ℕ) × Side
+side_offers side dirty push = side_offers_as side (offer_of side.stager dirty push)
+
+-- the same of the side of a host, if there is one
+abbrev pub offers_at : List Side → (host : ℕ) → List Push → Option Push → Option Side → Option (List ℕ) × List Side
+offers_at sides host dirty push None = (None, sides)
+offers_at sides host dirty push (Some side) = ((side_offers side dirty push).0, slice_set sides host (side_offers side dirty push).1)
 
 -- ---- inner events
 

@@ -8,7 +8,7 @@ ghost use Rattle.nq_model.specs.World.{World};
 ghost use Rattle.nq_net.specs.Packets.{Datagram};
 ghost use Rattle.nq_world.specs.Shown.{datagram};
 
-use nq_base::{NoMemory, Party};
+use nq_base::{Host, NoMemory, Party};
 use nq_net::Packets;
 use nq_pool::Pool;
 use nq_staged_run::StagedCounts;
@@ -120,8 +120,8 @@ impl Around {
         requires { number < length self.now.sent }
         ensures { IfOk result (λ p. slice_get self.now.sent number ≡ Some p) }
     {
-        let Some(stands) = self.stands.get(number as usize) else {
-            unreachable!()
+        let Some(stands) = stands_at(&self.stands, number) else {
+            return Err(NoMemory::Memory);
         };
         let Some(packet) = self.packets.get(number) else {
             unreachable!()
@@ -162,12 +162,44 @@ impl Around {
         ensures all { OnOk result (length packets.now.datagrams ≤ self.new.gone) }
         ensures gone { self.old.gone ≤ length packets.now.datagrams → self.new.gone ≤ length packets.now.datagrams }
     {
-        self.flush()?;
+        self.flush_shown()?;
         'packets: while self.gone < packets.len() {
-            self.prepare(packets)?;
-            self.flush()?;
+            self.send_next(packets)?;
         }
         Ok(())
+    }
+
+    /// Sends the next packet of the inner world, where nothing is due.
+    fn send_next(&mut self, packets: &Packets) -> Result<(), NoMemory>
+        requires there { self.old.gone < length packets.now.datagrams }
+        requires settled { self.old.due ≡ None }
+        ensures shows { (w : World) (ran : List Event) → packets.now.datagrams ≡ map datagram w.packets → shown w ran self.new ≡ shown w ran self.old }
+        ensures none { OnOk result (self.new.due ≡ None) }
+        ensures gone { OnOk result (self.new.gone ≡ self.old.gone + 1) }
+        ensures most { self.new.gone ≤ self.old.gone + 1 }
+    {
+        self.prepare_shown(packets)?;
+        self.flush_shown()
+    }
+
+    /// Sends what is due.
+    fn flush_shown(&mut self) -> Result<(), NoMemory>
+        ensures shows { (w : World) (ran : List Event) → shown w ran self.new ≡ shown w ran self.old }
+        ensures none { OnOk result (self.new.due ≡ None) }
+        ensures gone { self.new.gone ≡ self.old.gone }
+    {
+        self.flush()
+    }
+
+    /// Makes the next packet of the inner world due, where nothing is.
+    fn prepare_shown(&mut self, packets: &Packets) -> Result<(), NoMemory>
+        requires there { self.old.gone < length packets.now.datagrams }
+        requires settled { self.old.due ≡ None }
+        ensures shows { (w : World) (ran : List Event) → packets.now.datagrams ≡ map datagram w.packets → shown w ran self.new ≡ shown w ran self.old }
+        ensures gone { OnOk result (self.new.gone ≡ self.old.gone + 1) }
+        ensures refused { OnErr result (self.new ≡ self.old) }
+    {
+        self.prepare(packets)
     }
 
     /// Sends what is due.
@@ -202,27 +234,43 @@ impl Around {
         ensures prepared { OnOk result (self.new ≡ prepared_from self.old (record { sender = sender; to = to; bytes = bytes.items }) sender) }
         ensures refused { OnErr result (self.new ≡ self.old) }
     {
+        match sender {
+            Party::Server => self.pass_server(to, bytes),
+            Party::Client(host) => self.pass_client(host, to, bytes),
+        }
+    }
+
+    /// Makes a packet of the server due.
+    fn pass_server(&mut self, to: Party, bytes: Vec<u8>) -> Result<(), NoMemory>
+        ensures prepared { OnOk result (self.new ≡ prepared_from self.old (record { sender = Party.Server; to = to; bytes = bytes.items }) Party.Server) }
+        ensures refused { OnErr result (self.new ≡ self.old) }
+    {
         let Some(gone) = self.gone.checked_add(1) else {
             return Err(NoMemory::Memory);
         };
-        match sender {
-            Party::Server => {
-                self.put_due(sender, to, bytes, gone);
-                Ok(())
-            }
-            Party::Client(host) => {
-                let number = self.gone;
-                let bytes = pass_at(&mut self.sides, self.alloc, host.0 as usize, number, bytes)?;
-                self.put_due(sender, to, bytes, gone);
-                Ok(())
-            }
-        }
+        self.put_due(Party::Server, to, bytes, gone);
+        Ok(())
+    }
+
+    /// Makes a packet of a host due, through that host's side.
+    #[tactic(auto, using(crate::proofs::Sending::due_passed))]
+    fn pass_client(&mut self, host: Host, to: Party, bytes: Vec<u8>) -> Result<(), NoMemory>
+        ensures prepared { OnOk result (self.new ≡ prepared_from self.old (record { sender = Party.Client host; to = to; bytes = bytes.items }) (Party.Client host)) }
+        ensures refused { OnErr result (self.new ≡ self.old) }
+    {
+        let number = self.gone;
+        let Some(gone) = number.checked_add(1) else {
+            return Err(NoMemory::Memory);
+        };
+        let bytes = pass_at(&mut self.sides, self.alloc, host.0 as usize, number, bytes)?;
+        self.put_due(Party::Client(host), to, bytes, gone);
+        Ok(())
     }
 
     /// Makes the next packet of the inner world due, as these bytes. So many packets have gone out then.
     fn put_due(&mut self, sender: Party, to: Party, bytes: Vec<u8>, gone: u64)
         requires { gone ≡ self.old.gone + 1 }
-        ensures { (d : Datagram) → d.sender ≡ sender → d.to ≡ to → self.new ≡ due_as self.old d bytes.items self.old.sides }
+        ensures { self.new ≡ due_as self.old (record { sender = sender; to = to; bytes = bytes.items }) bytes.items self.old.sides }
     {
         self.due = Some(Outgoing {
             sender,
@@ -232,6 +280,20 @@ impl Around {
         });
         self.gone = gone;
     }
+
+    /// This packet goes out next.
+    pub(crate) fn put(&mut self, packet: Outgoing)
+        ensures { self.new ≡ record self.old { due = Some packet } }
+    {
+        self.due = Some(packet);
+    }
+}
+
+/// For which packet of the inner world the packet of a number stands.
+fn stands_at(stands: &Vec<Option<u64>>, number: u64) -> Option<&Option<u64>>
+    ensures { IfSome result (λ s. slice_get stands.now.items number ≡ Some s.now) }
+{
+    stands.get(number as usize)
 }
 
 /// The bytes as which a host's packet of this number goes out, through that host's side, if there is one.

@@ -1,6 +1,6 @@
 //! Stepping a staged world.
 
-ghost use Rattle.std.specs.Prelude.{◌≡◌, ◌<◌, ◌≤◌, List, Option, length, reverse, nat_lt, OnOk, if◌then◌else◌};
+ghost use Rattle.std.specs.Prelude.{◌≡◌, ◌<◌, ◌≤◌, List, Option, None, length, reverse, nat_lt, OnOk, if◌then◌else◌};
 ghost use Rattle.nq_base.specs.declared.Event.{Event};
 ghost use Rattle.nq_commit.specs.Around.{renewed_around};
 ghost use Rattle.nq_commit.specs.Playing.{CanComeOutside, IsLeft, IsOfOffers, IsReady, IsTested, Leads, PlaysOutside, Reaches, RunsInner, StepsOutside, stepped_outside, tested_outside};
@@ -26,7 +26,8 @@ use nq_world::{Limit, MOST_EVENTS, MOST_SENT, Stepped};
 impl<K: Keeper> StagedWorld<K> {
     /// Takes an event in, where all that was sent has gone out.
     pub(crate) fn step_settled(&mut self, event: &StagedEvent) -> Stepped
-        requires { CanComeOutside (length self.old.inner.clients) self.old.inner.skew.window event.now }
+        requires can { CanComeOutside (length self.old.inner.clients) self.old.inner.skew.window event.now }
+        requires settled { self.old.around.due ≡ None }
         ensures steps { (head : Head) (events : List StagedEvent) → IsReady self.old → PlaysOutside head events self.old (K.content self.old.inner.server.keeper)
             → StepsOutside head events event.now result self.new (K.content self.old.inner.server.keeper) (K.content self.new.inner.server.keeper) }
         ensures goes { GoesOn K.faults K.follows result self.old.inner self.new.inner }
@@ -41,6 +42,7 @@ impl<K: Keeper> StagedWorld<K> {
     pub(crate) fn settle(&mut self) -> Result<(), NoMemory>
         ensures same { (head : Head) (events : List StagedEvent) (told : Option Kept) → PlaysOutside head events self.old told
             → PlaysOutside head events self.new told × OnOk result (IsReady self.new) }
+        ensures none { OnOk result (self.new.around.due ≡ None) }
         ensures inner { self.new.inner ≡ self.old.inner }
     {
         self.around.settle(self.world.packets())
@@ -117,6 +119,7 @@ impl<K: Keeper> StagedWorld<K> {
 
     /// Takes in an event that passed the tests, and counts it.
     fn take(&mut self, event: &StagedEvent) -> Stepped
+        requires settled { self.old.around.due ≡ None }
         requires few { self.old.events < most_events }
         requires can { CanComeOutside (length self.old.inner.clients) self.old.inner.skew.window event.now }
         ensures steps { (head : Head) (events : List StagedEvent) → IsReady self.old → PlaysOutside head events self.old (K.content self.old.inner.server.keeper)
@@ -135,7 +138,8 @@ impl<K: Keeper> StagedWorld<K> {
 
     /// Takes in an event that passed the tests.
     fn play(&mut self, event: &StagedEvent) -> Stepped
-        requires { CanComeOutside (length self.old.inner.clients) self.old.inner.skew.window event.now }
+        requires can { CanComeOutside (length self.old.inner.clients) self.old.inner.skew.window event.now }
+        requires settled { self.old.around.due ≡ None }
         ensures leads { (head : Head) (events : List StagedEvent) → IsReady self.old → Reaches head events self.old (K.content self.old.inner.server.keeper)
             → IsLeft (stepped_outside head events event.now)
             → Leads head events event.now result (K.content self.old.inner.server.keeper) (K.content self.new.inner.server.keeper) (λ es kept. Reaches head es self.new kept) }
@@ -150,7 +154,8 @@ impl<K: Keeper> StagedWorld<K> {
 
     /// Takes in an event of the inner world, or a delivery, that passed the tests.
     fn play_plain(&mut self, event: &Event) -> Stepped
-        requires { CanCome (length self.old.inner.clients) self.old.inner.skew.window event.now }
+        requires can { CanCome (length self.old.inner.clients) self.old.inner.skew.window event.now }
+        requires settled { self.old.around.due ≡ None }
         ensures leads { (head : Head) (events : List StagedEvent) → IsReady self.old → Reaches head events self.old (K.content self.old.inner.server.keeper)
             → IsLeft (stepped_outside head events (StagedEvent.Plain event.now))
             → Leads head events (StagedEvent.Plain event.now) result (K.content self.old.inner.server.keeper) (K.content self.new.inner.server.keeper) (λ es kept. Reaches head es self.new kept) }
@@ -169,7 +174,8 @@ impl<K: Keeper> StagedWorld<K> {
 
     /// A host's side offers a body.
     fn offer(&mut self, host: Host) -> Stepped
-        requires { host < length self.old.inner.clients }
+        requires settled { self.old.around.due ≡ None }
+        requires there { host < length self.old.inner.clients }
         ensures leads { (head : Head) (events : List StagedEvent) (told : Option Kept) → IsReady self.old → Reaches head events self.old told
             → IsLeft (stepped_outside head events (StagedEvent.Stage host))
             → Leads head events (StagedEvent.Stage host) result told told (λ es kept. Reaches head es self.new kept) }
@@ -185,6 +191,7 @@ impl<K: Keeper> StagedWorld<K> {
 
     /// A packet is taken in by its receiver.
     fn deliver(&mut self, number: u64) -> Stepped
+        requires { self.old.around.due ≡ None }
         ensures leads { (head : Head) (events : List StagedEvent) → IsReady self.old → Reaches head events self.old (K.content self.old.inner.server.keeper)
             → IsLeft (stepped_outside head events (StagedEvent.Plain (Event.Deliver number)))
             → Leads head events (StagedEvent.Plain (Event.Deliver number)) result (K.content self.old.inner.server.keeper) (K.content self.new.inner.server.keeper) (λ es kept. Reaches head es self.new kept) }

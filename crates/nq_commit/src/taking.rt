@@ -1,9 +1,10 @@
 //! Packets that are taken in, and bodies that are offered.
 
-ghost use Rattle.std.specs.Prelude.{◌≡◌, ◌<◌, [], List, None, Some, true, length, slice_get, slice_set, IfSome, OnOk, OnErr};
+ghost use Rattle.std.specs.Prelude.{◌≡◌, ◌<◌, [], List, None, Some, true, length, slice_get, slice_set, IfOk, IfSome, OnOk, OnErr};
+ghost use Rattle.std.specs.Option.{option_map};
 ghost use Rattle.nq_base.specs.declared.Event.{Event};
 ghost use Rattle.nq_base.specs.declared.Party.{Party};
-ghost use Rattle.nq_commit.specs.Around.{once_sent, over};
+ghost use Rattle.nq_commit.specs.Around.{offers_at, once_sent, over, side_offers};
 ghost use Rattle.nq_commit.specs.Taking.{IsTakenIn, running, taken_by};
 ghost use Rattle.nq_model.specs.Client.{Client};
 ghost use Rattle.nq_model.specs.World.{World};
@@ -17,6 +18,7 @@ use nq_base::{Host, NoMemory, Party, Who};
 use nq_dirty::Dirty;
 use nq_pool::{Rebuilt, Staging};
 use nq_stager::{HeardStage, Stager};
+use std::alloc::Global;
 
 /// What comes of a packet that is taken in.
 #[derive(Clone, Copy)]
@@ -68,6 +70,7 @@ impl Around {
     }
 
     /// The server takes in a packet of a host: a STAGE is given to the pool.
+    #[tactic(auto, using(crate::proofs::TakenIn::stage_taken))]
     fn serve(&mut self, host: Host, packet: &Outgoing) -> Taken
         requires { self.old.due ≡ None }
         ensures { IsTakenIn result packet.now.stands self.old self.new (λ w ran. served_stage (over w ran self.old) host packet.now (own_stage host packet.now.bytes)) }
@@ -78,7 +81,7 @@ impl Around {
         match self.pool.stage(self.alloc, host, &packet.bytes) {
             Staging::Reply(reply) => {
                 self.counts.staged = staged;
-                self.due = Some(reply_to(host, reply));
+                self.put(reply_to(host, reply));
                 Taken::Beside
             }
             Staging::NotStage => self.serve_commit(host, packet),
@@ -151,6 +154,7 @@ impl Around {
     }
 
     /// A host's side offers a body of these delayed writes.
+    #[tactic(auto, using(crate::proofs::TakenIn::offers_shown))]
     pub(crate) fn offer(&mut self, host: Host, dirty: &Dirty) -> Result<(), NoMemory>
         requires { self.old.due ≡ None }
         ensures offers { OnOk result ((w : World) (ran : List Event) (c : Client) → c.dirty ≡ dirty.now.dirty → c.push ≡ dirty.now.push
@@ -159,20 +163,14 @@ impl Around {
         ensures gone { self.new.gone ≡ self.old.gone }
         ensures refused { OnErr result (self.new ≡ self.old) }
     {
-        let place = host.0 as usize;
-        if place >= self.sides.len() {
-            return Ok(());
+        let stage = offer_at(&mut self.sides, self.alloc, host, dirty)?;
+        match stage {
+            Some(stage) => {
+                self.put(stage_from(host, stage));
+                Ok(())
+            }
+            None => Ok(()),
         }
-        let side = &mut self.sides[place];
-        if let Some(stage) = side.stager.offer(self.alloc, dirty)? {
-            self.due = Some(Outgoing {
-                sender: Party::Client(host),
-                to: Party::Server,
-                bytes: stage,
-                stands: None,
-            });
-        }
-        Ok(())
     }
 
     /// The server booted: the pool is empty.
@@ -206,6 +204,49 @@ fn delivery(stands: Option<u64>) -> Taken
             commit: false,
         },
         None => Taken::Beside,
+    }
+}
+
+/// A host's STAGE, which stands for no inner packet.
+fn stage_from(host: Host, bytes: Vec<u8>) -> Outgoing
+    ensures { result ≡ beside (Party.Client host) Party.Server bytes.items }
+{
+    Outgoing {
+        sender: Party::Client(host),
+        to: Party::Server,
+        bytes,
+        stands: None,
+    }
+}
+
+/// The STAGE that the side of a host offers of these delayed writes, if there is such a side.
+fn offer_at(
+    sides: &mut Vec<HostSide>,
+    alloc: Global,
+    host: Host,
+    dirty: &Dirty,
+) -> Result<Option<Vec<u8>>, NoMemory>
+    ensures offers { IfOk result (λ o. (option_map (λ v. v.items) o, sides.new.items) ≡ offers_at sides.old.items host dirty.now.dirty dirty.now.push (slice_get sides.old.items host)) }
+    ensures fits { OnOk result (IfSome (slice_get sides.old.items host) (λ s. FitsOffering s.stager (offer_of s.stager dirty.now.dirty dirty.now.push))) }
+    ensures refused { OnErr result (sides.new.items ≡ sides.old.items) }
+{
+    let place = host.0 as usize;
+    if place >= sides.len() {
+        return Ok(None);
+    }
+    offer_by(&mut sides[place], alloc, dirty)
+}
+
+/// The STAGE that a side offers of these delayed writes.
+#[tactic(auto, using(crate::proofs::TakenIn::offers_some, crate::proofs::TakenIn::offers_nothing))]
+fn offer_by(side: &mut HostSide, alloc: Global, dirty: &Dirty) -> Result<Option<Vec<u8>>, NoMemory>
+    ensures offers { IfOk result (λ o. (option_map (λ v. v.items) o, side.new) ≡ side_offers side.old dirty.now.dirty dirty.now.push) }
+    ensures fits { OnOk result (FitsOffering side.old.stager (offer_of side.old.stager dirty.now.dirty dirty.now.push)) }
+    ensures refused { OnErr result (side.new ≡ side.old) }
+{
+    match side.stager.offer(alloc, dirty)? {
+        Some(stage) => Ok(Some(stage)),
+        None => Ok(None),
     }
 }
 

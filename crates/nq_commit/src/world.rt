@@ -1,6 +1,6 @@
 //! The staged world.
 
-ghost use Rattle.std.specs.Prelude.{◌≡◌, [], List, Option, None, length, map, reverse, IfErr, IfOk};
+ghost use Rattle.std.specs.Prelude.{◌≡◌, ◌<◌, [], List, Option, None, length, map, reverse, slice_get, IfErr, IfOk, IfSome};
 ghost use Rattle.nq_base.specs.Plain.{plain};
 ghost use Rattle.nq_commit.specs.Around.{counts_of, new_around};
 ghost use Rattle.nq_commit.specs.Playing.{CanComeOutside, PlaysOutside, StepsOutside};
@@ -40,7 +40,19 @@ impl<K> Model for StagedWorld<K> {
     ghost view = { λ w. record { inner = w.world; around = w.around; ran = w.ran; events = w.events } };
 }
 
+/// The side of a host of a world at first.
+fn side_of<K: Keeper>(alloc: Global, world: &World<K>, host: Host) -> HostSide
+    requires { host < length world.now.clients }
+    ensures { IfSome (slice_get world.now.clients host) (λ c. result ≡ record { stager = new_stager c.client.who; last = None }) }
+{
+    HostSide {
+        stager: Stager::new(alloc, world.client(host).who()),
+        last: None,
+    }
+}
+
 /// The sides of the hosts of a world, of which there are so many.
+#[tactic(auto, using(crate::proofs::Reaching::sides_more, crate::proofs::Reaching::sides_all))]
 fn sides_of<K: Keeper>(
     alloc: Global,
     world: &World<K>,
@@ -51,13 +63,17 @@ fn sides_of<K: Keeper>(
 {
     let mut sides = Vec::new(alloc);
     for host in 0..hosts {
-        let who = world.client(Host(host)).who();
-        sides.push(HostSide {
-            stager: Stager::new(alloc, who),
-            last: None,
-        })?;
+        let side = side_of(alloc, world, Host(host));
+        sides.push(side)?;
     }
     Ok(sides)
+}
+
+/// No events.
+fn no_events(alloc: Global) -> Schedule
+    ensures { result ≡ [] }
+{
+    Schedule::new(alloc).unwrap()
 }
 
 /// What stands around a world of so many hosts at first.
@@ -86,7 +102,7 @@ impl<K: Keeper> StagedWorld<K> {
                 alloc,
                 world,
                 around,
-                ran: Schedule::new(alloc).unwrap(),
+                ran: no_events(alloc),
                 events: 0,
             }),
             Err(NoMemory::Memory) => Err(NewFault::Memory(world.into_keeper())),
@@ -120,8 +136,8 @@ impl<K: Keeper> StagedWorld<K> {
     ///
     /// `NoMemory` where memory is wanting; the world plays the same run then.
     pub fn sent(&mut self) -> Result<u64, NoMemory>
-        ensures same { (head : Head) (events : List StagedEvent) (told : Option Kept) → PlaysOutside head events self.old told
-            → PlaysOutside head events self.new told × IfOk result (λ packets. packets ≡ length (outside_run head events).sent) }
+        ensures same { (head : Head) (events : List StagedEvent) (told : Option Kept) → PlaysOutside head events self.old told → PlaysOutside head events self.new told }
+        ensures packets { IfOk result (λ packets. (head : Head) (events : List StagedEvent) (told : Option Kept) → PlaysOutside head events self.old told → packets ≡ length (outside_run head events).sent) }
         ensures inner { self.new.inner ≡ self.old.inner }
     {
         self.settle()?;

@@ -4,7 +4,10 @@ use Rattle.std.proofs.lemmas.Bool.Decides.{nat_tests}
 use Rattle.std.specs.List.{AllByRecursion}
 use Rattle.std.specs.Prelude.{◌==◌, ◌-◌, codes, nat_lt, if◌then◌else◌}
 use Rattle.nq_commit.specs.Line.{host_of, stage_line}
+use Rattle.nq_script.proofs.Cuts.{cut-found}
 use Rattle.nq_script.proofs.FileLines.{text_of-append}
+use Rattle.nq_words.proofs.LineWords.{IsCut, cut_found}
+use Rattle.nq_words.specs.Reading.{cut as cut_at}
 use Rattle.nq_script.proofs.HeadLines.{one-text-head}
 use Rattle.nq_script.specs.Heads.{FitsHead, head_lines}
 use Rattle.nq_script.specs.Schedule.{SpellsSchedule}
@@ -56,3 +59,30 @@ same-head g h rest text lines fits split spelled =
     let texts = spelled.1.1.0 in
     one-text-head h g (text_of (texts ++ codes "end" ∷ [])) rest spelled.1.0 fits
     (sym (text_of-append (head_lines h) (texts ++ codes "end" ∷ [])) ∙ ap text_of (sym spelled.1.1.2) ∙ sym spelled.2 ∙ split)
+
+-- ---- line by line
+
+pub plain-more : (hosts : ℕ) (bytes more rest line after : List ℕ) (stage : Option ℕ) → cut_at 10 rest ≡ Some (line, after) → stage ≡ stage_line hosts line → more ≡ bytes ++ ((if is_some stage then codes "flow" else line) ++ 10 ∷ []) → more ++ plain_bytes hosts after ≡ bytes ++ plain_bytes hosts rest
+plain-more hosts bytes more rest line after stage is read put =
+    let found = cut-found 10 rest line after is in
+    let l : List ℕ = plain_line hosts line in
+    let here : (if is_some stage then codes "flow" else line) ≡ l = ap (λ s. if is_some s then codes "flow" else line) read in
+    ap (λ m. m ++ plain_bytes hosts after) (put ∙ ap (λ x. bytes ++ (x ++ 10 ∷ [])) here)
+    ∙ append_assoc bytes (l ++ 10 ∷ []) (plain_bytes hosts after)
+    ∙ ap (λ x. bytes ++ x) (append_assoc l (10 ∷ []) (plain_bytes hosts after) ∙ sym (plain-step hosts line after found.1) ∙ ap (plain_bytes hosts) (sym found.0))
+
+pub stages-more : (hosts : ℕ) (stages more : List (Option ℕ)) (rest line after : List ℕ) (stage : Option ℕ) → cut_at 10 rest ≡ Some (line, after) → stage ≡ stage_line hosts line → more ≡ stages ++ stage ∷ [] → more ++ stages_in hosts after ≡ stages ++ stages_in hosts rest
+stages-more hosts stages more rest line after stage is read put =
+    let found = cut-found 10 rest line after is in
+    ap (λ m. m ++ stages_in hosts after) (put ∙ ap (λ s. stages ++ s ∷ []) read)
+    ∙ append_assoc stages (stage_line hosts line ∷ []) (stages_in hosts after)
+    ∙ ap (λ x. stages ++ x) (sym (stages-step hosts line after found.1) ∙ ap (stages_in hosts) (sym found.0))
+
+free-of : (rest : List ℕ) → cut_at 10 rest ≡ None → Lacks 10 rest
+free-of rest none = subst (IsCut 10 rest) none (cut_found 10 rest)
+
+pub plain-end : (hosts : ℕ) (rest : List ℕ) → cut_at 10 rest ≡ None → plain_bytes hosts rest ≡ rest
+plain-end hosts rest none = plain-none hosts rest (free-of rest none)
+
+pub stages-end : (hosts : ℕ) (rest : List ℕ) → cut_at 10 rest ≡ None → stages_in hosts rest ≡ []
+stages-end hosts rest none = stages-none hosts rest (free-of rest none)

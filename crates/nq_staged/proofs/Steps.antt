@@ -75,3 +75,12 @@ not-taken head events event (Stepped.SkewBroken broken) new told tells P steps o
 not-taken head events event (Stepped.Limit limit) new told tells P steps other = was-refused events event (stepped_outside head events event) (Stepped.Limit limit) steps.0 other
 not-taken head events event Stepped.Fault new told tells P steps other = tt
 not-taken head events event Stepped.Memory new told tells P steps other = tt
+
+-- a world that only sent what was due
+pub at-sent : {K : Type 0} (head : Head) (events : List StagedEvent) (old new : StagedOver K) (content : K → Option Kept) (flags flags' : List Bool) → IsAt head events old (content old.inner.server.keeper) flags
+    → (PlaysOutside head events old (content old.inner.server.keeper) → PlaysOutside head events new (content old.inner.server.keeper))
+    → new.inner ≡ old.inner → flags' ≡ flags → IsAt head events new (content new.inner.server.keeper) flags'
+at-sent head events old new content flags flags' at same inner is = record {
+  plays = subst (λ (i : WorldOver _). PlaysOutside head events new (content i.server.keeper)) (sym inner) (same at.plays);
+  marks = subst (λ f. Marks f (plain_events events)) (sym is) at.marks;
+}
