@@ -1,6 +1,5 @@
 -- What each step of the server does to the numbers that it keeps.
-use Rattle.std.proofs.Common.{◌≤◌, ◌<◌, ℕ, ◌+◌, Some, refl, subst, arith}
-use Rattle.nq_model.specs.Change.{IsWithinBounds}
+use Rattle.std.proofs.Common.{◌≤◌, ◌<◌, ℕ, ◌+◌, refl, arith}
 use Rattle.nq_model.specs.ChangesOnce.{IsServerWithin, HasItsText}
 use Rattle.nq_model.specs.Decide.{decides, creates, writes_through, stores, wrote, stores_recovering, resizes, removes, puts_off, commits}
 use Rattle.nq_model.specs.Kept.{find_file}

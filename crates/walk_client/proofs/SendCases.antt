@@ -124,9 +124,6 @@ renewed-facts c file h =
 -- ---- the walk
 
 module _ (in_tick : Bool) (t : ClientStep) (Q : ClientStep → Type 0) (cases : SendCases in_tick t Q) (free : t.client.ticket ≡ None) where
-  idle : is_asking t ≡ false
-  idle = ap is_some free
-
   -- what was sent stays so
   sent : (s : ClientStep) (job : Job) (request : Request) → Q (sends_request s job request) → Q (then_renews in_tick (sends_request s job request))
   sent s job request q = subst Q (sym (asking-renews in_tick (sends_request s job request) (sent-asks s job request))) q

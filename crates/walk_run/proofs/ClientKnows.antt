@@ -178,13 +178,7 @@ pub record Knowing (Heard : ℕ → Tag → Type 0) (Given : ℕ → Grant → �
   pub going : Going who ps k
   pub knows : Knows Heard Given line s events k.who k.now k.attached k.ticket k.leases k.notices (packets_with ps k.who.host k.sends)
 
-not-vacated : (r : Request) (n : ℕ) → sequence_of r ≡ Some n → (w : Who) (file : ℕ) (tag : Tag) → r ≡ Request.Vacated w file tag → ⊥
-not-vacated r n e w file tag same = none-some n (ap sequence_of (sym same) ∙ e)
-
 module _ (Heard : ℕ → Tag → Type 0) (Given : ℕ → Grant → ℕ → Type 0) (line : HostRow) (s : Server) (events : List Event) (who : Who) (ps : List Packet) where
-  Mid : Core → Type 0
-  Mid = Knowing Heard Given line s events who ps
-
   going : Closed Heard Given (Going who ps)
   going = going-closed who ps Heard Given
 

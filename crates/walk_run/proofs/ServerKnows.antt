@@ -110,9 +110,6 @@ module _ (ps : List Packet) (s : Server) (events : List Event) (e : Event) (t : 
   line : HostRow
   line = host_row s.kept who.host
 
-  line' : HostRow
-  line' = host_row t.server.kept who.host
-
   -- requests are those from before
   asked-before : (x : ℕ) (r : Request) → Asked (ps ++ t.sends) who.host x r → Asked ps who.host x r
   asked-before x r i = case (in-append ps t.sends (from_host who.host (call x r)) i)

@@ -1,6 +1,6 @@
 -- What is found in a lease table's rows after each change of them.
-use Rattle.std.proofs.Common.{◌≡◌, ◌≢◌, ◌⊎◌, ℕ, Bool, true, false, not, ◌&&◌, ◌||◌, ◌==◌, List, [], ◌∷◌, Option, Some, None, if◌then◌else◌, map, refl, sym, subst, ap, ◌∙◌, inl, inr}
-use Rattle.std.specs.List.{find, filter, list_any}
+use Rattle.std.proofs.Common.{◌≡◌, ◌≢◌, ◌⊎◌, ℕ, Bool, true, false, not, ◌&&◌, ◌==◌, List, [], ◌∷◌, Option, Some, None, if◌then◌else◌, map, refl, sym, subst, ap, ◌∙◌, inl, inr}
+use Rattle.std.specs.List.{find, filter}
 use Rattle.std.specs.Option.{option_map}
 use Rattle.std.proofs.lemmas.Bool.{and_parts, and_from}
 use Rattle.nq_base.specs.declared.Access.{Access}
@@ -317,11 +317,3 @@ is-clash file host access r h =
   where
     differs : r.who.host ≡ host → not (r.who.host == host) ≡ true → ⊥
     differs e g = let same : (r.who.host == host) ≡ true = number-same _ _ e in let bad : not true ≡ true = rw same at g in cc
-
-any-none : {A : Type 0} (p : A → Bool) (xs : List A) → list_any p xs ≡ false → find p xs ≡ None
-any-none p [] h = refl
-any-none p (x ∷ xs) h = by (p x) (any-none p xs) h
-  where
-    by : (b : Bool) → (list_any p xs ≡ false → find p xs ≡ None) → b || list_any p xs ≡ false → (if b then Some x else find p xs) ≡ None
-    by true rest g = cc
-    by false rest g = rest g

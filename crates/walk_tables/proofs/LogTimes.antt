@@ -1,6 +1,6 @@
 -- What the timed entries say of times, terms, tags and recoveries.
-use Rattle.std.proofs.Common.{◌≡◌, ◌≤◌, ℕ, zero, suc, ◌+◌, ◌==◌, Bool, true, false, List, [], ◌∷◌, ◌++◌, Some, if◌then◌else◌, refl, sym, subst, arith}
-use Rattle.std.specs.List.{find, slice_get}
+use Rattle.std.proofs.Common.{◌≡◌, ◌≤◌, ℕ, ◌+◌, ◌==◌, Bool, true, false, List, ◌∷◌, ◌++◌, Some, if◌then◌else◌, refl, sym, subst, arith}
+use Rattle.std.specs.List.{find}
 use Rattle.nq_base.specs.declared.Entry.{Entry}
 use Rattle.nq_model.proofs.Lists.{each-map}
 use Rattle.nq_model.specs.Journal.{Each}
@@ -9,11 +9,6 @@ use Rattle.nq_model.specs.Message.{Datagram}
 use Rattle.nq_model.specs.Server.{Phase, serving, recovering, Server, last_in}
 use Rattle.nq_model.specs.ServerStep.{receive, tick, booted, boot, crash}
 use Rattle.walk_tables.proofs.LogMoves.{timed, LogMoves, log-moves, tick-log-moves}
-
-pub entry-at : (P : Entry → Type 0) (entries : List Entry) (place : ℕ) (e : Entry) → Each P entries → slice_get entries place ≡ Some e → P e
-entry-at P [] place e each there = absurd (cc)
-entry-at P (x ∷ entries) zero e each there = let same : x ≡ e = cc in subst P same each.0
-entry-at P (x ∷ entries) (suc place) e each there = entry-at P entries place e each.1 there
 
 -- an entry's time is not after this one
 abbrev pub IsBy : ℕ → Entry → Type 0
