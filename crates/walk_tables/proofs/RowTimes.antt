@@ -30,13 +30,15 @@ pub record RowRuns (longest now : ℕ) (row : Row) : Type 0 where
 abbrev pub EachRow : (Row → Type 0) → List Row → Type 0
 EachRow P rows = (file host : ℕ) (row : Row) → find_row file host rows ≡ Some row → P row
 
-pub each-fewer : (P : Row → Type 0) (rows fewer : List Row) → ((file host : ℕ) (row : Row) → find_row file host fewer ≡ Some row → find_row file host rows ≡ Some row) → EachRow P rows → EachRow P fewer
+pub each-fewer : (P : Row → Type 0) (rows fewer : List Row)
+    → ((file host : ℕ) (row : Row) → find_row file host fewer ≡ Some row → find_row file host rows ≡ Some row) → EachRow P rows → EachRow P fewer
 each-fewer P rows fewer stood each = λ file host row found. each file host row (stood file host row found)
 
 pub each-put : (P : Row → Type 0) (rows : List Row) (row : Row) → P row → EachRow P rows → EachRow P (put_row row rows)
 each-put P rows row holds each = λ file host r found. by file host r (found-put file host row r rows found)
   where
-    by : (file host : ℕ) (r : Row) → ((is_row_of file host row ≡ true) × (r ≡ row)) ⊎ ((is_row_of file host row ≡ false) × (find_row file host rows ≡ Some r)) → P r
+    by : (file host : ℕ) (r : Row) → ((is_row_of file host row ≡ true) × (r ≡ row))
+        ⊎ ((is_row_of file host row ≡ false) × (find_row file host rows ≡ Some r)) → P r
     by file host r (inl e) = subst P (sym e.1) holds
     by file host r (inr e) = each file host r e.1
 
@@ -51,12 +53,14 @@ TimesFitOf s = TimesFit s.longest s.now s.phase s.table
 pub term-bounds : (longest wish : ℕ) → shortest_term ≤ longest → (0 < granted_term longest wish) × (granted_term longest wish ≤ longest)
 term-bounds longest wish long = (omega arith, omega arith)
 
-module _ (table : Table) (q : Question) (want : Want) (long : shortest_term ≤ q.longest) (wants : caches want.mode ≡ true) (each : EachRow (RowRuns q.longest q.time) table.rows) where
+module _ (table : Table) (q : Question) (want : Want) (long : shortest_term ≤ q.longest) (wants : caches want.mode ≡ true)
+    (each : EachRow (RowRuns q.longest q.time) table.rows) where
 
 module _ (s : Server) (d : Datagram) (wants : WantsCaching d) (long : shortest_term ≤ s.longest) (t : StandingFitsOf s) (f : TimesFitOf s) where
 
 -- and after a boot with a table in mind whose rows were heard by now
-pub times-boot : (kept : Kept) (longest now : ℕ) (last : Option Table) → EachRow (λ row. row.heard ≤ now) (last_table last).rows → TimesFitOf (boot kept longest now last)
+pub times-boot : (kept : Kept) (longest now : ℕ) (last : Option Table) → EachRow (λ row. row.heard ≤ now) (last_table last).rows
+    → TimesFitOf (boot kept longest now last)
 unfolding boot empty_table
 times-boot kept longest now last f = by (kept.opened == 0)
   where
