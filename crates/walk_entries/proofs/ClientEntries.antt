@@ -36,7 +36,7 @@ has_value other = false
 -- what a list of entries keeps behind each entry that a client makes
 pub record OfClient (P : List Entry → Type 0) : Type 0 where
   pub nothing : P []
-  pub answered : (who : Who) (q : ℕ) (said : Said) (before : List Entry) → has_value said ≡ false → P before → P (Entry.A who q said ∷ before)
+  pub answered : (who : Who) (q : ℕ) (answer : Said) (before : List Entry) → has_value answer ≡ false → P before → P (Entry.A who q answer ∷ before)
   -- a cached read, and the answer that brings its value
   pub read : (who : Who) (q file block value : ℕ) (before : List Entry) → P before
       → P (Entry.A who q (Said.OkValue value) ∷ Entry.R who q file block value None ∷ before)
