@@ -1,5 +1,5 @@
 -- What holds of each form of entry that a server makes holds of all entries of its step.
-use Rattle.std.proofs.Common.{ℕ, List, Option, Some, None}
+use Rattle.std.proofs.Common.{ℕ, true, List, Option, Some, None}
 use Rattle.nq_base.specs.Block.{value_of}
 use Rattle.nq_base.specs.declared.Entry.{Entry}
 use Rattle.nq_base.specs.declared.Grant.{Grant}
