@@ -1,6 +1,6 @@
 -- A client's delayed writes and pushes carry the bodies of their writes, over each of its steps. The number of a write is given
 -- once in an incarnation, so it has one body.
-use Rattle.std.proofs.Common.{◌≡◌, ◌≤◌, ◌<◌, ◌⊎◌, ◌^◌, ℕ, ◌+◌, Bool, true, false, ◌==◌, ◌&&◌, List, [], ◌∷◌, ◌++◌, Option, Some, None, if◌then◌else◌, map, refl, sym, subst, ap, ◌∙◌, inl, inr, arith}
+use Rattle.std.proofs.Common.{◌≡◌, ◌≤◌, ◌<◌, ◌⊎◌, ◌^◌, ℕ, ◌+◌, Bool, true, false, ◌==◌, ◌&&◌, List, [], ◌∷◌, ◌++◌, Option, Some, None, if◌then◌else◌, length, map, refl, sym, subst, ap, ◌∙◌, inl, inr, arith}
 use Rattle.std.proofs.lemmas.Bool.{and_parts}
 use Rattle.nq_base.specs.declared.Answer.{Answer}
 use Rattle.nq_base.specs.declared.Call.{Call}
@@ -17,12 +17,14 @@ use Rattle.law_staged.proofs.Apart.{AreApart, apart-filter, write-apart}
 use Rattle.nq_model.proofs.Lists.{each-append, each-map}
 use Rattle.nq_model.specs.Client.{Client, ClientStep, Job, Notice, Ticket, UnderWay, begun, dirty_at, is_push_at, is_push_of, first_dirty, notice_on, for_call}
 use Rattle.nq_model.specs.ClientStep.{begins_call, is_called, sends_unless_cached, says_busy, client_call, at_time, sends_again, client_tick, fresh_client, starts, next_incarnation, restart}
-use Rattle.nq_model.specs.Hear.{vacates_lease, vacates_noticed, loses, reports, without_lease, push_refused, breaks_chain, if_broken, holds, takes_grant, takes_optional, answers_call, caches_block, purges, knows_revision, then_caches, read_done, marks_through, lease_done, caches_write, write_done, ends_push, caches_push, push_done, answer_of, spends, attached, pauses, replied, reply_counts, cancels, notes_notice, evicted, hear, other_push}
+use Rattle.nq_model.specs.Hear.{vacates_lease, vacates_noticed, loses, reports, without_lease, push_refused, breaks_chain, if_broken, holds, takes_grant, takes_optional, answers_call, caches_block, purges, knows_revision, then_caches, read_done, marks_through, lease_done, caches_write, write_done, ends_push, caches_push, push_done, answer_of, spends, attached, pauses, replied, reply_counts, with_through, cancels, notes_notice, evicted, hear, other_push}
 use Rattle.nq_model.specs.Journal.{Each}
 use Rattle.nq_model.specs.Message.{Message, call, reply, error}
 use Rattle.nq_model.specs.Send.{sends_request, after_seq, after_number, takes_push, sends_write, gives_up, send_next}
 use Rattle.nq_model.specs.Settle.{answers, names_losses, reads_cached, after_read, overwritten, overwritten_at, with_write, delays, after_write, marks_written, settle}
 use Rattle.nq_stage.specs.declared.Written.{Written}
+use Rattle.nq_stage.specs.Messages.{IsWritten}
+use Rattle.nq_staged_run.specs.Theorem.{BringsBlock}
 use Rattle.nq_stager.specs.Offering.{written_by}
 use Rattle.walk_client.proofs.ClientFacts.{Alone, fits_job}
 use Rattle.walk_client.proofs.ClientMoves.{some-same, none-some, keeps-or-cancels}
@@ -50,10 +52,18 @@ Asks g (Request.Write who seq file block first last (Some base) body) =
     In g (record { host = who.host; inc = who.inc; file = file; block = block; last = last }, body)
 Asks g other = Unit {0}
 
--- so does the push that a message is, if it is one
+-- a message is a request, which carries it if it is a push
 abbrev pub Says : Bodies → Message → Type 0
 Says g (call xid r) = Asks g r
-Says g other = Unit {0}
+Says g other = ⊥
+
+-- a body of a write is a block, and the numbers of the write are words and hyper integers
+pub record IsBody (v : Written) (b : List ℕ) : Type 0 where
+  pub written : IsWritten v
+  pub size : length b ≡ 4096
+
+abbrev pub AllFit : Bodies → Type 0
+AllFit g = (v : Written) (b : List ℕ) → In g (v, b) → IsBody v b
 
 -- a write has one body
 abbrev pub HasOne : Bodies → Type 0
@@ -84,38 +94,65 @@ more-asks g g' more (Request.Remove who seq q file) h = tt
 
 pub more-says : (g g' : Bodies) → More g g' → (m : Message) → Says g m → Says g' m
 more-says g g' more (call xid r) h = more-asks g g' more r h
-more-says g g' more (reply xid r) h = tt
-more-says g g' more (error xid e) h = tt
+more-says g g' more (reply xid r) h = absurd h
+more-says g g' more (error xid e) h = absurd h
 
 -- ---- what is known in the middle of a step
 
--- `g` were known before the step, and only this host's writes may have come to them. The step is of this incarnation
-pub record Knows (g : Bodies) (old who : Who) (number : ℕ) (ticket : Option Ticket) (dirty : List Push) (push : Option Push) (sends : List Message) : Type 0 where
+-- `g` were known before the step, and only this host's writes may have come to them. The step is of this incarnation, which gave no
+-- number above `most`
+pub record Knows (g : Bodies) (old : Who) (most : ℕ) (who : Who) (number : ℕ) (call : Option UnderWay) (ticket : Option Ticket) (dirty : List Push) (push : Option Push) (sends : List Message) : Type 0 where
   pub kept : who ≡ old
+  pub host : who.host < 2 ^ 32
+  pub inc : who.inc ≤ most
+  pub few : number ≤ most
   pub now : Bodies
   pub more : More g now
   pub others : (v : Written) (b : List ℕ) → In now (v, b) → (v.host ≡ who.host → ⊥) → In g (v, b)
   pub one : HasOne now
+  pub fit : AllFit now
   pub fresh : IsFresh now who number
+  pub called : (u : UnderWay) → call ≡ Some u → BringsBlock u.call
   pub listed : Each (Carries now who) dirty
   pub apart : AreApart dirty
   pub pushes : (p : Push) → push ≡ Some p → Carries now who p
   pub asked : (t : Ticket) → ticket ≡ Some t → Asks now t.request
   pub sent : Each (Says now) sends
 
-abbrev pub KnowsIn : Bodies → Who → ClientStep → Type 0
-KnowsIn g old t = Knows g old t.client.who t.client.number t.client.ticket t.client.dirty t.client.push t.sends
+abbrev pub KnowsIn : Bodies → Who → (most : ℕ) → ClientStep → Type 0
+KnowsIn g old most t = Knows g old most t.client.who t.client.number t.client.call t.client.ticket t.client.dirty t.client.push t.sends
 
 -- what is known of a client before a step
-pub record IsKnown (g : Bodies) (c : Client) : Type 0 where
+pub record IsKnown (g : Bodies) (most : ℕ) (c : Client) : Type 0 where
+  pub host : c.who.host < 2 ^ 32
+  pub inc : c.who.inc ≤ most
+  pub few : c.number ≤ most
   pub fresh : IsFresh g c.who c.number
+  pub called : (u : UnderWay) → c.call ≡ Some u → BringsBlock u.call
   pub listed : Each (Carries g c.who) c.dirty
   pub apart : AreApart c.dirty
   pub pushes : (p : Push) → c.push ≡ Some p → Carries g c.who p
   pub asked : (t : Ticket) → c.ticket ≡ Some t → Asks g t.request
 
-pub begun-knows : (g : Bodies) (c : Client) → HasOne g → IsKnown g c → KnowsIn g c.who (begun c)
-begun-knows g c one h = record { kept = refl; now = g; more = λ v b i. i; others = λ v b i other. i; one = one; fresh = h.fresh; listed = h.listed; apart = h.apart; pushes = h.pushes; asked = h.asked; sent = tt }
+pub begun-knows : (g : Bodies) (most : ℕ) (c : Client) → HasOne g → AllFit g → IsKnown g most c → KnowsIn g c.who most (begun c)
+begun-knows g most c one fit h = record {
+  kept = refl;
+  host = h.host;
+  inc = h.inc;
+  few = h.few;
+  now = g;
+  more = λ v b i. i;
+  others = λ v b i other. i;
+  one = one;
+  fit = fit;
+  fresh = h.fresh;
+  called = h.called;
+  listed = h.listed;
+  apart = h.apart;
+  pushes = h.pushes;
+  asked = h.asked;
+  sent = tt;
+}
 
 -- ---- a write is delayed
 
@@ -166,6 +203,10 @@ module _ (g : Bodies) (who : Who) (file block number : ℕ) (body : List ℕ) wh
       (omega arith, λ e. omega arith)
   grown-fresh fresh v b (inr i) own = let f = fresh v b i own in (f.0, λ e. let early = f.1 e in omega arith)
 
+grown-fit : (g : Bodies) (who : Who) (file block number : ℕ) (body : List ℕ) → IsBody (written-at who file block number) body → AllFit g → AllFit (grown g who file block number body)
+grown-fit g who file block number body new fit v b (inl x) = subst (λ z. IsBody z.0 z.1) x new
+grown-fit g who file block number body new fit v b (inr i) = fit v b i
+
 later-fresh : (g : Bodies) (who : Who) (number : ℕ) → IsFresh g who number → IsFresh g who (number + 1)
 later-fresh g who number fresh v b i own = let f = fresh v b i own in (f.0, λ e. let early = f.1 e in omega arith)
 
@@ -175,31 +216,60 @@ others-known g now who file block number body others v b (inr i) other = others 
 
 -- ---- parts of a step
 
-module _ (g : Bodies) (old : Who) where
-  answered : (t : ClientStep) (q : ℕ) (a : Answer) (by : Option ℕ) → KnowsIn g old t → KnowsIn g old (answers t q a by)
-  unfolding answers
-  answered t q a by m = m
+module _ (g : Bodies) (old : Who) (most : ℕ) where
+  -- what is known where other things changed: the call under way, the request, what is delayed, and what was sent
+  pub with-call : (t : ClientStep) (call : Option UnderWay) → ((u : UnderWay) → call ≡ Some u → BringsBlock u.call) → (m : KnowsIn g old most t) → Knows g old most t.client.who t.client.number call t.client.ticket t.client.dirty t.client.push t.sends
+  with-call t call new m = record { kept = m.kept; host = m.host; inc = m.inc; few = m.few; now = m.now; more = m.more; others = m.others; one = m.one; fit = m.fit; fresh = m.fresh; called = new; listed = m.listed; apart = m.apart; pushes = m.pushes; asked = m.asked; sent = m.sent }
 
-  named : (t : ClientStep) (q file : ℕ) → KnowsIn g old t → KnowsIn g old (names_losses t q file)
-  unfolding answers
-  named t q file m = m
+  pub with-ticket : (t : ClientStep) (ticket : Option Ticket) (sends : List Message) → (m : KnowsIn g old most t) → ((k : Ticket) → ticket ≡ Some k → Asks m.now k.request) → Each (Says m.now) sends → Knows g old most t.client.who t.client.number t.client.call ticket t.client.dirty t.client.push sends
+  with-ticket t ticket sends m asked sent = record { kept = m.kept; host = m.host; inc = m.inc; few = m.few; now = m.now; more = m.more; others = m.others; one = m.one; fit = m.fit; fresh = m.fresh; called = m.called; listed = m.listed; apart = m.apart; pushes = m.pushes; asked = asked; sent = sent }
 
-  read-knows : (t : ClientStep) (u : UnderWay) (file block : ℕ) (body : List ℕ) → KnowsIn g old t → KnowsIn g old (reads_cached t u file block body)
+  pub with-dirty : (t : ClientStep) (dirty : List Push) (push : Option Push) → (m : KnowsIn g old most t) → Each (Carries m.now t.client.who) dirty → AreApart dirty → ((p : Push) → push ≡ Some p → Carries m.now t.client.who p) → Knows g old most t.client.who t.client.number t.client.call t.client.ticket dirty push t.sends
+  with-dirty t dirty push m listed apart pushes = record { kept = m.kept; host = m.host; inc = m.inc; few = m.few; now = m.now; more = m.more; others = m.others; one = m.one; fit = m.fit; fresh = m.fresh; called = m.called; listed = listed; apart = apart; pushes = pushes; asked = m.asked; sent = m.sent }
+
+  pub with-sends : (t : ClientStep) (message : Message) → (m : KnowsIn g old most t) → Says m.now message → Knows g old most t.client.who t.client.number t.client.call t.client.ticket t.client.dirty t.client.push (t.sends ++ message ∷ [])
+  with-sends t message m says = with-ticket t t.client.ticket (t.sends ++ message ∷ []) m m.asked (each-append (Says m.now) t.sends (message ∷ []) m.sent (says, tt))
+
+  -- a number was given, or may be
+  pub later : (t : ClientStep) → KnowsIn g old most t → KnowsIn g old (most + 1) t
+  later t m = record { kept = m.kept; host = m.host; inc = let i = m.inc in omega arith; few = let i = m.few in omega arith; now = m.now; more = m.more; others = m.others; one = m.one; fit = m.fit; fresh = m.fresh; called = m.called; listed = m.listed; apart = m.apart; pushes = m.pushes; asked = m.asked; sent = m.sent }
+
+  pub counted : (t : ClientStep) → (m : KnowsIn g old most t) → Knows g old (most + 1) t.client.who (t.client.number + 1) t.client.call t.client.ticket t.client.dirty t.client.push t.sends
+  counted t m = record { kept = m.kept; host = m.host; inc = let i = m.inc in omega arith; few = let i = m.few in omega arith; now = m.now; more = m.more; others = m.others; one = m.one; fit = m.fit; fresh = later-fresh m.now t.client.who t.client.number m.fresh; called = m.called; listed = m.listed; apart = m.apart; pushes = m.pushes; asked = m.asked; sent = m.sent }
+
+  pub answered : (t : ClientStep) (q : ℕ) (a : Answer) (by : Option ℕ) → KnowsIn g old most t → KnowsIn g old most (answers t q a by)
+  unfolding answers
+  answered t q a by m = with-call t None (λ u e. none-some u e) m
+
+  pub named : (t : ClientStep) (q file : ℕ) → KnowsIn g old most t → KnowsIn g old most (names_losses t q file)
+  unfolding answers
+  named t q file m = with-call t None (λ u e. none-some u e) m
+
+  pub read-knows : (t : ClientStep) (u : UnderWay) (file block : ℕ) (body : List ℕ) → KnowsIn g old most t → KnowsIn g old most (reads_cached t u file block body)
   unfolding reads_cached answers after_read
-  read-knows t u file block body m = m
+  read-knows t u file block body m = with-call t None (λ u e. none-some u e) m
 
-  delayed : (t : ClientStep) (file block : ℕ) (body : List ℕ) → KnowsIn g old t → KnowsIn g old (delays t file block body)
+  pub delayed : (t : ClientStep) (file block : ℕ) (body : List ℕ) → most < 2 ^ 32 → (file < 2 ^ 32) × (block < 2 ^ 32) × (length body ≡ 4096) → KnowsIn g old most t → KnowsIn g old (most + 1) (delays t file block body)
   unfolding after_write
-  delayed t file block body m =
+  delayed t file block body small brings m =
       let who = t.client.who in
       let number = t.client.number in
+      let new : IsBody (written-at who file block number) body = record {
+        written = record { host = m.host; inc = let i = m.inc in omega arith; file = brings.0; block = brings.1; last = let i = m.few in omega arith };
+        size = brings.2;
+      } in
       record {
         kept = m.kept;
+        host = m.host;
+        inc = let i = m.inc in omega arith;
+        few = let i = m.few in omega arith;
         now = grown m.now who file block number body;
         more = λ v b i. inr (m.more v b i);
         others = others-known g m.now who file block number body m.others;
         one = grown-one m.now who file block number body m.fresh m.one;
+        fit = grown-fit m.now who file block number body new m.fit;
         fresh = grown-fresh m.now who file block number body m.fresh;
+        called = m.called;
         listed = write-carries m.now who file block number body t.client.dirty (dirty_at file block t.client.dirty) m.listed;
         apart = write-apart file block number body t.client.dirty (dirty_at file block t.client.dirty) refl m.apart;
         pushes = λ p e. inr (m.pushes p e);
@@ -207,131 +277,28 @@ module _ (g : Bodies) (old : Who) where
         sent = each-map (Says m.now) (Says (grown m.now who file block number body)) t.sends (more-says m.now (grown m.now who file block number body) (λ v b i. inr i)) m.sent;
       }
 
-  marked : (t : ClientStep) (u : UnderWay) → KnowsIn g old t → KnowsIn g old (marks_written t u)
+  pub marked : (t : ClientStep) (u : UnderWay) → BringsBlock u.call → KnowsIn g old most t → KnowsIn g old most (marks_written t u)
   unfolding marks_written
-  marked t u m = m
-
-  pub settled : (t : ClientStep) → KnowsIn g old t → KnowsIn g old (settle t)
-  settled t m = settle-cases t (KnowsIn g old) (record {
-    idle = λ none. m;
-    asking = λ u is own. m;
-    read_out = λ u file block lease is read can out. answered t u.q Answer.Range None m;
-    reading = λ u file block lease body is read can below has. read-knows t u file block body m;
-    read_waits = λ u file block is read waits. m;
-    write_out = λ u sync file block body lease is write can out. answered t u.q Answer.Range None m;
-    write_full = λ u sync file block body lease is write can below full. answered t u.q Answer.DirtyFull None m;
-    writing = λ u file block body lease is write can below room. answered (delays t file block body) u.q (Answer.Ok Value.Nothing) None (delayed t file block body m);
-    putting = λ u file block body lease is put written can below room. marked (delays t file block body) u (delayed t file block body m);
-    write_waits = λ u sync file block body is write waits. m;
-    syncing = λ u file is sync clean. answered t u.q (Answer.Ok Value.Nothing) None m;
-    sync_waits = λ u file is sync dirty. m;
-    others = λ u is needs. m;
-  })
-
-  -- ---- the next request
-
-  sends-know : (t : ClientStep) (job : Job) (r : Request) (m : KnowsIn g old t) → Asks m.now r → KnowsIn g old (sends_request t job r)
-  unfolding sends_request
-  sends-know t job r m asks = record {
-    kept = m.kept;
-    now = m.now;
-    more = m.more;
-    others = m.others;
-    one = m.one;
-    fresh = m.fresh;
-    listed = m.listed;
-    apart = m.apart;
-    pushes = m.pushes;
-    asked = λ k e. subst (λ z. Asks m.now z.request) (some-same _ k e) asks;
-    sent = each-append (Says m.now) t.sends _ m.sent (asks, tt);
-  }
-
-  seq-knows : (t : ClientStep) → KnowsIn g old t → KnowsIn g old (after_seq t)
-  unfolding after_seq
-  seq-knows t m = m
-
-  number-knows : (t : ClientStep) → KnowsIn g old t → KnowsIn g old (after_number t)
-  unfolding after_number
-  number-knows t m = record { kept = m.kept; now = m.now; more = m.more; others = m.others; one = m.one; fresh = later-fresh m.now t.client.who t.client.number m.fresh; listed = m.listed; apart = m.apart; pushes = m.pushes; asked = m.asked; sent = m.sent }
-
-  gives-knows : (t : ClientStep) (file : ℕ) → KnowsIn g old t → KnowsIn g old (gives_up t file)
-  unfolding gives_up
-  gives-knows t file m = m
-
-  taken : (t : ClientStep) (p : Push) (m : KnowsIn g old t) → Carries m.now t.client.who p → KnowsIn g old (takes_push t p)
-  unfolding takes_push
-  taken t p m carries = record { kept = m.kept; now = m.now; more = m.more; others = m.others; one = m.one; fresh = m.fresh; listed = each-filter (Carries m.now t.client.who) _ t.client.dirty m.listed; apart = apart-filter _ t.client.dirty m.apart; pushes = λ x e. subst (Carries m.now t.client.who) (some-same p x e) carries; asked = m.asked; sent = m.sent }
-
-  push-knows : (t : ClientStep) (file : ℕ) (p : Push) → first_dirty file t.client.dirty ≡ Some p → KnowsIn g old t → KnowsIn g old (pushed t p)
-  unfolding takes_push after_seq sends_request
-  push-knows t file p first m =
-      let carries = each-find (Carries m.now t.client.who) (is_push_of file) t.client.dirty p first m.listed in
-      record {
-        kept = m.kept;
-        now = m.now;
-        more = m.more;
-        others = m.others;
-        one = m.one;
-        fresh = m.fresh;
-        listed = each-filter (Carries m.now t.client.who) _ t.client.dirty m.listed;
-        apart = apart-filter _ t.client.dirty m.apart;
-        pushes = λ x e. subst (Carries m.now t.client.who) (some-same p x e) carries;
-        asked = λ k e. subst (λ z. Asks m.now z.request) (some-same _ k e) carries;
-        sent = each-append (Says m.now) t.sends _ m.sent (carries, tt);
-      }
-
-  through-knows : (t : ClientStep) (file block : ℕ) (body : List ℕ) → KnowsIn g old t → KnowsIn g old (sends_write t file block body)
-  unfolding after_number sends_request
-  through-knows t file block body m = record {
-    kept = m.kept;
-    now = m.now;
-    more = m.more;
-    others = m.others;
-    one = m.one;
-    fresh = later-fresh m.now t.client.who t.client.number m.fresh;
-    listed = m.listed;
-    apart = m.apart;
-    pushes = m.pushes;
-    asked = λ k e. subst (λ z. Asks m.now z.request) (some-same _ k e) tt;
-    sent = each-append (Says m.now) t.sends _ m.sent (tt, tt);
-  }
-
-  pub sends : (in_tick : Bool) (t : ClientStep) → KnowsIn g old t → KnowsIn g old (send_next in_tick t)
-  sends in_tick t m = send-cases in_tick t (KnowsIn g old) (record {
-    stays_asking = λ ticket is. m;
-    stays = λ free nothing. m;
-    pushing = λ file p free first of. push-knows t file p first m;
-    creating = λ u name blocks f op. let k = seq-knows t m in sends-know (after_seq t) for_call _ k tt;
-    looking_up = λ u name f op. sends-know t for_call _ m tt;
-    getting_attributes = λ u file f op. sends-know t for_call _ m tt;
-    reading = λ u file block f op. sends-know t for_call _ m tt;
-    fetching = λ u file block f op. sends-know t for_call _ m tt;
-    writing = λ u file block body f op through. through-knows t file block body m;
-    leasing = λ u file block body f op through shares. sends-know t for_call _ m tt;
-    putting = λ u file block body f op written. through-knows t file block body m;
-    resizing = λ u file blocks f op clean. let k = seq-knows (gives_up t file) (gives-knows t file m) in sends-know (after_seq (gives_up t file)) for_call _ k tt;
-    removing = λ u file f op clean. let k = seq-knows (gives_up t file) (gives-knows t file m) in sends-know (after_seq (gives_up t file)) for_call _ k tt;
-    renewing = λ file lease ticks free nothing unpaused due held of clean unnoticed. sends-know t Job.renewing _ m tt;
-  })
+  marked t u brings m = with-call t (Some (record u { written = true })) (λ v e. subst (λ z. BringsBlock z.call) (some-same _ v e) brings) m
 
   -- ---- a reply
 
-  spent : (t : ClientStep) → KnowsIn g old t → KnowsIn g old (spends t)
+  pub spent : (t : ClientStep) → KnowsIn g old most t → KnowsIn g old most (spends t)
   unfolding spends
-  spent t m = record { kept = m.kept; now = m.now; more = m.more; others = m.others; one = m.one; fresh = m.fresh; listed = m.listed; apart = m.apart; pushes = m.pushes; asked = λ k e. none-some k e; sent = m.sent }
+  spent t m = with-ticket t None t.sends m (λ k e. none-some k e) m.sent
 
-  attached-knows : (t : ClientStep) → KnowsIn g old t → KnowsIn g old (attached t)
+  pub attached-knows : (t : ClientStep) → KnowsIn g old most t → KnowsIn g old most (attached t)
   unfolding attached
   attached-knows t m = m
 
-  vacated : (t : ClientStep) (file : ℕ) (tag : Tag) → KnowsIn g old t → KnowsIn g old (vacates_lease t file tag)
+  pub vacated : (t : ClientStep) (file : ℕ) (tag : Tag) → KnowsIn g old most t → KnowsIn g old most (vacates_lease t file tag)
   unfolding vacates_lease
-  vacated t file tag m = record { kept = m.kept; now = m.now; more = m.more; others = m.others; one = m.one; fresh = m.fresh; listed = m.listed; apart = m.apart; pushes = m.pushes; asked = m.asked; sent = each-append (Says m.now) t.sends _ m.sent (tt, tt) }
+  vacated t file tag m = with-sends t (call t.client.xid (Request.Vacated t.client.who file tag)) m tt
 
-  vacated-noticed : (t : ClientStep) (file : ℕ) (o : Option Notice) → KnowsIn g old t → KnowsIn g old (vacates_noticed t file o)
-  vacated-noticed t file o m = vacates-noticed-cases t file o (KnowsIn g old) (λ e. m) (λ n e. vacated t file n.tag m)
+  pub vacated-noticed : (t : ClientStep) (file : ℕ) (o : Option Notice) → KnowsIn g old most t → KnowsIn g old most (vacates_noticed t file o)
+  vacated-noticed t file o m = vacates-noticed-cases t file o (KnowsIn g old most) (λ e. m) (λ n e. vacated t file n.tag m)
 
-  other-pushes : (now : Bodies) (who : Who) (file : ℕ) (o : Option Push) → ((p : Push) → o ≡ Some p → Carries now who p) → (p : Push) → other_push file o ≡ Some p → Carries now who p
+  pub other-pushes : (now : Bodies) (who : Who) (file : ℕ) (o : Option Push) → ((p : Push) → o ≡ Some p → Carries now who p) → (p : Push) → other_push file o ≡ Some p → Carries now who p
   other-pushes now who file None h p e = none-some p e
   other-pushes now who file (Some x) h p e = step (is_push_of file x) e
     where
@@ -339,83 +306,87 @@ module _ (g : Bodies) (old : Who) where
       step true e = none-some p e
       step false e = h p e
 
-  lost : (t : ClientStep) (file : ℕ) → KnowsIn g old t → KnowsIn g old (loses t file)
+  pub lost : (t : ClientStep) (file : ℕ) → KnowsIn g old most t → KnowsIn g old most (loses t file)
   unfolding loses
-  lost t file m = record { kept = m.kept; now = m.now; more = m.more; others = m.others; one = m.one; fresh = m.fresh; listed = each-filter (Carries m.now t.client.who) _ t.client.dirty m.listed; apart = apart-filter _ t.client.dirty m.apart; pushes = other-pushes m.now t.client.who file t.client.push m.pushes; asked = m.asked; sent = m.sent }
+  lost t file m = with-dirty t _ (other_push file t.client.push) m (each-filter (Carries m.now t.client.who) _ t.client.dirty m.listed) (apart-filter _ t.client.dirty m.apart) (other-pushes m.now t.client.who file t.client.push m.pushes)
 
-  reported : (t : ClientStep) (file : ℕ) → KnowsIn g old t → KnowsIn g old (reports t file)
-  reported t file m = reports-cases t file (KnowsIn g old) (λ none. m) (λ u is waits. m) (λ u is waits. named t u.q file m)
+  pub reported : (t : ClientStep) (file : ℕ) → KnowsIn g old most t → KnowsIn g old most (reports t file)
+  reported t file m = reports-cases t file (KnowsIn g old most) (λ none. m) (λ u is waits. m) (λ u is waits. named t u.q file m)
 
-  held : (t : ClientStep) (file : ℕ) (grant : Grant) (at : ℕ) → KnowsIn g old t → KnowsIn g old (holds t file grant at)
+  pub held : (t : ClientStep) (file : ℕ) (grant : Grant) (at : ℕ) → KnowsIn g old most t → KnowsIn g old most (holds t file grant at)
   unfolding holds
   held t file grant at m = m
 
-  broken : (t : ClientStep) (file : ℕ) → KnowsIn g old t → KnowsIn g old (breaks_chain t file)
+  pub broken : (t : ClientStep) (file : ℕ) → KnowsIn g old most t → KnowsIn g old most (breaks_chain t file)
   broken t file m = reported (vacates_noticed (loses t file) file (notice_on file t.client.notices)) file (vacated-noticed (loses t file) file (notice_on file t.client.notices) (lost t file m))
 
-  granted : (t : ClientStep) (file : ℕ) (grant : Grant) (at : ℕ) → KnowsIn g old t → KnowsIn g old (takes_grant t file grant at)
-  granted t file grant at m = held (if_broken t file grant) file grant at (if-broken-cases t file grant (KnowsIn g old) (λ e. m) (λ lease has breaks dirty. broken t file m))
+  pub granted : (t : ClientStep) (file : ℕ) (grant : Grant) (at : ℕ) → KnowsIn g old most t → KnowsIn g old most (takes_grant t file grant at)
+  granted t file grant at m = held (if_broken t file grant) file grant at (if-broken-cases t file grant (KnowsIn g old most) (λ e. m) (λ lease has breaks dirty. broken t file m))
 
-  takes : (t : ClientStep) (file : ℕ) (o : Option Grant) (at : ℕ) → KnowsIn g old t → KnowsIn g old (takes_optional t file o at)
-  takes t file o at m = takes-optional-cases t file o at (KnowsIn g old) (λ e. m) (λ grant e. granted t file grant at m)
+  pub takes : (t : ClientStep) (file : ℕ) (o : Option Grant) (at : ℕ) → KnowsIn g old most t → KnowsIn g old most (takes_optional t file o at)
+  takes t file o at m = takes-optional-cases t file o at (KnowsIn g old most) (λ e. m) (λ grant e. granted t file grant at m)
 
-  caches : (t : ClientStep) (file block : ℕ) (body : List ℕ) → KnowsIn g old t → KnowsIn g old (caches_block t file block body)
+  pub caches : (t : ClientStep) (file block : ℕ) (body : List ℕ) → KnowsIn g old most t → KnowsIn g old most (caches_block t file block body)
   unfolding caches_block
   caches t file block body m = m
 
-  purged : (t : ClientStep) (file : ℕ) → KnowsIn g old t → KnowsIn g old (purges t file)
+  pub purged : (t : ClientStep) (file : ℕ) → KnowsIn g old most t → KnowsIn g old most (purges t file)
   unfolding purges
   purged t file m = m
 
-  known : (t : ClientStep) (file rev : ℕ) → KnowsIn g old t → KnowsIn g old (knows_revision t file rev)
+  pub known : (t : ClientStep) (file rev : ℕ) → KnowsIn g old most t → KnowsIn g old most (knows_revision t file rev)
   unfolding knows_revision
   known t file rev m = m
 
-  unleased : (t : ClientStep) (file : ℕ) → KnowsIn g old t → KnowsIn g old (without_lease t file)
+  pub unleased : (t : ClientStep) (file : ℕ) → KnowsIn g old most t → KnowsIn g old most (without_lease t file)
   unfolding without_lease
   unleased t file m = m
 
-  ended : (t : ClientStep) → KnowsIn g old t → KnowsIn g old (ends_push t)
+  pub ended : (t : ClientStep) → KnowsIn g old most t → KnowsIn g old most (ends_push t)
   unfolding ends_push
-  ended t m = record { kept = m.kept; now = m.now; more = m.more; others = m.others; one = m.one; fresh = m.fresh; listed = m.listed; apart = m.apart; pushes = λ p e. none-some p e; asked = m.asked; sent = m.sent }
+  ended t m = with-dirty t t.client.dirty None m m.listed m.apart (λ p e. none-some p e)
 
-  marks : (on : Bool) (t : ClientStep) → KnowsIn g old t → KnowsIn g old (marks_through on t)
+  pub through-brings : (on : Bool) (o : Option UnderWay) → ((u : UnderWay) → o ≡ Some u → BringsBlock u.call) → (u : UnderWay) → with_through on o ≡ Some u → BringsBlock u.call
+  through-brings on None h u e = none-some u e
+  through-brings on (Some v) h u e = subst (λ z. BringsBlock z.call) (some-same _ u e) (h v refl)
+
+  pub marks : (on : Bool) (t : ClientStep) → KnowsIn g old most t → KnowsIn g old most (marks_through on t)
   unfolding marks_through
-  marks on t m = m
+  marks on t m = with-call t (with_through on t.client.call) (through-brings on t.client.call m.called) m
 
-  paused : (t : ClientStep) → KnowsIn g old t → KnowsIn g old (pauses t)
+  pub paused : (t : ClientStep) → KnowsIn g old most t → KnowsIn g old most (pauses t)
   unfolding pauses marks_through
-  paused t m = m
+  paused t m = with-call t (with_through false t.client.call) (through-brings false t.client.call m.called) m
 
-  answers-know : (t : ClientStep) (a : Answer) (by : Option ℕ) → KnowsIn g old t → KnowsIn g old (answers_call t a by)
-  answers-know t a by m = answers-call-cases t a by (KnowsIn g old) (λ e. m) (λ u e. answered t u.q a by m)
+  pub answers-know : (t : ClientStep) (a : Answer) (by : Option ℕ) → KnowsIn g old most t → KnowsIn g old most (answers_call t a by)
+  answers-know t a by m = answers-call-cases t a by (KnowsIn g old most) (λ e. m) (λ u e. answered t u.q a by m)
 
-  read-done : (t : ClientStep) (file block : ℕ) (body : List ℕ) (o : Option Grant) (at number : ℕ) → KnowsIn g old t → KnowsIn g old (read_done t file block body o at number)
+  pub read-done : (t : ClientStep) (file block : ℕ) (body : List ℕ) (o : Option Grant) (at number : ℕ) → KnowsIn g old most t → KnowsIn g old most (read_done t file block body o at number)
   read-done t file block body o at number m =
       let k = takes t file o at m in
-      answers-know (then_caches (takes_optional t file o at) file block body o) _ _ (then-caches-cases (takes_optional t file o at) file block body o (KnowsIn g old) (λ e. caches _ file block body k) (λ e. k))
+      answers-know (then_caches (takes_optional t file o at) file block body o) _ _ (then-caches-cases (takes_optional t file o at) file block body o (KnowsIn g old most) (λ e. caches _ file block body k) (λ e. k))
 
-  write-done : (t : ClientStep) (file block : ℕ) (body : List ℕ) (rev : ℕ) → KnowsIn g old t → KnowsIn g old (write_done t file block body rev)
+  pub write-done : (t : ClientStep) (file block : ℕ) (body : List ℕ) (rev : ℕ) → KnowsIn g old most t → KnowsIn g old most (write_done t file block body rev)
   write-done t file block body rev m =
-      answers-know (knows_revision (caches_write t file block body rev) file rev) _ None (known (caches_write t file block body rev) file rev (caches-write-cases t file block body rev (KnowsIn g old) (λ a b. caches t file block body m) (purged t file m)))
+      answers-know (knows_revision (caches_write t file block body rev) file rev) _ None (known (caches_write t file block body rev) file rev (caches-write-cases t file block body rev (KnowsIn g old most) (λ a b. caches t file block body m) (purged t file m)))
 
-  push-done : (t : ClientStep) (file block : ℕ) (body : List ℕ) (rev : ℕ) → KnowsIn g old t → KnowsIn g old (push_done t file block body rev)
+  pub push-done : (t : ClientStep) (file block : ℕ) (body : List ℕ) (rev : ℕ) → KnowsIn g old most t → KnowsIn g old most (push_done t file block body rev)
   push-done t file block body rev m =
       let k = known (ends_push t) file rev (ended t m) in
-      let c = caches-push-cases (knows_revision (ends_push t) file rev) file block body (KnowsIn g old) (λ e. k) (λ e. caches _ file block body k) in
-      vacates-if-clean-cases (caches_push (knows_revision (ends_push t) file rev) file block body) file (KnowsIn g old) c (λ n clean e. vacated _ file n.tag c)
+      let c = caches-push-cases (knows_revision (ends_push t) file rev) file block body (KnowsIn g old most) (λ e. k) (λ e. caches _ file block body k) in
+      vacates-if-clean-cases (caches_push (knows_revision (ends_push t) file rev) file block body) file (KnowsIn g old most) c (λ n clean e. vacated _ file n.tag c)
 
-  refused-knows : (t : ClientStep) (file : ℕ) → KnowsIn g old t → KnowsIn g old (push_refused t file)
+  pub refused-knows : (t : ClientStep) (file : ℕ) → KnowsIn g old most t → KnowsIn g old most (push_refused t file)
   refused-knows t file m = reported _ file (vacated-noticed _ file _ (unleased _ file (lost t file m)))
 
-  replied-knows : (c : Client) (number : ℕ) (ticket : Ticket) (r : Reply) → fits_job ticket.job ticket.request ≡ true → reply_counts r ticket ≡ true → KnowsIn g old (begun c) → KnowsIn g old (replied (begun c) number ticket r)
+  pub replied-knows : (c : Client) (number : ℕ) (ticket : Ticket) (r : Reply) → fits_job ticket.job ticket.request ≡ true → reply_counts r ticket ≡ true → KnowsIn g old most (begun c) → KnowsIn g old most (replied (begun c) number ticket r)
   replied-knows c number ticket r fits counts m =
       let k = spent (begun c) m in
-      replied-cases c number ticket r (KnowsIn g old) fits counts (record {
+      replied-cases c number ticket r (KnowsIn g old most) fits counts (record {
         attaching = λ who inc job asks told. attached-knows _ k;
         named = λ answer job n. answers-know _ answer None k;
         reading = λ who q file block want inc rev body grant of told. read-done _ file block body grant ticket.first number k;
-        leasing = λ who file want inc grant of told. lease-done-cases _ file grant ticket.first (KnowsIn g old) (λ e. takes _ file grant ticket.first k) (λ e. marks true _ (takes _ file grant ticket.first k));
+        leasing = λ who file want inc grant of told. lease-done-cases _ file grant ticket.first (KnowsIn g old most) (λ e. takes _ file grant ticket.first k) (λ e. marks true _ (takes _ file grant ticket.first k));
         writing = λ who seq file block first last body inc rev of told. write-done _ file block body rev k;
         resizing = λ who seq q file blocks inc rev of told. answers-know _ _ None (known _ file rev k);
         removing = λ who seq q file inc of told. answers-know _ _ None k;
@@ -429,83 +400,103 @@ module _ (g : Bodies) (old : Who) where
 
   -- ---- a notice
 
-  cancelled-knows : (t : ClientStep) (file : ℕ) → KnowsIn g old t → KnowsIn g old (cancels t file)
+  pub cancelled-knows : (t : ClientStep) (file : ℕ) → KnowsIn g old most t → KnowsIn g old most (cancels t file)
   unfolding cancels
-  cancelled-knows t file m = record { kept = m.kept; now = m.now; more = m.more; others = m.others; one = m.one; fresh = m.fresh; listed = m.listed; apart = m.apart; pushes = m.pushes; asked = λ k e. m.asked k (keeps-or-cancels file t.client.ticket k e).0; sent = m.sent }
+  cancelled-knows t file m = with-ticket t _ t.sends m (λ k e. m.asked k (keeps-or-cancels file t.client.ticket k e).0) m.sent
 
-  notes : (t : ClientStep) (file : ℕ) (tag : Tag) → KnowsIn g old t → KnowsIn g old (notes_notice t file tag)
+  pub notes : (t : ClientStep) (file : ℕ) (tag : Tag) → KnowsIn g old most t → KnowsIn g old most (notes_notice t file tag)
   unfolding notes_notice
   notes t file tag m = m
 
-  evicted-knows : (t : ClientStep) (file : ℕ) (tag : Tag) → KnowsIn g old t → KnowsIn g old (evicted (cancels t file) file tag)
-  evicted-knows t file tag m = evicted-cases (cancels t file) file tag (KnowsIn g old) (record {
+  pub evicted-knows : (t : ClientStep) (file : ℕ) (tag : Tag) → KnowsIn g old most t → KnowsIn g old most (evicted (cancels t file) file tag)
+  evicted-knows t file tag m = evicted-cases (cancels t file) file tag (KnowsIn g old most) (record {
     clean = λ e. vacated (cancels t file) file tag (cancelled-knows t file m);
     waiting = λ e. notes (cancels t file) file tag (cancelled-knows t file m);
   })
 
-  -- ---- whole steps
+  -- ---- a call, and a tick that only sends again
 
-  goes-on : (in_tick : Bool) (t : ClientStep) → KnowsIn g old t → KnowsIn g old (send_next in_tick (settle t))
-  goes-on in_tick t m = sends in_tick (settle t) (settled t m)
-
-  begins : (c : Client) (op : Call) → KnowsIn g old (begun c) → KnowsIn g old (begins_call c op)
+  pub begins : (c : Client) (op : Call) → KnowsIn g old most (begun c) → KnowsIn g old most (begins_call c op)
   unfolding begins_call
   begins c op m = m
 
-  busy : (c : Client) (op : Call) → KnowsIn g old (begun c) → KnowsIn g old (says_busy (begins_call c op))
+  pub busy : (c : Client) (op : Call) → KnowsIn g old most (begun c) → KnowsIn g old most (says_busy (begins_call c op))
   unfolding says_busy begins_call
   busy c op m = m
 
-  calls : (c : Client) (op : Call) → KnowsIn g old (begun c) → KnowsIn g old (is_called (begins_call c op) op)
+  pub calls : (c : Client) (op : Call) → BringsBlock op → KnowsIn g old most (begun c) → KnowsIn g old most (is_called (begins_call c op) op)
   unfolding is_called begins_call
-  calls c op m = m
+  calls c op brings m = with-call (begun c) _ (λ u e. subst (λ z. BringsBlock z.call) (some-same _ u e) brings) m
 
-  unless-cached : (t : ClientStep) → KnowsIn g old t → KnowsIn g old (sends_unless_cached (settle t))
-  unless-cached t m = unless-cached-cases (settle t) (KnowsIn g old) (λ e. settled t m) (λ e. goes-on false t m)
-
-  pub call-knows : (c : Client) (op : Call) → KnowsIn g old (begun c) → KnowsIn g old (client_call c op)
-  call-knows c op m = call-cases c op (KnowsIn g old) (record {
-    busy = λ why. busy c op m;
-    telling = λ file loss losses none on of some. named (begins_call c op) _ file (begins c op m);
-    going = λ none on unlost. unless-cached (is_called (begins_call c op) op) (calls c op m);
-  })
-
-  timed : (c : Client) (now : ℕ) → KnowsIn g old (begun c) → KnowsIn g old (begun (at_time c now))
+  pub timed : (c : Client) (now : ℕ) → KnowsIn g old most (begun c) → KnowsIn g old most (begun (at_time c now))
   unfolding at_time
   timed c now m = m
 
-  again : (c : Client) (now : ℕ) (ticket : Ticket) → c.ticket ≡ Some ticket → KnowsIn g old (begun c) → KnowsIn g old (sends_again (begun (at_time c now)) ticket)
+  pub again : (c : Client) (now : ℕ) (ticket : Ticket) → c.ticket ≡ Some ticket → KnowsIn g old most (begun c) → KnowsIn g old most (sends_again (begun (at_time c now)) ticket)
   unfolding sends_again at_time
   again c now ticket is m =
       let asks = m.asked ticket is in
-      record { kept = m.kept; now = m.now; more = m.more; others = m.others; one = m.one; fresh = m.fresh; listed = m.listed; apart = m.apart; pushes = m.pushes; asked = λ k e. subst (Asks m.now) (ap (λ z. z.request) (some-same _ k e)) asks; sent = (asks, tt) }
+      with-ticket (begun c) _ _ m (λ k e. subst (Asks m.now) (ap (λ z. z.request) (some-same _ k e)) asks) (asks, tt)
 
-  pub tick-knows : (c : Client) (now : ℕ) → KnowsIn g old (begun c) → KnowsIn g old (client_tick c now)
-  tick-knows c now m = tick-cases c now (KnowsIn g old) (record {
-    again = λ ticket is due. again c now ticket is m;
-    quiet = λ ticket is early. timed c now m;
-    free = λ free. goes-on true (begun (at_time c now)) (timed c now m);
-  })
+  -- ---- the next request
 
-  pub hear-knows : (c : Client) (k : ℕ) (m : Message) (t : ClientStep) → Alone c → hear c k m ≡ Some t → KnowsIn g old (begun c) → KnowsIn g old t
-  hear-knows c k m t alone hears h = heard-cases c k m t (KnowsIn g old) hears (record {
-    answered = λ xid r ticket is has same inc counts. goes-on false (replied (begun c) k ticket r) (replied-knows c k ticket r (alone.asking.ticketed ticket has).fits counts h);
-    noticed = λ xid file tag is early. goes-on false (evicted (cancels (begun c) file) file tag) (evicted-knows (begun c) file tag h);
-  })
+  pub sends-know : (t : ClientStep) (job : Job) (r : Request) (m : KnowsIn g old most t) → Asks m.now r → KnowsIn g old most (sends_request t job r)
+  unfolding sends_request
+  sends-know t job r m asks =
+      with-ticket t _ (t.sends ++ call t.client.xid r ∷ []) m
+      (λ k e. subst (λ z. Asks m.now z.request) (some-same _ k e) asks)
+      (each-append (Says m.now) t.sends (call t.client.xid r ∷ []) m.sent (asks, tt))
 
-  -- a new incarnation has written nothing
-  pub restart-knows : (c : Client) → KnowsIn g old (begun c) → KnowsIn g (next_incarnation c.who) (restart c)
-  unfolding starts fresh_client
-  restart-knows c m = record {
-    kept = refl;
-    now = m.now;
-    more = m.more;
-    others = m.others;
-    one = m.one;
-    fresh = λ v b i own. let f = m.fresh v b i own in (let least = f.0 in omega arith, λ e. let least = f.0 in absurd (omega arith));
-    listed = tt;
-    apart = tt;
-    pushes = λ p e. none-some p e;
-    asked = λ t e. subst (Asks m.now) (ap (λ z. z.request) (some-same _ t e)) tt;
-    sent = (tt, tt);
-  }
+  pub seq-knows : (t : ClientStep) → KnowsIn g old most t → KnowsIn g old most (after_seq t)
+  unfolding after_seq
+  seq-knows t m = m
+
+  pub gives-knows : (t : ClientStep) (file : ℕ) → KnowsIn g old most t → KnowsIn g old most (gives_up t file)
+  unfolding gives_up
+  gives-knows t file m = m
+
+  pub push-knows : (t : ClientStep) (file : ℕ) (p : Push) → first_dirty file t.client.dirty ≡ Some p → KnowsIn g old most t → KnowsIn g old most (pushed t p)
+  unfolding takes_push after_seq sends_request
+  push-knows t file p first m =
+      let carries = each-find (Carries m.now t.client.who) (is_push_of file) t.client.dirty p first m.listed in
+      record {
+        kept = m.kept;
+        host = m.host;
+        inc = m.inc;
+        few = m.few;
+        now = m.now;
+        more = m.more;
+        others = m.others;
+        one = m.one;
+        fit = m.fit;
+        fresh = m.fresh;
+        called = m.called;
+        listed = each-filter (Carries m.now t.client.who) _ t.client.dirty m.listed;
+        apart = apart-filter _ t.client.dirty m.apart;
+        pushes = λ x e. subst (Carries m.now t.client.who) (some-same p x e) carries;
+        asked = λ k e. subst (λ z. Asks m.now z.request) (some-same _ k e) carries;
+        sent = each-append (Says m.now) t.sends _ m.sent (carries, tt);
+      }
+
+  pub through-knows : (t : ClientStep) (file block : ℕ) (body : List ℕ) → KnowsIn g old most t → KnowsIn g old (most + 1) (sends_write t file block body)
+  unfolding after_number sends_request
+  through-knows t file block body m =
+      let k = counted t m in
+      record {
+        kept = k.kept;
+        host = k.host;
+        inc = k.inc;
+        few = k.few;
+        now = k.now;
+        more = k.more;
+        others = k.others;
+        one = k.one;
+        fit = k.fit;
+        fresh = k.fresh;
+        called = k.called;
+        listed = k.listed;
+        apart = k.apart;
+        pushes = k.pushes;
+        asked = λ x e. subst (λ z. Asks k.now z.request) (some-same _ x e) tt;
+        sent = each-append (Says k.now) t.sends _ k.sent (tt, tt);
+      }

@@ -1,5 +1,13 @@
 mod Apart
+mod Boots
+mod Datagrams
 mod KnownClient
 mod KnownRuns
-mod Datagrams
+mod KnownSteps
+mod Meaning
 mod Meant
+mod NotStored
+pub mod Rebuilt
+mod SameNumbers
+pub mod Schedules
+mod SomeStaged

@@ -1,0 +1,4 @@
+pub mod Boots
+pub mod Lawful
+pub mod Met
+pub mod NotStored

@@ -14,7 +14,7 @@ use Rattle.nq_stage.specs.declared.Pushed.{Pushed}
 use Rattle.nq_stage.specs.declared.Written.{Written}
 use Rattle.nq_stage.specs.Reading.{Stage}
 use Rattle.nq_staged_run.specs.declared.event.StagedEvent.{StagedEvent}
-use Rattle.nq_staged_run.specs.Outer.{Outer, Side, Outside, outside_start}
+use Rattle.nq_staged_run.specs.Outer.{Outer, Side, Outside, new_pool, outside_start}
 use Rattle.nq_staged_run.specs.Outside.{sends, standing, sends_as, sends_by, sends_from, sends_all, renewed, inner, inner_delivery, takes_stage, takes_commit, served_commit, served_stage, to_server, told_side, heard_by, to_host, takes, delivers, sends_stage, offers_body, offers, outside_step, outside_run}
 use Rattle.nq_staged_run.specs.Theorem.{RunsInside, OffersStoreNothing}
 use Rattle.nq_stager.specs.Hearing.{Told, acknowledged, again, other, told_by}
@@ -23,9 +23,9 @@ use Rattle.nq_stager.specs.Shortening.{shortening}
 
 -- ---- what is sent changes nothing inside
 
--- the inner world, and the inner events that were run
-abbrev pub Inner : Outside → World × List Event
-Inner o = (o.world, o.ran)
+-- the inner world, the inner events that were run, and the pool
+abbrev pub Inner : Outside → World × List Event × Bodies
+Inner o = (o.world, o.ran, o.pool)
 
 sent : (o : Outside) (p : Outer) → Inner (sends o p) ≡ Inner o
 unfolding sends
@@ -52,7 +52,12 @@ sent-all o number (p ∷ ps) = sent-all (sends_from o number p p.sender) (number
 
 -- ---- an event is run
 
-pub ran : (o : Outside) (event : Event) (w : World) → Inner (renewed o event w) ≡ (w, event ∷ o.ran)
+-- the pool after an inner event that led to this world: a crash makes a new one
+abbrev pub pool_then : Event → World → Bodies → Bodies
+pool_then (Event.Crash longest) w pool = new_pool w
+pool_then event w pool = pool
+
+pub ran : (o : Outside) (event : Event) (w : World) → Inner (renewed o event w) ≡ (w, event ∷ o.ran, pool_then event w o.pool)
 ran o (Event.Call host op) w = refl
 ran o (Event.Deliver k) w = refl
 ran o Event.ServerTick w = refl
@@ -60,64 +65,64 @@ ran o (Event.ClientTick host) w = refl
 ran o (Event.Restart host) w = refl
 ran o (Event.Crash longest) w = refl
 
-module _ (head : Head) where
-  -- an inner world is the run of these events
-  abbrev Runs : World × List Event → Type 0
-  Runs i = i.0 ≡ run head i.1
+pub inner-ran : (o : Outside) (event : Event) → Inner (inner o event) ≡ (step o.world event, event ∷ o.ran, pool_then event (step o.world event) o.pool)
+inner-ran o event =
+    let w = step o.world event in
+    sent-all (renewed o event w) (length o.world.packets) (drop (length o.world.packets) w.packets) ∙ ran o event w
 
-  runs-on : (o : Outside) (event : Event) → Runs (Inner o) → Runs (Inner (inner o event))
-  runs-on o event h =
-      let w = step o.world event in
-      let all = sent-all (renewed o event w) (length o.world.packets) (drop (length o.world.packets) w.packets) in
-      let goes : Runs (w, event ∷ o.ran) = ap (λ v. step v event) h in
-      subst Runs (sym (all ∙ ran o event w)) goes
+-- ---- a delivery
 
-  delivered : (o : Outside) (stands : Option ℕ) → Runs (Inner o) → Runs (Inner (inner_delivery o stands))
-  delivered o None h = h
-  delivered o (Some number) h = runs-on o (Event.Deliver number) h
+-- A delivery takes in a STAGE, or runs the delivery of an inner packet, or does neither. What is shown of each holds after it.
+module _ (o : Outside) (Q : World × List Event × Bodies → Type 0) (stays : Q (Inner o)) (stages : (s : Stage) → Q (o.world, o.ran, (staged o.pool s).1)) (goes : (number : ℕ) → Q (step o.world (Event.Deliver number), Event.Deliver number ∷ o.ran, o.pool)) where
+  quiet : (u : Outside) → Inner u ≡ Inner o → Q (Inner u)
+  quiet u same = subst Q (sym same) stays
 
-  staging : (o : Outside) (host : ℕ) (given : List ℕ × Bodies) → Runs (Inner o) → Runs (Inner (takes_stage o host given))
+  delivered : (u : Outside) (stands : Option ℕ) → Inner u ≡ Inner o → Q (Inner (inner_delivery u stands))
+  delivered u None same = quiet u same
+  delivered u (Some number) same = subst Q (sym (inner-ran u (Event.Deliver number) ∙ ap (λ i. (step i.0 (Event.Deliver number), Event.Deliver number ∷ i.1, i.2)) same)) (goes number)
+
+  staging : (host : ℕ) (s : Stage) → Q (Inner (takes_stage o host (staged o.pool s)))
   unfolding takes_stage sends
-  staging o host given h = h
+  staging host s = stages s
 
-  committing : (o : Outside) (host : ℕ) (stands : Option ℕ) (a : Answer) → Runs (Inner o) → Runs (Inner (takes_commit o host stands a))
+  committing : (host : ℕ) (stands : Option ℕ) (a : Answer) → Q (Inner (takes_commit o host stands a))
   unfolding sends
-  committing o host stands (write bytes) h = delivered (record o { counts = record o.counts { commits = o.counts.commits + 1 } }) stands h
-  committing o host stands (unstaged bytes) h = h
+  committing host stands (write bytes) = delivered (record o { counts = record o.counts { commits = o.counts.commits + 1 } }) stands refl
+  committing host stands (unstaged bytes) = stays
 
-  serving-commit : (o : Outside) (host : ℕ) (p : Outer) (c : Option Commit) → Runs (Inner o) → Runs (Inner (served_commit o host p c))
-  serving-commit o host p None h = delivered o p.stands h
-  serving-commit o host p (Some c) h = committing o host p.stands (answered o.pool c) h
+  serving-commit : (host : ℕ) (p : Outer) (c : Option Commit) → Q (Inner (served_commit o host p c))
+  serving-commit host p None = delivered o p.stands refl
+  serving-commit host p (Some c) = committing host p.stands (answered o.pool c)
 
-  serving-stage : (o : Outside) (host : ℕ) (p : Outer) (s : Option Stage) → Runs (Inner o) → Runs (Inner (served_stage o host p s))
-  serving-stage o host p None h = serving-commit o host p (own_commit host p.bytes) h
-  serving-stage o host p (Some s) h = staging o host (staged o.pool s) h
+  serving-stage : (host : ℕ) (p : Outer) (s : Option Stage) → Q (Inner (served_stage o host p s))
+  serving-stage host p None = serving-commit host p (own_commit host p.bytes)
+  serving-stage host p (Some s) = staging host s
 
-  at-server : (o : Outside) (p : Outer) (from : Party) → Runs (Inner o) → Runs (Inner (to_server o p from))
-  at-server o p Party.Server h = delivered o p.stands h
-  at-server o p (Party.Client host) h = serving-stage o host p (own_stage host p.bytes) h
+  at-server : (p : Outer) (from : Party) → Q (Inner (to_server o p from))
+  at-server p Party.Server = delivered o p.stands refl
+  at-server p (Party.Client host) = serving-stage host p (own_stage host p.bytes)
 
-  telling : (o : Outside) (host : ℕ) (side : Side) (t : Told) → Runs (Inner o) → Runs (Inner (told_side o host side t))
+  telling : (host : ℕ) (side : Side) (t : Told) → Q (Inner (told_side o host side t))
   unfolding sends
-  telling o host side (again bytes) h = h
-  telling o host side (acknowledged w verifier) h = h
-  telling o host side other h = h
+  telling host side (again bytes) = stays
+  telling host side (acknowledged w verifier) = stays
+  telling host side other = stays
 
-  hearing : (o : Outside) (host : ℕ) (p : Outer) (side : Option Side) → Runs (Inner o) → Runs (Inner (heard_by o host p side))
-  hearing o host p None h = h
-  hearing o host p (Some side) h = telling o host side (told_by side.stager p.bytes) h
+  hearing : (host : ℕ) (p : Outer) (side : Option Side) → Q (Inner (heard_by o host p side))
+  hearing host p None = stays
+  hearing host p (Some side) = telling host side (told_by side.stager p.bytes)
 
-  at-host : (o : Outside) (host : ℕ) (p : Outer) (stands : Option ℕ) → Runs (Inner o) → Runs (Inner (to_host o host p stands))
-  at-host o host p (Some number) h = runs-on o (Event.Deliver number) h
-  at-host o host p None h = hearing o host p (slice_get o.sides host) h
+  at-host : (host : ℕ) (p : Outer) (stands : Option ℕ) → Q (Inner (to_host o host p stands))
+  at-host host p (Some number) = delivered o (Some number) refl
+  at-host host p None = hearing host p (slice_get o.sides host)
 
-  taking : (o : Outside) (p : Outer) (to : Party) → Runs (Inner o) → Runs (Inner (takes o p to))
-  taking o p Party.Server h = at-server o p p.sender h
-  taking o p (Party.Client host) h = at-host o host p p.stands h
+  taking : (p : Outer) (to : Party) → Q (Inner (takes o p to))
+  taking p Party.Server = at-server p p.sender
+  taking p (Party.Client host) = at-host host p p.stands
 
-  delivering : (o : Outside) (p : Option Outer) → Runs (Inner o) → Runs (Inner (delivers o p))
-  delivering o None h = h
-  delivering o (Some p) h = taking o p p.to h
+  pub delivery-cases : (p : Option Outer) → Q (Inner (delivers o p))
+  delivery-cases None = stays
+  delivery-cases (Some p) = taking p p.to
 
 -- ---- an offer
 
@@ -126,7 +131,7 @@ unfolding sends_stage sends
 offering-body o host side None = refl
 offering-body o host side (Some b) = refl
 
-offering : (o : Outside) (host : ℕ) (side : Option Side) (c : Option Client) → Inner (offers o host side c) ≡ Inner o
+pub offering : (o : Outside) (host : ℕ) (side : Option Side) (c : Option Client) → Inner (offers o host side c) ≡ Inner o
 offering o host (Some side) (Some c) = offering-body o host side (offer_of side.stager c.dirty c.push)
 offering o host None c = refl
 offering o host (Some side) None = refl
@@ -136,9 +141,16 @@ offers-store-nothing o host = ap (λ i. i.0) (offering o host (slice_get o.sides
 
 -- ---- a staged schedule
 
+-- an inner world is the run of these events
+abbrev Runs : Head → World × List Event × Bodies → Type 0
+Runs head i = i.0 ≡ run head i.1
+
+runs-on : (head : Head) (o : Outside) (event : Event) → Runs head (Inner o) → Runs head (Inner (inner o event))
+runs-on head o event h = subst (Runs head) (sym (inner-ran o event)) (ap (λ v. step v event) h)
+
 stepping : (head : Head) (o : Outside) (event : StagedEvent) → Runs head (Inner o) → Runs head (Inner (outside_step o event))
 stepping head o (StagedEvent.Stage host) h = subst (Runs head) (sym (offering o host (slice_get o.sides host) (slice_get o.world.clients host))) h
-stepping head o (StagedEvent.Plain (Event.Deliver number)) h = delivering head o (slice_get o.sent number) h
+stepping head o (StagedEvent.Plain (Event.Deliver number)) h = delivery-cases o (Runs head) h (λ s. h) (λ k. ap (λ v. step v (Event.Deliver k)) h) (slice_get o.sent number)
 stepping head o (StagedEvent.Plain (Event.Call host op)) h = runs-on head o (Event.Call host op) h
 stepping head o (StagedEvent.Plain Event.ServerTick) h = runs-on head o Event.ServerTick h
 stepping head o (StagedEvent.Plain (Event.ClientTick host)) h = runs-on head o (Event.ClientTick host) h

@@ -1,62 +1,122 @@
 -- What is promised of a world with staged writes.
-use Rattle.std.specs.Prelude.{◌≡◌, ◌<◌, ◌^◌, ℕ, List, [], ◌∷◌, Option, Some, None, IfSome, length, slice_get}
+use Rattle.std.specs.Prelude.{◌≡◌, ◌≤◌, ◌<◌, ◌⊎◌, ◌^◌, ℕ, List, ◌∷◌, Some, length, slice_get}
+use Rattle.nq_base.specs.declared.Call.{Call}
+use Rattle.nq_base.specs.declared.Event.{Event}
 use Rattle.nq_base.specs.declared.Party.{Party}
-use Rattle.nq_datagrams.specs.Messages.{FitsMessage, bytes_of}
-use Rattle.nq_model.specs.Client.{Client}
+use Rattle.nq_datagrams.specs.Messages.{bytes_of}
 use Rattle.nq_model.specs.Journal.{Each}
-use Rattle.nq_model.specs.World.{Head, run}
-use Rattle.nq_pool.specs.Answering.{write, own_commit, answered}
+use Rattle.nq_model.specs.Message.{Message, Packet}
+use Rattle.nq_model.specs.Profile.{most_hosts}
+use Rattle.nq_model.specs.Stepped.{most_events}
+use Rattle.nq_model.specs.World.{Head, World, run, step}
+use Rattle.nq_pool.specs.Answering.{write, unstaged, own_commit, answered}
 use Rattle.nq_stage.specs.declared.Commit.{Commit}
-use Rattle.nq_stage.specs.declared.Written.{Written}
-use Rattle.nq_stage.specs.Messages.{IsWritten}
-use Rattle.nq_stager.specs.Offering.{offer_of}
-use Rattle.nq_stager.specs.Staged.{Staged}
+use Rattle.nq_stage.specs.declared.Pushed.{Pushed}
+use Rattle.nq_stage.specs.Messages.{commit_bytes, write_bytes}
 use Rattle.nq_staged_run.specs.declared.event.StagedEvent.{StagedEvent}
-use Rattle.nq_staged_run.specs.Outer.{Outer, Side, Outside}
+use Rattle.nq_staged_run.specs.Outer.{Outer, Outside}
 use Rattle.nq_staged_run.specs.Outside.{outside_run, outside_step}
 
 -- The inner world is the run of the inner events: so its journal is that run's, and all that is promised of runs holds of it.
 abbrev pub RunsInside : Type 0
 RunsInside = (head : Head) (events : List StagedEvent) → (outside_run head events).world ≡ run head (outside_run head events).ran
 
--- An offer leaves the inner world as it is: what is staged does not count as stored, and each block stays delayed until its
--- push is stored.
+-- An offer leaves the inner world as it is: no block is less delayed for being staged.
 abbrev pub OffersStoreNothing : Type 0
 OffersStoreNothing = (o : Outside) (host : ℕ) → (outside_step o (StagedEvent.Stage host)).world ≡ o.world
 
--- what a side offers has numbers that are words and hyper integers, and a block
-abbrev pub FitsOffer : Staged → Option (Written × List ℕ) → Type 0
-FitsOffer s None = Unit {0}
-FitsOffer s (Some b) = (s.next < 2 ^ 32) × IsWritten b.0 × (length b.1 ≡ 4096)
+-- ---- which schedules these laws speak of
 
--- so has what an event offers
-abbrev pub FitsEvent : Outside → StagedEvent → Type 0
-FitsEvent o (StagedEvent.Stage host) =
-    (side : Side) (c : Client) → slice_get o.sides host ≡ Some side → slice_get o.world.clients host ≡ Some c
-    → FitsOffer side.stager (offer_of side.stager c.dirty c.push)
-FitsEvent o (StagedEvent.Plain event) = Unit {0}
+-- a call that writes brings a block of 4096 bytes, and the numbers of its file and of its block are words
+abbrev pub BringsBlock : Call → Type 0
+BringsBlock (Call.Write file block body) = (file < 2 ^ 32) × (block < 2 ^ 32) × (length body ≡ 4096)
+BringsBlock (Call.WriteSync file block body) = (file < 2 ^ 32) × (block < 2 ^ 32) × (length body ≡ 4096)
+BringsBlock other = Unit {0}
 
--- The numbers of all packets and of all that was offered were within their fields, as numbers of the code are. The newest event is
--- told first.
-abbrev pub AreFit : Head → List StagedEvent → Type 0
-AreFit head [] = Unit {0}
-AreFit head (event ∷ earlier) =
-    FitsEvent (outside_run head earlier) event
-    × Each (λ q. FitsMessage q.message) (outside_run head (event ∷ earlier)).world.packets
-    × AreFit head earlier
+-- so does an event that is a call
+abbrev pub EventBrings : Event → Type 0
+EventBrings (Event.Call host op) = BringsBlock op
+EventBrings other = Unit {0}
 
--- a COMMIT from a host that travels, with the number of the inner packet for which it stands
-pub record Travels (o : Outside) (k host number : ℕ) (p : Outer) (c : Commit) : Type 0 where
+-- so does an event of a staged schedule
+abbrev pub StagedBrings : StagedEvent → Type 0
+StagedBrings (StagedEvent.Plain event) = EventBrings event
+StagedBrings (StagedEvent.Stage host) = Unit {0}
+
+-- a staged schedule has no more hosts and events than there may be, and its calls bring blocks
+pub record IsStagedSchedule (head : Head) (events : List StagedEvent) : Type 0 where
+  pub hosts : head.hosts ≤ most_hosts
+  pub few : length events ≤ most_events
+  pub brings : Each StagedBrings events
+
+-- ---- what travels
+
+-- bytes are the COMMIT of a push, and the message is its WRITE
+pub record IsShort (bytes : List ℕ) (message : Message) : Type 0 where
+  pub push : Pushed
+  pub verifier : ℕ
+  pub body : List ℕ
+  pub commit : bytes ≡ commit_bytes push verifier
+  pub whole : bytes_of message ≡ write_bytes push body
+
+-- a packet stands for the inner packet of this number: it is between the same two, and carries its bytes or the COMMIT of them
+pub record StandsFor (w : World) (number : ℕ) (p : Outer) : Type 0 where
+  pub packet : Packet
+  pub is : slice_get w.packets number ≡ Some packet
+  pub sender : p.sender ≡ packet.sender
+  pub to : p.to ≡ packet.to
+  pub carries : (p.bytes ≡ bytes_of packet.message) ⊎ IsShort p.bytes packet.message
+
+-- each packet that travels stands for an inner packet that was sent, or for none
+abbrev pub EachStandsForItsPacket : Type 0
+EachStandsForItsPacket =
+    (head : Head) (events : List StagedEvent) (k number : ℕ) (p : Outer)
+    → IsStagedSchedule head events
+    → slice_get (outside_run head events).sent k ≡ Some p
+    → p.stands ≡ Some number
+    → StandsFor (outside_run head events).world number p
+
+-- a packet is a COMMIT whose body the pool does not have
+pub record IsUnstaged (o : Outside) (p : Outer) : Type 0 where
+  pub host : ℕ
+  pub commit : Commit
+  pub bytes : List ℕ
+  pub sender : p.sender ≡ Party.Client host
+  pub read : own_commit host p.bytes ≡ Some commit
+  pub answers : answered o.pool commit ≡ unstaged bytes
+
+-- Its delivery is that of the inner packet, but for a COMMIT whose body the pool does not have.
+abbrev pub EachIsDeliveredAsItsPacket : Type 0
+EachIsDeliveredAsItsPacket =
+    (head : Head) (events : List StagedEvent) (k number : ℕ) (p : Outer)
+    → IsStagedSchedule head events
+    → slice_get (outside_run head events).sent k ≡ Some p
+    → p.stands ≡ Some number
+    → ((outside_run head (StagedEvent.Plain (Event.Deliver k) ∷ events)).world ≡ step (outside_run head events).world (Event.Deliver number))
+    ⊎ IsUnstaged (outside_run head events) p
+
+-- ---- what is rebuilt
+
+-- a COMMIT from a host that travels
+pub record Travels (o : Outside) (k host : ℕ) (p : Outer) (c : Commit) : Type 0 where
   pub is : slice_get o.sent k ≡ Some p
   pub sender : p.sender ≡ Party.Client host
   pub commit : own_commit host p.bytes ≡ Some c
+
+-- bytes are those of an inner packet of a host, for which a packet stands
+pub record IsInnerPacket (w : World) (host : ℕ) (p : Outer) (bytes : List ℕ) : Type 0 where
+  pub number : ℕ
+  pub packet : Packet
   pub stands : p.stands ≡ Some number
+  pub is : slice_get w.packets number ≡ Some packet
+  pub sender : packet.sender ≡ Party.Client host
+  pub same : bytes ≡ bytes_of packet.message
 
 -- Each WRITE that the pool rebuilds is byte for byte the inner packet for which its COMMIT stands.
 abbrev pub RebuildsWhatWasMeant : Type 0
 RebuildsWhatWasMeant =
-    (head : Head) (events : List StagedEvent) (k host number : ℕ) (p : Outer) (c : Commit) (bytes : List ℕ)
-    → AreFit head events
-    → Travels (outside_run head events) k host number p c
+    (head : Head) (events : List StagedEvent) (k host : ℕ) (p : Outer) (c : Commit) (bytes : List ℕ)
+    → IsStagedSchedule head events
+    → Travels (outside_run head events) k host p c
     → answered (outside_run head events).pool c ≡ write bytes
-    → IfSome (slice_get (outside_run head events).world.packets number) (λ q. bytes ≡ bytes_of q.message)
+    → IsInnerPacket (outside_run head events).world host p bytes

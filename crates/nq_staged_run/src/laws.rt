@@ -7,7 +7,7 @@ pub fn runs_are_inner()
     ensures { RunsInside }
 {}
 
-/// What is staged does not count as stored: each block stays delayed until its push is stored.
+/// An offer leaves the inner world as it is: no block is less delayed for being staged.
 pub fn offers_store_nothing()
     ensures { OffersStoreNothing }
 {}

@@ -1,4 +1,4 @@
-use Rattle.law_staged.proofs.Meant.{rebuilds-what-was-meant}
+use Rattle.law_staged.proofs.Rebuilt.{rebuilds-what-was-meant}
 use Rattle.law_staged.proofs.rebuilds_what_was_meant.Goals as goal
 
 pub returns : goal.returns

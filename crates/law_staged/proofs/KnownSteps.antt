@@ -1,0 +1,141 @@
+-- Over each step of a client its delayed writes and pushes carry the bodies of their writes.
+use Rattle.std.proofs.Common.{◌≡◌, ◌≤◌, ◌<◌, ◌⊎◌, ◌^◌, ℕ, ◌+◌, Bool, true, false, ◌==◌, ◌&&◌, List, [], ◌∷◌, ◌++◌, Option, Some, None, if◌then◌else◌, length, map, refl, sym, subst, ap, ◌∙◌, inl, inr, arith}
+use Rattle.std.proofs.lemmas.Bool.{and_parts}
+use Rattle.nq_base.specs.declared.Answer.{Answer}
+use Rattle.nq_base.specs.declared.Call.{Call}
+use Rattle.nq_base.specs.declared.Grant.{Grant}
+use Rattle.nq_base.specs.declared.Push.{Push}
+use Rattle.nq_base.specs.declared.Refusal.{Refusal}
+use Rattle.nq_base.specs.declared.Reply.{Reply}
+use Rattle.nq_base.specs.declared.Request.{Request}
+use Rattle.nq_base.specs.declared.Tag.{Tag}
+use Rattle.nq_base.specs.declared.Value.{Value}
+use Rattle.nq_base.specs.declared.Who.{Who}
+use Rattle.law_filled.proofs.EachOf.{each-find, each-filter}
+use Rattle.law_staged.proofs.Apart.{AreApart, apart-filter, write-apart}
+use Rattle.nq_model.proofs.Lists.{each-append, each-map}
+use Rattle.nq_model.specs.Client.{Client, ClientStep, Job, Notice, Ticket, UnderWay, begun, dirty_at, is_push_at, is_push_of, first_dirty, notice_on, for_call}
+use Rattle.nq_model.specs.ClientStep.{begins_call, is_called, sends_unless_cached, says_busy, client_call, at_time, sends_again, client_tick, fresh_client, starts, next_incarnation, restart}
+use Rattle.nq_model.specs.Hear.{vacates_lease, vacates_noticed, loses, reports, without_lease, push_refused, breaks_chain, if_broken, holds, takes_grant, takes_optional, answers_call, caches_block, purges, knows_revision, then_caches, read_done, marks_through, lease_done, caches_write, write_done, ends_push, caches_push, push_done, answer_of, spends, attached, pauses, replied, reply_counts, with_through, cancels, notes_notice, evicted, hear, other_push}
+use Rattle.nq_model.specs.Journal.{Each}
+use Rattle.nq_model.specs.Message.{Message, call, reply, error}
+use Rattle.nq_model.specs.Send.{sends_request, after_seq, after_number, takes_push, sends_write, gives_up, send_next}
+use Rattle.nq_model.specs.Settle.{answers, names_losses, reads_cached, after_read, overwritten, overwritten_at, with_write, delays, after_write, marks_written, settle}
+use Rattle.nq_stage.specs.declared.Written.{Written}
+use Rattle.nq_stage.specs.Messages.{IsWritten}
+use Rattle.nq_staged_run.specs.Theorem.{BringsBlock}
+use Rattle.nq_stager.specs.Offering.{written_by}
+use Rattle.walk_client.proofs.ClientFacts.{Alone, fits_job}
+use Rattle.walk_client.proofs.ClientMoves.{some-same, none-some, keeps-or-cancels}
+use Rattle.walk_client.proofs.PartCases.{answers-call-cases, vacates-noticed-cases, reports-cases, if-broken-cases, takes-optional-cases, lease-done-cases, then-caches-cases, caches-write-cases, caches-push-cases, vacates-if-clean-cases}
+use Rattle.walk_client.proofs.RepliedCases.{replied-cases}
+use Rattle.walk_client.proofs.SendCases.{pushed, send-cases}
+use Rattle.walk_client.proofs.SettleCases.{settle-cases}
+use Rattle.walk_client.proofs.StepCases.{call-cases, unless-cached-cases, tick-cases, heard-cases, evicted-cases}
+use Rattle.walk_run.proofs.Packets.{In}
+use Rattle.walk_server.proofs.Rows.{same-number}
+use Rattle.law_staged.proofs.KnownClient.{Bodies, Asks, Says, KnowsIn, with-call, with-ticket, with-dirty, with-sends, later, counted, answered, named, read-knows, delayed, marked, spent, attached-knows, vacated, vacated-noticed, other-pushes, lost, reported, held, broken, granted, takes, caches, purged, known, unleased, ended, through-brings, marks, paused, answers-know, read-done, write-done, push-done, refused-knows, replied-knows, cancelled-knows, notes, evicted-knows, begins, busy, calls, timed, again, sends-know, seq-knows, gives-knows, push-knows, through-knows}
+
+-- ---- whole steps, each of which gives two numbers at most
+
+module _ (g : Bodies) (old : Who) (most : ℕ) where
+  pub sends : (in_tick : Bool) (t : ClientStep) → KnowsIn g old most t → KnowsIn g old (most + 1) (send_next in_tick t)
+  sends in_tick t m =
+      let k = later g old most t m in
+      let s = seq-knows g old (most + 1) t k in
+      send-cases in_tick t (KnowsIn g old (most + 1)) (record {
+        stays_asking = λ ticket is. k;
+        stays = λ free nothing. k;
+        pushing = λ file p free first of. push-knows g old (most + 1) t file p first k;
+        creating = λ u name blocks f op. sends-know g old (most + 1) (after_seq t) for_call _ s tt;
+        looking_up = λ u name f op. sends-know g old (most + 1) t for_call _ k tt;
+        getting_attributes = λ u file f op. sends-know g old (most + 1) t for_call _ k tt;
+        reading = λ u file block f op. sends-know g old (most + 1) t for_call _ k tt;
+        fetching = λ u file block f op. sends-know g old (most + 1) t for_call _ k tt;
+        writing = λ u file block body f op through. through-knows g old most t file block body m;
+        leasing = λ u file block body f op through shares. sends-know g old (most + 1) t for_call _ k tt;
+        putting = λ u file block body f op written. through-knows g old most t file block body m;
+        resizing = λ u file blocks f op clean. changes t file _ k (λ now. tt);
+        removing = λ u file f op clean. changes t file _ k (λ now. tt);
+        renewing = λ file lease ticks free nothing unpaused due held of clean unnoticed. sends-know g old (most + 1) t Job.renewing _ k tt;
+      })
+    where
+      changes : (t : ClientStep) (file : ℕ) (r : Request) → KnowsIn g old (most + 1) t → ((now : Bodies) → Asks now r) → KnowsIn g old (most + 1) (sends_request (after_seq (gives_up t file)) for_call r)
+      changes t file r k asks =
+          let s = seq-knows g old (most + 1) (gives_up t file) (gives-knows g old (most + 1) t file k) in
+          sends-know g old (most + 1) (after_seq (gives_up t file)) for_call r s (asks s.now)
+
+  module _ (small : most < 2 ^ 32) where
+    pub settled : (t : ClientStep) → KnowsIn g old most t → KnowsIn g old (most + 1) (settle t)
+    settled t m =
+        let k = later g old most t m in
+        settle-cases t (KnowsIn g old (most + 1)) (record {
+          idle = λ none. k;
+          asking = λ u is own. k;
+          read_out = λ u file block lease is read can out. answered g old (most + 1) t u.q Answer.Range None k;
+          reading = λ u file block lease body is read can below has. read-knows g old (most + 1) t u file block body k;
+          read_waits = λ u file block is read waits. k;
+          write_out = λ u sync file block body lease is write can out. answered g old (most + 1) t u.q Answer.Range None k;
+          write_full = λ u sync file block body lease is write can below full. answered g old (most + 1) t u.q Answer.DirtyFull None k;
+          writing = λ u file block body lease is write can below room.
+              answered g old (most + 1) (delays t file block body) u.q (Answer.Ok Value.Nothing) None
+              (delayed g old most t file block body small (subst BringsBlock write (m.called u is.called)) m);
+          putting = λ u file block body lease is put written can below room.
+              marked g old (most + 1) (delays t file block body) u (m.called u is.called)
+              (delayed g old most t file block body small (subst BringsBlock put (m.called u is.called)) m);
+          write_waits = λ u sync file block body is write waits. k;
+          syncing = λ u file is sync clean. answered g old (most + 1) t u.q (Answer.Ok Value.Nothing) None k;
+          sync_waits = λ u file is sync dirty. k;
+          others = λ u is needs. k;
+        })
+
+    goes-on : (in_tick : Bool) (t : ClientStep) → KnowsIn g old most t → KnowsIn g old (most + 1 + 1) (send_next in_tick (settle t))
+    goes-on in_tick t m = sends g old (most + 1) in_tick (settle t) (settled t m)
+
+    later-twice : (t : ClientStep) → KnowsIn g old most t → KnowsIn g old (most + 1 + 1) t
+    later-twice t m = later g old (most + 1) t (later g old most t m)
+
+    unless-cached : (t : ClientStep) → KnowsIn g old most t → KnowsIn g old (most + 1 + 1) (sends_unless_cached (settle t))
+    unless-cached t m = unless-cached-cases (settle t) (KnowsIn g old (most + 1 + 1)) (λ e. later g old (most + 1) (settle t) (settled t m)) (λ e. goes-on false t m)
+
+    pub call-knows : (c : Client) (op : Call) → BringsBlock op → KnowsIn g old most (begun c) → KnowsIn g old (most + 1 + 1) (client_call c op)
+    call-knows c op brings m = call-cases c op (KnowsIn g old (most + 1 + 1)) (record {
+      busy = λ why. later-twice _ (busy g old most c op m);
+      telling = λ file loss losses none on of some. later-twice _ (named g old most (begins_call c op) _ file (begins g old most c op m));
+      going = λ none on unlost. unless-cached (is_called (begins_call c op) op) (calls g old most c op brings m);
+    })
+
+    pub tick-knows : (c : Client) (now : ℕ) → KnowsIn g old most (begun c) → KnowsIn g old (most + 1 + 1) (client_tick c now)
+    tick-knows c now m = tick-cases c now (KnowsIn g old (most + 1 + 1)) (record {
+      again = λ ticket is due. later-twice _ (again g old most c now ticket is m);
+      quiet = λ ticket is early. later-twice _ (timed g old most c now m);
+      free = λ free. goes-on true (begun (at_time c now)) (timed g old most c now m);
+    })
+
+    pub hear-knows : (c : Client) (k : ℕ) (m : Message) (t : ClientStep) → Alone c → hear c k m ≡ Some t → KnowsIn g old most (begun c) → KnowsIn g old (most + 1 + 1) t
+    hear-knows c k m t alone hears h = heard-cases c k m t (KnowsIn g old (most + 1 + 1)) hears (record {
+      answered = λ xid r ticket is has same inc counts. goes-on false (replied (begun c) k ticket r) (replied-knows g old most c k ticket r (alone.asking.ticketed ticket has).fits counts h);
+      noticed = λ xid file tag is early. goes-on false (evicted (cancels (begun c) file) file tag) (evicted-knows g old most (begun c) file tag h);
+    })
+
+  -- a new incarnation has written nothing
+  pub restart-knows : (c : Client) → KnowsIn g old most (begun c) → KnowsIn g (next_incarnation c.who) (most + 1 + 1) (restart c)
+  unfolding starts fresh_client
+  restart-knows c m = record {
+    kept = refl;
+    host = m.host;
+    inc = let i = m.inc in omega arith;
+    few = omega arith;
+    now = m.now;
+    more = m.more;
+    others = m.others;
+    one = m.one;
+    fit = m.fit;
+    fresh = λ v b i own. let f = m.fresh v b i own in (let least = f.0 in omega arith, λ e. let least = f.0 in absurd (omega arith));
+    called = λ u e. none-some u e;
+    listed = tt;
+    apart = tt;
+    pushes = λ p e. none-some p e;
+    asked = λ t e. subst (λ z. Asks m.now z.request) (some-same _ t e) tt;
+    sent = (tt, tt);
+  }

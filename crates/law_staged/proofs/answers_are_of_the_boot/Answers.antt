@@ -1,0 +1,11 @@
+use Rattle.law_staged.proofs.Boots.{boots-are-counted, pool-is-of-its-boot, answers-are-of-the-boot}
+use Rattle.law_staged.proofs.answers_are_of_the_boot.Goals as goal
+
+pub returns-clause-counted : goal.returns-clause-counted
+returns-clause-counted c = boots-are-counted
+
+pub returns-clause-pool : goal.returns-clause-pool
+returns-clause-pool c = pool-is-of-its-boot
+
+pub returns-clause-answers : goal.returns-clause-answers
+returns-clause-answers c = answers-are-of-the-boot

@@ -1,0 +1,12 @@
+use Rattle.law_staged.proofs.NotStored.{beside-stores-nothing, unstaged-stores-nothing}
+use Rattle.law_staged.proofs.Schedules.{staged-are-unsaved}
+use Rattle.law_staged.proofs.staged_is_not_stored.Goals as goal
+
+pub returns-clause-beside : goal.returns-clause-beside
+returns-clause-beside c = beside-stores-nothing
+
+pub returns-clause-unstaged : goal.returns-clause-unstaged
+returns-clause-unstaged c = unstaged-stores-nothing
+
+pub returns-clause-unsaved : goal.returns-clause-unsaved
+returns-clause-unsaved c = staged-are-unsaved

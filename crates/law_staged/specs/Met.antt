@@ -1,0 +1,55 @@
+-- There is a staged schedule of which the laws speak, and they refuse what it leads to with a part taken away.
+use Rattle.std.specs.Prelude.{◌≡◌, ℕ, List, [], ◌∷◌, None, false, map}
+use Rattle.nq_base.specs.Block.{filled}
+use Rattle.nq_base.specs.declared.Entry.{Entry}
+use Rattle.nq_base.specs.declared.Event.{Event}
+use Rattle.nq_model.specs.Client.{Client}
+use Rattle.nq_model.specs.Journal.{Exists}
+use Rattle.nq_model.specs.World.{Head, World}
+use Rattle.nq_pool.specs.Answering.{answered, write}
+use Rattle.nq_pool.specs.Bodies.{Bodies}
+use Rattle.nq_pool.specs.Laws.{pool_after}
+use Rattle.nq_promises.specs.WritesAreAccounted.{WaitingAreUnsaved}
+use Rattle.nq_stage.specs.declared.Commit.{Commit}
+use Rattle.nq_stage.specs.Messages.{write_bytes}
+use Rattle.nq_staged_run.specs.declared.StagedEvent.{StagedEvent}
+use Rattle.nq_staged_run.specs.Outer.{Outer, Outside}
+use Rattle.nq_staged_run.specs.Outside.{outside_run}
+use Rattle.nq_staged_run.specs.Theorem.{IsStagedSchedule, Travels, IsInnerPacket}
+use Rattle.law_staged.specs.Boots.{since_boot}
+use Rattle.law_staged.specs.Lawful.{plain_events, IsLawful}
+
+-- a client that has lost its delayed writes and does not say so
+abbrev pub forgets : Client → Client
+forgets c = record c { dirty = []; push = None }
+
+-- a COMMIT travels whose body the pool has, so it is rebuilt. No other body is the one that was meant, and there is none where the inner
+-- packet is not there
+pub record CommitIsRebuilt (o : Outside) : Type 0 where
+  pub k : ℕ
+  pub packet : Outer
+  pub commit : Commit
+  pub travels : Travels o k 0 packet commit
+  pub answers : answered o.pool commit ≡ write (write_bytes commit.pushed (filled 5))
+  pub other_body : ¬ IsInnerPacket o.world 0 packet (write_bytes commit.pushed (filled 6))
+  pub no_packet : ¬ IsInnerPacket (record o.world { packets = [] }) 0 packet (write_bytes commit.pushed (filled 5))
+
+-- a delayed write was made, and a client that forgot it would be refused
+pub record WriteWaits (w : World) : Type 0 where
+  pub made : Exists (λ entry. entry ≡ Entry.W (record { host = 0; inc = 1 }) 1 0 1 5 false) w.journal
+  pub forgotten : ¬ WaitingAreUnsaved (record w { clients = map forgets w.clients })
+
+-- the pool has a body, and with it it is not what a crash leaves
+pub record PoolIsLost (head : Head) (events : List StagedEvent) (longest : ℕ) : Type 0 where
+  pub kept : ¬ ((let b : Bodies = record { boot = 2; bodies = (outside_run head events).pool.bodies } in b) ≡ pool_after 2 (since_boot head (StagedEvent.Plain (Event.Crash longest) ∷ events)))
+
+-- the premises are met, and not in vain
+pub record StagingIsMet : Type 0 where
+  pub head : Head
+  pub most : ℕ
+  pub events : List StagedEvent
+  pub schedule : IsStagedSchedule head events
+  pub lawful : IsLawful most head (plain_events events)
+  pub rebuilt : CommitIsRebuilt (outside_run head events)
+  pub waits : WriteWaits (outside_run head events).world
+  pub lost : PoolIsLost head events 60
