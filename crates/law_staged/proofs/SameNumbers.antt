@@ -35,20 +35,20 @@ pub record SameHyper (n : ℕ) : Type 0 where
   pub fits : number < 2 ^ 64
   pub same : hyper n ≡ hyper number
 
+word-alone : (n m : ℕ) → word m ++ drop 4 (word n) ≡ word m
+unfolding word
+word-alone n m = refl
+
+hyper-alone : (n m : ℕ) → hyper m ++ drop 8 (hyper n) ≡ hyper m
+unfolding hyper
+hyper-alone n m = refl
+
 pub same-word : (n : ℕ) → SameWord n
 same-word n =
     let w = word_there (word n) (word-bytes n) (omega (arith, length-word n)) in
-    record { number = w.0; fits = w.1.0; same = w.1.1 ∙ behind-none w.0 }
-  where
-    behind-none : (m : ℕ) → word m ++ drop 4 (word n) ≡ word m
-    unfolding word
-    behind-none m = refl
+    record { number = w.0; fits = w.1.0; same = w.1.1 ∙ word-alone n w.0 }
 
 pub same-hyper : (n : ℕ) → SameHyper n
 same-hyper n =
     let w = hyper_there (hyper n) (hyper-bytes n) (omega (arith, length-hyper n)) in
-    record { number = w.0; fits = w.1.0; same = w.1.1 ∙ behind-none w.0 }
-  where
-    behind-none : (m : ℕ) → hyper m ++ drop 8 (hyper n) ≡ hyper m
-    unfolding hyper
-    behind-none m = refl
+    record { number = w.0; fits = w.1.0; same = w.1.1 ∙ hyper-alone n w.0 }
