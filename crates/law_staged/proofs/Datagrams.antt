@@ -11,8 +11,8 @@ use Rattle.nq_stage.specs.declared.Written.{Written}
 use Rattle.nq_rpc.specs.Message.{spelling, numbers, auth, call_with, null}
 use Rattle.nq_rpc.proofs.Messages.{message_again, null_fits}
 use Rattle.nq_stage.specs.Messages.{commit, stage, head_of, stage_bytes, commit_bytes, pushed_bytes, written_bytes, written_of, write_of, write_bytes, IsWritten, IsFront, IsPushed}
-use Rattle.nq_stage.specs.Reading.{call_as, call_by, call_in, end_at, commit_at, push_at, stage_by, stage_in, commit_by, commit_in, push_by, push_in, read}
-use Rattle.nq_stage.proofs.Again.{call-again, front-of, front-again, base-again, pushes-are-read}
+use Rattle.nq_stage.specs.Reading.{call_as, call_by, call_in, push_at, stage_by, stage_in, commit_by, commit_in, push_by, push_in, read}
+use Rattle.nq_stage.proofs.Again.{call-again, front-again, commits-are-read, pushes-are-read}
 use Rattle.nq_wire.specs.Parts.{head, base_bytes, optional, IsPushBase}
 use Rattle.nq_wire.specs.Procedure.{number_of}
 use Rattle.nq_wire.specs.Request.{procedure_of, arguments}
@@ -222,22 +222,14 @@ pub commit-no-stage : (p : Pushed) (verifier : ℕ) → stage_in (commit_bytes p
 unfolding stage_in commit_bytes
 commit-no-stage p verifier = ap stage_by (call-other p.xid commit stage (pushed_bytes p ++ base_bytes p.base ++ word verifier) (omega arith) refl)
 
--- behind the verifier nothing is left, whatever it is read as
-ends : (p : Pushed) (c : Commit) (r : Result (ℕ × List ℕ) XdrFault) → read (r >>= λ verifier. (end_at verifier.1 >>= λ done. Ok (record { pushed = p; verifier = verifier.0 }))) ≡ Some c → c.pushed ≡ p
-ends p c (Err e) h = let none : None ≡ Some c = h in absurd cc
-ends p c (Ok v) h = ended (end_at v.1) h
-  where
-    ended : (r : Result (Unit {0}) XdrFault) → read (r >>= λ done. Ok (record { pushed = p; verifier = v.0 })) ≡ Some c → c.pushed ≡ p
-    ended (Err e) h = let none : None ≡ Some c = h in absurd cc
-    ended (Ok done) h = let same : record { pushed = p; verifier = v.0 } ≡ c = some-same _ c h in sym (ap (λ (z : Commit). z.pushed) same)
+same-verifier : (p : Pushed) (verifier other : ℕ) → word verifier ≡ word other → commit_bytes p verifier ≡ commit_bytes p other
+unfolding commit_bytes
+same-verifier p verifier other same = rw same refl
 
 -- what is read of a COMMIT is the push for which it stands
 pub reads-commit : (p : Pushed) (verifier : ℕ) (c : Commit) → IsPushed p → commit_in (commit_bytes p verifier) ≡ Some c → c.pushed ≡ p
-unfolding commit_in commit_bytes commit_at front-of
 reads-commit p verifier c fits e =
-    let rest = base_bytes p.base ++ word verifier in
-    let parts : pushed_bytes p ++ base_bytes p.base ++ word verifier ≡ pushed_bytes p ++ rest = simp append_assoc in
-    let called = ap commit_by (call-again p.xid commit (pushed_bytes p ++ base_bytes p.base ++ word verifier) fits.xid (omega arith)) in
-    let read : commit_by (Some (p.xid, pushed_bytes p ++ rest)) ≡ Some c = subst (λ args. commit_by (Some (p.xid, args)) ≡ Some c) parts (sym called ∙ e) in
-    let there = rw (front-again p rest fits.front, base-again p.base (word verifier) fits.base) at read in
-    ends p c (word_at (word verifier)) there
+    let v = same-word verifier in
+    let read : commit_in (commit_bytes p verifier) ≡ Some (record { pushed = p; verifier = v.number }) = ap commit_in (same-verifier p verifier v.number v.same) ∙ commits-are-read p v.number fits v.fits in
+    let same : record { pushed = p; verifier = v.number } ≡ c = some-same _ c (sym read ∙ e) in
+    sym (ap (λ (z : Commit). z.pushed) same)

@@ -64,7 +64,7 @@ base-again base rest fits =
     ∙ rw (word_again base.boot (hyper base.base ++ rest) fits.boot, hyper_again base.base rest fits.base) refl
 
 -- what a push begins with
-unfoldable pub front-of : Pushed → Front
+pub front-of : Pushed → Front
 front-of p = record { who = p.who; seq = p.seq; file = p.file; block = p.block; first = p.first; last = p.last }
 
 pub front-again : (p : Pushed) (rest : List ℕ) → IsFront p → front_at (pushed_bytes p ++ rest) ≡ Ok (front-of p, rest)
