@@ -203,15 +203,19 @@ module _ (o : Outside) (boot : ℕ) (given : List (ℕ × List ℕ)) (so : o.poo
   taken-pool p Party.Server (Party.Client host) by =
       subst (λ from. (to_server o p from).pool ≡ pool_after boot ((host, p.bytes) ∷ given)) (sym by) (stage-pool o host p (own_stage host p.bytes) ∙ ap (λ pool. after pool (own_stage host p.bytes)) so)
   taken-pool p (Party.Client host) Party.Server by = host-pool o host p p.stands ∙ so
-  taken-pool p (Party.Client host) (Party.Client other) by = host-pool o host p p.stands ∙ so
+  taken-pool p (Party.Client host) (Party.Client from) by = host-pool o host p p.stands ∙ so
 
   delivers-pool : (p : Option Outer) → (delivers o p).pool ≡ pool_after boot (brought_by p given)
   delivers-pool None = so
   delivers-pool (Some p) = taken-pool p p.to p.sender refl
 
+-- the pool with which a boot begins
+abbrev empty : ℕ → Bodies
+empty b = record { boot = b; bodies = [] }
+
 pool-run : (head : Head) (events : List StagedEvent) → (outside_run head events).pool ≡ pool_after (crashes events + 1) (since_boot head events)
 unfolding outside_start
-pool-run head [] = let first = (of-boot head []).1 in ap (λ b. record { boot = b; bodies = [] }) first
+pool-run head [] = let first = (of-boot head []).1 in ap empty first
 pool-run head (StagedEvent.Stage host ∷ earlier) =
     let o = outside_run head earlier in
     ap (λ i. i.2) (offering o host (slice_get o.sides host) (slice_get o.world.clients host)) ∙ pool-run head earlier
@@ -224,9 +228,9 @@ pool-run head (StagedEvent.Plain (Event.ClientTick host) ∷ earlier) = ap (λ i
 pool-run head (StagedEvent.Plain (Event.Restart host) ∷ earlier) = ap (λ i. i.2) (inner-ran (outside_run head earlier) (Event.Restart host)) ∙ pool-run head earlier
 pool-run head (StagedEvent.Plain (Event.Crash longest) ∷ earlier) =
     let o = outside_run head earlier in
-    let after = server-crashed (crashes earlier + 1) o.world longest (of-boot head earlier) in
-    let boot : (step o.world (Event.Crash longest)).server.table.boot ≡ crashes (StagedEvent.Plain (Event.Crash longest) ∷ earlier) + 1 = after.1 ∙ omega arith in
-    ap (λ i. i.2) (inner-ran o (Event.Crash longest)) ∙ ap (λ b. record { boot = b; bodies = [] }) boot
+    let raised-once = server-crashed (crashes earlier + 1) o.world longest (of-boot head earlier) in
+    let boot : (step o.world (Event.Crash longest)).server.table.boot ≡ crashes (StagedEvent.Plain (Event.Crash longest) ∷ earlier) + 1 = raised-once.1 ∙ omega arith in
+    ap (λ i. i.2) (inner-ran o (Event.Crash longest)) ∙ ap empty boot
 
 pub pool-is-of-its-boot : PoolIsOfItsBoot
 pool-is-of-its-boot head events = pool-run head events ∙ ap (λ b. pool_after b (since_boot head events)) (sym (boots-are-counted head events))

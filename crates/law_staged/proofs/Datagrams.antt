@@ -100,7 +100,7 @@ unfolding push_in
 write-read xid args p fits e = sym (ap push_by (call-again xid 6 args fits (omega arith))) ∙ e
 
 -- a WRITE that goes through is no push
-through-unread : (xid : ℕ) (p : Pushed) (body : List ℕ) → IsFront p → push_at xid (pushed_bytes p ++ boolean false ++ opaque body) ≡ Err NoBoolean
+through-unread : (xid : ℕ) (p : Pushed) (body : List ℕ) → IsFront p → push_at xid (pushed_bytes p ++ (boolean false ++ opaque body)) ≡ Err NoBoolean
 unfolding push_at
 through-unread xid p body fits = rw (front-again p (boolean false ++ opaque body) fits, boolean_again false (opaque body)) refl
 
@@ -126,7 +126,7 @@ same-front p =
       same = rw (host.same, inc.same, seq.same, file.same, block.same, first.same, last.same) refl;
     }
 
-through-arguments : (p : Pushed) (body : List ℕ) → arguments (Request.Write p.who p.seq p.file p.block p.first p.last None body) ≡ pushed_bytes p ++ boolean false ++ opaque body
+through-arguments : (p : Pushed) (body : List ℕ) → arguments (Request.Write p.who p.seq p.file p.block p.first p.last None body) ≡ pushed_bytes p ++ (boolean false ++ opaque body)
 unfolding arguments optional pushed_bytes
 through-arguments p body = simp append_assoc
 
@@ -134,10 +134,10 @@ through-none : (xid : ℕ) (q p : Pushed) (body : List ℕ) → push_in (bytes_o
 through-none xid q p body e =
     let n = same-word xid in
     let f = same-front q in
-    let args = pushed_bytes f.push ++ boolean false ++ opaque body in
+    let args = pushed_bytes f.push ++ (boolean false ++ opaque body) in
     let spelled : bytes_of (call xid (Request.Write q.who q.seq q.file q.block q.first q.last None body)) ≡ spelling (call_with (head_of n.number 6) args) null null =
     request-bytes xid (Request.Write q.who q.seq q.file q.block q.first q.last None body)
-    ∙ ap (λ a. spelling (call_with (head_of xid 6) a) null null) (through-arguments q body ∙ ap (λ front. front ++ boolean false ++ opaque body) f.same)
+    ∙ ap (λ a. spelling (call_with (head_of xid 6) a) null null) (through-arguments q body ∙ ap (λ front. front ++ (boolean false ++ opaque body)) f.same)
     ∙ same-call xid n.number 6 args n.same
     in
     let got = write-read n.number args p n.fits (sym (ap push_in spelled) ∙ e) in

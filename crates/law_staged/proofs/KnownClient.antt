@@ -219,7 +219,7 @@ others-known g now who file block number body others v b (inr i) other = others 
 module _ (g : Bodies) (old : Who) (most : ℕ) where
   -- what is known where other things changed: the call under way, the request, what is delayed, and what was sent
   pub with-call : (t : ClientStep) (call : Option UnderWay) → ((u : UnderWay) → call ≡ Some u → BringsBlock u.call) → (m : KnowsIn g old most t) → Knows g old most t.client.who t.client.number call t.client.ticket t.client.dirty t.client.push t.sends
-  with-call t call new m = record { kept = m.kept; host = m.host; inc = m.inc; few = m.few; now = m.now; more = m.more; others = m.others; one = m.one; fit = m.fit; fresh = m.fresh; called = new; listed = m.listed; apart = m.apart; pushes = m.pushes; asked = m.asked; sent = m.sent }
+  with-call t u new m = record { kept = m.kept; host = m.host; inc = m.inc; few = m.few; now = m.now; more = m.more; others = m.others; one = m.one; fit = m.fit; fresh = m.fresh; called = new; listed = m.listed; apart = m.apart; pushes = m.pushes; asked = m.asked; sent = m.sent }
 
   pub with-ticket : (t : ClientStep) (ticket : Option Ticket) (sends : List Message) → (m : KnowsIn g old most t) → ((k : Ticket) → ticket ≡ Some k → Asks m.now k.request) → Each (Says m.now) sends → Knows g old most t.client.who t.client.number t.client.call ticket t.client.dirty t.client.push sends
   with-ticket t ticket sends m asked sent = record { kept = m.kept; host = m.host; inc = m.inc; few = m.few; now = m.now; more = m.more; others = m.others; one = m.one; fit = m.fit; fresh = m.fresh; called = m.called; listed = m.listed; apart = m.apart; pushes = m.pushes; asked = asked; sent = sent }

@@ -165,14 +165,14 @@ abbrev pub SameWho : World → World → Type 0
 SameWho w v = (host : ℕ) (c : Client) → slice_get v.clients host ≡ Some c → (b : Client) × (slice_get w.clients host ≡ Some b) × (c.who ≡ b.who)
 
 same-world : (w : World) → SameWho w w
-same-world w host c is = (c, (is, refl))
+same-world w host c is = (c, is, refl)
 
 server-who : (w : World) (t : ServerStep) → SameWho w (after_server w t)
 unfolding after_server
-server-who w t host c is = (c, (is, refl))
+server-who w t host c is = (c, is, refl)
 
 client-who : (w : World) (host : ℕ) (t : ClientStep) (c : Client) → slice_get w.clients host ≡ Some c → t.client.who ≡ c.who → SameWho w (after_client w host t)
-client-who w host t c is kept = clients-after (λ n d v. (b : Client) × (slice_get w.clients n ≡ Some b) × (d.who ≡ b.who)) w host t (c, (is, kept)) (λ other d apart there. (d, (there, refl)))
+client-who w host t c is kept = clients-after (λ n d v. (b : Client) × (slice_get w.clients n ≡ Some b) × (d.who ≡ b.who)) w host t (c, is, kept) (λ other d apart there. (d, there, refl))
 
 module _ (g : Bodies) (most : ℕ) (small : most < 2 ^ 32) (w : World) (h : Knowing g most w) where
   before : (host : ℕ) (c : Client) → slice_get w.clients host ≡ Some c → KnowsIn g c.who most (begun c)

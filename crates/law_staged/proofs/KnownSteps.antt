@@ -65,77 +65,77 @@ module _ (g : Bodies) (old : Who) (most : ℕ) where
           let s = seq-knows g old (most + 1) (gives_up t file) (gives-knows g old (most + 1) t file k) in
           sends-know g old (most + 1) (after_seq (gives_up t file)) for_call r s (asks s.now)
 
-  module _ (small : most < 2 ^ 32) where
-    pub settled : (t : ClientStep) → KnowsIn g old most t → KnowsIn g old (most + 1) (settle t)
-    settled t m =
-        let k = later g old most t m in
-        settle-cases t (KnowsIn g old (most + 1)) (record {
-          idle = λ none. k;
-          asking = λ u is own. k;
-          read_out = λ u file block lease is read can out. answered g old (most + 1) t u.q Answer.Range None k;
-          reading = λ u file block lease body is read can below has. read-knows g old (most + 1) t u file block body k;
-          read_waits = λ u file block is read waits. k;
-          write_out = λ u sync file block body lease is write can out. answered g old (most + 1) t u.q Answer.Range None k;
-          write_full = λ u sync file block body lease is write can below full. answered g old (most + 1) t u.q Answer.DirtyFull None k;
-          writing = λ u file block body lease is write can below room.
-              answered g old (most + 1) (delays t file block body) u.q (Answer.Ok Value.Nothing) None
-              (delayed g old most t file block body small (subst BringsBlock write (m.called u is.called)) m);
-          putting = λ u file block body lease is put written can below room.
-              marked g old (most + 1) (delays t file block body) u (m.called u is.called)
-              (delayed g old most t file block body small (subst BringsBlock put (m.called u is.called)) m);
-          write_waits = λ u sync file block body is write waits. k;
-          syncing = λ u file is sync clean. answered g old (most + 1) t u.q (Answer.Ok Value.Nothing) None k;
-          sync_waits = λ u file is sync dirty. k;
-          others = λ u is needs. k;
-        })
+  pub settled : most < 2 ^ 32 → (t : ClientStep) → KnowsIn g old most t → KnowsIn g old (most + 1) (settle t)
+  settled small t m =
+      let k = later g old most t m in
+      settle-cases t (KnowsIn g old (most + 1)) (record {
+        idle = λ none. k;
+        asking = λ u is own. k;
+        read_out = λ u file block lease is read can out. answered g old (most + 1) t u.q Answer.Range None k;
+        reading = λ u file block lease body is read can below has. read-knows g old (most + 1) t u file block body k;
+        read_waits = λ u file block is read waits. k;
+        write_out = λ u sync file block body lease is write can out. answered g old (most + 1) t u.q Answer.Range None k;
+        write_full = λ u sync file block body lease is write can below full. answered g old (most + 1) t u.q Answer.DirtyFull None k;
+        writing = λ u file block body lease is write can below room.
+            answered g old (most + 1) (delays t file block body) u.q (Answer.Ok Value.Nothing) None
+            (delayed g old most t file block body small (subst BringsBlock write (m.called u is.called)) m);
+        putting = λ u file block body lease is put written can below room.
+            marked g old (most + 1) (delays t file block body) u (m.called u is.called)
+            (delayed g old most t file block body small (subst BringsBlock put (m.called u is.called)) m);
+        write_waits = λ u sync file block body is write waits. k;
+        syncing = λ u file is sync clean. answered g old (most + 1) t u.q (Answer.Ok Value.Nothing) None k;
+        sync_waits = λ u file is sync dirty. k;
+        others = λ u is needs. k;
+      })
 
-    goes-on : (in_tick : Bool) (t : ClientStep) → KnowsIn g old most t → KnowsIn g old (most + 1 + 1) (send_next in_tick (settle t))
-    goes-on in_tick t m = sends g old (most + 1) in_tick (settle t) (settled t m)
+module _ (g : Bodies) (old : Who) (most : ℕ) (small : most < 2 ^ 32) where
+  goes-on : (in_tick : Bool) (t : ClientStep) → KnowsIn g old most t → KnowsIn g old (most + 1 + 1) (send_next in_tick (settle t))
+  goes-on in_tick t m = sends g old (most + 1) in_tick (settle t) (settled g old most small t m)
 
-    later-twice : (t : ClientStep) → KnowsIn g old most t → KnowsIn g old (most + 1 + 1) t
-    later-twice t m = later g old (most + 1) t (later g old most t m)
+  later-twice : (t : ClientStep) → KnowsIn g old most t → KnowsIn g old (most + 1 + 1) t
+  later-twice t m = later g old (most + 1) t (later g old most t m)
 
-    unless-cached : (t : ClientStep) → KnowsIn g old most t → KnowsIn g old (most + 1 + 1) (sends_unless_cached (settle t))
-    unless-cached t m = unless-cached-cases (settle t) (KnowsIn g old (most + 1 + 1)) (λ e. later g old (most + 1) (settle t) (settled t m)) (λ e. goes-on false t m)
+  unless-cached : (t : ClientStep) → KnowsIn g old most t → KnowsIn g old (most + 1 + 1) (sends_unless_cached (settle t))
+  unless-cached t m = unless-cached-cases (settle t) (KnowsIn g old (most + 1 + 1)) (λ e. later g old (most + 1) (settle t) (settled g old most small t m)) (λ e. goes-on false t m)
 
-    pub call-knows : (c : Client) (op : Call) → BringsBlock op → KnowsIn g old most (begun c) → KnowsIn g old (most + 1 + 1) (client_call c op)
-    call-knows c op brings m = call-cases c op (KnowsIn g old (most + 1 + 1)) (record {
-      busy = λ why. later-twice _ (busy g old most c op m);
-      telling = λ file loss losses none on of some. later-twice _ (named g old most (begins_call c op) _ file (begins g old most c op m));
-      going = λ none on unlost. unless-cached (is_called (begins_call c op) op) (calls g old most c op brings m);
-    })
+  pub call-knows : (c : Client) (op : Call) → BringsBlock op → KnowsIn g old most (begun c) → KnowsIn g old (most + 1 + 1) (client_call c op)
+  call-knows c op brings m = call-cases c op (KnowsIn g old (most + 1 + 1)) (record {
+    busy = λ why. later-twice (says_busy (begins_call c op)) (busy g old most c op m);
+    telling = λ file loss losses none on of some. later-twice (names_losses (begins_call c op) (begins_call c op).client.calls file) (named g old most (begins_call c op) (begins_call c op).client.calls file (begins g old most c op m));
+    going = λ none on unlost. unless-cached (is_called (begins_call c op) op) (calls g old most c op brings m);
+  })
 
-    pub tick-knows : (c : Client) (now : ℕ) → KnowsIn g old most (begun c) → KnowsIn g old (most + 1 + 1) (client_tick c now)
-    tick-knows c now m = tick-cases c now (KnowsIn g old (most + 1 + 1)) (record {
-      again = λ ticket is due. later-twice _ (again g old most c now ticket is m);
-      quiet = λ ticket is early. later-twice _ (timed g old most c now m);
-      free = λ free. goes-on true (begun (at_time c now)) (timed g old most c now m);
-    })
+  pub tick-knows : (c : Client) (now : ℕ) → KnowsIn g old most (begun c) → KnowsIn g old (most + 1 + 1) (client_tick c now)
+  tick-knows c now m = tick-cases c now (KnowsIn g old (most + 1 + 1)) (record {
+    again = λ ticket is due. later-twice (sends_again (begun (at_time c now)) ticket) (again g old most c now ticket is m);
+    quiet = λ ticket is early. later-twice (begun (at_time c now)) (timed g old most c now m);
+    free = λ free. goes-on true (begun (at_time c now)) (timed g old most c now m);
+  })
 
-    pub hear-knows : (c : Client) (k : ℕ) (m : Message) (t : ClientStep) → Alone c → hear c k m ≡ Some t → KnowsIn g old most (begun c) → KnowsIn g old (most + 1 + 1) t
-    hear-knows c k m t alone hears h = heard-cases c k m t (KnowsIn g old (most + 1 + 1)) hears (record {
-      answered = λ xid r ticket is has same inc counts. goes-on false (replied (begun c) k ticket r) (replied-knows g old most c k ticket r (alone.asking.ticketed ticket has).fits counts h);
-      noticed = λ xid file tag is early. goes-on false (evicted (cancels (begun c) file) file tag) (evicted-knows g old most (begun c) file tag h);
-    })
+  pub hear-knows : (c : Client) (k : ℕ) (m : Message) (t : ClientStep) → Alone c → hear c k m ≡ Some t → KnowsIn g old most (begun c) → KnowsIn g old (most + 1 + 1) t
+  hear-knows c k m t alone hears h = heard-cases c k m t (KnowsIn g old (most + 1 + 1)) hears (record {
+    answered = λ xid r ticket is has same inc counts. goes-on false (replied (begun c) k ticket r) (replied-knows g old most c k ticket r (alone.asking.ticketed ticket has).fits counts h);
+    noticed = λ xid file tag is early. goes-on false (evicted (cancels (begun c) file) file tag) (evicted-knows g old most (begun c) file tag h);
+  })
 
-  -- a new incarnation has written nothing
-  pub restart-knows : (c : Client) → KnowsIn g old most (begun c) → KnowsIn g (next_incarnation c.who) (most + 1 + 1) (restart c)
-  unfolding starts fresh_client
-  restart-knows c m = record {
-    kept = refl;
-    host = m.host;
-    inc = let i = m.inc in omega arith;
-    few = omega arith;
-    now = m.now;
-    more = m.more;
-    others = m.others;
-    one = m.one;
-    fit = m.fit;
-    fresh = λ v b i own. let f = m.fresh v b i own in (let least = f.0 in omega arith, λ e. let least = f.0 in absurd (omega arith));
-    called = λ u e. none-some u e;
-    listed = tt;
-    apart = tt;
-    pushes = λ p e. none-some p e;
-    asked = λ t e. subst (λ z. Asks m.now z.request) (some-same _ t e) tt;
-    sent = (tt, tt);
-  }
+-- a new incarnation has written nothing
+pub restart-knows : (g : Bodies) (old : Who) (most : ℕ) (c : Client) → KnowsIn g old most (begun c) → KnowsIn g (next_incarnation c.who) (most + 1 + 1) (restart c)
+unfolding starts fresh_client
+restart-knows g old most c m = record {
+  kept = refl;
+  host = m.host;
+  inc = let i = m.inc in omega arith;
+  few = omega arith;
+  now = m.now;
+  more = m.more;
+  others = m.others;
+  one = m.one;
+  fit = m.fit;
+  fresh = λ v b i own. let f = m.fresh v b i own in (let least = f.0 in omega arith, λ e. let least = f.0 in absurd (omega arith));
+  called = λ u e. none-some u e;
+  listed = tt;
+  apart = tt;
+  pushes = λ p e. none-some p e;
+  asked = λ t e. subst (λ z. Asks m.now z.request) (some-same _ t e) tt;
+  sent = (tt, tt);
+}

@@ -130,7 +130,9 @@ pub drop-tail : {X : Type 0} (xs : List X) (n : ℕ) (y : X) (ys : List X) → d
 drop-tail [] zero y ys e = absurd cc
 drop-tail [] (suc n) y ys e = absurd cc
 drop-tail (x ∷ xs) zero y ys e = let same : xs ≡ ys = cc in same
-drop-tail (x ∷ xs) (suc n) y ys e = drop-tail xs n y ys e
+drop-tail (x ∷ xs) (suc n) y ys e =
+    let one : suc n + 1 ≡ suc (n + 1) = omega arith in
+    subst (λ k. drop k (x ∷ xs) ≡ ys) (sym one) (drop-tail xs n y ys e)
 
 pub inner-more : (ps more : List Packet) (number : ℕ) (p : Outer) (q : Packet) → IsInner ps number p q → IsInner (ps ++ more) number p q
 inner-more ps more number p q i = record { is = get-left ps more number q i.is; stands = i.stands; sender = i.sender; to = i.to }
@@ -179,7 +181,7 @@ set-keep ps sides host new keeps h n side at = case (n == host) refl
         let here : n ≡ host = same-number n host e in
         let it : side ≡ new = get-set-same sides host new side (subst (λ k. slice_get (slice_set sides host new) k ≡ Some side) here at) in
         subst (λ k. KeepsWell ps k side) (sym here) (subst (KeepsWell ps host) (sym it) keeps)
-    case false e = h n side (sym (get-set-other sides n host new (λ k. is-other n host e k)) ∙ at)
+    case false e = h n side (sym (get-set-other sides host n new (λ k. is-other n host e k)) ∙ at)
 
 pub new-keep : (ps : List Packet) (c : Option Client) (sides : List Side) (host : ℕ) → AllKeep ps sides → AllKeep ps (new_side c sides host)
 new-keep ps None sides host h = h
@@ -194,7 +196,7 @@ set-own sides clients host old new is same own n side c at there = case (n == ho
         let here : n ≡ host = same-number n host e in
         let it : side ≡ new = get-set-same sides host new side (subst (λ k. slice_get (slice_set sides host new) k ≡ Some side) here at) in
         ap (λ (s : Side). s.stager.who) it ∙ same ∙ own host old c is (subst (λ k. slice_get clients k ≡ Some c) here there)
-    case false e = own n side c (sym (get-set-other sides n host new (λ k. is-other n host e k)) ∙ at) there
+    case false e = own n side c (sym (get-set-other sides host n new (λ k. is-other n host e k)) ∙ at) there
 
 -- clients that are the ones that they were
 pub moved-own : (sides : List Side) (w v : World) → SameWho w v → AreOwn sides w.clients → AreOwn sides v.clients
@@ -217,8 +219,8 @@ restarted-own sides w host own = case (slice_get w.clients host) refl
             ap (λ (s : Side). s.stager.who) it ∙ ap (λ (z : Client). z.who) one
         split false e =
             own n side d
-            (sym (get-set-other sides n host (record { stager = new_stager b.who; last = None }) (λ k. is-other n host e k)) ∙ at)
-            (sym (get-set-other w.clients n host t.client (λ k. is-other n host e k)) ∙ there)
+            (sym (get-set-other sides host n (record { stager = new_stager b.who; last = None }) (λ k. is-other n host e k)) ∙ at)
+            (sym (get-set-other w.clients host n t.client (λ k. is-other n host e k)) ∙ there)
 
     case : (o : Option Client) → slice_get w.clients host ≡ o → AreOwn (new_side (slice_get (at_client w host restart o).clients host) sides host) (at_client w host restart o).clients
     case None is = subst (λ o. AreOwn (new_side o sides host) w.clients) (sym is) own

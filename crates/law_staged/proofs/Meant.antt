@@ -160,7 +160,7 @@ module _ (g : Bodies) (most : ℕ) (small : most < 2 ^ 32) where
   told-again s bytes w e = first (acknowledging s.who.inc s.offered bytes) e
     where
       third : (k : Shortened) (b : Bool) → s.shortened ≡ Some k → told_as None (if b then Some k.write else None) ≡ again w → (k : Shortened) × (s.shortened ≡ Some k) × (w ≡ k.write)
-      third k true is e = let same : w ≡ k.write = cc in (k, (is, same))
+      third k true is e = let same : w ≡ k.write = cc in (k, is, same)
       third k false is e = absurd cc
 
       second : (o : Option Shortened) → s.shortened ≡ o → told_as None (again_from s.who.inc o bytes) ≡ again w → (k : Shortened) × (s.shortened ≡ Some k) × (w ≡ k.write)
@@ -208,8 +208,8 @@ module _ (g : Bodies) (most : ℕ) (small : most < 2 ^ 32) where
   unknown-in who acked (p ∷ dirty) w e = step (is_some (verifier_of (written_by who p) acked)) (unknown-in who acked dirty w) e
     where
       step : (b : Bool) → (first_unknown who acked dirty ≡ Some w → (q : Push) × In dirty q × (written_by who q ≡ w)) → (if b then first_unknown who acked dirty else Some (written_by who p)) ≡ Some w → (q : Push) × In (p ∷ dirty) q × (written_by who q ≡ w)
-      step true rest e = let k = rest e in (k.0, (inr k.1, k.2))
-      step false rest e = (p, (inl refl, some-same (written_by who p) w e))
+      step true rest e = let k = rest e in (k.0, inr k.1, k.2)
+      step false rest e = (p, inl refl, some-same (written_by who p) w e)
 
   -- its body is the one of those delayed writes
   body-there : (dirty : List Push) (push : Option Push) (p : Push) → AreApart dirty → In dirty p → dirty_body p.file p.block dirty push ≡ Some p.body

@@ -1,8 +1,6 @@
 -- What stands for no inner packet changes nothing in the inner world, and neither does a COMMIT that is answered UNSTAGED.
 use Rattle.std.proofs.Common.{◌≡◌, ℕ, ◌==◌, ◌&&◌, Bool, true, false, List, Option, Some, None, Result, Ok, Err, if◌then◌else◌, refl, sym, subst, ap, ◌∙◌, arith}
 use Rattle.std.specs.Prelude.{slice_get}
-use Rattle.std.proofs.lemmas.Bool.{and_parts}
-use Rattle.std.proofs.lemmas.Bool.Decides.{nat_tests}
 use Rattle.nq_base.specs.declared.Event.{Event}
 use Rattle.nq_base.specs.declared.Party.{Party}
 use Rattle.nq_model.specs.World.{World}
@@ -21,7 +19,8 @@ use Rattle.nq_staged_run.specs.Outside.{sends, inner_delivery, takes_stage, take
 use Rattle.nq_staged_run.specs.Theorem.{Travels}
 use Rattle.nq_stager.specs.Hearing.{Told, acknowledged, again, other, told_by}
 use Rattle.law_staged.specs.NotStored.{BesideStoresNothing, UnstagedStoresNothing}
-use Rattle.walk_client.proofs.ClientMoves.{some-same, none-some}
+use Rattle.walk_client.proofs.ClientMoves.{none-some}
+use Rattle.walk_server.proofs.Rows.{same-number}
 
 -- ---- a packet that stands for none
 
@@ -66,27 +65,42 @@ beside-stores-nothing o k p is none = subst (λ q. (delivers o q).world ≡ o.wo
 
 -- ---- a COMMIT
 
+-- the call, if it is of the procedure
+abbrev given : CallMessage → Bool → Option (ℕ × List ℕ)
+given m b = if b then Some (m.head.xid, m.arguments) else None
+
 -- what is a call of COMMIT is none of STAGE
 one-procedure : (m : CallMessage) (called : ℕ × List ℕ) → call_as commit m ≡ Some called → call_as stage m ≡ None
 unfolding call_as
 one-procedure m called e = case (m.head.procedure == commit) refl
   where
-    others : (a b c : Bool) (n : ℕ) → (n == commit) ≡ true → (a && b && c && n == stage) ≡ false
-    others a b c n on = grind (arith, nat_tests)
-
-    none-if : (b : Bool) → b ≡ false → (if b then Some (m.head.xid, m.arguments) else None) ≡ None
+    none-if : (b : Bool) → b ≡ false → given m b ≡ None
     none-if true off = absurd cc
     none-if false off = refl
 
     never : (a b c : Bool) → (a && b && c && false) ≡ false
     never true true true = refl
     never true true false = refl
-    never true false c = refl
-    never false b c = refl
+    never true false true = refl
+    never true false false = refl
+    never false true true = refl
+    never false true false = refl
+    never false false true = refl
+    never false false false = refl
 
-    case : (b : Bool) → (m.head.procedure == commit) ≡ b → (if m.rpcvers == 2 && m.head.prog == 536890961 && m.head.vers == 1 && m.head.procedure == stage then Some (m.head.xid, m.arguments) else None) ≡ None
-    case true on = none-if _ (others (m.rpcvers == 2) (m.head.prog == 536890961) (m.head.vers == 1) m.head.procedure on)
-    case false off = none-some called (sym (rw (off, never (m.rpcvers == 2) (m.head.prog == 536890961) (m.head.vers == 1)) refl) ∙ e)
+    unlike : (a b c d : Bool) → d ≡ false → (a && b && c && d) ≡ false
+    unlike a b c d off = subst (λ z. (a && b && c && z) ≡ false) (sym off) (never a b c)
+
+    case : (b : Bool) → (m.head.procedure == commit) ≡ b → given m (m.rpcvers == 2 && m.head.prog == 536890961 && m.head.vers == 1 && m.head.procedure == stage) ≡ None
+    case true on =
+        let is : m.head.procedure ≡ 12 = same-number m.head.procedure 12 on in
+        let differs : (m.head.procedure == stage) ≡ false = ap (λ n. n == 14) is in
+        none-if _ (unlike (m.rpcvers == 2) (m.head.prog == 536890961) (m.head.vers == 1) (m.head.procedure == stage) differs)
+    case false off =
+        let none : given m (m.rpcvers == 2 && m.head.prog == 536890961 && m.head.vers == 1 && m.head.procedure == commit) ≡ None =
+        none-if _ (unlike (m.rpcvers == 2) (m.head.prog == 536890961) (m.head.vers == 1) (m.head.procedure == commit) off)
+        in
+        none-some called (sym none ∙ e)
 
 one-call : (r : Result Said RpcFault) (called : ℕ × List ℕ) → call_by commit r ≡ Some called → call_by stage r ≡ None
 one-call (Err e) called is = refl

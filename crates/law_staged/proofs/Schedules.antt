@@ -81,12 +81,12 @@ same-ticks host ran plain (same e r p h) = ap (λ n. is_tick_of host e + n) (sam
 
 inside-skew : (hosts longest : ℕ) (ran plain : List Event) → Inside ran plain → IsWithinSkew hosts longest plain → IsWithinSkew hosts longest ran
 inside-skew hosts longest ran plain h within before part after is host few ticks =
-    let a = split ran plain before (part ++ after) h is in
-    let b = split (part ++ after) a.second part after a.in_back refl in
-    let whole : plain ≡ a.first ++ b.first ++ b.second = a.is ∙ ap (λ es. a.first ++ es) b.is in
-    let mine = same-ticks host part b.first b.in_front in
-    let server = same-server-ticks part b.first b.in_front in
-    let most = within a.first b.first b.second whole host few (subst (λ n. n ≤ longest) mine ticks) in
+    let a = split ran plain (before ++ part) after h is in
+    let b = split (before ++ part) a.first before part a.in_front refl in
+    let whole : plain ≡ b.first ++ b.second ++ a.second = a.is ∙ ap (λ es. es ++ a.second) b.is in
+    let mine = same-ticks host part b.second b.in_back in
+    let server = same-server-ticks part b.second b.in_back in
+    let most = within b.first b.second a.second whole host few (subst (λ n. n ≤ longest) mine ticks) in
     omega arith
 
 -- ---- bounds

@@ -127,15 +127,12 @@ seen = refl
 schedule : IsStagedSchedule one-host one-commit
 schedule = record { hosts = omega arith; few = omega arith; brings = (tt, (tt, (tt, (tt, (tt, (tt, ((omega arith, omega arith, filled-length), tt))))))) }
 
+all-within : (events : List Event) → Each (BootsWithin 60) events → All (BootsWithin 60) events
+all-within [] h = All-nil (BootsWithin 60)
+all-within (e ∷ events) h = All-cons (BootsWithin 60) e events h.0 (all-within events h.1)
+
 boots : All (BootsWithin 60) (plain_events one-commit)
-boots =
-    All-cons (BootsWithin 60) _ _ tt
-    (All-cons (BootsWithin 60) _ _ tt
-    (All-cons (BootsWithin 60) _ _ tt
-    (All-cons (BootsWithin 60) _ _ tt
-    (All-cons (BootsWithin 60) _ _ tt
-    (All-cons (BootsWithin 60) _ _ tt
-    (All-nil (BootsWithin 60)))))))
+boots = all-within (plain_events one-commit) (tt, (tt, (tt, (tt, (tt, (tt, tt))))))
 
 lawful : IsLawful 60 one-host (plain_events one-commit)
 lawful = record {

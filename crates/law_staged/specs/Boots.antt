@@ -27,7 +27,7 @@ BootsAreCounted = (head : Head) (events : List StagedEvent) → boot_of (outside
 -- what was brought to the server, with one more packet: from which host, and the bytes
 abbrev pub brought : (to sender : Party) → (bytes : List ℕ) → List (ℕ × List ℕ) → List (ℕ × List ℕ)
 brought Party.Server (Party.Client host) bytes given = (host, bytes) ∷ given
-brought to sender bytes given = given
+brought _ _ bytes given = given
 
 -- the same, if there is such a packet
 abbrev pub brought_by : Option Outer → List (ℕ × List ℕ) → List (ℕ × List ℕ)
