@@ -177,11 +177,13 @@ one-packet w a b i j =
     let inner : i.packet ≡ j.packet = some-same i.packet j.packet (sym i.is ∙ ap (slice_get w.packets) number ∙ j.is) in
     i.same ∙ ap (λ (q : Packet). bytes_of q.message) inner ∙ sym j.same
 
+apart : (a b : ℕ) → a ≡ 6 → b ≡ 5 → a ≡ b → ⊥
+apart a b is other same = omega arith
+
 other-body : IsInnerPacket reached.world 0 packet (write_bytes pushed (filled 6)) → ⊥
 other-body i =
     let same : write_bytes pushed (filled 6) ≡ write_bytes pushed (filled 5) = one-packet reached.world _ _ i meant in
-    let bad : 6 ≡ 5 = sym byte-six ∙ ap (λ bytes. get_or bytes 103 0) same ∙ byte-five in
-    absurd (omega arith)
+    apart _ _ byte-six byte-five (ap (λ bytes. get_or bytes 103 0) same)
 
 no-packet : (w : World) → IsInnerPacket (record w { packets = [] }) 0 packet (write_bytes pushed (filled 5)) → ⊥
 no-packet w i = none-some i.packet i.is
