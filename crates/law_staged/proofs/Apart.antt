@@ -1,14 +1,13 @@
 -- No two of a client's delayed writes are of one block.
-use Rattle.std.proofs.Common.{◌≡◌, ℕ, Bool, true, false, ◌==◌, ◌&&◌, List, [], ◌∷◌, ◌++◌, Option, Some, None, if◌then◌else◌, map, refl, sym, subst, ap, ◌∙◌, inl, inr, arith}
-use Rattle.std.specs.List.{find, filter}
+use Rattle.std.proofs.Common.{◌≡◌, ℕ, Bool, true, false, ◌==◌, ◌&&◌, List, [], ◌∷◌, ◌++◌, Option, Some, None, if◌then◌else◌, map, refl, subst, ◌∙◌, inl, inr, arith}
+use Rattle.std.specs.List.{filter}
 use Rattle.std.proofs.lemmas.Bool.Decides.{nat_tests}
 use Rattle.nq_base.specs.declared.Push.{Push}
-use Rattle.law_filled.proofs.EachOf.{each-at, each-filter, each-through}
-use Rattle.nq_model.proofs.Lists.{each-append, each-map}
+use Rattle.law_filled.proofs.EachOf.{each-at, each-filter}
+use Rattle.nq_model.proofs.Lists.{each-append}
 use Rattle.nq_model.specs.Client.{is_push_at, dirty_at}
 use Rattle.nq_model.specs.Journal.{Each}
 use Rattle.nq_model.specs.Settle.{overwritten, overwritten_at, with_write}
-use Rattle.walk_client.proofs.ClientMoves.{some-same, none-some}
 use Rattle.walk_run.proofs.Members.{each-in, find-absent}
 use Rattle.walk_run.proofs.Packets.{In}
 

@@ -10,10 +10,10 @@ use Rattle.nq_model.specs.Message.{Datagram, Message, Packet, datagram_of}
 use Rattle.nq_model.specs.Server.{Server}
 use Rattle.nq_model.specs.ServerStep.{receive, fence, tick, booted, boot, crash}
 use Rattle.nq_model.specs.Table.{empty_table, with_rows, after_draw}
-use Rattle.nq_model.specs.World.{Head, World, after_server, after_client, at_client, after_hearing, first_kept, deliver_to_client, deliver_to, deliver, sending_host, start, step}
-use Rattle.nq_pool.specs.Answering.{Answer, write, unstaged, own_stage, own_commit, staged, answered}
+use Rattle.nq_model.specs.World.{Head, World, after_server, after_client, at_client, after_hearing, first_kept, deliver_to_client, deliver_to, deliver, start, step}
+use Rattle.nq_pool.specs.Answering.{Answer, write, unstaged, own_stage, own_commit, answered}
 use Rattle.nq_pool.specs.Bodies.{Bodies}
-use Rattle.nq_pool.specs.Laws.{after, pool_after, IsOfBoot}
+use Rattle.nq_pool.specs.Laws.{after, pool_after}
 use Rattle.nq_pool.proofs.Newest.{answers-with-its-boot}
 use Rattle.nq_stage.specs.declared.Commit.{Commit}
 use Rattle.nq_stage.specs.Reading.{Stage}

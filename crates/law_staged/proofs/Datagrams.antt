@@ -1,29 +1,27 @@
 -- What the bytes of a request of the protocol, of a STAGE and of a COMMIT are to a pool.
-use Rattle.std.proofs.Common.{◌≡◌, ◌<◌, ◌^◌, ℕ, ◌==◌, Bool, true, false, List, [], ◌∷◌, ◌++◌, Option, Some, None, Result, Ok, Err, length, refl, sym, subst, ap, ◌∙◌, arith, append_assoc}
+use Rattle.std.proofs.Common.{◌≡◌, ◌<◌, ◌^◌, ℕ, ◌==◌, false, List, ◌++◌, Option, Some, None, Err, refl, sym, subst, ap, ◌∙◌, arith, append_assoc}
 use Rattle.nq_base.specs.declared.PushBase.{PushBase}
 use Rattle.nq_base.specs.declared.Request.{Request}
 use Rattle.nq_base.specs.declared.Who.{Who}
-use Rattle.nq_datagrams.specs.Messages.{program, version, bytes_of, message_of}
-use Rattle.nq_model.specs.Message.{Message, call, reply, error}
+use Rattle.nq_datagrams.specs.Messages.{bytes_of}
+use Rattle.nq_model.specs.Message.{call}
 use Rattle.nq_stage.specs.declared.Commit.{Commit}
 use Rattle.nq_stage.specs.declared.Pushed.{Pushed}
 use Rattle.nq_stage.specs.declared.Written.{Written}
-use Rattle.nq_rpc.specs.Message.{spelling, numbers, auth, call_with, null}
+use Rattle.nq_rpc.specs.Message.{spelling, numbers, call_with, null}
 use Rattle.nq_rpc.proofs.Messages.{message_again, null_fits}
 use Rattle.nq_stage.specs.Messages.{commit, stage, head_of, stage_bytes, commit_bytes, pushed_bytes, written_bytes, written_of, write_of, write_bytes, IsWritten, IsFront, IsPushed}
 use Rattle.nq_stage.specs.Reading.{call_as, call_by, call_in, push_at, stage_by, stage_in, commit_by, commit_in, push_by, push_in, read}
 use Rattle.nq_stage.proofs.Again.{call-again, front-again, commits-are-read, pushes-are-read}
-use Rattle.nq_wire.specs.Parts.{head, base_bytes, optional, IsPushBase}
+use Rattle.nq_wire.specs.Parts.{head, base_bytes, optional}
 use Rattle.nq_wire.specs.Procedure.{number_of}
 use Rattle.nq_wire.specs.Request.{procedure_of, arguments}
 use Rattle.nq_xdr.specs.Item.{word, hyper, boolean, opaque}
-use Rattle.nq_xdr.specs.Reading.{◌>>=◌, word_at}
-use Rattle.nq_xdr.specs.declared.XdrFault.{XdrFault}
 use Rattle.nq_xdr.specs.declared.XdrFault.TheVariants.{Bool as NoBoolean}
 use Rattle.nq_xdr.proofs.Opaque.{boolean_again}
-use Rattle.law_staged.proofs.KnownClient.{Bodies, Asks, AllFit, IsBody}
+use Rattle.law_staged.proofs.KnownClient.{Bodies, Asks, AllFit}
 use Rattle.law_staged.proofs.SameNumbers.{same-word, same-hyper}
-use Rattle.walk_client.proofs.ClientMoves.{some-same, none-some}
+use Rattle.walk_client.proofs.ClientMoves.{some-same}
 use Rattle.walk_run.proofs.Packets.{In}
 
 -- ---- calls

@@ -1,38 +1,35 @@
 -- A client's delayed writes and pushes carry the bodies of their writes, over each of its steps. The number of a write is given
 -- once in an incarnation, so it has one body.
-use Rattle.std.proofs.Common.{◌≡◌, ◌≤◌, ◌<◌, ◌⊎◌, ◌^◌, ℕ, ◌+◌, Bool, true, false, ◌==◌, ◌&&◌, List, [], ◌∷◌, ◌++◌, Option, Some, None, if◌then◌else◌, length, map, refl, sym, subst, ap, ◌∙◌, inl, inr, arith}
+use Rattle.std.proofs.Common.{◌≡◌, ◌≤◌, ◌<◌, ◌^◌, ℕ, ◌+◌, Bool, true, false, List, [], ◌∷◌, ◌++◌, Option, Some, None, if◌then◌else◌, length, map, refl, sym, subst, ap, ◌∙◌, inl, inr, arith}
 use Rattle.std.proofs.lemmas.Bool.{and_parts}
 use Rattle.nq_base.specs.declared.Answer.{Answer}
 use Rattle.nq_base.specs.declared.Call.{Call}
 use Rattle.nq_base.specs.declared.Grant.{Grant}
 use Rattle.nq_base.specs.declared.Push.{Push}
-use Rattle.nq_base.specs.declared.Refusal.{Refusal}
 use Rattle.nq_base.specs.declared.Reply.{Reply}
 use Rattle.nq_base.specs.declared.Request.{Request}
 use Rattle.nq_base.specs.declared.Tag.{Tag}
-use Rattle.nq_base.specs.declared.Value.{Value}
 use Rattle.nq_base.specs.declared.Who.{Who}
 use Rattle.law_filled.proofs.EachOf.{each-find, each-filter}
 use Rattle.law_staged.proofs.Apart.{AreApart, apart-filter, write-apart}
 use Rattle.nq_model.proofs.Lists.{each-append, each-map}
-use Rattle.nq_model.specs.Client.{Client, ClientStep, Job, Notice, Ticket, UnderWay, begun, dirty_at, is_push_at, is_push_of, first_dirty, notice_on, for_call}
-use Rattle.nq_model.specs.ClientStep.{begins_call, is_called, sends_unless_cached, says_busy, client_call, at_time, sends_again, client_tick, fresh_client, starts, next_incarnation, restart}
-use Rattle.nq_model.specs.Hear.{vacates_lease, vacates_noticed, loses, reports, without_lease, push_refused, breaks_chain, if_broken, holds, takes_grant, takes_optional, answers_call, caches_block, purges, knows_revision, then_caches, read_done, marks_through, lease_done, caches_write, write_done, ends_push, caches_push, push_done, answer_of, spends, attached, pauses, replied, reply_counts, with_through, cancels, notes_notice, evicted, hear, other_push}
+use Rattle.nq_model.specs.Client.{Client, ClientStep, Job, Notice, Ticket, UnderWay, begun, dirty_at, is_push_at, is_push_of, first_dirty, notice_on}
+use Rattle.nq_model.specs.ClientStep.{begins_call, is_called, says_busy, at_time, sends_again}
+use Rattle.nq_model.specs.Hear.{vacates_lease, vacates_noticed, loses, reports, without_lease, push_refused, breaks_chain, if_broken, holds, takes_grant, takes_optional, answers_call, caches_block, purges, knows_revision, then_caches, read_done, marks_through, caches_write, write_done, ends_push, caches_push, push_done, answer_of, spends, attached, pauses, replied, reply_counts, with_through, cancels, notes_notice, evicted, other_push}
 use Rattle.nq_model.specs.Journal.{Each}
 use Rattle.nq_model.specs.Message.{Message, call, reply, error}
-use Rattle.nq_model.specs.Send.{sends_request, after_seq, after_number, takes_push, sends_write, gives_up, send_next}
-use Rattle.nq_model.specs.Settle.{answers, names_losses, reads_cached, after_read, overwritten, overwritten_at, with_write, delays, after_write, marks_written, settle}
+use Rattle.nq_model.specs.Send.{sends_request, after_seq, after_number, takes_push, sends_write, gives_up}
+use Rattle.nq_model.specs.Settle.{answers, names_losses, reads_cached, after_read, overwritten, overwritten_at, with_write, delays, after_write, marks_written}
 use Rattle.nq_stage.specs.declared.Written.{Written}
 use Rattle.nq_stage.specs.Messages.{IsWritten}
 use Rattle.nq_staged_run.specs.Theorem.{BringsBlock}
 use Rattle.nq_stager.specs.Offering.{written_by}
-use Rattle.walk_client.proofs.ClientFacts.{Alone, fits_job}
+use Rattle.walk_client.proofs.ClientFacts.{fits_job}
 use Rattle.walk_client.proofs.ClientMoves.{some-same, none-some, keeps-or-cancels}
 use Rattle.walk_client.proofs.PartCases.{answers-call-cases, vacates-noticed-cases, reports-cases, if-broken-cases, takes-optional-cases, lease-done-cases, then-caches-cases, caches-write-cases, caches-push-cases, vacates-if-clean-cases}
 use Rattle.walk_client.proofs.RepliedCases.{replied-cases}
-use Rattle.walk_client.proofs.SendCases.{pushed, send-cases}
-use Rattle.walk_client.proofs.SettleCases.{settle-cases}
-use Rattle.walk_client.proofs.StepCases.{call-cases, unless-cached-cases, tick-cases, heard-cases, evicted-cases}
+use Rattle.walk_client.proofs.SendCases.{pushed}
+use Rattle.walk_client.proofs.StepCases.{evicted-cases}
 use Rattle.walk_run.proofs.Packets.{In}
 use Rattle.walk_server.proofs.Rows.{same-number}
 

@@ -1,13 +1,13 @@
 -- In every world a write has one body, and all delayed writes and pushes carry the bodies of their writes.
-use Rattle.std.proofs.Common.{◌≡◌, ◌≢◌, ◌≤◌, ◌<◌, ◌^◌, ℕ, zero, suc, ◌+◌, List, [], ◌∷◌, ◌++◌, Option, Some, None, length, map, refl, sym, subst, ap, ◌∙◌, arith}
-use Rattle.std.specs.Prelude.{slice_get, slice_set, All}
+use Rattle.std.proofs.Common.{◌≡◌, ◌≢◌, ◌≤◌, ◌<◌, ◌^◌, ℕ, zero, suc, ◌+◌, List, [], ◌∷◌, Option, Some, None, length, map, refl, sym, subst, ◌∙◌, arith}
+use Rattle.std.specs.Prelude.{slice_get, All}
 use Rattle.std.proofs.lemmas.List.Elements.{All-head, All-tail}
 use Rattle.nq_base.specs.declared.Call.{Call}
 use Rattle.nq_base.specs.declared.Event.{Event}
 use Rattle.nq_base.specs.declared.Party.{Party}
 use Rattle.nq_base.specs.declared.Who.{Who}
 use Rattle.law_bounds.proofs.Saying.{server-says-plainly}
-use Rattle.law_staged.proofs.KnownClient.{Bodies, Carries, Asks, Says, HasOne, AllFit, More, IsFresh, more-asks, more-says, Knows, KnowsIn, IsKnown, begun-knows}
+use Rattle.law_staged.proofs.KnownClient.{Bodies, Carries, Says, HasOne, AllFit, More, more-asks, more-says, KnowsIn, IsKnown, begun-knows}
 use Rattle.law_staged.proofs.KnownSteps.{call-knows, tick-knows, hear-knows, restart-knows}
 use Rattle.nq_model.proofs.Lists.{each-append, each-map}
 use Rattle.nq_model.specs.Client.{Client, ClientStep, begun}
@@ -16,14 +16,13 @@ use Rattle.nq_model.specs.Hear.{hear}
 use Rattle.nq_model.specs.Journal.{Each}
 use Rattle.nq_model.specs.Message.{Message, Packet, datagram_of}
 use Rattle.nq_model.specs.Server.{ServerStep}
-use Rattle.nq_model.specs.ServerStep.{receive, tick, crash}
 use Rattle.nq_model.specs.Profile.{most_hosts}
 use Rattle.nq_model.specs.World.{Head, World, from_host, after_server, after_client, at_client, after_hearing, sending_host, deliver_to_client, deliver_to, deliver, first_clients, start, step}
 use Rattle.nq_stage.specs.declared.Written.{Written}
 use Rattle.nq_staged_run.specs.Theorem.{BringsBlock, EventBrings}
 use Rattle.walk_client.proofs.ClientMoves.{none-some}
 use Rattle.walk_run.proofs.Packets.{In}
-use Rattle.walk_run.proofs.RunCases.{clients-after, OfClients}
+use Rattle.walk_run.proofs.RunCases.{clients-after}
 use Rattle.walk_run.proofs.Worlds.{Holds, step-holds, first-client, set-there}
 
 -- a client's packet carries what it says

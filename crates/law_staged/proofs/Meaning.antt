@@ -1,53 +1,37 @@
 -- What a packet that travels outside means: each STAGE and each body in the pool carries the body of its write, each COMMIT stands for a
 -- push that carries it, and all else that stands for an inner packet is that packet. What is sent has this meaning.
-use Rattle.std.proofs.Common.{◌≡◌, ◌≤◌, ◌<◌, ◌⊎◌, ◌^◌, ℕ, zero, suc, ◌+◌, ◌*◌, ◌==◌, min, Bool, true, false, List, [], ◌∷◌, ◌++◌, Option, Some, None, if◌then◌else◌, length, drop, map, is_some, refl, sym, subst, ap, ◌∙◌, inl, inr, arith}
-use Rattle.std.specs.List.{filter}
+use Rattle.std.proofs.Common.{◌≡◌, ◌<◌, ◌^◌, ℕ, zero, suc, ◌+◌, ◌==◌, Bool, true, false, List, [], ◌∷◌, ◌++◌, Option, Some, None, length, drop, map, refl, sym, subst, ap, ◌∙◌, arith}
 use Rattle.std.specs.Prelude.{slice_get, slice_set}
 use Rattle.nq_base.specs.declared.Event.{Event}
 use Rattle.nq_base.specs.declared.Party.{Party}
-use Rattle.nq_base.specs.declared.Push.{Push}
 use Rattle.nq_base.specs.declared.Request.{Request}
 use Rattle.nq_base.specs.declared.Who.{Who}
 use Rattle.nq_datagrams.specs.Messages.{bytes_of}
-use Rattle.law_filled.proofs.EachOf.{each-at, each-get, each-filter, each-take}
-use Rattle.law_staged.proofs.Datagrams.{request-no-stage, request-no-commit, IsPushOf, reads-push, stage-no-commit, commit-no-stage, reads-commit}
-use Rattle.law_staged.proofs.KnownClient.{Bodies, Carries, Asks, Says, HasOne, More}
-use Rattle.law_staged.proofs.Apart.{AreApart, there-at}
-use Rattle.law_staged.proofs.KnownRuns.{PacketKnown, Knowing, SameWho, later-knowing, step-knows, start-knows, call-who, delivery-who, tick-who, server-tick-who, crash-who}
-use Rattle.nq_model.proofs.Lists.{each-append, each-map}
+use Rattle.law_filled.proofs.EachOf.{each-get}
+use Rattle.law_staged.proofs.Datagrams.{IsPushOf, reads-push}
+use Rattle.law_staged.proofs.KnownClient.{Bodies, Asks, Says, More}
+use Rattle.law_staged.proofs.KnownRuns.{PacketKnown, Knowing, SameWho, later-knowing}
+use Rattle.nq_model.proofs.Lists.{each-append}
 use Rattle.nq_model.specs.Client.{Client, ClientStep}
 use Rattle.nq_model.specs.ClientStep.{restart}
 use Rattle.nq_model.specs.Journal.{Each}
 use Rattle.nq_model.specs.Message.{Message, Packet, call, reply, error}
-use Rattle.nq_model.specs.Profile.{most_hosts}
-use Rattle.nq_model.specs.Settle.{dirty_body, pushed_body, held_body}
-use Rattle.nq_model.specs.Stepped.{most_events}
-use Rattle.nq_model.specs.World.{Head, World, after_server, after_client, at_client, from_host, start, step}
-use Rattle.nq_pool.specs.Answering.{Answer, write, unstaged, own_stage, own_commit, commit_if_own, stage_if_own, staged, answered, answered_as, body_for}
-use Rattle.nq_pool.specs.Bodies.{Bodies as Pool, others, with_body_of, with_body, body_of}
-use Rattle.nq_stage.specs.declared.Commit.{Commit}
+use Rattle.nq_model.specs.World.{World, after_server, after_client, at_client, from_host, step}
 use Rattle.nq_stage.specs.declared.Pushed.{Pushed}
 use Rattle.nq_stage.specs.declared.Written.{Written}
 use Rattle.nq_stage.specs.Messages.{stage_bytes, commit_bytes, write_bytes, written_of, IsPushed}
-use Rattle.nq_stage.specs.Reading.{Stage, stage_in, commit_in, push_in, is_unstaged_in}
-use Rattle.nq_stage.specs.Writes.{is_same}
-use Rattle.nq_stage.proofs.Again.{stages-are-read}
-use Rattle.nq_stage.proofs.Writes.{same_write}
-use Rattle.nq_staged_run.specs.declared.StagedEvent.{StagedEvent}
-use Rattle.nq_staged_run.specs.Outer.{Outer, Side, Outside, new_pool, outside_start}
-use Rattle.nq_staged_run.specs.Outside.{sends, beside, standing, sends_whole, side_of, sends_short, sends_as, sends_by, sends_from, sends_all, new_side, renewed, after_inner, inner, inner_delivery, takes_stage, takes_commit, served_commit, served_stage, to_server, sends_again, told_side, heard_by, to_host as to_host_outside, takes, delivers, sends_stage, offers_body, offers, outside_step, outside_run}
-use Rattle.nq_staged_run.specs.Theorem.{EventBrings, StagedBrings, IsStagedSchedule, IsShort, StandsFor, EachStandsForItsPacket, Travels, IsInnerPacket, RebuildsWhatWasMeant}
-use Rattle.nq_staged_run.proofs.Inner.{Inner, sent-from, sent-all, ran}
+use Rattle.nq_stage.specs.Reading.{push_in}
+use Rattle.nq_staged_run.specs.Outer.{Outer, Side, Outside}
+use Rattle.nq_staged_run.specs.Outside.{sends, standing, sends_whole, side_of, sends_short, sends_as, sends_by, sends_from, sends_all, new_side}
+use Rattle.nq_staged_run.proofs.Inner.{sent-from}
 use Rattle.nq_stager.specs.declared.stager.Shortened.{Shortened}
 use Rattle.nq_stager.specs.Acknowledged.{verifier_of}
-use Rattle.nq_stager.specs.Hearing.{Told, acknowledged, again, other, told_by, told_as, acknowledging, again_from, kept_by}
-use Rattle.nq_stager.specs.Offering.{written_by, first_unknown, with_body as with_body_there, body_among, offer_of, offered}
 use Rattle.nq_stager.specs.Shortening.{with_verifier, acknowledged_push, shortening, shortened}
 use Rattle.nq_stager.specs.Staged.{Staged, new_stager}
 use Rattle.walk_client.proofs.ClientMoves.{some-same, none-some}
 use Rattle.walk_run.proofs.Packets.{In, in-get}
-use Rattle.walk_run.proofs.Steps.{Changes, nothing, by_client, by_server, step-changes}
-use Rattle.walk_run.proofs.Worlds.{Holds, IsSent, step-holds, run-holds, get-set-same, get-set-other, set-there}
+use Rattle.walk_run.proofs.Steps.{Changes, nothing, by_client, by_server}
+use Rattle.walk_run.proofs.Worlds.{Holds, IsSent, get-set-same, get-set-other, set-there}
 use Rattle.walk_server.proofs.Rows.{same-number}
 use Rattle.walk_server.proofs.Tests.{is-other}
 

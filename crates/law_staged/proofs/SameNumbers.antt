@@ -1,5 +1,5 @@
 -- Whatever number is spelled, there is one within its field that is spelled so.
-use Rattle.std.proofs.Common.{◌≡◌, ◌<◌, ◌^◌, ℕ, zero, suc, List, ◌++◌, drop, refl, ◌∙◌, arith}
+use Rattle.std.proofs.Common.{◌≡◌, ◌<◌, ◌^◌, ℕ, zero, suc, ◌++◌, drop, refl, ◌∙◌, arith}
 use Rattle.nq_xdr.specs.Item.{word, hyper}
 use Rattle.nq_xdr.proofs.Bytes.{IsBytes}
 use Rattle.nq_xdr.proofs.Numbers.{length-word, length-hyper, word_there, hyper_there}

@@ -1,22 +1,21 @@
 -- The schedule of the inner run has the events of the staged one, but for offers and the numbers of deliveries. So it is lawful where
 -- that one is.
-use Rattle.std.proofs.Common.{◌≡◌, ◌≤◌, ◌<◌, ℕ, ◌+◌, ◌==◌, Bool, true, false, List, [], ◌∷◌, ◌++◌, Option, Some, None, refl, sym, subst, ap, ◌∙◌, arith}
+use Rattle.std.proofs.Common.{◌≡◌, ◌≤◌, ℕ, ◌+◌, List, [], ◌∷◌, ◌++◌, refl, sym, subst, ap, ◌∙◌, arith}
 use Rattle.std.specs.Prelude.{All, slice_get}
 use Rattle.std.proofs.lemmas.List.Elements.{All-nil, All-cons, All-head, All-tail}
 use Rattle.nq_base.specs.declared.Event.{Event}
 use Rattle.nq_model.specs.Skew.{IsWithinSkew, server_ticks, ticks_of, is_server_tick, is_tick_of}
-use Rattle.nq_model.specs.Profile.{skew}
-use Rattle.nq_model.specs.World.{Head, World, run, step}
+use Rattle.nq_model.specs.World.{Head, World}
 use Rattle.nq_pool.specs.Bodies.{Bodies}
-use Rattle.nq_promises.specs.Bounds.{BootsWithin, KeepsBounds}
+use Rattle.nq_promises.specs.Bounds.{BootsWithin}
 use Rattle.nq_promises.specs.Headline.{HeadlineHolds}
 use Rattle.nq_promises.specs.WritesAreAccounted.{WaitingAreUnsaved}
 use Rattle.nq_staged_run.specs.declared.StagedEvent.{StagedEvent}
 use Rattle.nq_staged_run.specs.Outer.{Outside, outside_start}
-use Rattle.nq_staged_run.specs.Outside.{inner, outside_step, outside_run}
+use Rattle.nq_staged_run.specs.Outside.{inner, outside_run}
 use Rattle.nq_staged_run.proofs.Inner.{Inner, inner-ran, delivery-cases, offering, runs-inside}
 use Rattle.law_fates.proofs.FateLaws.{waiting}
-use Rattle.law_staged.specs.Lawful.{plain_events, IsLawful, InnerRunsAreLawful, HeadlineHoldsOutside}
+use Rattle.law_staged.specs.Lawful.{plain_events, InnerRunsAreLawful, HeadlineHoldsOutside}
 use Rattle.law_staged.specs.NotStored.{StagedAreUnsaved}
 
 -- ---- events that differ in deliveries alone

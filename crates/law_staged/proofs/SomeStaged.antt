@@ -1,5 +1,5 @@
 -- A client writes, its delayed write is staged and acknowledged, and a COMMIT stands for its push.
-use Rattle.std.proofs.Common.{◌≡◌, ◌<◌, ℕ, ◌+◌, false, List, [], ◌∷◌, Option, Some, None, length, map, get_or, option_map, refl, sym, subst, ap, ◌∙◌, inl, inr, arith}
+use Rattle.std.proofs.Common.{◌≡◌, ℕ, false, List, [], ◌∷◌, Option, Some, length, map, get_or, refl, sym, subst, ap, ◌∙◌, inl, inr, arith}
 use Rattle.std.specs.Prelude.{All, slice_get}
 use Rattle.std.proofs.lemmas.List.Elements.{All-nil, All-cons}
 use Rattle.nq_base.specs.Block.{filled, zeros}
@@ -8,7 +8,6 @@ use Rattle.nq_base.specs.declared.Entry.{Entry}
 use Rattle.nq_base.specs.declared.Event.{Event}
 use Rattle.nq_base.specs.declared.Mode.{Mode}
 use Rattle.nq_base.specs.declared.Party.{Party}
-use Rattle.nq_base.specs.declared.PushBase.{PushBase}
 use Rattle.nq_base.specs.declared.Said.{Said}
 use Rattle.nq_base.specs.declared.Told.{Told}
 use Rattle.nq_base.specs.declared.Who.{Who}
@@ -26,12 +25,11 @@ use Rattle.nq_model.specs.Send.{sends_request, after_seq, after_number, takes_pu
 use Rattle.nq_model.specs.Server.{quiet, drops, says, after_notices, keeping, keeping_with, with_table}
 use Rattle.nq_model.specs.ServerStep.{attaches, tells_later, serves, leases, vacates, ends_writing, opens, at_time as at_server_time, boot, crash}
 use Rattle.nq_model.specs.Settle.{answers, after_read, reads_cached, after_write, marks_written}
-use Rattle.nq_model.specs.Skew.{IsWithinSkew, is_within_skew}
 use Rattle.nq_model.specs.Table.{empty_table, with_rows, after_draw}
 use Rattle.nq_model.specs.World.{Head, World, after_server, after_client, start}
 use Rattle.nq_pool.specs.Answering.{Answer, write, answered, own_commit, commit_if_own}
 use Rattle.nq_pool.specs.Bodies.{Bodies, with_body}
-use Rattle.nq_promises.specs.Bounds.{BootsWithin, KeepsBounds}
+use Rattle.nq_promises.specs.Bounds.{BootsWithin}
 use Rattle.nq_promises.specs.WritesAreAccounted.{WaitingAreUnsaved, IsDelayedBy, StillHas}
 use Rattle.nq_rpc.specs.Message.{auth, numbers, outcome, spelling}
 use Rattle.nq_rpc.specs.Reading.{behind_auth, call_at, ended, bounds_at, accepted_as, accepted_at, denied_as, denied_at, outcome_at, reply_at, message_at}
@@ -50,9 +48,8 @@ use Rattle.nq_wire.specs.Reply.{ok, results}
 use Rattle.nq_wire.specs.Request.{arguments}
 use Rattle.nq_xdr.specs.Item.{word, hyper, boolean, padding, opaque}
 use Rattle.nq_xdr.specs.Reading.{bytes_at, word_at, hyper_at, boolean_at, body_at as xdr_body_at, opaque_at}
-use Rattle.law_staged.specs.Boots.{since_boot}
 use Rattle.law_staged.specs.Lawful.{plain_events, IsLawful}
-use Rattle.law_staged.specs.Met.{forgets, CommitIsRebuilt, WriteWaits, PoolIsLost, StagingIsMet}
+use Rattle.law_staged.specs.Met.{forgets, StagingIsMet}
 use Rattle.law_staged.proofs.Rebuilt.{rebuilds-what-was-meant}
 use Rattle.walk_client.proofs.ClientMoves.{some-same, none-some}
 

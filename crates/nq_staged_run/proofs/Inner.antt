@@ -15,10 +15,10 @@ use Rattle.nq_stage.specs.declared.Written.{Written}
 use Rattle.nq_stage.specs.Reading.{Stage}
 use Rattle.nq_staged_run.specs.declared.event.StagedEvent.{StagedEvent}
 use Rattle.nq_staged_run.specs.Outer.{Outer, Side, Outside, new_pool, outside_start}
-use Rattle.nq_staged_run.specs.Outside.{sends, standing, sends_as, sends_by, sends_from, sends_all, renewed, inner, inner_delivery, takes_stage, takes_commit, served_commit, served_stage, to_server, told_side, heard_by, to_host, takes, delivers, sends_stage, offers_body, offers, outside_step, outside_run}
+use Rattle.nq_staged_run.specs.Outside.{sends, sends_as, sends_by, sends_from, sends_all, renewed, inner, inner_delivery, takes_stage, takes_commit, served_commit, served_stage, to_server, told_side, heard_by, to_host, takes, delivers, sends_stage, offers_body, offers, outside_step, outside_run}
 use Rattle.nq_staged_run.specs.Theorem.{RunsInside, OffersStoreNothing}
 use Rattle.nq_stager.specs.Hearing.{Told, acknowledged, again, other, told_by}
-use Rattle.nq_stager.specs.Offering.{offer_of, offered}
+use Rattle.nq_stager.specs.Offering.{offer_of}
 use Rattle.nq_stager.specs.Shortening.{shortening}
 
 -- ---- what is sent changes nothing inside
