@@ -11,18 +11,19 @@ use Rattle.nq_model.specs.Server.{Server}
 use Rattle.nq_model.specs.ServerStep.{receive, fence, tick, booted, boot, crash}
 use Rattle.nq_model.specs.Table.{empty_table, with_rows, after_draw}
 use Rattle.nq_model.specs.World.{Head, World, after_server, after_client, at_client, after_hearing, first_kept, deliver_to_client, deliver_to, deliver, start, step}
-use Rattle.nq_pool.specs.Answering.{Answer, write, unstaged, own_stage, own_commit, answered}
-use Rattle.nq_pool.specs.Bodies.{Bodies}
+use Rattle.nq_pool.specs.Answering.{Answer, write, unstaged, own_stage, own_commit, answered, answered_as, body_for}
+use Rattle.nq_pool.specs.Bodies.{Bodies, body_of}
 use Rattle.nq_pool.specs.Laws.{after, pool_after}
 use Rattle.nq_pool.proofs.Newest.{answers-with-its-boot}
 use Rattle.nq_stage.specs.declared.Commit.{Commit}
+use Rattle.nq_stage.specs.Messages.{written_of}
 use Rattle.nq_stage.specs.Reading.{Stage}
 use Rattle.nq_staged_run.specs.declared.StagedEvent.{StagedEvent}
 use Rattle.nq_staged_run.specs.Outer.{Outer, Side, Outside, outside_start}
 use Rattle.nq_staged_run.specs.Outside.{sends, inner, inner_delivery, takes_stage, takes_commit, served_commit, served_stage, to_server, told_side, heard_by, to_host, takes, delivers, outside_step, outside_run}
 use Rattle.nq_staged_run.proofs.Inner.{Inner, inner-ran, delivery-cases, offering}
 use Rattle.nq_stager.specs.Hearing.{Told, acknowledged, again, other, told_by}
-use Rattle.law_staged.specs.Boots.{crashes, boot_of, BootsAreCounted, brought, brought_by, since_boot, PoolIsOfItsBoot, AnswersAreOfTheBoot}
+use Rattle.law_staged.specs.Boots.{crashes, boot_of, BootsAreCounted, brought, brought_by, since_boot, PoolIsOfItsBoot, AnswersAreOfTheBoot, CrashesLoseAll}
 use Rattle.walk_server.proofs.ServerMoves.{ServerMoves, server-moves, tick-moves}
 
 -- ---- the boot
@@ -238,3 +239,15 @@ pool-is-of-its-boot head events = pool-run head events ∙ ap (λ b. pool_after 
 pub answers-are-of-the-boot : AnswersAreOfTheBoot
 answers-are-of-the-boot head events c bytes answers =
     answers-with-its-boot (boot_of (outside_run head events)) (since_boot head events) c bytes (ap (λ pool. answered pool c) (sym (pool-is-of-its-boot head events)) ∙ answers)
+
+none-there : (boot : ℕ) (c : Commit) → body_for (empty boot) c ≡ None
+none-there boot c = by (c.verifier == boot)
+  where
+    by : (b : Bool) → (if b then body_of (written_of c.pushed) [] else None) ≡ None
+    by true = refl
+    by false = refl
+
+pub crashes-lose-all : CrashesLoseAll
+crashes-lose-all head events longest c =
+    let crashed-events : List StagedEvent = StagedEvent.Plain (Event.Crash longest) ∷ events in
+    ap (λ pool. answered pool c) (pool-is-of-its-boot head crashed-events) ∙ ap (answered_as c) (none-there (boot_of (outside_run head crashed-events)) c)

@@ -91,7 +91,7 @@ meant-rebuilt g most w host p c bytes knowing by (short number q push verifier b
     }
 
 pub rebuilds-what-was-meant : RebuildsWhatWasMeant
-rebuilds-what-was-meant head events k host p c bytes schedule travels answers =
+rebuilds-what-was-meant head events schedule k host p c bytes travels answers =
     let o = outside_run head events in
     let s = run-meant head events schedule.hosts schedule.few schedule.brings in
     let meant = each-get (IsMeant s.bodies o.world.packets) o.sent k p travels.is s.meant.travels in
@@ -116,7 +116,7 @@ meant-stands g w number p at (ahead xid v body none is small known) = none-some 
 meant-stands g w number p at (replied none own) = none-some number (sym none ∙ at)
 
 pub each-stands : EachStandsForItsPacket
-each-stands head events k number p schedule is at =
+each-stands head events schedule k number p is at =
     let o = outside_run head events in
     let s = run-meant head events schedule.hosts schedule.few schedule.brings in
     meant-stands s.bodies o.world number p at (each-get (IsMeant s.bodies o.world.packets) o.sent k p is s.meant.travels)
@@ -172,7 +172,7 @@ module _ (g : Bodies) (most : ℕ) (o : Outside) (knowing : Knowing g most o.wor
   taken-goes (Party.Client host) = host-goes host
 
 pub each-is-delivered : EachIsDeliveredAsItsPacket
-each-is-delivered head events k number p schedule is at =
+each-is-delivered head events schedule k number p is at =
     let o = outside_run head events in
     let s = run-meant head events schedule.hosts schedule.few schedule.brings in
     let meant = each-get (IsMeant s.bodies o.world.packets) o.sent k p is s.meant.travels in

@@ -156,7 +156,7 @@ rebuilt : answered reached.pool commit ≡ write (write_bytes pushed (filled 5))
 rebuilt = ap (λ s. s.answer) seen
 
 meant : IsInnerPacket reached.world 0 packet (write_bytes pushed (filled 5))
-meant = rebuilds-what-was-meant one-host one-commit 4 0 packet commit (write_bytes pushed (filled 5)) schedule travels rebuilt
+meant = rebuilds-what-was-meant one-host one-commit schedule 4 0 packet commit (write_bytes pushed (filled 5)) travels rebuilt
 
 -- a byte of its body
 byte-five : get_or (write_bytes pushed (filled 5)) 103 0 ≡ 5

@@ -3,9 +3,10 @@ use Rattle.std.specs.Prelude.{◌≡◌, ℕ, ◌+◌, List, [], ◌∷◌, Opti
 use Rattle.nq_base.specs.declared.Event.{Event}
 use Rattle.nq_base.specs.declared.Party.{Party}
 use Rattle.nq_model.specs.World.{Head}
-use Rattle.nq_pool.specs.Answering.{answered, write}
+use Rattle.nq_pool.specs.Answering.{answered, write, unstaged}
 use Rattle.nq_pool.specs.Laws.{pool_after, IsOfBoot}
 use Rattle.nq_stage.specs.declared.Commit.{Commit}
+use Rattle.nq_stage.specs.Messages.{unstaged_bytes}
 use Rattle.nq_staged_run.specs.declared.StagedEvent.{StagedEvent}
 use Rattle.nq_staged_run.specs.Outer.{Outer, Outside}
 use Rattle.nq_staged_run.specs.Outside.{outside_run}
@@ -47,6 +48,13 @@ abbrev pub PoolIsOfItsBoot : Type 0
 PoolIsOfItsBoot =
     (head : Head) (events : List StagedEvent)
     → (outside_run head events).pool ≡ pool_after (boot_of (outside_run head events)) (since_boot head events)
+
+-- A crash leaves no body: every COMMIT that comes next is answered UNSTAGED.
+abbrev pub CrashesLoseAll : Type 0
+CrashesLoseAll =
+    (head : Head) (events : List StagedEvent) (longest : ℕ) (c : Commit)
+    → answered (outside_run head (StagedEvent.Plain (Event.Crash longest) ∷ events)).pool c
+    ≡ unstaged (unstaged_bytes c.pushed.xid c.pushed.who.inc)
 
 -- So a WRITE that is rebuilt of a COMMIT has the verifier of the boot, and the body of the newest STAGE of that very write that was
 -- brought since then: of no earlier boot, of no other incarnation and of no other write.

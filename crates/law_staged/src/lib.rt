@@ -2,7 +2,7 @@
 //! proof stands in `proofs/`.
 #![tactic(auto)]
 
-ghost use Rattle.law_staged.specs.Boots.{AnswersAreOfTheBoot, BootsAreCounted, PoolIsOfItsBoot};
+ghost use Rattle.law_staged.specs.Boots.{AnswersAreOfTheBoot, BootsAreCounted, CrashesLoseAll, PoolIsOfItsBoot};
 ghost use Rattle.law_staged.specs.Lawful.{HeadlineHoldsOutside, InnerRunsAreLawful};
 ghost use Rattle.law_staged.specs.Met.{StagingIsMet};
 ghost use Rattle.law_staged.specs.NotStored.{BesideStoresNothing, StagedAreUnsaved, UnstagedStoresNothing};
@@ -42,6 +42,7 @@ pub fn staged_is_not_stored()
 pub fn answers_are_of_the_boot()
     ensures counted { BootsAreCounted }
     ensures pool { PoolIsOfItsBoot }
+    ensures lost { CrashesLoseAll }
     ensures answers { AnswersAreOfTheBoot }
 {}
 

@@ -1,5 +1,5 @@
 -- What is promised of a world with staged writes.
-use Rattle.std.specs.Prelude.{◌≡◌, ◌≤◌, ◌<◌, ◌⊎◌, ◌^◌, ℕ, List, ◌∷◌, Some, length, slice_get}
+use Rattle.std.specs.Prelude.{◌≡◌, ◌≤◌, ◌<◌, ◌⊎◌, ◌^◌, ℕ, List, Some, length, slice_get}
 use Rattle.nq_base.specs.declared.Call.{Call}
 use Rattle.nq_base.specs.declared.Event.{Event}
 use Rattle.nq_base.specs.declared.Party.{Party}
@@ -49,6 +49,10 @@ pub record IsStagedSchedule (head : Head) (events : List StagedEvent) : Type 0 w
   pub few : length events ≤ most_events
   pub brings : Each StagedBrings events
 
+-- this holds after every such schedule
+abbrev pub InEveryStagedRun : (Outside → Type 0) → Type 0
+InEveryStagedRun P = (head : Head) (events : List StagedEvent) → IsStagedSchedule head events → P (outside_run head events)
+
 -- ---- what travels
 
 -- bytes are the COMMIT of a push, and the message is its WRITE
@@ -68,13 +72,11 @@ pub record StandsFor (w : World) (number : ℕ) (p : Outer) : Type 0 where
   pub carries : (p.bytes ≡ bytes_of packet.message) ⊎ IsShort p.bytes packet.message
 
 -- each packet that travels stands for an inner packet that was sent, or for none
+abbrev pub EachStands : Outside → Type 0
+EachStands o = (k number : ℕ) (p : Outer) → slice_get o.sent k ≡ Some p → p.stands ≡ Some number → StandsFor o.world number p
+
 abbrev pub EachStandsForItsPacket : Type 0
-EachStandsForItsPacket =
-    (head : Head) (events : List StagedEvent) (k number : ℕ) (p : Outer)
-    → IsStagedSchedule head events
-    → slice_get (outside_run head events).sent k ≡ Some p
-    → p.stands ≡ Some number
-    → StandsFor (outside_run head events).world number p
+EachStandsForItsPacket = InEveryStagedRun EachStands
 
 -- a packet is a COMMIT whose body the pool does not have
 pub record IsUnstaged (o : Outside) (p : Outer) : Type 0 where
@@ -85,15 +87,16 @@ pub record IsUnstaged (o : Outside) (p : Outer) : Type 0 where
   pub read : own_commit host p.bytes ≡ Some commit
   pub answers : answered o.pool commit ≡ unstaged bytes
 
--- Its delivery is that of the inner packet, but for a COMMIT whose body the pool does not have.
-abbrev pub EachIsDeliveredAsItsPacket : Type 0
-EachIsDeliveredAsItsPacket =
-    (head : Head) (events : List StagedEvent) (k number : ℕ) (p : Outer)
-    → IsStagedSchedule head events
-    → slice_get (outside_run head events).sent k ≡ Some p
+-- its delivery is that of the inner packet, but for a COMMIT whose body the pool does not have
+abbrev pub EachIsDelivered : Outside → Type 0
+EachIsDelivered o =
+    (k number : ℕ) (p : Outer)
+    → slice_get o.sent k ≡ Some p
     → p.stands ≡ Some number
-    → ((outside_run head (StagedEvent.Plain (Event.Deliver k) ∷ events)).world ≡ step (outside_run head events).world (Event.Deliver number))
-    ⊎ IsUnstaged (outside_run head events) p
+    → ((outside_step o (StagedEvent.Plain (Event.Deliver k))).world ≡ step o.world (Event.Deliver number)) ⊎ IsUnstaged o p
+
+abbrev pub EachIsDeliveredAsItsPacket : Type 0
+EachIsDeliveredAsItsPacket = InEveryStagedRun EachIsDelivered
 
 -- ---- what is rebuilt
 
@@ -112,11 +115,13 @@ pub record IsInnerPacket (w : World) (host : ℕ) (p : Outer) (bytes : List ℕ)
   pub sender : packet.sender ≡ Party.Client host
   pub same : bytes ≡ bytes_of packet.message
 
--- Each WRITE that the pool rebuilds is byte for byte the inner packet for which its COMMIT stands.
+-- each WRITE that the pool rebuilds is byte for byte the inner packet for which its COMMIT stands
+abbrev pub RebuildsMeant : Outside → Type 0
+RebuildsMeant o =
+    (k host : ℕ) (p : Outer) (c : Commit) (bytes : List ℕ)
+    → Travels o k host p c
+    → answered o.pool c ≡ write bytes
+    → IsInnerPacket o.world host p bytes
+
 abbrev pub RebuildsWhatWasMeant : Type 0
-RebuildsWhatWasMeant =
-    (head : Head) (events : List StagedEvent) (k host : ℕ) (p : Outer) (c : Commit) (bytes : List ℕ)
-    → IsStagedSchedule head events
-    → Travels (outside_run head events) k host p c
-    → answered (outside_run head events).pool c ≡ write bytes
-    → IsInnerPacket (outside_run head events).world host p bytes
+RebuildsWhatWasMeant = InEveryStagedRun RebuildsMeant

@@ -1,4 +1,4 @@
-use Rattle.law_staged.proofs.Boots.{boots-are-counted, pool-is-of-its-boot, answers-are-of-the-boot}
+use Rattle.law_staged.proofs.Boots.{boots-are-counted, pool-is-of-its-boot, crashes-lose-all, answers-are-of-the-boot}
 use Rattle.law_staged.proofs.answers_are_of_the_boot.Goals as goal
 
 pub returns-clause-counted : goal.returns-clause-counted
@@ -9,3 +9,6 @@ returns-clause-pool c = pool-is-of-its-boot
 
 pub returns-clause-answers : goal.returns-clause-answers
 returns-clause-answers c = answers-are-of-the-boot
+
+pub returns-clause-lost : goal.returns-clause-lost
+returns-clause-lost c = crashes-lose-all
