@@ -41,7 +41,7 @@ use Rattle.nq_stage.specs.Reading.{call_as, call_in, results_of, results_in, end
 use Rattle.nq_stage.proofs.Again.{commits-are-read}
 use Rattle.nq_staged_run.specs.declared.StagedEvent.{StagedEvent}
 use Rattle.nq_staged_run.specs.Outer.{Outer, Outside, outside_start}
-use Rattle.nq_staged_run.specs.Outside.{sends, takes_stage, sends_stage, outside_run}
+use Rattle.nq_staged_run.specs.Outside.{sends, takes_stage, sends_stage, outside_step, outside_run}
 use Rattle.nq_staged_run.specs.Theorem.{IsStagedSchedule, Travels, IsInnerPacket}
 use Rattle.nq_wire.specs.Parts.{head, tag_bytes, want_bytes, grant_bytes, base_bytes, optional}
 use Rattle.nq_wire.specs.Reply.{ok, results}
@@ -49,7 +49,8 @@ use Rattle.nq_wire.specs.Request.{arguments}
 use Rattle.nq_xdr.specs.Item.{word, hyper, boolean, padding, opaque}
 use Rattle.nq_xdr.specs.Reading.{bytes_at, word_at, hyper_at, boolean_at, body_at as xdr_body_at, opaque_at}
 use Rattle.law_staged.specs.Lawful.{plain_events, IsLawful}
-use Rattle.law_staged.specs.Met.{forgets, StagingIsMet}
+use Rattle.law_staged.specs.Met.{forgets, CommitIsRefused, StagingIsMet}
+use Rattle.law_staged.proofs.Boots.{crashes-lose-all}
 use Rattle.law_staged.proofs.Rebuilt.{rebuilds-what-was-meant}
 use Rattle.walk_client.proofs.ClientMoves.{some-same, none-some}
 
@@ -96,6 +97,7 @@ record Seen : Type 0 where
   journal : List Entry
   hosts : List Who
   bodies : ℕ
+  crashed : Option Outer
 
 abbrev seen-of : Outside → Seen
 seen-of o = record {
@@ -104,6 +106,7 @@ seen-of o = record {
   journal = o.world.journal;
   hosts = map (λ c. c.who) o.world.clients;
   bodies = length o.pool.bodies;
+  crashed = slice_get (outside_step o (StagedEvent.Plain (Event.Crash 60))).sent 4;
 }
 
 -- the write, and what was told around it
@@ -115,7 +118,7 @@ journal =
     Entry.C first 2 (Told.Sync 1) ∷ Entry.A first 1 Said.Ok ∷ written ∷ Entry.G first 1 Mode.Writing (record { boot = 1; number = 1 }) 30 0 ∷
     Entry.C first 1 (Told.Write 1 0 5) ∷ []
 
-seen : seen-of reached ≡ record { sent = Some packet; answer = write (write_bytes pushed (filled 5)); journal = journal; hosts = first ∷ []; bodies = 1 }
+seen : seen-of reached ≡ record { sent = Some packet; answer = write (write_bytes pushed (filled 5)); journal = journal; hosts = first ∷ []; bodies = 1; crashed = Some packet }
 unfolding filled zeros grant_of sharing_row caching_row shared_again renewed_row put_off free put_off_by_own granted no_lease begins_call is_called says_busy at_time sends_again fresh_client attached_client starts decides creates writes_through stores wrote stores_recovering resizes removes puts_off commits vacates_lease loses without_lease granted_lease holds caches_block purges knows_revision marks_through ends_push spends attached pauses cancels notes_notice new_file written_file resized_file fenced_file with_row with_files with_new_file sends_request after_seq after_number takes_push gives_up quiet drops says after_notices keeping keeping_with with_table attaches tells_later serves leases vacates ends_writing opens at_server_time boot crash answers after_read reads_cached after_write marks_written empty_table with_rows after_draw after_server after_client start bytes_of with_body auth numbers outcome spelling behind_auth call_at ended bounds_at accepted_as accepted_at denied_as denied_at outcome_at reply_at message_at written_bytes stage_bytes staged_bytes pushed_bytes commit_bytes unstaged_bytes call_as call_in results_of results_in end_at written_at body_at base_at front_at stage_at commit_at push_at staged_at unstaged_at stage_in commit_in push_in verifier_in is_unstaged_in outside_start sends takes_stage sends_stage head tag_bytes want_bytes grant_bytes base_bytes optional ok results arguments word hyper boolean padding opaque bytes_at word_at hyper_at boolean_at xdr_body_at opaque_at
 seen = refl
 
@@ -139,18 +142,18 @@ lawful = record {
 
 -- ---- the COMMIT
 
+fits : IsPushed pushed
+fits = record {
+  xid = omega arith;
+  front = record { host = omega arith; inc = omega arith; seq = omega arith; file = omega arith; block = omega arith; first = omega arith; last = omega arith };
+  base = record { boot = omega arith; base = omega arith };
+}
+
+own : own_commit 0 (commit_bytes pushed 1) ≡ Some commit
+own = ap (commit_if_own 0) (commits-are-read pushed 1 fits (omega arith))
+
 travels : Travels reached 4 0 packet commit
 travels = record { is = ap (λ s. s.sent) seen; sender = refl; commit = own }
-  where
-    own : own_commit 0 (commit_bytes pushed 1) ≡ Some commit
-    own = ap (commit_if_own 0) (commits-are-read pushed 1 fits (omega arith))
-      where
-        fits : IsPushed pushed
-        fits = record {
-          xid = omega arith;
-          front = record { host = omega arith; inc = omega arith; seq = omega arith; file = omega arith; block = omega arith; first = omega arith; last = omega arith };
-          base = record { boot = omega arith; base = omega arith };
-        }
 
 rebuilt : answered reached.pool commit ≡ write (write_bytes pushed (filled 5))
 rebuilt = ap (λ s. s.answer) seen
@@ -223,6 +226,17 @@ forgotten h = forgot reached.world.clients (ap (λ s. s.hosts) seen) (subst (All
 kept-over : (bodies : List (Written × List ℕ)) → length bodies ≡ 1 → (let b : Bodies = record { boot = 2; bodies = bodies } in b) ≡ record { boot = 2; bodies = [] } → ⊥
 kept-over bodies one same = let none : length bodies ≡ 0 = ap (λ (b : Bodies). length b.bodies) same in absurd (omega arith)
 
+refused : CommitIsRefused (outside_run one-host (StagedEvent.Plain (Event.Crash 60) ∷ one-commit))
+refused = record {
+  k = 4;
+  packet = packet;
+  commit = commit;
+  bytes = unstaged_bytes 2 1;
+  travels = record { is = ap (λ s. s.crashed) seen; sender = refl; commit = own };
+  to = refl;
+  answers = crashes-lose-all one-host one-commit 60 commit;
+}
+
 pub staging-is-met : StagingIsMet
 staging-is-met = record {
   head = one-host;
@@ -232,7 +246,7 @@ staging-is-met = record {
   lawful = lawful;
   rebuilt = record { k = 4; packet = packet; commit = commit; travels = travels; answers = rebuilt; other_body = other-body; no_packet = no-packet reached.world };
   waits = record { made = made; forgotten = forgotten };
-  lost = record { kept = λ same. kept-over reached.pool.bodies (ap (λ s. s.bodies) seen) same };
+  lost = record { refused = refused; kept = λ same. kept-over reached.pool.bodies (ap (λ s. s.bodies) seen) same };
 }
   where
     made : Exists (λ entry. entry ≡ written) reached.world.journal

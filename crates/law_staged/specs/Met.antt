@@ -3,10 +3,11 @@ use Rattle.std.specs.Prelude.{◌≡◌, ℕ, List, [], ◌∷◌, None, false, 
 use Rattle.nq_base.specs.Block.{filled}
 use Rattle.nq_base.specs.declared.Entry.{Entry}
 use Rattle.nq_base.specs.declared.Event.{Event}
+use Rattle.nq_base.specs.declared.Party.{Party}
 use Rattle.nq_model.specs.Client.{Client}
 use Rattle.nq_model.specs.Journal.{Exists}
 use Rattle.nq_model.specs.World.{Head, World}
-use Rattle.nq_pool.specs.Answering.{answered, write}
+use Rattle.nq_pool.specs.Answering.{answered, write, unstaged}
 use Rattle.nq_pool.specs.Bodies.{Bodies}
 use Rattle.nq_pool.specs.Laws.{pool_after}
 use Rattle.nq_promises.specs.WritesAreAccounted.{WaitingAreUnsaved}
@@ -39,8 +40,19 @@ pub record WriteWaits (w : World) : Type 0 where
   pub made : Exists (λ entry. entry ≡ Entry.W (record { host = 0; inc = 1 }) 1 0 1 5 false) w.journal
   pub forgotten : ¬ WaitingAreUnsaved (record w { clients = map forgets w.clients })
 
--- the pool has a body, and with it it is not what a crash leaves
+-- a COMMIT travels whose body the pool does not have
+pub record CommitIsRefused (o : Outside) : Type 0 where
+  pub k : ℕ
+  pub packet : Outer
+  pub commit : Commit
+  pub bytes : List ℕ
+  pub travels : Travels o k 0 packet commit
+  pub to : packet.to ≡ Party.Server
+  pub answers : answered o.pool commit ≡ unstaged bytes
+
+-- After a crash the COMMIT is refused. The pool has a body before it, and with that body it is not what the crash leaves
 pub record PoolIsLost (head : Head) (events : List StagedEvent) (longest : ℕ) : Type 0 where
+  pub refused : CommitIsRefused (outside_run head (StagedEvent.Plain (Event.Crash longest) ∷ events))
   pub kept : ¬ ((let b : Bodies = record { boot = 2; bodies = (outside_run head events).pool.bodies } in b) ≡ pool_after 2 (since_boot head (StagedEvent.Plain (Event.Crash longest) ∷ events)))
 
 -- the premises are met, and not in vain
