@@ -6,7 +6,7 @@ use Rattle.nq_base.specs.declared.Event.{Event}
 use Rattle.nq_base.specs.declared.Party.{Party}
 use Rattle.nq_model.specs.Client.{Client}
 use Rattle.nq_model.specs.Journal.{Exists}
-use Rattle.nq_model.specs.World.{Head, World}
+use Rattle.nq_model.specs.World.{Head}
 use Rattle.nq_pool.specs.Answering.{answered, write, unstaged}
 use Rattle.nq_pool.specs.Bodies.{Bodies}
 use Rattle.nq_pool.specs.Laws.{pool_after}
@@ -35,10 +35,11 @@ pub record CommitIsRebuilt (o : Outside) : Type 0 where
   pub other_body : ¬ IsInnerPacket o.world 0 packet (write_bytes commit.pushed (filled 6))
   pub no_packet : ¬ IsInnerPacket (record o.world { packets = [] }) 0 packet (write_bytes commit.pushed (filled 5))
 
--- a delayed write was made, and a client that forgot it would be refused
-pub record WriteWaits (w : World) : Type 0 where
-  pub made : Exists (λ entry. entry ≡ Entry.W (record { host = 0; inc = 1 }) 1 0 1 5 false) w.journal
-  pub forgotten : ¬ WaitingAreUnsaved (record w { clients = map forgets w.clients })
+-- a delayed write was made, and its body was staged and acknowledged. A client that forgot the write then would be refused
+pub record WriteWaits (o : Outside) : Type 0 where
+  pub made : Exists (λ entry. entry ≡ Entry.W (record { host = 0; inc = 1 }) 1 0 1 5 false) o.world.journal
+  pub acknowledged : map (λ s. s.stager.acknowledged) o.sides ≡ ((record { host = 0; inc = 1; file = 1; block = 0; last = 1 }, 1) ∷ []) ∷ []
+  pub forgotten : ¬ WaitingAreUnsaved (record o.world { clients = map forgets o.world.clients })
 
 -- a COMMIT travels whose body the pool does not have
 pub record CommitIsRefused (o : Outside) : Type 0 where
@@ -63,5 +64,5 @@ pub record StagingIsMet : Type 0 where
   pub schedule : IsStagedSchedule head events
   pub lawful : IsLawful most head (plain_events events)
   pub rebuilt : CommitIsRebuilt (outside_run head events)
-  pub waits : WriteWaits (outside_run head events).world
+  pub waits : WriteWaits (outside_run head events)
   pub lost : PoolIsLost head events 60
