@@ -5,8 +5,10 @@
 //! A step (`specs/Outside.antt`) runs at most one event of the inner world.
 #![tactic(auto)]
 
+mod bringing;
 mod event;
 mod laws;
 
+pub use bringing::event_brings;
 pub use event::{StagedCounts, StagedEvent};
 pub use laws::{offers_store_nothing, runs_are_inner};
