@@ -49,7 +49,7 @@ use Rattle.nq_wire.specs.Request.{arguments}
 use Rattle.nq_xdr.specs.Item.{word, hyper, boolean, padding, opaque}
 use Rattle.nq_xdr.specs.Reading.{bytes_at, word_at, hyper_at, boolean_at, body_at as xdr_body_at, opaque_at}
 use Rattle.law_staged.specs.Lawful.{plain_events, IsLawful}
-use Rattle.law_staged.specs.Met.{forgets, CommitIsRefused, StagingIsMet}
+use Rattle.law_staged.specs.Met.{forgets, CommitIsRefused, pool_of, StagingIsMet}
 use Rattle.law_staged.proofs.Boots.{crashes-lose-all}
 use Rattle.law_staged.proofs.Rebuilt.{rebuilds-what-was-meant}
 use Rattle.walk_client.proofs.ClientMoves.{some-same, none-some}
@@ -229,7 +229,7 @@ forgotten h = forgot reached.world.clients (ap (λ s. s.hosts) seen) (subst (All
 
 -- ---- the pool
 
-kept-over : (bodies : List (Written × List ℕ)) → length bodies ≡ 1 → (let b : Bodies = record { boot = 2; bodies = bodies } in b) ≡ record { boot = 2; bodies = [] } → ⊥
+kept-over : (bodies : List (Written × List ℕ)) → length bodies ≡ 1 → pool_of 2 bodies ≡ pool_of 2 [] → ⊥
 kept-over bodies one same = let none : length bodies ≡ 0 = ap (λ (b : Bodies). length b.bodies) same in absurd (omega arith)
 
 refused : CommitIsRefused (outside_run one-host (StagedEvent.Plain (Event.Crash 60) ∷ one-commit))

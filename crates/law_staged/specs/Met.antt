@@ -12,6 +12,7 @@ use Rattle.nq_pool.specs.Bodies.{Bodies}
 use Rattle.nq_pool.specs.Laws.{pool_after}
 use Rattle.nq_promises.specs.WritesAreAccounted.{WaitingAreUnsaved}
 use Rattle.nq_stage.specs.declared.Commit.{Commit}
+use Rattle.nq_stage.specs.declared.Written.{Written}
 use Rattle.nq_stage.specs.Messages.{write_bytes}
 use Rattle.nq_staged_run.specs.declared.StagedEvent.{StagedEvent}
 use Rattle.nq_staged_run.specs.Outer.{Outer, Outside}
@@ -51,10 +52,14 @@ pub record CommitIsRefused (o : Outside) : Type 0 where
   pub to : packet.to ≡ Party.Server
   pub answers : answered o.pool commit ≡ unstaged bytes
 
+-- a pool of a boot with these bodies
+abbrev pub pool_of : (boot : ℕ) → List (Written × List ℕ) → Bodies
+pool_of boot bodies = record { boot = boot; bodies = bodies }
+
 -- After a crash the COMMIT is refused. The pool has a body before it, and with that body it is not what the crash leaves
-pub record PoolIsLost (head : Head) (events : List StagedEvent) (longest : ℕ) : Type 0 where
-  pub refused : CommitIsRefused (outside_run head (StagedEvent.Plain (Event.Crash longest) ∷ events))
-  pub kept : ¬ ((let b : Bodies = record { boot = 2; bodies = (outside_run head events).pool.bodies } in b) ≡ pool_after 2 (since_boot head (StagedEvent.Plain (Event.Crash longest) ∷ events)))
+pub record PoolIsLost (head : Head) (events crashed : List StagedEvent) : Type 0 where
+  pub refused : CommitIsRefused (outside_run head crashed)
+  pub kept : ¬ (pool_of 2 (outside_run head events).pool.bodies ≡ pool_after 2 (since_boot head crashed))
 
 -- the premises are met, and not in vain
 pub record StagingIsMet : Type 0 where
@@ -65,4 +70,4 @@ pub record StagingIsMet : Type 0 where
   pub lawful : IsLawful most head (plain_events events)
   pub rebuilt : CommitIsRebuilt (outside_run head events)
   pub waits : WriteWaits (outside_run head events)
-  pub lost : PoolIsLost head events 60
+  pub lost : PoolIsLost head events (StagedEvent.Plain (Event.Crash 60) ∷ events)
