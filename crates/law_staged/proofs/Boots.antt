@@ -21,7 +21,7 @@ use Rattle.nq_stage.specs.Reading.{Stage}
 use Rattle.nq_staged_run.specs.declared.StagedEvent.{StagedEvent}
 use Rattle.nq_staged_run.specs.Outer.{Outer, Side, Outside, outside_start}
 use Rattle.nq_staged_run.specs.Outside.{sends, inner, inner_delivery, takes_stage, takes_commit, served_commit, served_stage, to_server, told_side, heard_by, to_host, takes, delivers, outside_step, outside_run}
-use Rattle.nq_staged_run.proofs.Inner.{Inner, inner-ran, delivery-cases, offering}
+use Rattle.nq_staged_run.proofs.Inner.{Core, inner-ran, delivery-cases, core-offering}
 use Rattle.nq_stager.specs.Hearing.{Told, acknowledged, again, other, told_by}
 use Rattle.law_staged.specs.Boots.{crashes, boot_of, BootsAreCounted, brought, brought_by, since_boot, PoolIsOfItsBoot, AnswersAreOfTheBoot, CrashesLoseAll}
 use Rattle.walk_server.proofs.ServerMoves.{ServerMoves, server-moves, tick-moves}
@@ -125,11 +125,11 @@ first-boot head = (raised (first_kept head) head.longest, refl)
 abbrev WorldOf : ℕ → World × List Event × Bodies → Type 0
 WorldOf n i = IsOf n i.0.server
 
-ran-on : (n : ℕ) (o : Outside) (event : Event) → IsOf n (step o.world event).server → WorldOf n (Inner (inner o event))
+ran-on : (n : ℕ) (o : Outside) (event : Event) → IsOf n (step o.world event).server → WorldOf n (Core (inner o event))
 ran-on n o event b = subst (WorldOf n) (sym (inner-ran o event)) b
 
 stepped : (n : ℕ) (o : Outside) (event : StagedEvent) → IsOf n o.world.server → IsOf (crashes (event ∷ []) + n) (outside_step o event).world.server
-stepped n o (StagedEvent.Stage host) b = subst (λ k. IsOf k (outside_step o (StagedEvent.Stage host)).world.server) (omega arith) (subst (WorldOf n) (sym (offering o host (slice_get o.sides host) (slice_get o.world.clients host))) b)
+stepped n o (StagedEvent.Stage host) b = subst (λ k. IsOf k (outside_step o (StagedEvent.Stage host)).world.server) (omega arith) (subst (WorldOf n) (sym (core-offering o host (slice_get o.sides host) (slice_get o.world.clients host))) b)
 stepped n o (StagedEvent.Plain (Event.Deliver k)) b =
     subst (λ m. IsOf m (outside_step o (StagedEvent.Plain (Event.Deliver k))).world.server) (omega arith)
     (delivery-cases o (WorldOf n) b (λ s. b) (λ number. delivered n o.world number (slice_get o.world.packets number) b) (slice_get o.sent k))
@@ -219,7 +219,7 @@ unfolding outside_start
 pool-run head [] = let first = (of-boot head []).1 in ap empty first
 pool-run head (StagedEvent.Stage host ∷ earlier) =
     let o = outside_run head earlier in
-    ap (λ i. i.2) (offering o host (slice_get o.sides host) (slice_get o.world.clients host)) ∙ pool-run head earlier
+    ap (λ i. i.2) (core-offering o host (slice_get o.sides host) (slice_get o.world.clients host)) ∙ pool-run head earlier
 pool-run head (StagedEvent.Plain (Event.Deliver k) ∷ earlier) =
     let o = outside_run head earlier in
     delivers-pool o (crashes earlier + 1) (since_boot head earlier) (pool-run head earlier) (slice_get o.sent k)

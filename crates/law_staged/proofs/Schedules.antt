@@ -13,7 +13,7 @@ use Rattle.nq_promises.specs.WritesAreAccounted.{WaitingAreUnsaved}
 use Rattle.nq_staged_run.specs.declared.StagedEvent.{StagedEvent}
 use Rattle.nq_staged_run.specs.Outer.{Outside, outside_start}
 use Rattle.nq_staged_run.specs.Outside.{inner, outside_run}
-use Rattle.nq_staged_run.proofs.Inner.{Inner, inner-ran, delivery-cases, offering, runs-inside}
+use Rattle.nq_staged_run.proofs.Inner.{Core, inner-ran, delivery-cases, core-offering, runs-inside}
 use Rattle.law_fates.proofs.FateLaws.{waiting}
 use Rattle.law_staged.specs.Lawful.{plain_events, InnerRunsAreLawful, HeadlineHoldsOutside}
 use Rattle.law_staged.specs.NotStored.{StagedAreUnsaved}
@@ -102,7 +102,7 @@ inside-boots most ran plain (same e r p i) h = All-cons (BootsWithin most) e r (
 abbrev RanInside : List Event → World × List Event × Bodies → Type 0
 RanInside plain i = Inside i.1 plain
 
-ran-on : (o : Outside) (plain : List Event) (event : Event) → Inside o.ran plain → RanInside (event ∷ plain) (Inner (inner o event))
+ran-on : (o : Outside) (plain : List Event) (event : Event) → Inside o.ran plain → RanInside (event ∷ plain) (Core (inner o event))
 ran-on o plain event h = subst (RanInside (event ∷ plain)) (sym (inner-ran o event)) (same event o.ran plain h)
 
 ran-inside : (head : Head) (events : List StagedEvent) → Inside (outside_run head events).ran (plain_events events)
@@ -110,7 +110,7 @@ unfolding outside_start
 ran-inside head [] = none
 ran-inside head (StagedEvent.Stage host ∷ earlier) =
     let o = outside_run head earlier in
-    subst (RanInside (plain_events earlier)) (sym (offering o host (slice_get o.sides host) (slice_get o.world.clients host))) (ran-inside head earlier)
+    subst (RanInside (plain_events earlier)) (sym (core-offering o host (slice_get o.sides host) (slice_get o.world.clients host))) (ran-inside head earlier)
 ran-inside head (StagedEvent.Plain (Event.Deliver k) ∷ earlier) =
     let o = outside_run head earlier in
     let plain = plain_events earlier in
