@@ -1,7 +1,7 @@
 //! Bodies on an `LruCache` of as many places as there may be bodies. They are looked at without a change of their order, so
 //! the one that goes from a full cache is the one that was staged first.
 
-ghost use Rattle.std.specs.Prelude.{◌≡◌, option_copied, OnOk, OnErr};
+ghost use Rattle.std.specs.Prelude.{◌≡◌, [], option_copied, OnOk, OnErr};
 ghost use Rattle.nq_pool.specs.Bodies.{body_of, most_bodies, with_body};
 
 use lru::LruCache;
@@ -24,6 +24,14 @@ pub(crate) fn put(entries: &mut Entries, written: Written, body: Block) -> Resul
     let _distinct = entries.len();
     entries.put(written, body)?;
     Ok(())
+}
+
+/// Takes all bodies away. It takes no memory.
+pub(crate) fn clear(entries: &mut Entries)
+    ensures gone { entries.new.entries ≡ [] }
+    ensures places { entries.new.cap ≡ entries.old.cap }
+{
+    entries.clear();
 }
 
 /// The body of a write, if it is there.

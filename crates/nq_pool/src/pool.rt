@@ -5,7 +5,7 @@ ghost use Rattle.nq_pool.specs.Answering.{Answers, Rebuilds, Stages, answered_as
 ghost use Rattle.nq_pool.specs.Bodies.{most_bodies};
 ghost use Rattle.nq_stage.specs.Lent.{lent_stage, lent_stages};
 
-use crate::entries::{Entries, MOST, put, read};
+use crate::entries::{Entries, MOST, clear, put, read};
 use nq_base::{Block, Host, NoMemory};
 use nq_stage::{
     Commit, LentStage, read_commit, read_stage, staged_bytes, unstaged_bytes, write_bytes,
@@ -69,6 +69,14 @@ impl Pool {
         let places = NonZeroUsize::new(MOST).unwrap();
         let entries = Entries::sparse(alloc, places)?;
         Ok(Pool { boot, entries })
+    }
+
+    /// The server booted, and this is the new boot: the pool is empty. It takes no memory.
+    pub fn reboot(&mut self, boot: u32)
+        ensures { self.new ≡ record { boot = boot; bodies = [] } }
+    {
+        clear(&mut self.entries);
+        self.boot = boot;
     }
 
     /// Takes the body of a STAGE that came from this host. An older body of the same write goes; so does the oldest of all

@@ -1,0 +1,4 @@
+pub mod Line
+pub mod Around
+pub mod Taking
+pub mod Playing
